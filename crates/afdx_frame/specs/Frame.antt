@@ -1,6 +1,10 @@
 -- A frame as its recording holds it, without where it lies in memory, and the order of both taps' frames.
 use Rattle.std.specs.Prelude.{ℕ, ◌<◌, ◌≤◌, ◌*◌, ◌^◌, List, length}
+use Rattle.std.specs.Ordering.{nat_cmp, ordering_then}
+use Rattle.std.specs.declared.cmp.Ordering.{Ordering}
+use Rattle.std.specs.declared.cmp.Ordering.TheVariants.{Less, Equal, Greater}
 use Rattle.afdx_frame.specs.declared.key.Network.{Network}
+use Rattle.afdx_frame.specs.declared.key.Network.TheVariants.{A, B}
 use Rattle.afdx_frame.specs.declared.key.Key.{Key}
 
 pub record Frame : Type 0 where
@@ -23,3 +27,14 @@ pub record IsFrame (f : Frame) : Type 0 where
 -- the frame's place in the order of both taps
 abbrev pub key_of : Frame → Key
 key_of f = record { stamp = record { 0 = f.stamp }; network = f.network; number = f.number }
+
+-- network A stands before B
+abbrev pub network_cmp : Network → Network → Ordering
+network_cmp A A = Equal
+network_cmp A B = Less
+network_cmp B A = Greater
+network_cmp B B = Equal
+
+-- the order of both taps' frames: by stamp, then by network, then by number
+abbrev pub key_cmp : Key → Key → Ordering
+key_cmp k l = ordering_then (nat_cmp k.stamp.0 l.stamp.0) (ordering_then (network_cmp k.network l.network) (nat_cmp k.number l.number))

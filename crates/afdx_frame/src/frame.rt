@@ -6,7 +6,12 @@ use crate::key::{Key, Network, Stamp};
 use crate::view::FrameView;
 use std::marker::Model;
 
-/// A frame as a tap recorded it.
+/// A frame as a tap recorded it: the network, its place in the recording, when it came, its length
+/// on the wire and the bytes that the recording holds, the first of the frame and often not all.
+///
+/// Each frame keeps these bounds: a number below 2^32 and a stamp below 2^32 seconds (what pcap 2.4
+/// counts with), at most 262144 bytes held (libpcap's largest snapshot), and no more than there were
+/// on the wire.
 #[derive(Debug, Drop)]
 pub struct TapFrame {
     network: Network,
@@ -26,11 +31,12 @@ impl Model for TapFrame {
     ghost invariant = { λ f. IsFrame (record { network = f.network; number = f.number; stamp = f.stamp.0; whole = f.whole; bytes = f.bytes.items }) };
 }
 
-/// The most bytes that a record of a recording may hold.
+/// The most bytes that a record of a recording may hold: libpcap's largest snapshot.
 pub const MOST_HELD: usize = 262144;
 
 impl TapFrame {
-    /// A frame of these parts. An `Err` gives the bytes back: a part is out of bounds.
+    /// A frame of these parts: `number` counts from 0, `whole` is the length on the wire in bytes.
+    /// Takes no memory. An `Err` gives the bytes back: a part is out of bounds.
     pub fn new(
         network: Network,
         number: u64,
@@ -66,7 +72,7 @@ impl TapFrame {
         self.network
     }
 
-    /// The place in the recording, from 0.
+    /// The place in the recording, from 0 and below 2^32.
     pub fn number(&self) -> u64
         ensures value { result ≡ self.now.number }
         ensures bounds { IsFrame self.now }
@@ -74,7 +80,7 @@ impl TapFrame {
         self.number
     }
 
-    /// When the frame came.
+    /// When the frame came, below 2^32 seconds.
     pub fn stamp(&self) -> Stamp
         ensures value { result.0 ≡ self.now.stamp }
         ensures bounds { IsFrame self.now }
@@ -101,11 +107,19 @@ impl TapFrame {
         }
     }
 
-    /// The bytes that the recording holds, lent.
+    /// The bytes that the recording holds, lent: nothing is copied.
     pub fn view(&self) -> FrameView<'_>
         ensures value { held result ≡ self.now.bytes }
         ensures bounds { IsFrame self.now }
     {
         FrameView::new(&self.bytes)
+    }
+
+    /// The bytes that the recording holds, with their memory.
+    pub fn into_bytes(self) -> Vec<u8>
+        ensures value { result.items ≡ self.bytes }
+        ensures bounds { IsFrame self }
+    {
+        self.bytes
     }
 }

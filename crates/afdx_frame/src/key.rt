@@ -1,25 +1,37 @@
 ghost use Rattle.std.specs.Prelude.{◌≡◌};
+ghost use Rattle.afdx_frame.specs.Frame.{key_cmp};
+ghost use Rattle.afdx_frame.specs.declared.key.Key.{Key};
 
-/// One of the two redundant networks of an AFDX system.
+/// One of the two redundant networks of an AFDX system (ARINC 664 Part 7). A sender puts each frame
+/// on both.
 #[derive(Clone, Copy, Debug, PartialEq, Eq, PartialOrd, Ord, Hash)]
 pub enum Network {
     A,
     B,
 }
 
-/// The identifier of a virtual link, the 16 lowest bits of the destination address.
+/// The identifier of a virtual link, the 16 lowest bits of the destination address (ARINC 664 Part
+/// 7).
 #[derive(Clone, Copy, Debug, PartialEq, Eq, PartialOrd, Ord, Hash)]
 pub struct VlId(pub u16);
 
-/// A moment in nanoseconds since the epoch of the recording.
+/// A moment in nanoseconds since the epoch of the recording (pcap 2.4 counts from 1970).
 #[derive(Clone, Copy, Debug, PartialEq, Eq, PartialOrd, Ord, Hash)]
 pub struct Stamp(pub u64);
 
 /// The place of a frame in the order of both taps: by stamp, then network A before B, then the
-/// frame's number in its recording.
+/// frame's number in its recording. (That A comes first is this project's profile.)
 #[derive(Clone, Copy, Debug, PartialEq, Eq, PartialOrd, Ord, Hash)]
 pub struct Key {
+    /// When the frame came.
     pub stamp: Stamp,
+    /// The network of its tap.
     pub network: Network,
+    /// Its place in the tap's recording, from 0.
     pub number: u64,
 }
+
+/// What `Ord` says of keys: the stamp decides, then network A before B, then the number.
+pub fn key_order()
+    ensures { (k l : Key) → ⟦<Key as Ord>⟧.cmp k l ≡ key_cmp k l }
+{}

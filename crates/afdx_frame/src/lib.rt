@@ -7,5 +7,8 @@ mod key;
 mod view;
 
 pub use frame::TapFrame;
-pub use key::{Key, Network, Stamp, VlId};
+pub use key::{Key, Network, Stamp, VlId, key_order};
 pub use view::FrameView;
+
+#[cfg(test)]
+mod tests;

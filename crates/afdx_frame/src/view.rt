@@ -4,7 +4,7 @@ ghost use Rattle.afdx_frame.specs.View.{held, constant_of, link_of, sequence_of,
 
 use crate::key::VlId;
 
-/// The bytes of a frame, lent: nothing is copied.
+/// The bytes that a recording holds of a frame, lent: nothing is copied.
 #[derive(Clone, Copy, Debug)]
 pub struct FrameView<'a> {
     bytes: &'a [u8],
@@ -49,15 +49,16 @@ impl<'a> FrameView<'a> {
         Some(VlId(u16::from_be_bytes([*high, *low])))
     }
 
-    /// The sequence number: the last byte. None for no bytes.
+    /// The sequence number: the last byte (ARINC 664 Part 7; recordings don't hold the frame check
+    /// sequence behind it). None for no bytes.
     pub fn sequence(&self) -> Option<u8>
         ensures { result ≡ sequence_of (held self.now) }
     {
         self.bytes.last().copied()
     }
 
-    /// The bytes between the 14 of the Ethernet header and the sequence number, lent. None below 15
-    /// bytes.
+    /// What the frame carries: the bytes between the 14 of the Ethernet header and the sequence number,
+    /// lent. None below 15 bytes.
     pub fn body(&self) -> Option<&'a [u8]>
         ensures { option_copied result ≡ body_of (held self.now) }
     {

@@ -1,86 +1,385 @@
-//! The numeric form by worked examples.
+//! The instruction table row by row, with values worked out by hand.
+
+ghost use Rattle.std.specs.Prelude.{◌<◌, IsTrue};
+ghost use Rattle.bpf_isa.specs.Table.{CanStep};
 
 use super::*;
+use afdx_frame::FrameView;
+use std::process::Abort;
 use std::test::Fail;
 
-/// Accepts ARP frames whole, as bpf_asm writes it.
-const ARP: &str = "4,40 0 0 12,21 0 1 2054,6 0 0 4294967295,6 0 0 0,";
+/// The bytes held of a frame. Its length on the wire is `WHOLE`.
+const FRAME: [u8; 24] = [
+    0x10, 0x21, 0x32, 0x43, 0x54, 0x65, 0x7d, 0x87, 0x98, 0xa9, 0xba, 0xcb, 0xdc, 0xed, 0xfe, 0x0f,
+    0x01, 0x12, 0x23, 0x34, 0x45, 0x56, 0x67, 0x78,
+];
+
+const WHOLE: u32 = 1514;
+
+/// Scratch word i is 50 + i.
+const BEFORE: State = State {
+    place: 10,
+    a: 74565,
+    x: 11,
+    scratch: [
+        50, 51, 52, 53, 54, 55, 56, 57, 58, 59, 60, 61, 62, 63, 64, 65,
+    ],
+};
+
+/// What an instruction changes.
+#[derive(Clone, Copy, Debug)]
+enum Effect {
+    A(u32),
+    X(u32),
+    /// The scratch word 6.
+    Word(u32),
+    /// The place alone.
+    Goes(usize),
+    Ends(u32),
+}
+
+fn outcome(before: State, effect: Effect) -> Outcome
+    requires { before.place < 4096 }
+{
+    let mut after = before;
+    after.place += 1;
+    match effect {
+        Effect::A(value) => after.a = value,
+        Effect::X(value) => after.x = value,
+        Effect::Word(value) => after.scratch[6] = value,
+        Effect::Goes(place) => after.place = place,
+        Effect::Ends(answer) => return Outcome::Done(answer),
+    }
+    Outcome::On(after)
+}
+
+/// Each field holds something, whether its code reads it or not.
+const fn full(code: u16) -> Packed {
+    word(code, 20, 40, 6)
+}
 
 const fn word(code: u16, jt: u8, jf: u8, k: u32) -> Packed {
     Packed { code, jt, jf, k }
 }
 
-/// A filter on the frame's type.
-const fn filter(kind: u32, kept: u32) -> [Packed; 4] {
-    [
-        word(40, 0, 0, 12),
-        word(21, 0, 1, kind),
-        word(6, 0, 0, kept),
-        word(6, 0, 0, 0),
-    ]
+/// Whether a word may be carried out at a place.
+fn can_step(word: Packed, place: usize) -> bool
+    requires { place < 4096 }
+    ensures { IsTrue result → CanStep word place }
+{
+    let Packed { code, jt, jf, k } = word;
+    let divides = code == 0x34 || code == 0x94;
+    let scratch = code == 0x60 || code == 0x61 || (code == 0x02 || code == 0x03);
+    let always = code == 0x05;
+    let branches = code == 0x15
+        || code == 0x1d
+        || code == 0x25
+        || code == 0x2d
+        || code == 0x35
+        || code == 0x3d
+        || code == 0x45
+        || code == 0x4d;
+    (!divides || k != 0)
+        && (!scratch || k < 16)
+        && (!always || place + 1 + (k as usize) < 4096)
+        && (!branches || (place + 1 + (jt as usize) < 4096 && place + 1 + (jf as usize) < 4096))
+}
+
+/// Carries an instruction out on the frame, by `step`.
+fn stepped<F: Family>(rt: &impl Abort, insn: F, before: State) -> Outcome {
+    assert!(rt; before.place < 4096);
+    assert!(rt; can_step(insn.pack(), before.place));
+    insn.step(before, &FrameView::new(&FRAME), WHOLE)
+}
+
+/// The same by `advance`.
+fn advanced<F: Family>(rt: &impl Abort, insn: F, before: State) -> Outcome {
+    assert!(rt; before.place < 4096);
+    assert!(rt; can_step(insn.pack(), before.place));
+    let mut state = before;
+    match insn.advance(&mut state, &FrameView::new(&FRAME), WHOLE) {
+        Some(answer) => Outcome::Done(answer),
+        None => Outcome::On(state),
+    }
+}
+
+/// Each word is of the family, is packed in canonical form, and has its effect.
+fn family_has<F: Family>(rt: &impl Abort, rows: &[(Packed, Packed, Effect)]) -> Result<(), Fail> {
+    for (word, plain, effect) in rows {
+        let code = word.code;
+        let insn = F::unpack(*word).ok_or("not of the family")?;
+        assert_eq!(rt; insn.pack(), *plain, "code {code:#x}");
+        assert_eq!(rt; canonical(*word), *plain, "code {code:#x}");
+        let want = outcome(BEFORE, *effect);
+        assert_eq!(rt; stepped(rt, insn, BEFORE), want, "code {code:#x}");
+        assert_eq!(rt; advanced(rt, insn, BEFORE), want, "code {code:#x}");
+        let same = Insn::unpack(*plain).ok_or("not listed")?;
+        assert_eq!(rt; same.pack(), *plain, "code {code:#x}");
+        assert_eq!(rt; stepped(rt, same, BEFORE), want, "code {code:#x}");
+    }
+    Ok(())
+}
+
+/// A row whose code reads k alone.
+const fn by_k(code: u16, effect: Effect) -> (Packed, Packed, Effect) {
+    (full(code), word(code, 0, 0, 6), effect)
+}
+
+/// A row whose code reads no field.
+const fn bare(code: u16, effect: Effect) -> (Packed, Packed, Effect) {
+    (full(code), word(code, 0, 0, 0), effect)
 }
 
 #[test]
-fn reads(rt: HostRuntime) -> Result<(), Fail> {
-    let arp = filter(2054, 4294967295);
-    for text in [
-        ARP,
-        // without the last comma
-        "4,40 0 0 12,21 0 1 2054,6 0 0 4294967295,6 0 0 0",
-        "4\n40 0 0 12\n21 0 1 2054\n6 0 0 4294967295\n6 0 0 0\n",
-        "4\r\n40 0 0 12\r\n21 0 1 2054\r\n6 0 0 4294967295\r\n6 0 0 0\r\n",
-        "\t4 ,, 40\t0 0 12 , \r\n21 0 1 2054,6 0 0 4294967295\n\n6 0 0 0",
-        "0000000000000000000000000004,40 00 000 0012,21 0 1 2054,6 0 0 0000000000000000000004294967295,6 0 0 0,",
-    ] {
-        let words = read_numeric(rt.alloc(), text)?;
-        assert_eq!(rt; words.as_slice(), arp.as_slice(), "in {text:?}");
-    }
-    // tcpdump -ddd ip
-    let words = read_numeric(
-        rt.alloc(),
-        "4\n40 0 0 12\n21 0 1 2048\n6 0 0 262144\n6 0 0 0\n",
+fn loads_and_stores(rt: HostRuntime) -> Result<(), Fail> {
+    family_has::<Load>(
+        &rt,
+        &[
+            by_k(0x00, Effect::A(6)),
+            by_k(0x20, Effect::A(0x7d87_98a9)),
+            by_k(0x28, Effect::A(0x7d87)),
+            by_k(0x30, Effect::A(0x7d)),
+            // the place 17
+            by_k(0x40, Effect::A(0x1223_3445)),
+            by_k(0x48, Effect::A(0x1223)),
+            by_k(0x50, Effect::A(0x12)),
+            by_k(0x60, Effect::A(56)),
+            bare(0x80, Effect::A(1514)),
+        ],
     )?;
-    assert_eq!(rt; words.as_slice(), filter(2048, 262144).as_slice());
-    assert_eq!(rt; read_numeric(rt.alloc(), "0,")?.len(), 0);
-    Ok(())
+    family_has::<LoadX>(
+        &rt,
+        &[
+            by_k(0x01, Effect::X(6)),
+            by_k(0x61, Effect::X(56)),
+            bare(0x81, Effect::X(1514)),
+            // 4 * 13
+            by_k(0xb1, Effect::X(52)),
+        ],
+    )?;
+    family_has::<Store>(
+        &rt,
+        &[
+            by_k(0x02, Effect::Word(74565)),
+            by_k(0x03, Effect::Word(11)),
+        ],
+    )
 }
 
 #[test]
-fn refuses(rt: HostRuntime) {
-    use NumericFault::{Character, Count, Form, Number, TooMany};
-    for (text, want) in [
-        ("2,6 0 0 0,", Count { at: 10 }),
-        ("1,6 0 0", Form { at: 2 }),
-        ("1,6 0 256 0", Number { at: 6 }),
-        ("1,x", Character { at: 2 }),
-        ("4097,", TooMany { at: 0 }),
-        ("", Form { at: 0 }),
-        // the filter on ARP, cut off
-        ("4", Count { at: 1 }),
-        ("4,", Count { at: 2 }),
-        ("4,4", Form { at: 2 }),
-        ("4,40 0 0 12,21 0 1 2054,6 0 0 4294967295", Count { at: 40 }),
-        (
-            "4,40 0 0 12,21 0 1 2054,6 0 0 4294967295,",
-            Count { at: 41 },
-        ),
-        (
-            "4,40 0 0 12,21 0 1 2054,6 0 0 4294967295,6 0 0 ",
-            Form { at: 41 },
-        ),
+fn arithmetic(rt: HostRuntime) -> Result<(), Fail> {
+    family_has::<Alu>(
+        &rt,
+        &[
+            by_k(0x04, Effect::A(74571)),
+            bare(0x0c, Effect::A(74576)),
+            by_k(0x14, Effect::A(74559)),
+            bare(0x1c, Effect::A(74554)),
+            by_k(0x24, Effect::A(447390)),
+            bare(0x2c, Effect::A(820215)),
+            by_k(0x34, Effect::A(12427)),
+            bare(0x3c, Effect::A(6778)),
+            by_k(0x44, Effect::A(74567)),
+            bare(0x4c, Effect::A(74575)),
+            by_k(0x54, Effect::A(4)),
+            bare(0x5c, Effect::A(1)),
+            by_k(0x64, Effect::A(4772160)),
+            bare(0x6c, Effect::A(152709120)),
+            by_k(0x74, Effect::A(1165)),
+            bare(0x7c, Effect::A(36)),
+            bare(0x84, Effect::A(4294892731)),
+            by_k(0x94, Effect::A(3)),
+            bare(0x9c, Effect::A(7)),
+            by_k(0xa4, Effect::A(74563)),
+            bare(0xac, Effect::A(74574)),
+        ],
+    )
+}
+
+/// A jump by a test of A and k: both targets are read.
+const fn by_test(code: u16, place: usize) -> (Packed, Packed, Effect) {
+    (full(code), full(code), Effect::Goes(place))
+}
+
+/// A jump by a test of A and X.
+const fn by_test_x(code: u16, place: usize) -> (Packed, Packed, Effect) {
+    (full(code), word(code, 20, 40, 0), Effect::Goes(place))
+}
+
+#[test]
+fn jumps_returns_and_moves(rt: HostRuntime) -> Result<(), Fail> {
+    family_has::<Jump>(
+        &rt,
+        &[
+            by_k(0x05, Effect::Goes(17)),
+            by_test(0x15, 51),
+            by_test_x(0x1d, 51),
+            by_test(0x25, 31),
+            by_test_x(0x2d, 31),
+            by_test(0x35, 31),
+            by_test_x(0x3d, 31),
+            by_test(0x45, 31),
+            by_test_x(0x4d, 31),
+        ],
+    )?;
+    family_has::<Return>(
+        &rt,
+        &[by_k(0x06, Effect::Ends(6)), bare(0x16, Effect::Ends(74565))],
+    )?;
+    family_has::<Move>(
+        &rt,
+        &[bare(0x07, Effect::X(74565)), bare(0x87, Effect::A(11))],
+    )
+}
+
+/// Carries out a word of the table.
+fn carried_out(rt: &impl Abort, word: Packed, before: State) -> Result<Outcome, Fail> {
+    let insn = Insn::unpack(word).ok_or("not listed")?;
+    Ok(stepped(rt, insn, before))
+}
+
+#[test]
+fn tests_tell_the_four_conditions_apart(rt: HostRuntime) -> Result<(), Fail> {
+    // A is 74565, and shares no bit with 2
+    for (operand, holding) in [
+        (2, [false, true, true, false]),
+        (74564, [false, true, true, true]),
+        (74565, [true, false, true, true]),
+        (74566, [false, false, false, true]),
+        (131072, [false, false, false, false]),
     ] {
-        assert_eq!(rt;
-            read_numeric(rt.alloc(), text).err(),
-            Some(want),
-            "in {text:?}"
-        );
+        let by_x = State {
+            x: operand,
+            ..BEFORE
+        };
+        for (code, holds) in [0x15, 0x25, 0x35, 0x45].into_iter().zip(holding) {
+            let place = if holds { 31 } else { 51 };
+            let want = outcome(BEFORE, Effect::Goes(place));
+            let by_k = word(code, 20, 40, operand);
+            assert_eq!(rt;
+                carried_out(&rt, by_k, BEFORE)?,
+                want,
+                "{code:#x} {operand}"
+            );
+            let want = outcome(by_x, Effect::Goes(place));
+            let from_x = word(code + 8, 20, 40, 74565);
+            assert_eq!(rt;
+                carried_out(&rt, from_x, by_x)?,
+                want,
+                "{code:#x} {operand}"
+            );
+        }
     }
+    Ok(())
+}
+
+/// From A, X and k.
+#[test]
+fn numbers_at_their_ends(rt: HostRuntime) -> Result<(), Fail> {
+    for (code, a, x, k, effect) in [
+        (0x04, u32::MAX, 0, 1, Effect::A(0)),
+        (0x14, 0, 0, 1, Effect::A(u32::MAX)),
+        (0x24, 65536, 0, 65536, Effect::A(0)),
+        (0x24, 65537, 0, 65537, Effect::A(131073)),
+        (0x6c, 3, 31, 0, Effect::A(0x8000_0000)),
+        (0x6c, 3, 32, 0, Effect::A(0)),
+        (0x6c, 3, 33, 0, Effect::A(0)),
+        (0x7c, 0xc000_0000, 31, 0, Effect::A(1)),
+        (0x7c, 0xc000_0000, 32, 0, Effect::A(0)),
+        (0x7c, 0xc000_0000, 33, 0, Effect::A(0)),
+        (0x3c, 1, 0, 7, Effect::Ends(0)),
+        (0x9c, 1, 0, 7, Effect::Ends(0)),
+        (0x84, 5, 0, 0, Effect::A(4294967291)),
+        (0x84, 0, 0, 0, Effect::A(0)),
+    ] {
+        let before = State { a, x, ..BEFORE };
+        let want = outcome(before, effect);
+        let found = carried_out(&rt, word(code, 0, 0, k), before)?;
+        assert_eq!(rt; found, want, "{code:#x} of {a}, {x} and {k}");
+    }
+    Ok(())
+}
+
+/// From X and k: 24 bytes are held.
+#[test]
+fn loads_at_the_end_of_the_frame(rt: HostRuntime) -> Result<(), Fail> {
+    for (code, x, k, effect) in [
+        (0x20, 0, 20, Effect::A(0x4556_6778)),
+        (0x20, 0, 21, Effect::Ends(0)),
+        (0x28, 0, 22, Effect::A(0x6778)),
+        (0x28, 0, 23, Effect::Ends(0)),
+        (0x30, 0, 23, Effect::A(0x78)),
+        (0x30, 0, 24, Effect::Ends(0)),
+        (0x40, 20, 1, Effect::Ends(0)),
+        (0x48, 20, 3, Effect::Ends(0)),
+        (0x50, 20, 4, Effect::Ends(0)),
+        (0xb1, 0, 23, Effect::X(32)),
+        (0xb1, 0, 24, Effect::Ends(0)),
+        // X + k is 0, 1 and 2 modulo 2^32
+        (0x40, u32::MAX, 1, Effect::A(0x1021_3243)),
+        (0x48, 0x8000_0000, 0x8000_0001, Effect::A(0x2132)),
+        (0x50, 4, 4294967294, Effect::A(0x32)),
+    ] {
+        let before = State { x, ..BEFORE };
+        let want = outcome(before, effect);
+        let found = carried_out(&rt, word(code, 0, 0, k), before)?;
+        assert_eq!(rt; found, want, "{code:#x} at {x} + {k}");
+    }
+    Ok(())
 }
 
 #[test]
-fn writes(rt: HostRuntime) -> Result<(), Fail> {
-    let text = write_numeric(rt.alloc(), &filter(2054, 4294967295))?;
-    assert_eq!(rt; text.as_str(), ARP);
-    numeric_text_reads_back();
-    Ok(())
+fn codes_of_the_table(rt: HostRuntime) {
+    let mut listed = 0u32;
+    for code in 0..=u16::MAX {
+        let word = word(code, 9, 9, 7);
+        let families = [
+            Load::unpack(word).is_some(),
+            LoadX::unpack(word).is_some(),
+            Store::unpack(word).is_some(),
+            Alu::unpack(word).is_some(),
+            Jump::unpack(word).is_some(),
+            Return::unpack(word).is_some(),
+            Move::unpack(word).is_some(),
+        ];
+        if Insn::unpack(word).is_some() {
+            listed = listed.saturating_add(1);
+            // The class names the family; 2 and 3 are both Store's.
+            let class = [0, 1, 2, 2, 3, 4, 5, 6][usize::from(code % 8)];
+            for (place, unpacks) in families.into_iter().enumerate() {
+                assert_eq!(rt; unpacks, place == class, "code {code:#x}");
+            }
+        } else {
+            assert_eq!(rt; families, [false; 7], "code {code:#x}");
+            assert_eq!(rt; canonical(word), word, "code {code:#x}");
+        }
+    }
+    assert_eq!(rt; listed, 49);
+}
+
+#[test]
+fn canonical_words(rt: HostRuntime) {
+    assert_eq!(rt; canonical(word(6, 9, 9, 7)), word(6, 0, 0, 7));
+    // codes that aren't listed
+    assert_eq!(rt; canonical(word(23, 9, 9, 7)), word(23, 9, 9, 7));
+    assert_eq!(rt; canonical(word(0x106, 9, 9, 7)), word(0x106, 9, 9, 7));
+}
+
+#[test]
+fn starts_at_zero(rt: HostRuntime) {
+    let zero = State {
+        place: 0,
+        a: 0,
+        x: 0,
+        scratch: [0; 16],
+    };
+    assert_eq!(rt; State::start(), zero);
+}
+
+#[test]
+fn operands_and_conditions(rt: HostRuntime) {
+    assert_eq!(rt; Source::K(7).value(&BEFORE), 7);
+    assert_eq!(rt; Source::X.value(&BEFORE), 11);
+    assert!(rt; Condition::AtLeast.holds(u32::MAX, u32::MAX));
+    assert!(rt; !Condition::Greater.holds(1, u32::MAX));
 }

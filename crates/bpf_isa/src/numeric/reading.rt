@@ -103,13 +103,14 @@ fn unknown_at(bytes: &[u8]) -> Option<usize>
 
 /// Reads a program in the numeric form, as `tcpdump -ddd` prints it, with commas or newlines.
 ///
-/// Nothing is taken from the count before it is found to be at most 4096.
+/// Leading zeros are read, and blanks round a number. The fault is the first by the order that
+/// `NumericFault` states. No memory is asked for before the count is found to be at most 4096.
 #[tactic(auto, unfolding(crate::specs::Numeric::numeric_of, crate::specs::Numeric::program_of))]
 pub fn read_numeric(alloc: Global, text: &str) -> Result<Vec<Packed>, NumericFault>
     // The words of the text, or its first fault, unless memory runs out.
     ensures exact { Gives (λ v. v.items) result (numeric_of text.now) }
     ensures few { IfOk result (λ v. vec_len v ≤ 4096) }
-    // No memory is asked for before the count is read.
+    // Memory is answered only where the text has a sound count.
     ensures memory { result ≡ Err Memory → HasCount text.now }
 {
     let bytes = text.as_bytes();

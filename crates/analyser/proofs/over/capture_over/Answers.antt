@@ -1,0 +1,51 @@
+use Rattle.std.proofs.Common.{refl, List, Option, None, Some, ℕ}
+use Rattle.std.specs.Prelude.{IsSome, IfSome}
+use Rattle.std.specs.Io.KnownBytes.{Appends}
+use Rattle.afdx_frame.specs.Frame.{Frame}
+use Rattle.afdx_frame.specs.declared.key.Network.TheVariants as networks
+use Rattle.bpf_isa.specs.declared.packed.Packed.{Packed}
+use Rattle.pcap_io.specs.declared.recording.Ending.{Ending}
+use Rattle.analyser.specs.declared.fault.WatchFault.{WatchFault}
+use Rattle.analyser.specs.declared.fault.Fault.TheVariants as fault
+use Rattle.analyser.specs.Capture.{capture_text, IsRecording}
+use Rattle.analyser.specs.Whole.{HasCause}
+use Rattle.analyser.specs.Over.{HasCaptured}
+use Rattle.analyser.proofs.over.capture_over.Goals as goal
+
+-- the ending of a capture isn't told further
+with_ending : (p : List Packed) (bytes before behind : Option (List ℕ)) (ending : Ending)
+    → IfSome bytes (λ bs. (frames : List Frame) × IsRecording networks.A 0 bs frames ending × Appends before behind (capture_text p frames))
+    → HasCaptured p bytes before behind
+with_ending p None before behind ending h = tt
+with_ending p (Some bs) before behind ending h = (h.0, ending, h.1, h.2)
+
+pub returns-in-Ok-capture_one-clause-captured : goal.returns-in-Ok-capture_one-clause-captured
+returns-in-Ok-capture_one-clause-captured g c = λ _.
+    (refl, (c.in-Ok.program, c.in-Ok.ensures.filter, with_ending _ (g.S.TapSource.remaining c.args.source) _ _ _ c.in-Ok-capture_one.ensures.captured))
+
+-- the source that was given back tells its count
+counted : {A : Type 0} (source : Option A) (failures : A → ℕ) (w : WatchFault) (old sinks_old sinks_new : ℕ) → IsSome source
+    → IfSome source (λ a. HasCause w old (failures a) sinks_old sinks_new) → (after : ℕ) × HasCause w old after sinks_old sinks_new
+counted None failures w old sinks_old sinks_new some h = cc
+counted (Some a) failures w old sinks_old sinks_new some h = (failures a, h)
+
+pub returns-clause-given_up : goal.returns-clause-given_up
+returns-clause-given_up g c = λ _.
+    let told = c.failed-in-Err-capture_one.ensures in
+    let refused = c.in-Err-capture_one.ensures in (
+      told.status,
+      (
+        fault.Watch c.in-Err-capture_one.refused.fault,
+        told.line,
+        (
+          c.in-Ok.program,
+          c.in-Ok.ensures.filter,
+          rw told.sink (record {
+            front = refused.front;
+            unwritten = refused.unwritten;
+            header = refused.header;
+            cause = counted c.in-Err-capture_one.refused.a g.S.TapSource.failures _ _ _ _ refused.back.0 refused.cause;
+          }),
+        ),
+      ),
+    )

@@ -1,0 +1,4 @@
+pub mod Line
+pub mod Capture
+pub mod Whole
+pub mod Over

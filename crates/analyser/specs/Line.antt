@@ -1,0 +1,65 @@
+-- The lines that the program prints for faults (this project's format): the group, the fault's number and name, and where it is.
+use Rattle.std.specs.Prelude.{ℕ, List, [], ◌++◌, Option, Some, None, codes, decimal}
+use Rattle.afdx_frame.specs.declared.key.Network.{Network}
+use Rattle.afdx_frame.specs.declared.key.Network.TheVariants as networks
+use Rattle.bpf_isa.specs.declared.numeric.fault.NumericFault.{NumericFault}
+use Rattle.bpf_isa.specs.declared.numeric.fault.NumericFault.TheVariants as numeric
+use Rattle.bpf_loader.specs.declared.fault.LoadFault.{LoadFault}
+use Rattle.bpf_loader.specs.declared.fault.LoadFault.TheVariants as load
+use Rattle.pcap_io.specs.declared.layout.HeaderFault.{HeaderFault}
+use Rattle.pcap_io.specs.declared.layout.HeaderFault.TheVariants as header
+use Rattle.analyser.specs.declared.fault.WatchFault.{WatchFault}
+use Rattle.analyser.specs.declared.fault.WatchFault.TheVariants as watch
+use Rattle.analyser.specs.declared.fault.Output.TheVariants as output
+use Rattle.analyser.specs.declared.fault.Fault.{Fault}
+use Rattle.analyser.specs.declared.fault.Fault.TheVariants as fault
+
+abbrev pub numeric_part : NumericFault → List ℕ
+numeric_part (numeric.Character at) = codes "1 Character at " ++ decimal at
+numeric_part (numeric.Number at) = codes "2 Number at " ++ decimal at
+numeric_part (numeric.Form at) = codes "3 Form at " ++ decimal at
+numeric_part (numeric.Count at) = codes "4 Count at " ++ decimal at
+numeric_part (numeric.TooMany at) = codes "5 TooMany at " ++ decimal at
+numeric_part numeric.Memory = codes "6 Memory"
+
+abbrev pub load_part : LoadFault → List ℕ
+load_part load.Length = codes "1 Length"
+load_part (load.UnknownCode at) = codes "2 UnknownCode at " ++ decimal at
+load_part (load.ZeroDivisor at) = codes "3 ZeroDivisor at " ++ decimal at
+load_part (load.Shift at) = codes "4 Shift at " ++ decimal at
+load_part (load.Scratch at) = codes "5 Scratch at " ++ decimal at
+load_part (load.Offset at) = codes "6 Offset at " ++ decimal at
+load_part (load.Jump at) = codes "7 Jump at " ++ decimal at
+load_part load.NoReturn = codes "8 NoReturn"
+load_part (load.Unstored at word) = codes "9 Unstored at " ++ decimal at ++ codes " word " ++ decimal word
+
+abbrev pub header_part : HeaderFault → List ℕ
+header_part header.Short = codes "1 Short"
+header_part header.Magic = codes "2 Magic"
+header_part header.Version = codes "3 Version"
+header_part header.LinkType = codes "4 LinkType"
+
+abbrev pub network_part : Network → List ℕ
+network_part networks.A = codes "A"
+network_part networks.B = codes "B"
+
+abbrev pub watch_part : WatchFault → List ℕ
+watch_part watch.Workers = codes "1 Workers"
+watch_part (watch.Header network f) = codes "2 Header " ++ network_part network ++ codes " " ++ header_part f
+watch_part (watch.Read network) = codes "3 Read " ++ network_part network
+watch_part (watch.Write output.Capture) = codes "4 Write capture"
+watch_part (watch.Write output.Ledger) = codes "4 Write ledger"
+watch_part watch.Spawn = codes "5 Spawn"
+watch_part watch.RingLost = codes "6 RingLost"
+watch_part watch.Memory = codes "7 Memory"
+watch_part watch.Filters = codes "8 Filters"
+
+-- the number of a filter of the table; that of the command line has none
+abbrev pub filter_part : Option ℕ → List ℕ
+filter_part None = []
+filter_part (Some number) = codes " filter " ++ decimal number
+
+abbrev pub line_of : Fault → List ℕ
+line_of (fault.Numeric f filter) = codes "afdxmon: numeric " ++ numeric_part f ++ filter_part filter
+line_of (fault.Load f filter) = codes "afdxmon: load " ++ load_part f ++ filter_part filter
+line_of (fault.Watch f) = codes "afdxmon: watch " ++ watch_part f

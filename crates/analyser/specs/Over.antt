@@ -1,0 +1,47 @@
+-- What the command `capture` leaves: its status, its line and its sink, by the text of its filter and the recording.
+use Rattle.std.specs.Prelude.{◌≡◌, ℕ, List, Option, None, Ok, Err, map, IfSome}
+use Rattle.std.specs.Io.KnownBytes.{Appends, Keeps}
+use Rattle.afdx_frame.specs.Frame.{Frame}
+use Rattle.afdx_frame.specs.declared.key.Network.TheVariants as networks
+use Rattle.bpf_isa.specs.declared.packed.Packed.{Packed}
+use Rattle.bpf_isa.specs.Numeric.{numeric_of, IsFault}
+use Rattle.bpf_isa.specs.Table.{canonical_word}
+use Rattle.bpf_loader.specs.Faults.{IsLoadable, IsFirstFault}
+use Rattle.pcap_io.specs.Device.{AppendsFront}
+use Rattle.pcap_io.specs.Layout.{header_of}
+use Rattle.pcap_io.specs.declared.layout.HeaderFault.{HeaderFault}
+use Rattle.pcap_io.specs.declared.recording.Ending.{Ending}
+use Rattle.analyser.specs.Capture.{capture_text, IsRecording}
+use Rattle.analyser.specs.Whole.{HasCause}
+use Rattle.analyser.specs.declared.fault.Fault.{Fault}
+use Rattle.analyser.specs.declared.fault.Fault.TheVariants as fault
+use Rattle.analyser.specs.declared.fault.WatchFault.{WatchFault}
+use Rattle.analyser.specs.declared.fault.WatchFault.TheVariants as watch
+
+-- the text holds this filter, in the form in which it runs
+abbrev pub IsFilter : List ℕ → List Packed → Type 0
+IsFilter text p = (words : List Packed) × (numeric_of text ≡ Ok words) × IsLoadable words × (p ≡ map canonical_word words)
+
+-- the text holds no filter, and this is its fault
+abbrev pub IsFilterFault : List ℕ → Fault → Type 0
+IsFilterFault text (fault.Numeric f None) = IsFault f (numeric_of text)
+IsFilterFault text (fault.Load f None) = (words : List Packed) × (numeric_of text ≡ Ok words) × IsFirstFault words f
+IsFilterFault text _ = ⊥
+
+-- the sink has what it had, followed by the capture of the recording's frames
+abbrev pub HasCaptured : List Packed → Option (List ℕ) → Option (List ℕ) → Option (List ℕ) → Type 0
+HasCaptured p bytes before behind = IfSome bytes (λ bs. (frames : List Frame) × (ending : Ending)
+    × IsRecording networks.A 0 bs frames ending × Appends before behind (capture_text p frames))
+
+-- Why a capture with a sound filter was given up, and what it left: a front of the capture, and nothing where the recording has
+-- no header. (What the source has counted behind the call isn't seen any more.)
+pub record IsGivenUp (p : List Packed) (w : WatchFault) (bytes before behind : Option (List ℕ)) (sources sinks_old sinks_new : ℕ) : Type 0 where
+  pub front : IfSome bytes (λ bs. (frames : List Frame) (ending : Ending) → IsRecording networks.A 0 bs frames ending → AppendsFront before behind (capture_text p frames))
+  pub unwritten : IfSome bytes (λ bs. (f : HeaderFault) → header_of bs ≡ Err f → Keeps before behind)
+  pub header : (f : HeaderFault) → w ≡ watch.Header networks.A f → Keeps before behind × IfSome bytes (λ bs. header_of bs ≡ Err f)
+  pub cause : (after : ℕ) × HasCause w sources after sinks_old sinks_new
+
+-- what a fault leaves
+abbrev pub Leaves : Fault → List ℕ → Option (List ℕ) → Option (List ℕ) → Option (List ℕ) → ℕ → ℕ → ℕ → Type 0
+Leaves (fault.Watch w) text bytes before behind sources sinks_old sinks_new = (p : List Packed) × IsFilter text p × IsGivenUp p w bytes before behind sources sinks_old sinks_new
+Leaves f text bytes before behind sources sinks_old sinks_new = IsFilterFault text f × Keeps before behind

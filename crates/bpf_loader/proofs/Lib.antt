@@ -1,0 +1,3 @@
+pub mod ByInsn
+pub mod Canonical
+pub mod Pass

@@ -1,0 +1,7 @@
+pub mod Paths
+pub mod Faults
+pub mod Laws
+pub mod Typed
+pub mod Masks
+pub use Rattle.bpf_isa.specs.Machine
+pub use Rattle.bpf_isa.specs.Table

@@ -1,0 +1,124 @@
+-- What one more read or write adds to those before it.
+use Rattle.std.proofs.Common.{◌≡◌, ℕ, ◌+◌, ◌≤◌, min, max, Bool, true, false, ◌||◌, List, ◌++◌, length, take, drop, nat_lt, Option, Some, None, IfSome, Result, Ok, Err, OnErr, refl, sym, ap, ◌∙◌, subst, arith, inl, inr, ◌⊎◌}
+use Rattle.std.proofs.lemmas.List.{length-take-le, take-append-le, take_at, drop_at, take-append-drop, take_all, take_min, drop-drop, length-drop, length-append}
+use Rattle.std.proofs.Math.Seq.{take-append-add}
+use Rattle.std.proofs.KnownBytes.{Consumes-trans, Appends-trans}
+use Rattle.std.specs.Io.KnownBytes.{Consumes, Appends}
+use Rattle.std.proofs.lemmas.Bool.{eqb-false, le-ltb}
+use borrow.Rule.Slice.PartMut.{put_mid, post_of}
+use Rattle.byteorder.specs.Endian.{big_number}
+use Rattle.pcap_io.specs.Device.{AppendsFront}
+use Rattle.pcap_io.specs.Position.{Opens}
+use Rattle.pcap_io.specs.Layout.{layout_of_magic, checked, header_of}
+use Rattle.pcap_io.specs.declared.layout.Layout.{Layout}
+use Rattle.pcap_io.specs.declared.layout.HeaderFault.{HeaderFault}
+use Rattle.pcap_io.specs.Script.{fails, answer_of}
+use Rattle.pcap_io.specs.declared.course.Course.{Course}
+use Rattle.pcap_io.specs.declared.device.DeviceFault.{DeviceFault}
+
+-- the front of a buffer after more was read behind its front
+pub take-read : (done n k : ℕ) (buf got : List ℕ) → done ≤ length buf → n ≤ length got
+    → take (done + n) (put_mid done k buf got) ≡ take done buf ++ take n got
+take-read done n k buf got within fits =
+    let after : List ℕ = post_of done k buf in
+    let front : List ℕ = take done buf in
+    let size : length front ≡ done = length-take-le done buf within in
+    ap (λ (m : ℕ). take (m + n) (front ++ (got ++ after))) (sym size) ∙ take-append-add front (got ++ after) n ∙ ap (λ (l : List ℕ). front ++ l) (take-append-le n got after fits)
+
+pub fill_more : (a b c : Option (List ℕ)) (done n k : ℕ) (buf got : List ℕ) → done ≤ length buf → n ≤ length got
+    → Consumes a b (take done buf) → Consumes b c (take n got) → Consumes a c (take (done + n) (put_mid done k buf got))
+fill_more a b c done n k buf got within fits first next =
+    subst (Consumes a c) (sym (take-read done n k buf got within fits)) (Consumes-trans a b c _ _ first next)
+
+-- a front, and a front of what is behind it
+pub take-front : (done n : ℕ) (bytes : List ℕ) → done ≤ length bytes → take (done + n) bytes ≡ take done bytes ++ take n (drop done bytes)
+take-front done n bytes within =
+    let front : List ℕ = take done bytes in
+    let size : length front ≡ done = length-take-le done bytes within in
+    ap (take (done + n)) (sym (take-append-drop done bytes)) ∙ ap (λ (m : ℕ). take (m + n) (front ++ drop done bytes)) (sym size)
+    ∙ take-append-add front (drop done bytes) n
+
+pub write_more : (a b c : Option (List ℕ)) (done n : ℕ) (bytes : List ℕ) → done ≤ length bytes
+    → Appends a b (take done bytes) → Appends b c (take n (drop done bytes)) → Appends a c (take (done + n) bytes)
+write_more a b c done n bytes within first next =
+    subst (Appends a c) (sym (take-front done n bytes within)) (Appends-trans a b c _ _ first next)
+
+-- what a source over memory gives is gone from its front
+pub given : (all buf got : List ℕ) (at p : ℕ) → got ≡ take p (drop at all) → at + p ≤ length all
+    → drop at all ≡ take p (got ++ drop p buf) ++ drop (at + p) all
+given all buf got at p e within =
+    let size : length got ≡ p = ap length e ∙ length-take-le p (drop at all) (omega (arith, length-drop at all)) in
+    sym (take-append-drop p (drop at all))
+    ∙ ap (λ (l : List ℕ). l ++ drop p (drop at all)) (sym e ∙ sym (take_at got (drop p buf) p size))
+    ∙ ap (λ (l : List ℕ). take p (got ++ drop p buf) ++ l) (drop-drop p at all)
+
+both_false : (a b : Bool) → (a || b) ≡ false → (a ≡ false) × (b ≡ false)
+both_false true b e = cc
+both_false false b e = (refl, e)
+
+which : (b : Bool) → (b ≡ true) ⊎ (b ≡ false)
+which true = inl refl
+which false = inr refl
+
+same_ok : (a b : ℕ) → ◌≡◌ {A = Result ℕ DeviceFault} (Ok a) (Ok b) → a ≡ b
+same_ok a b e = cc
+
+-- what a device over memory passes: none only where none is asked for
+pub answered : (c : Course) (asked p : ℕ) → answer_of c asked ≡ Ok p → (p ≤ asked) × (p ≡ 0 → asked ≡ 0)
+answered c asked p e = elim (which (fails c)) [
+  | inl t ↦ let no = rw t at e in cc
+  | inr f ↦
+      let some = eqb-false c.left 0 (both_false _ _ (both_false _ _ f).0).0 in
+      let same : min asked (min c.left (max c.piece 1)) ≡ p = same_ok _ _ (rw f at e) in
+      (omega arith, λ z. omega (arith, z))
+]
+
+-- ---- two writes
+
+-- the first failed
+pub front_first : (a b : Option (List ℕ)) (first second : List ℕ) → AppendsFront a b first → AppendsFront a b (first ++ second)
+front_first a b first second (n, h) =
+    let m = min n (length first) in
+    let same : take n first ≡ take m (first ++ second) = sym (take_min n first) ∙ sym (take-append-le m first second (omega arith)) in
+    (m, subst (Appends a b) same h)
+
+-- the second failed
+pub front_second : (a b c : Option (List ℕ)) (first second : List ℕ) → Appends a b first → AppendsFront b c second → AppendsFront a c (first ++ second)
+front_second a b c first second whole (n, h) =
+    (length first + n, subst (Appends a c) (sym (take-append-add first second n)) (Appends-trans a b c first (take n second) whole h))
+
+pub on_err_from : {T E Q : Type 0} (r : Result T E) → Q → OnErr r Q
+on_err_from (Ok x) q = tt
+on_err_from (Err e) q = q
+
+-- ---- a header
+
+abbrev opened : List ℕ → Result Layout HeaderFault
+opened header = checked header (layout_of_magic (big_number 4 header))
+
+long_header : (bytes : List ℕ) → 24 ≤ length bytes → header_of bytes ≡ opened (take 24 bytes)
+long_header bytes long =
+    let test : nat_lt (length bytes) 24 ≡ false = le-ltb (length bytes) 24 long in
+    rw test refl
+
+-- a header says the same whatever follows
+pub header-append : (header more : List ℕ) → length header ≡ 24 → header_of (header ++ more) ≡ header_of header
+header-append header more size =
+    long_header (header ++ more) (omega (arith, size, length-append header more))
+    ∙ ap opened (take_at header more 24 size ∙ sym (take_all 24 header (omega (arith, size))))
+    ∙ sym (long_header header (omega (arith, size)))
+
+pub header_from : (before after : Option (List ℕ)) (header : List ℕ) (came : ℕ) (r : Result Layout HeaderFault) → length header ≡ 24 → 24 ≤ came
+    → Consumes before after (take came header) → header_of header ≡ r → IfSome before (λ bytes. header_of bytes ≡ r)
+header_from None after header came r size all gone read = tt
+header_from (Some xs) None header came r size all gone read = absurd gone
+header_from (Some xs) (Some ys) header came r size all gone read =
+    ap header_of (gone ∙ ap (λ (h : List ℕ). h ++ ys) (take_all came header (omega (arith, size, all)))) ∙ header-append header ys size ∙ read
+
+pub opens_from : (before after : Option (List ℕ)) (header : List ℕ) (came : ℕ) (layout : Layout) → length header ≡ 24 → 24 ≤ came
+    → Consumes before after (take came header) → header_of header ≡ Ok layout → Opens before after layout
+opens_from None after header came layout size all gone read = tt
+opens_from (Some xs) None header came layout size all gone read = absurd gone
+opens_from (Some xs) (Some ys) header came layout size all gone read =
+    let split : xs ≡ header ++ ys = gone ∙ ap (λ (h : List ℕ). h ++ ys) (take_all came header (omega (arith, size, all))) in
+    (header_from (Some xs) (Some ys) header came (Ok layout) size all gone read, ap Some (sym (ap (drop 24) split ∙ drop_at header ys 24 size)))

@@ -1,0 +1,9 @@
+use Rattle.std.proofs.Common.{rules, arith, ◌≡◌, length}
+use Rattle.pcap_io.proofs.Steps.{start_from}
+use Rattle.pcap_io.proofs.stepping.read_head.Goals as goal
+
+pub returns-clause-start : goal.returns-clause-start
+returns-clause-start g c =
+    let head = c.fill.new.buf in
+    let size : length head ≡ 16 = search rules in
+    start_from c.args.position.now _ _ head c.in_ok-came.came _ size c.start_of.ensures.fits c.in_ok-came.ensures.bytes (λ lt. c.in_ok-came.ensures.end (omega (arith, size))) c.start_of.ensures.found

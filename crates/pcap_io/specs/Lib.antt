@@ -1,0 +1,12 @@
+pub mod Capture
+pub mod Device
+pub mod Laws
+pub mod Layout
+pub mod Position
+pub mod Reader
+pub mod Recording
+pub mod Script
+pub mod Spelling
+pub mod Splitting
+pub mod Supply
+pub mod Writer

@@ -1,0 +1,11 @@
+-- What contracts see of a writer of captures.
+use Rattle.std.specs.Prelude.{Bool}
+use Rattle.pcap_io.specs.declared.writer.CaptureWriter.{CaptureWriter}
+
+-- what it writes to
+abbrev pub sink_of : {W : Type 0} → CaptureWriter W → W
+sink_of writer = writer.sink
+
+-- its device has failed
+abbrev pub has_failed : {W : Type 0} → CaptureWriter W → Bool
+has_failed writer = writer.failed

@@ -1,0 +1,105 @@
+//! The header of a recording: in which order and how finely it writes its numbers.
+ghost use Rattle.std.specs.Prelude.{◌≡◌, ◌≤◌, length, Some};
+ghost use Rattle.pcap_io.specs.Layout.{number_in, layout_of_magic, header_of, checked};
+
+use byteorder::{BigEndian, ByteOrder, LittleEndian};
+use thiserror::Error;
+
+/// The order of a number's bytes.
+#[derive(Clone, Copy, Debug, PartialEq, Eq)]
+pub enum Order {
+    /// The least significant byte stands first.
+    Little,
+    /// The most significant byte stands first.
+    Big,
+}
+
+/// The unit of the fraction of a second in a stamp.
+#[derive(Clone, Copy, Debug, PartialEq, Eq)]
+pub enum Precision {
+    Nanoseconds,
+    Microseconds,
+}
+
+/// How a recording writes its numbers.
+#[derive(Clone, Copy, Debug, PartialEq, Eq)]
+pub struct Layout {
+    pub order: Order,
+    pub precision: Precision,
+}
+
+/// Why the first 24 bytes are no header that is read here: the first that fits.
+#[derive(Clone, Copy, Debug, PartialEq, Eq, Drop, Error)]
+pub enum HeaderFault {
+    /// There are fewer than 24 bytes.
+    #[error("the header is cut")]
+    Short,
+    /// The first four bytes name no layout.
+    #[error("the magic number is unknown")]
+    Magic,
+    /// The version isn't 2.4.
+    #[error("the version isn't 2.4")]
+    Version,
+    /// The link type isn't 1, Ethernet.
+    #[error("the link type isn't Ethernet")]
+    LinkType,
+}
+
+/// The bytes of a header.
+pub const HEADER_LEN: usize = 24;
+
+/// The number in the first four bytes.
+#[inline]
+pub fn number_of(order: Order, bytes: &[u8]) -> u32
+    requires { 4 ≤ length bytes.now }
+    ensures { result ≡ number_in order 4 bytes.now }
+{
+    match order {
+        Order::Little => LittleEndian::read_u32(bytes),
+        Order::Big => BigEndian::read_u32(bytes),
+    }
+}
+
+/// The number in the first two bytes.
+fn short_number_of(order: Order, bytes: &[u8]) -> u16
+    requires { 2 ≤ length bytes.now }
+    ensures { result ≡ number_in order 2 bytes.now }
+{
+    match order {
+        Order::Little => LittleEndian::read_u16(bytes),
+        Order::Big => BigEndian::read_u16(bytes),
+    }
+}
+
+/// The layout that the magic number names, read with its most significant byte first (pcap 2.4).
+fn layout_of_magic(magic: u32) -> Option<Layout>
+    ensures { result ≡ layout_of_magic magic }
+{
+    let (order, precision) = match magic {
+        0x4d3c_b2a1 => (Order::Little, Precision::Nanoseconds),
+        0xa1b2_3c4d => (Order::Big, Precision::Nanoseconds),
+        0xd4c3_b2a1 => (Order::Little, Precision::Microseconds),
+        0xa1b2_c3d4 => (Order::Big, Precision::Microseconds),
+        _ => return None,
+    };
+    Some(Layout { order, precision })
+}
+
+/// The layout that a header names.
+pub fn layout_of(header: &[u8]) -> Result<Layout, HeaderFault>
+    requires { length header.now ≡ 24 }
+    ensures { result ≡ header_of header.now }
+{
+    let Some(layout) = layout_of_magic(BigEndian::read_u32(header)) else {
+        return Err(HeaderFault::Magic);
+    };
+    let major = short_number_of(layout.order, &header[4..]);
+    let minor = short_number_of(layout.order, &header[6..]);
+    if major != 2 || minor != 4 {
+        return Err(HeaderFault::Version);
+    }
+    if number_of(layout.order, &header[20..]) != 1 {
+        return Err(HeaderFault::LinkType);
+    }
+    Ok(layout)
+}
