@@ -1,5 +1,5 @@
 //! One tap, one filter, a capture.
-ghost use Rattle.std.specs.Prelude.{◌≡◌, ◌≤◌, ◌^◌, List, Some, None, Err, IfOk, IfErr, IfSome, OnOk, OnErr, IsSome, false, ◌≢◌};
+ghost use Rattle.std.specs.Prelude.{◌≡◌, ◌⊎◌, ◌≤◌, ◌^◌, List, Some, None, Err, IfOk, IfErr, IfSome, OnOk, OnErr, IsOk, IsSome, false, ◌≢◌};
 ghost use Rattle.std.specs.Io.KnownBytes.{Appends, Keeps};
 ghost use Rattle.afdx_frame.specs.Frame.{Frame};
 ghost use Rattle.pcap_io.specs.Device.{AppendsFront, CountsFailure};
@@ -150,10 +150,12 @@ pub fn capture_one<S: TapSource, W: OutSink>(
     ensures unwritten { IfErr result (λ refused. IfSome (S.remaining source) (λ bytes. (f : HeaderFault) → header_of bytes ≡ Err f
         → Keeps (W.contents sink) (W.contents refused.capture))) }
 
-    // A header fault is that of the bytes, and nothing is written then; a device's fault is answered only where
-    // it failed.
+    // A header fault is that of the bytes, and nothing is written then; the output's fault and want of memory come
+    // behind it. A device's fault is answered only where it alone failed.
     ensures header { IfErr result (λ refused. (f : HeaderFault) → refused.fault ≡ WatchFault.Header Network.A f
         → Keeps (W.contents sink) (W.contents refused.capture) × IfSome (S.remaining source) (λ bytes. header_of bytes ≡ Err f)) }
+    ensures order { IfErr result (λ refused. (refused.fault ≡ WatchFault.Write Output.Capture) ⊎ (refused.fault ≡ WatchFault.Memory)
+        → IfSome (S.remaining source) (λ bytes. IsOk (header_of bytes))) }
     ensures cause { IfErr result (λ refused. IfSome refused.a (λ a. HasCause refused.fault (S.failures source) (S.failures a)
         (W.failures sink) (W.failures refused.capture))) }
     ensures back { IfErr result (λ refused. IsSome refused.a × (refused.b ≡ None)) }

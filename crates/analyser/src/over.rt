@@ -69,12 +69,13 @@ pub fn capture_over<S: TapSource + Drop, W: OutSink>(
     // recording's frames.
     ensures captured { result.status ≡ 0 → (result.line ≡ None) × ((p : List Packed) × IsFilter code.now p
         × HasCaptured p (S.remaining source) (W.contents sink) (W.contents result.sink)) }
+    ensures sound { result.status ≡ 0 → W.failures result.sink ≡ W.failures sink }
 
     // At any other it is 1, and the line tells the fault.
     ensures given_up { result.status ≢ 0 → (result.status ≡ 1) × ((fault : Fault)
         × IfSome result.line (λ line. string_bytes line ≡ line_of fault)
         × Leaves fault code.now (S.remaining source) (W.contents sink) (W.contents result.sink)
-        (S.failures source) (W.failures sink) (W.failures result.sink)) }
+        (W.failures sink) (W.failures result.sink)) }
 {
     let program = match filter_of(alloc, code) {
         Ok(program) => program,

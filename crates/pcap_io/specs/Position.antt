@@ -1,5 +1,5 @@
 -- Where a reader stands in its recording, what it gives there, and which frames and ending the bytes from there on hold.
-use Rattle.std.specs.Prelude.{◌≡◌, ◌≢◌, ℕ, ◌+◌, ◌<◌, max, List, ◌++◌, [], length, take, drop, Option, Some, None, Ok, Err, IfSome, ⊤}
+use Rattle.std.specs.Prelude.{◌≡◌, ◌≢◌, ℕ, ◌+◌, ◌<◌, ◌≤◌, max, List, ◌++◌, [], length, take, drop, Option, Some, None, Ok, Err, IfSome, ⊤}
 use Rattle.std.specs.Io.KnownBytes.{Consumes}
 use Rattle.afdx_frame.specs.Frame.{Frame}
 use Rattle.afdx_frame.specs.declared.key.Network.{Network}
@@ -103,6 +103,10 @@ IsStart p before after (starts.Head head) = (bytes : List ℕ) × TakesHead p be
 IsStart p before after (starts.End e) = IfSome before (λ bytes. ending_here p bytes ≡ Some e)
 
 -- ---- opening
+
+-- at most so many bytes are gone
+abbrev pub TakesAtMost : ℕ → Option (List ℕ) → Option (List ℕ) → Type 0
+TakesAtMost n before after = (gone : List ℕ) × (length gone ≤ n) × Consumes before after gone
 
 -- the bytes begin with a header of this layout, which is gone
 abbrev pub Opens : Option (List ℕ) → Option (List ℕ) → Layout → Type 0

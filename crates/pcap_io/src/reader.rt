@@ -1,7 +1,7 @@
 //! Reads the frames of a recording.
 ghost use Rattle.std.specs.Prelude.{◌≡◌, ◌≤◌, ◌^◌, drop, Some, Ok, Err, IfOk, IfErr, OnOk, OnErr, IfSome};
 ghost use Rattle.pcap_io.specs.Layout.{header_of};
-ghost use Rattle.pcap_io.specs.Position.{IsNext, IsOpenFault, IsReadFault, Opens, after_item, start_at};
+ghost use Rattle.pcap_io.specs.Position.{IsNext, IsOpenFault, IsReadFault, Opens, TakesAtMost, after_item, start_at};
 
 use crate::device::{DeviceFault, TapSource};
 use crate::layout::{HEADER_LEN, HeaderFault, Layout, layout_of};
@@ -56,6 +56,7 @@ fn read_layout<S: TapSource>(source: &mut S) -> Result<Layout, OpenFault>
     ensures sound { OnOk result (S.failures source.new ≡ S.failures source.old) }
     ensures fault { IfErr result
         (IsOpenFault (S.remaining source.old) (S.failures source.old) (S.failures source.new)) }
+    ensures taken { OnErr result (TakesAtMost 24 (S.remaining source.old) (S.remaining source.new)) }
 {
     let mut header = [0u8; HEADER_LEN];
     let came = fill(source, &mut header)?;
@@ -98,6 +99,8 @@ impl<S: TapSource> TapReader<S> {
         ensures sound { IfOk result (λ r. S.failures (source_of r) ≡ S.failures source) }
         ensures fault { IfErr result (λ e.
             IsOpenFault (S.remaining source) (S.failures source) (S.failures e.source) e.fault) }
+        // No more than a header is gone from the source that is given back.
+        ensures taken { IfErr result (λ e. TakesAtMost 24 (S.remaining source) (S.remaining e.source)) }
     {
         let mut source = source;
         match read_layout(&mut source) {

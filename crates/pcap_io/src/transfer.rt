@@ -2,6 +2,7 @@
 ghost use Rattle.std.specs.Prelude.{◌≡◌, ◌<◌, ◌≤◌, length, take, IfOk, OnOk, OnErr};
 ghost use Rattle.std.specs.Io.KnownBytes.{Consumes, Appends, IsAtEnd};
 ghost use Rattle.pcap_io.specs.Device.{CountsFailure, AppendsFront};
+ghost use Rattle.pcap_io.specs.Position.{TakesAtMost};
 
 use crate::device::{DeviceFault, OutSink, TapSource};
 
@@ -14,6 +15,7 @@ pub fn fill<S: TapSource>(source: &mut S, buf: &mut [u8]) -> Result<usize, Devic
     ensures end { IfOk result (λ n. n < length buf.new → IsAtEnd (S.remaining source.new)) }
     ensures sound { OnOk result (S.failures source.new ≡ S.failures source.old) }
     ensures fault { OnErr result (CountsFailure (S.failures source.old) (S.failures source.new)) }
+    ensures taken { OnErr result (TakesAtMost (length buf.old) (S.remaining source.old) (S.remaining source.new)) }
 {
     let mut done = 0;
     while done < buf.len() {

@@ -9,7 +9,9 @@ use Rattle.analyser.specs.declared.fault.WatchFault.{WatchFault}
 use Rattle.analyser.specs.declared.fault.Fault.TheVariants as fault
 use Rattle.analyser.specs.Capture.{capture_text, IsRecording}
 use Rattle.analyser.specs.Whole.{HasCause}
-use Rattle.analyser.specs.Over.{HasCaptured}
+use Rattle.analyser.specs.declared.fault.WatchFault.TheVariants as watch
+use Rattle.analyser.specs.declared.fault.Output.TheVariants as output
+use Rattle.analyser.specs.Over.{HasCaptured, HasSinkCause}
 use Rattle.analyser.proofs.over.capture_over.Goals as goal
 
 -- the ending of a capture isn't told further
@@ -23,11 +25,24 @@ pub returns-in-Ok-capture_one-clause-captured : goal.returns-in-Ok-capture_one-c
 returns-in-Ok-capture_one-clause-captured g c = λ _.
     (refl, (c.in-Ok.program, c.in-Ok.ensures.filter, with_ending _ (g.S.TapSource.remaining c.args.source) _ _ _ c.in-Ok-capture_one.ensures.captured))
 
--- the source that was given back tells its count
-counted : {A : Type 0} (source : Option A) (failures : A → ℕ) (w : WatchFault) (old sinks_old sinks_new : ℕ) → IsSome source
-    → IfSome source (λ a. HasCause w old (failures a) sinks_old sinks_new) → (after : ℕ) × HasCause w old after sinks_old sinks_new
-counted None failures w old sinks_old sinks_new some h = cc
-counted (Some a) failures w old sinks_old sinks_new some h = (failures a, h)
+-- the sink's part of a cause
+of_sink : (w : WatchFault) (a b old new : ℕ) → HasCause w a b old new → HasSinkCause w old new
+of_sink (watch.Header networks.A f) a b old new h = h.1
+of_sink (watch.Header networks.B f) a b old new h = h
+of_sink (watch.Read networks.A) a b old new h = h.1
+of_sink (watch.Read networks.B) a b old new h = h
+of_sink (watch.Write output.Capture) a b old new h = h.1
+of_sink (watch.Write output.Ledger) a b old new h = h
+of_sink watch.Workers a b old new h = h
+of_sink watch.Spawn a b old new h = h
+of_sink watch.RingLost a b old new h = h
+of_sink watch.Memory a b old new h = h.1
+of_sink watch.Filters a b old new h = h
+
+behind : {A : Type 0} (source : Option A) (failures : A → ℕ) (w : WatchFault) (a old new : ℕ) → IsSome source
+    → IfSome source (λ s. HasCause w a (failures s) old new) → HasSinkCause w old new
+behind None failures w a old new some h = cc
+behind (Some s) failures w a old new some h = of_sink w a (failures s) old new h
 
 pub returns-clause-given_up : goal.returns-clause-given_up
 returns-clause-given_up g c = λ _.
@@ -44,7 +59,8 @@ returns-clause-given_up g c = λ _.
             front = refused.front;
             unwritten = refused.unwritten;
             header = refused.header;
-            cause = counted c.in-Err-capture_one.refused.a g.S.TapSource.failures _ _ _ _ refused.back.0 refused.cause;
+            order = refused.order;
+            cause = behind c.in-Err-capture_one.refused.a g.S.TapSource.failures _ _ _ _ refused.back.0 refused.cause;
           }),
         ),
       ),
