@@ -1,0 +1,116 @@
+//! Programs by their words, read, loaded and run: their answers and their steps.
+
+use crate::support::{frame, loaded};
+use afdx_frame::FrameView;
+use bpf_isa::{NumericFault, read_numeric};
+use bpf_loader::{LoadFault, Program};
+use bpf_machine::run;
+use std::test::Fail;
+
+/// A program, a frame by its link, length and last byte, and what the run gives.
+#[derive(Clone, Copy)]
+struct Row {
+    text: &'static str,
+    link: u8,
+    len: usize,
+    last: u8,
+    answer: u32,
+    steps: u32,
+}
+
+const fn gives(text: &'static str, frame: (u8, usize, u8), answer: u32, steps: u32) -> Row {
+    Row {
+        text,
+        link: frame.0,
+        len: frame.1,
+        last: frame.2,
+        answer,
+        steps,
+    }
+}
+
+#[test]
+fn answers_and_steps(rt: HostRuntime) -> Result<(), Fail> {
+    let alloc = rt.alloc();
+    let one_link = "4,40 0 0 4,21 0 1 5,6 0 0 4294967295,6 0 0 0,";
+    let last_byte = "5,128 0 0 0,20 0 0 1,7 0 0 0,80 0 0 0,22 0 0 0,";
+    let jump_if_less = "4,128 0 0 0,53 0 1 61,6 0 0 0,6 0 0 60,";
+    let rows = [
+        gives(one_link, (5, 60, 1), 4294967295, 3),
+        gives(one_link, (6, 60, 1), 0, 3),
+        gives(last_byte, (5, 60, 0), 0, 5),
+        gives(last_byte, (5, 60, 17), 17, 5),
+        // A word load at the frame's end, and one byte past it.
+        gives("2,32 0 0 57,6 0 0 1,", (5, 60, 1), 0, 1),
+        gives("2,32 0 0 56,6 0 0 1,", (5, 60, 1), 1, 2),
+        // Byte 14, by an offset that wraps.
+        gives("3,1 0 0 16,80 0 0 4294967294,22 0 0 0,", (5, 15, 9), 9, 3),
+        // A shift by 33.
+        gives("4,0 0 0 5,1 0 0 33,124 0 0 0,22 0 0 0,", (5, 60, 1), 0, 4),
+        // Negation, a division by an X of 0, and an IPv4 header's length.
+        gives("3,0 0 0 5,132 0 0 0,22 0 0 0,", (5, 60, 1), 4294967291, 3),
+        gives("3,0 0 0 1,60 0 0 0,6 0 0 9,", (5, 60, 1), 0, 2),
+        gives("3,177 0 0 59,135 0 0 0,22 0 0 0,", (5, 60, 19), 12, 3),
+        gives(jump_if_less, (5, 60, 1), 60, 3),
+        gives(jump_if_less, (5, 61, 1), 0, 3),
+        // No path comes to the read of a word that is never stored.
+        gives("3,5 0 0 1,96 0 0 0,6 0 0 0,", (5, 60, 1), 0, 2),
+    ];
+    for row in &rows {
+        let program = loaded(alloc, row.text)?;
+        let bytes = frame(alloc, row.link, row.len, row.last)?;
+        let whole = u32::try_from(row.len)?;
+        let ran = run(&program, &FrameView::new(&bytes), whole);
+        assert_eq!(rt; ran, (row.answer, row.steps), "{}", row.text);
+    }
+    Ok(())
+}
+
+#[test]
+fn a_path_without_a_store(rt: HostRuntime) -> Result<(), Fail> {
+    let words = read_numeric(rt.alloc(), "4,21 0 1 0,2 0 0 0,96 0 0 0,22 0 0 0,")?;
+    match Program::load(words) {
+        Ok(_) => assert!(rt; false, "it was loaded"),
+        Err(refused) => {
+            assert_eq!(rt; refused.fault, LoadFault::Unstored { at: 2, word: 0 });
+            assert_eq!(rt; refused.words.len(), 4);
+        }
+    }
+    Ok(())
+}
+
+#[test]
+fn lengths(rt: HostRuntime) -> Result<(), Fail> {
+    let alloc = rt.alloc();
+    for (count, reads, loads) in [
+        (0, true, false),
+        (1, true, true),
+        (4096, true, true),
+        (4097, false, false),
+    ] {
+        let mut text = format!(in alloc; "{count}\n")?;
+        for _ in 0..count {
+            text.push_str("6 0 0 7\n")?;
+        }
+        match read_numeric(alloc, &text) {
+            Err(fault) => {
+                assert!(rt; !reads, "{count} words");
+                assert_eq!(rt; fault, NumericFault::TooMany { at: 0 });
+            }
+            Ok(words) => {
+                assert!(rt; reads, "{count} words");
+                match Program::load(words) {
+                    Ok(program) => {
+                        assert!(rt; loads, "{count} words");
+                        assert_eq!(rt; run(&program, &FrameView::new(&[]), 0), (7, 1));
+                    }
+                    Err(refused) => {
+                        assert!(rt; !loads, "{count} words");
+                        assert_eq!(rt; refused.fault, LoadFault::Length);
+                    }
+                }
+            }
+        }
+    }
+    Ok(())
+}
