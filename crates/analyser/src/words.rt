@@ -1,6 +1,10 @@
 //! The words of the command line.
+ghost use Rattle.std.specs.Prelude.{◌≡◌, true, map, IfOk, IfErr, option_map, string_bytes};
+ghost use Rattle.clap.specs.Words.{kind_of, subcommand_rows_of, takes};
+ghost use Rattle.clap.specs.declared.error.kind.ErrorKind.TheVariants.{OutOfMemory};
+ghost use Rattle.analyser.specs.Words.{IsCapture, afdxmon_app, code_asked, code_in, code_of};
 
-use clap::{Arg, ArgAction, Command, Error};
+use clap::{Arg, ArgAction, ArgMatches, Command, Error};
 use std::alloc::{AllocError, Global};
 
 /// What the words ask for.
@@ -13,7 +17,10 @@ pub enum Words<'a> {
     },
 }
 
-fn capture_command<'a>(alloc: Global) -> Result<Command<'a>, AllocError> {
+/// The command `capture`.
+fn capture_command<'a>(alloc: Global) -> Result<Command<'a>, AllocError>
+    ensures { IfOk result IsCapture }
+{
     let code = Arg::new(alloc, "code")
         .long("code")
         .value_name("NUMERIC TEXT")
@@ -25,19 +32,29 @@ fn capture_command<'a>(alloc: Global) -> Result<Command<'a>, AllocError> {
         .arg(code)
 }
 
+/// What the matches of a command line ask for.
+fn words_of<'a>(matches: &ArgMatches<'a>) -> Option<Words<'a>>
+    ensures { option_map code_of result ≡ code_in (subcommand_rows_of matches.now) }
+{
+    match matches.subcommand() {
+        Some((name, given)) if name == "capture" => {
+            let code = given.get_str("code")?;
+            Some(Words::Capture { code })
+        }
+        _ => None,
+    }
+}
+
 /// Reads the program's words, the program's own name first. An `Err` has the text for the user; so has
 /// a request for help.
-pub fn read_words<'a>(alloc: Global, words: &'a [String]) -> Result<Option<Words<'a>>, Error> {
+pub fn read_words<'a>(alloc: Global, words: &'a [String]) -> Result<Option<Words<'a>>, Error>
+    ensures meant { IfOk result (λ found. option_map code_of found ≡ code_asked (map string_bytes words.now)) }
+    ensures refused { IfErr result (λ e. takes afdxmon_app (map string_bytes words.now) ≡ true → kind_of e ≡ OutOfMemory) }
+{
     let command = Command::new(alloc, "afdxmon")
         .about("Analyses recordings of AFDX networks (ARINC 664 Part 7)")
         .subcommand_required(true)
         .subcommand(capture_command(alloc)?)?;
     let matches = command.try_get_matches_from(words)?;
-    match matches.subcommand() {
-        Some(("capture", capture)) => match capture.get_str("code") {
-            Some(code) => Ok(Some(Words::Capture { code })),
-            None => Ok(None),
-        },
-        _ => Ok(None),
-    }
+    Ok(words_of(&matches))
 }

@@ -1,0 +1,38 @@
+-- The command line (this project's profile), as clap reads it: `afdxmon capture --code <numeric text>`.
+use Rattle.std.specs.Prelude.{◌≡◌, true, false, List, Option, Some, None, codes, if◌then◌else◌}
+use Rattle.std.specs.Str.{bytes_eq}
+use Rattle.clap.specs.Words.{App, app_of, Row, Rule, Text, first_of, new_app, new_rule, subcommand_of, with_rule, with_subcommand}
+use Rattle.clap.specs.declared.builder.command.Command.{Command}
+use Rattle.clap.specs.declared.builder.command.Command.TheViews.{out-Command}
+use Rattle.clap.specs.declared.builder.action.ArgAction.TheVariants.{Set}
+use Rattle.analyser.specs.declared.words.Words.{Words}
+use Rattle.analyser.specs.declared.words.Words.TheVariants as words
+
+abbrev pub code_rule : Rule
+code_rule = record (new_rule (codes "code")) { long = Some (codes "code"); value_names = 1; action = Some Set; required = true }
+
+abbrev pub capture_app : App
+capture_app = with_rule (new_app (codes "capture")) code_rule
+
+-- a command that wants a subcommand
+abbrev pub with_required : App → App
+with_required a = record { top = record a.top { subcommand_required = true }; subs = a.subs }
+
+unfoldable pub afdxmon_app : App
+afdxmon_app = with_subcommand (with_required (new_app (codes "afdxmon"))) capture_app.top
+
+-- the command is that of capture
+abbrev pub IsCapture : Command → Type 0
+IsCapture c = (app_of c ≡ capture_app) × ((out-Command c).has_globals ≡ false)
+
+-- the text of --code, of the subcommand capture that was met and what it was given
+abbrev pub code_in : Option (Text × List Row) → Option Text
+code_in None = None
+code_in (Some met) = if bytes_eq met.0 (codes "capture") then first_of (codes "code") met.1 else None
+
+-- the text of --code in the words that follow the program's name
+abbrev pub code_asked : List Text → Option Text
+code_asked texts = code_in (subcommand_of afdxmon_app texts)
+
+abbrev pub code_of : Words → Text
+code_of (words.Capture code) = code.now
