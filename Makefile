@@ -13,8 +13,9 @@ PROGRAM := bin/afdxmon
 .PHONY: demo test build bench refusals lent toolchain
 
 build: toolchain
-	@cd crates/afdxmon && $(RT) run -- capture --code '1,6 0 0 0,' < stdin > /dev/null 2> out/build.log || { tail -n 20 out/build.log >&2; exit 1; }
-	@mkdir -p bin && cp crates/afdxmon/out/afdxmon $(PROGRAM)
+	@mkdir -p bin
+	@cd crates/afdxmon && $(RT) run -- capture --code '1,6 0 0 0,' < stdin > /dev/null 2> ../../bin/build.log || { tail -n 20 ../../bin/build.log >&2; exit 1; }
+	@cp crates/afdxmon/out/afdxmon $(PROGRAM)
 
 demo: build
 	@examples/demo
