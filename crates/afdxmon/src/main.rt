@@ -6,7 +6,7 @@ use analyser::{
     read_words,
 };
 use std::io;
-use std::io::{BufReader, BufWriter};
+use std::io::{BufReader, BufWriter, Write};
 use std::process::ExitCode;
 
 /// The bytes that are read from the system, and written to it, at once.
@@ -27,9 +27,9 @@ fn capture(rt: &HostRuntime, code: &str) -> io::Result<Ran<()>> {
     let Ran {
         mut status,
         mut line,
-        mut sink,
+        sink,
     } = capture_over(alloc, code, source, sink);
-    if sink.flush().is_err() && status == 0 {
+    if sink.into_writer().flush().is_err() && status == 0 {
         let fault = Fault::Watch(WatchFault::Write {
             output: Output::Capture,
         });

@@ -1,6 +1,5 @@
 //! Devices of an analysis over the readers and writers of std.
 ghost use Rattle.std.specs.Prelude.{◌≡◌, ◌+◌, ◌≤◌};
-ghost use Rattle.std.specs.Io.KnownBytes.{Keeps};
 
 use pcap_io::{DeviceFault, OutSink, TapSource};
 use std::io::{Read, Write};
@@ -64,12 +63,15 @@ impl<W: Write> WriteSink<W> {
         }
     }
 
-    /// Hands what the writer holds back to the system.
-    pub fn flush(&mut self) -> Result<(), DeviceFault>
-        ensures contents { Keeps (⟦<WriteSink<W> as OutSink>⟧.contents self.old) (⟦<WriteSink<W> as OutSink>⟧.contents self.new) }
-        ensures count { ⟦<WriteSink<W> as OutSink>⟧.failures self.new ≡ ⟦<WriteSink<W> as OutSink>⟧.failures self.old }
+    /// The writer, with what it was handed.
+    pub fn into_writer(self) -> W
+        ensures { W.contents result ≡ ⟦<WriteSink<W> as OutSink>⟧.contents self }
     {
-        self.writer.flush().map_err(|_| DeviceFault)
+        let WriteSink {
+            writer,
+            failures: _,
+        } = self;
+        writer
     }
 }
 

@@ -1,6 +1,6 @@
 //! The words of the command line.
 ghost use Rattle.std.specs.Prelude.{◌≡◌, true, map, IfOk, IfErr, option_map, string_bytes};
-ghost use Rattle.clap.specs.Words.{kind_of, subcommand_rows_of, takes};
+ghost use Rattle.clap.specs.Words.{FailsBy, fault_of, kind_of, subcommand_rows_of, takes};
 ghost use Rattle.clap.specs.declared.error.kind.ErrorKind.TheVariants.{OutOfMemory};
 ghost use Rattle.analyser.specs.Words.{IsCapture, afdxmon_app, code_asked, code_in, code_of};
 
@@ -49,6 +49,8 @@ fn words_of<'a>(matches: &ArgMatches<'a>) -> Option<Words<'a>>
 /// a request for help.
 pub fn read_words<'a>(alloc: Global, words: &'a [String]) -> Result<Option<Words<'a>>, Error>
     ensures meant { IfOk result (λ found. option_map code_of found ≡ code_asked (map string_bytes words.now)) }
+    // Ok where clap's rules find no fault; else an error of the kind that they find, or for want of memory.
+    ensures kinds { FailsBy (fault_of afdxmon_app (map string_bytes words.now)) result }
     ensures refused { IfErr result (λ e. takes afdxmon_app (map string_bytes words.now) ≡ true → kind_of e ≡ OutOfMemory) }
 {
     let command = Command::new(alloc, "afdxmon")

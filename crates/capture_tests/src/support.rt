@@ -37,7 +37,7 @@ pub const FIRST_RUN: [u8; 176] = [
 
 /// A frame of so many bytes: the constant field, the link's identifier, zeros and the sequence
 /// number.
-pub fn frame(alloc: Global, link: u8, len: usize, last: u8) -> Result<Vec<u8>, AllocError> {
+pub(crate) fn frame(alloc: Global, link: u8, len: usize, last: u8) -> Result<Vec<u8>, AllocError> {
     let mut bytes = Vec::from_slice(alloc, &[3, 0, 0, 0, 0, link])?;
     for _ in 7..len {
         bytes.push(0)?;
@@ -47,6 +47,6 @@ pub fn frame(alloc: Global, link: u8, len: usize, last: u8) -> Result<Vec<u8>, A
 }
 
 /// The program of a text in the numeric form.
-pub fn loaded(alloc: Global, text: &str) -> Result<Program, Fail> {
+pub(crate) fn loaded(alloc: Global, text: &str) -> Result<Program, Fail> {
     Ok(Program::load(read_numeric(alloc, text)?)?)
 }

@@ -7,10 +7,10 @@ use Rattle.std.specs.Io.KnownBytes.{Consumes, IsAtEnd}
 use Rattle.afdx_frame.specs.Frame.{Frame}
 use Rattle.pcap_io.specs.Recording.{IsBytes, head_text, head_of, reason_at}
 use Rattle.pcap_io.specs.Spelling.{text_again, fine_from_none, number_fits, IsBytes-drop}
-use Rattle.pcap_io.specs.Position.{ending_here, frame_at, TakesFrame, IsStartOf, IsStart, TakesHead}
+use Rattle.pcap_io.specs.Position.{ending_here, frame_at, TakesFrame, TakesAtMost, IsStartOf, IsStart, TakesHead, EndsShort, StartLeaves}
 use Rattle.pcap_io.specs.declared.head.Head.{Head}
 use Rattle.pcap_io.specs.declared.recording.BadReason.{BadReason}
-use Rattle.pcap_io.specs.declared.recording.Ending.TheVariants.{Cut, Bad}
+use Rattle.pcap_io.specs.declared.recording.Ending.TheVariants.{Clean, Cut, Bad}
 use Rattle.pcap_io.specs.declared.stepping.Position.{Position}
 use Rattle.pcap_io.specs.declared.stepping.Start.{Start}
 use Rattle.pcap_io.specs.declared.stepping.Start.TheVariants as starts
@@ -94,3 +94,21 @@ step_cut p None mid after head body t gone short end = tt
 step_cut p (Some xs) mid after head body t gone short end =
     let all = gone_all xs after (head ++ body) (Consumes-trans (Some xs) mid after head body t.gone gone) end in
     ap (ending_here p) all ∙ cut_at_head p head body t.size t.few t.fine short
+
+-- ---- how much a step takes
+
+-- the fields of a record that may stand here, and no more behind them than they announce
+pub takes_record : (p : Position) (before mid after : Option (List ℕ)) (fields : Head) → IsStart p before mid (starts.Head fields) → TakesAtMost fields.held mid after
+    → TakesAtMost 262160 before after
+takes_record p before mid after fields (head, t, same) (gone, few, rest) =
+    let fine = fine_from_none p.layout p.late p.high (head_of p.layout head) t.fine in
+    let held = ap (λ (h : Head). h.held) same in
+    (head ++ gone, omega (arith, length-append head gone, t.size, held, few, fine.few), Consumes-trans before mid after head gone t.gone rest)
+
+-- what the first reads leave
+pub start_leaves : (before after : Option (List ℕ)) (came : ℕ) (start : Start) → (came < 16 → IsAtEnd after) → TakesAtMost 16 before after → EndsShort came start
+    → StartLeaves before after start
+start_leaves before after came (starts.Head head) end taken short = tt
+start_leaves before after came (starts.End (Clean n)) end taken short = end short
+start_leaves before after came (starts.End (Cut n)) end taken short = end short
+start_leaves before after came (starts.End (Bad n reason)) end taken short = taken

@@ -1,6 +1,6 @@
 -- Where a reader stands in its recording, what it gives there, and which frames and ending the bytes from there on hold.
 use Rattle.std.specs.Prelude.{◌≡◌, ◌≢◌, ℕ, ◌+◌, ◌<◌, ◌≤◌, max, List, ◌++◌, [], length, take, drop, Option, Some, None, Ok, Err, IfSome, ⊤}
-use Rattle.std.specs.Io.KnownBytes.{Consumes}
+use Rattle.std.specs.Io.KnownBytes.{Consumes, IsAtEnd}
 use Rattle.afdx_frame.specs.Frame.{Frame}
 use Rattle.afdx_frame.specs.declared.key.Network.{Network}
 use Rattle.pcap_io.specs.Device.{CountsFailure}
@@ -9,6 +9,7 @@ use Rattle.pcap_io.specs.Recording.{Record, IsBytes, IsGood, Splits, spelled, fr
 use Rattle.pcap_io.specs.declared.layout.Layout.{Layout}
 use Rattle.pcap_io.specs.declared.head.Head.{Head}
 use Rattle.pcap_io.specs.declared.recording.Ending.{Ending}
+use Rattle.pcap_io.specs.declared.recording.Ending.TheVariants.{Clean, Cut, Bad}
 use Rattle.pcap_io.specs.declared.recording.Stage.{Stage}
 use Rattle.pcap_io.specs.declared.recording.Stage.TheVariants as stages
 use Rattle.pcap_io.specs.declared.stepping.Position.{Position}
@@ -49,6 +50,21 @@ pub record TakesFrame (p : Position) (before after : Option (List ℕ)) (f : Fra
 abbrev pub IsNext : Position → Option (List ℕ) → Option (List ℕ) → Item → Type 0
 IsNext p before after (items.Frame f) = TakesFrame p before after f
 IsNext p before after (items.End e) = IfSome before (λ bytes. ending_here p bytes ≡ Some e)
+
+-- at most so many bytes are gone
+abbrev pub TakesAtMost : ℕ → Option (List ℕ) → Option (List ℕ) → Type 0
+TakesAtMost n before after = (gone : List ℕ) × (length gone ≤ n) × Consumes before after gone
+
+-- A clean and a cut ending leave no bytes. A bad one takes no more of them than the fields of a record.
+abbrev pub EndLeaves : Option (List ℕ) → Option (List ℕ) → Ending → Type 0
+EndLeaves before after (Clean n) = IsAtEnd after
+EndLeaves before after (Cut n) = IsAtEnd after
+EndLeaves before after (Bad n reason) = TakesAtMost 16 before after
+
+-- what an item says of the bytes left, where it is an ending
+abbrev pub ItemLeaves : Option (List ℕ) → Option (List ℕ) → Item → Type 0
+ItemLeaves before after (items.Frame f) = ⊤
+ItemLeaves before after (items.End e) = EndLeaves before after e
 
 -- where it stands then
 abbrev pub after_item : Position → Item → Position
@@ -102,11 +118,18 @@ abbrev pub IsStart : Position → Option (List ℕ) → Option (List ℕ) → St
 IsStart p before after (starts.Head head) = (bytes : List ℕ) × TakesHead p before after bytes × (head ≡ head_of p.layout bytes)
 IsStart p before after (starts.End e) = IfSome before (λ bytes. ending_here p bytes ≡ Some e)
 
--- ---- opening
+-- a clean and a cut ending are found where fewer than 16 bytes are left
+abbrev pub EndsShort : ℕ → Start → Type 0
+EndsShort came (starts.Head head) = ⊤
+EndsShort came (starts.End (Clean n)) = came < 16
+EndsShort came (starts.End (Cut n)) = came < 16
+EndsShort came (starts.End (Bad n reason)) = ⊤
 
--- at most so many bytes are gone
-abbrev pub TakesAtMost : ℕ → Option (List ℕ) → Option (List ℕ) → Type 0
-TakesAtMost n before after = (gone : List ℕ) × (length gone ≤ n) × Consumes before after gone
+abbrev pub StartLeaves : Option (List ℕ) → Option (List ℕ) → Start → Type 0
+StartLeaves before after (starts.Head head) = ⊤
+StartLeaves before after (starts.End e) = EndLeaves before after e
+
+-- ---- opening
 
 -- the bytes begin with a header of this layout, which is gone
 abbrev pub Opens : Option (List ℕ) → Option (List ℕ) → Layout → Type 0

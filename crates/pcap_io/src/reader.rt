@@ -1,7 +1,7 @@
 //! Reads the frames of a recording.
 ghost use Rattle.std.specs.Prelude.{◌≡◌, ◌≤◌, ◌^◌, drop, Some, Ok, Err, IfOk, IfErr, OnOk, OnErr, IfSome};
 ghost use Rattle.pcap_io.specs.Layout.{header_of};
-ghost use Rattle.pcap_io.specs.Position.{IsNext, IsOpenFault, IsReadFault, Opens, TakesAtMost, after_item, start_at};
+ghost use Rattle.pcap_io.specs.Position.{IsNext, IsOpenFault, IsReadFault, ItemLeaves, Opens, TakesAtMost, after_item, start_at};
 
 use crate::device::{DeviceFault, TapSource};
 use crate::layout::{HEADER_LEN, HeaderFault, Layout, layout_of};
@@ -140,6 +140,13 @@ impl<S: TapSource> TapReader<S> {
             (S.failures (source_of self.new) ≡ S.failures (source_of self.old)) }
         ensures fault { IfErr result (IsReadFault (position_of self.old).stage
             (S.failures (source_of self.old)) (S.failures (source_of self.new))) }
+        // Whatever it answers, no more than one record is gone from the source.
+        ensures taken { TakesAtMost 262160
+            (S.remaining (source_of self.old)) (S.remaining (source_of self.new)) }
+        // A clean or a cut ending leaves nothing there. A bad one takes no more than the fields of a
+        // record.
+        ensures left { (position_of self.old).stage ≡ Going → IfOk result (ItemLeaves
+            (S.remaining (source_of self.old)) (S.remaining (source_of self.new))) }
     {
         match self.position.stage {
             Stage::Failed => return Err(ReadFault::Failed),

@@ -4,7 +4,7 @@ ghost use Rattle.std.specs.Io.KnownBytes.{Consumes, IsAtEnd};
 ghost use Rattle.pcap_io.specs.Device.{CountsFailure};
 ghost use Rattle.pcap_io.specs.Layout.{fractions_of};
 ghost use Rattle.pcap_io.specs.Recording.{IsBytes};
-ghost use Rattle.pcap_io.specs.Position.{IsStart, IsStartOf, IsNext, IsReadFault, HasRoom, frame_at, after_item};
+ghost use Rattle.pcap_io.specs.Position.{IsStart, IsStartOf, IsNext, IsReadFault, HasRoom, EndsShort, StartLeaves, ItemLeaves, TakesAtMost, frame_at, after_item};
 
 use crate::device::{DeviceFault, TapSource};
 use crate::head::{HEAD_LEN, Head};
@@ -119,6 +119,7 @@ fn start_of(position: &Position, bytes: &[u8], came: usize) -> Start
     requires size { length bytes.now ≡ 16 }
     requires within { came ≤ 16 }
     ensures found { IsStartOf position.now bytes.now came result }
+    ensures short { EndsShort came result }
     ensures fits { IsBytes bytes.now }
 {
     let count = position.count;
@@ -145,6 +146,8 @@ fn read_head<S: TapSource>(source: &mut S, position: &Position) -> Result<Start,
         (IsStart position.now (S.remaining source.old) (S.remaining source.new)) }
     ensures sound { OnOk result (S.failures source.new ≡ S.failures source.old) }
     ensures fault { OnErr result (CountsFailure (S.failures source.old) (S.failures source.new)) }
+    ensures taken { TakesAtMost 16 (S.remaining source.old) (S.remaining source.new) }
+    ensures left { IfOk result (StartLeaves (S.remaining source.old) (S.remaining source.new)) }
 {
     let mut bytes = [0u8; HEAD_LEN];
     let came = fill(source, &mut bytes)?;
@@ -166,6 +169,7 @@ fn read_body<S: TapSource>(
     ensures sound { OnOk result (S.failures source.new ≡ S.failures source.old) }
     ensures fault { IfErr result
         (IsReadFault Stage.Going (S.failures source.old) (S.failures source.new)) }
+    ensures taken { TakesAtMost held (S.remaining source.old) (S.remaining source.new) }
 {
     let len = held as usize;
     let mut bytes = Vec::with_capacity(alloc, len)?;
@@ -189,6 +193,8 @@ pub fn step<S: TapSource>(
     ensures sound { OnOk result (S.failures source.new ≡ S.failures source.old) }
     ensures fault { IfErr result
         (IsReadFault Stage.Going (S.failures source.old) (S.failures source.new)) }
+    ensures taken { TakesAtMost 262160 (S.remaining source.old) (S.remaining source.new) }
+    ensures left { IfOk result (ItemLeaves (S.remaining source.old) (S.remaining source.new)) }
 {
     let head = match read_head(source, position)? {
         Start::Head(head) => head,

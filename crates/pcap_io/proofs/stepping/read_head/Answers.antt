@@ -1,5 +1,5 @@
 use Rattle.std.proofs.Common.{rules, arith, ◌≡◌, length}
-use Rattle.pcap_io.proofs.Steps.{start_from}
+use Rattle.pcap_io.proofs.Steps.{start_from, start_leaves}
 use Rattle.pcap_io.proofs.stepping.read_head.Goals as goal
 
 pub returns-clause-start : goal.returns-clause-start
@@ -7,3 +7,8 @@ returns-clause-start g c =
     let head = c.fill.new.buf in
     let size : length head ≡ 16 = search rules in
     start_from c.args.position.now _ _ head c.in_ok-came.came _ size c.start_of.ensures.fits c.in_ok-came.ensures.bytes (λ lt. c.in_ok-came.ensures.end (omega (arith, size))) c.start_of.ensures.found
+
+pub returns-clause-left : goal.returns-clause-left
+returns-clause-left g c =
+    let size : length c.fill.new.buf ≡ 16 = search rules in
+    start_leaves _ _ c.in_ok-came.came _ (λ lt. c.in_ok-came.ensures.end (omega (arith, size))) (_, search rules, c.in_ok-came.ensures.bytes) c.start_of.ensures.short
