@@ -8,7 +8,7 @@ ghost use Rattle.pcap_io.specs.Position.{Holds};
 ghost use Rattle.pcap_io.specs.Reader.{position_of, source_of};
 ghost use Rattle.pcap_io.specs.Writer.{sink_of, has_failed};
 ghost use Rattle.pcap_io.specs.declared.recording.Stage.TheVariants.{Going};
-ghost use Rattle.analyser.specs.Capture.{captured, captured_all, capture_text, IsRecording};
+ghost use Rattle.analyser.specs.Capture.{answer_for, captured, captured_all, capture_text, IsRecording};
 ghost use Rattle.analyser.specs.Whole.{HasCause, open_fault};
 
 use crate::fault::{Output, WatchFault};
@@ -32,6 +32,16 @@ pub struct WatchRefused<S, T, W, L> {
     pub ledger: L,
 }
 
+/// The filter's answer for a frame. It stands apart, so that the loop over its instructions has the
+/// registers to itself.
+#[inline(never)]
+fn answer_for(program: &Program, frame: &TapFrame) -> u32
+    ensures { result ≡ answer_for program.now frame.now }
+{
+    let (answer, _steps) = run(program, &frame.view(), frame.whole());
+    answer
+}
+
 /// Writes the frame's record, where the filter accepts it.
 #[inline]
 fn write_accepted<W: OutSink>(
@@ -47,12 +57,11 @@ fn write_accepted<W: OutSink>(
     ensures fault { IfErr result (λ f. f ≡ WatchFault.Write Output.Capture) }
     ensures cause { OnErr result (CountsFailure (W.failures (sink_of writer.old)) (W.failures (sink_of writer.new))) }
 {
-    let view = frame.view();
-    let (answer, _steps) = run(program, &view, frame.whole());
+    let answer = answer_for(program, frame);
     if answer == 0 {
         return Ok(());
     }
-    let keep = answer.min(view.bytes().len() as u32);
+    let keep = answer.min(frame.view().bytes().len() as u32);
     match writer.put(frame, keep) {
         Ok(()) => Ok(()),
         Err(WriteFault::Device) => Err(CAPTURE_FAILED),
