@@ -5,12 +5,13 @@
 #   make build     leaves the program at bin/afdxmon
 #   make bench     against tcpdump and libpcap (wants tcpdump, libpcap-dev, gcc and python3; not part of the gate)
 #   make refusals  refuses each growth of the tests in turn
+#   make devices   the program over devices that fail
 #   make lent      shows that what a frame lends can't outlive it
 
 RT ?= rt
 PROGRAM := bin/afdxmon
 
-.PHONY: demo test build bench refusals lent toolchain
+.PHONY: demo test build bench refusals devices lent toolchain
 
 build: toolchain
 	@mkdir -p bin
@@ -28,6 +29,9 @@ bench: build
 
 refusals: toolchain
 	@tests/refusals.sh
+
+devices: build
+	@tests/devices.sh
 
 lent: toolchain
 	@tests/lent.sh
