@@ -134,7 +134,11 @@ fn write_record(out: &mut Vec<u8>, record: &Record<'_>, keep: u32) -> Result<(),
 
 /// The capture of a recording by a filter that answers `keep` for each frame, and the recording's
 /// ending.
-pub(crate) fn slow_capture(alloc: Global, bytes: &[u8], keep: u32) -> Result<(Vec<u8>, End), AllocError> {
+pub(crate) fn slow_capture(
+    alloc: Global,
+    bytes: &[u8],
+    keep: u32,
+) -> Result<(Vec<u8>, End), AllocError> {
     let mut out = Vec::new(alloc);
     if bytes.len() < 24 {
         return Ok((out, End::Short));
