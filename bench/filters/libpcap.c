@@ -1,5 +1,6 @@
 /* Times libpcap's bpf_filter on the frames of a recording, held in memory. The recording comes from standard input, and each
-   argument is a filter in the numeric form. A line for each: the least picoseconds a frame, and the sum of the answers. */
+   argument is a filter in the numeric form. A line for each: the least picoseconds a frame, and the sum of the answers
+   of a round. */
 #include <pcap/pcap.h>
 #include <stdint.h>
 #include <stdio.h>
@@ -55,12 +56,11 @@ int main(int argc, char **argv) {
     uint64_t answers = 0;
     for (int round = 0; round < ROUNDS; round++) {
       struct timespec start, end;
+      answers = 0;
       clock_gettime(CLOCK_MONOTONIC, &start);
-      for (int pass = 0; pass < PASSES; pass++) {
-        answers = 0;
+      for (int pass = 0; pass < PASSES; pass++)
         for (size_t i = 0; i < count; i++)
           answers += bpf_filter(words, frames[i].bytes, frames[i].wire, frames[i].held);
-      }
       clock_gettime(CLOCK_MONOTONIC, &end);
       double took = (end.tv_sec - start.tv_sec) * 1e12 + (end.tv_nsec - start.tv_nsec) * 1e3;
       if (took < least)
