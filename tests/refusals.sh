@@ -2,21 +2,21 @@
 # Each call that takes memory answers want of it where a growth is refused, and never anything else
 # that is wrong.
 #
-# Runs the tests of capture_tests/src/refusals.rt with their first growth refused, then with their
+# Runs the tests of system_tests/src/capture/allocation.rt with their first growth refused, then with their
 # second, and so on, until a run in which none is refused. A test `refusal_..` has to pass each time;
 # a test `ample_..` fails where a growth of its call was refused, and so counts them.
 set -euo pipefail
 
-cd "$(dirname "$0")/../crates/capture_tests"
+cd "$(dirname "$0")/../crates/system_tests"
 # The largest of the tests meets far fewer growths.
 bound=40
 
 for ((n = 1; n <= bound; n++)); do
     # The status says that tests failed, as the ample ones do: the lines below decide.
-    said=$(rt try --test --fail-alloc "$n" -- refusals:: 2>&1) || true
-    passed=$(grep -c '^test refusals::refusal_.* \.\.\. ok$' <<< "$said" || true)
-    ample=$(grep -c '^test refusals::ample_.* \.\.\. ok$' <<< "$said" || true)
-    refused=$(grep -c '^test refusals::ample_.* \.\.\. FAILED$' <<< "$said" || true)
+    said=$(rt try --test --fail-alloc "$n" -- capture::allocation:: 2>&1) || true
+    passed=$(grep -c '^test capture::allocation::refusal_.* \.\.\. ok$' <<< "$said" || true)
+    ample=$(grep -c '^test capture::allocation::ample_.* \.\.\. ok$' <<< "$said" || true)
+    refused=$(grep -c '^test capture::allocation::ample_.* \.\.\. FAILED$' <<< "$said" || true)
     # Each call has a test of both kinds, and a run says what became of each.
     if [ "$passed" -eq 0 ] || [ "$passed" -ne $((ample + refused)) ]; then
         printf 'refusals: FAILED with growth %d refused:\n%s\n' "$n" "$said"

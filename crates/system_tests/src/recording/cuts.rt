@@ -1,7 +1,7 @@
 //! The first run's recording, cut at every place and with every byte changed to every other value,
 //! and read and written in pieces: the capture and the ending are those of a slow reader.
 
-use crate::slow_capture::{End, slow_capture};
+use crate::recording::reference::{End, slow_capture};
 use crate::support::{FIRST_RUN, ROOM, SOUND, loaded};
 use analyser::{WatchFault, capture_one};
 use bpf_loader::Program;

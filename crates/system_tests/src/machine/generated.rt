@@ -1,7 +1,7 @@
 //! Thousands of small programs, made by a fixed generator: where one loads, its run is that of a slow
 //! interpreter written from the table of codes.
 
-use crate::slow_machine::{Input, Seen, slow_run};
+use crate::machine::reference::{Input, Seen, slow_run};
 use afdx_frame::FrameView;
 use bpf_isa::{Outcome, Packed, State};
 use bpf_loader::Program;

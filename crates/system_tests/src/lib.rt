@@ -1,0 +1,12 @@
+//! Tests across the crates, by subject, from the bytes of a recording and the text of a filter to
+//! the bytes of the capture and the line of a fault. It has no function of its own.
+#![tactic(auto)]
+
+#[cfg(test)]
+mod capture;
+#[cfg(test)]
+mod machine;
+#[cfg(test)]
+mod recording;
+#[cfg(test)]
+mod support;
