@@ -6,8 +6,8 @@ use Rattle.afdx_frame.specs.declared.view.FrameView.{FrameView}
 use Rattle.afdx_frame.specs.Number.{number_at}
 
 -- the bytes that a view lends
-abbrev pub held : FrameView → List ℕ
-held view = view.bytes.now
+abbrev pub view_bytes : FrameView → List ℕ
+view_bytes view = view.bytes.now
 
 -- the constant field of the destination address
 abbrev pub constant_of : List ℕ → Option ℕ

@@ -1,6 +1,6 @@
 ghost use Rattle.std.specs.Prelude.{◌≡◌, IsOk, IfOk, IfErr, ◌↔◌};
 ghost use Rattle.afdx_frame.specs.Frame.{Frame, IsFrame, key_of};
-ghost use Rattle.afdx_frame.specs.View.{held};
+ghost use Rattle.afdx_frame.specs.View.{view_bytes};
 
 use crate::key::{Key, Network, Stamp};
 use crate::view::FrameView;
@@ -109,7 +109,7 @@ impl TapFrame {
 
     /// The bytes that the recording holds, lent: nothing is copied.
     pub fn view(&self) -> FrameView<'_>
-        ensures value { held result ≡ self.now.bytes }
+        ensures value { view_bytes result ≡ self.now.bytes }
         ensures bounds { IsFrame self.now }
     {
         FrameView::new(&self.bytes)

@@ -1,6 +1,6 @@
 ghost use Rattle.std.specs.Prelude.{◌≡◌};
 ghost use Rattle.std.specs.Option.{option_copied};
-ghost use Rattle.afdx_frame.specs.View.{held, constant_of, link_of, sequence_of, body_of};
+ghost use Rattle.afdx_frame.specs.View.{view_bytes, constant_of, link_of, sequence_of, body_of};
 
 use crate::key::VlId;
 
@@ -14,7 +14,7 @@ impl<'a> FrameView<'a> {
     /// A view of these bytes.
     #[inline(always)]
     pub fn new(bytes: &'a [u8]) -> FrameView<'a>
-        ensures { held result ≡ bytes.now }
+        ensures { view_bytes result ≡ bytes.now }
     {
         FrameView { bytes }
     }
@@ -22,7 +22,7 @@ impl<'a> FrameView<'a> {
     /// All the bytes.
     #[inline(always)]
     pub fn bytes(&self) -> &'a [u8]
-        ensures { result.now ≡ held self.now }
+        ensures { result.now ≡ view_bytes self.now }
     {
         self.bytes
     }
@@ -30,7 +30,7 @@ impl<'a> FrameView<'a> {
     /// The constant field of the destination address: the first four bytes, most significant first
     /// (ARINC 664 Part 7). None below 4 bytes.
     pub fn constant(&self) -> Option<u32>
-        ensures { result ≡ constant_of (held self.now) }
+        ensures { result ≡ constant_of (view_bytes self.now) }
     {
         let [a, b, c, d, ..] = self.bytes else {
             return None;
@@ -41,7 +41,7 @@ impl<'a> FrameView<'a> {
     /// The virtual link's identifier: the two bytes behind the constant field, most significant
     /// first. None below 6 bytes.
     pub fn vl(&self) -> Option<VlId>
-        ensures { result ≡ link_of (held self.now) }
+        ensures { result ≡ link_of (view_bytes self.now) }
     {
         let [_, _, _, _, high, low, ..] = self.bytes else {
             return None;
@@ -52,7 +52,7 @@ impl<'a> FrameView<'a> {
     /// The sequence number: the last byte (ARINC 664 Part 7; recordings don't hold the frame check
     /// sequence behind it). None for no bytes.
     pub fn sequence(&self) -> Option<u8>
-        ensures { result ≡ sequence_of (held self.now) }
+        ensures { result ≡ sequence_of (view_bytes self.now) }
     {
         self.bytes.last().copied()
     }
@@ -60,7 +60,7 @@ impl<'a> FrameView<'a> {
     /// What the frame carries: the bytes between the 14 of the Ethernet header and the sequence number,
     /// lent. None below 15 bytes.
     pub fn body(&self) -> Option<&'a [u8]>
-        ensures { option_copied result ≡ body_of (held self.now) }
+        ensures { option_copied result ≡ body_of (view_bytes self.now) }
     {
         if self.bytes.len() < 15 {
             return None;
