@@ -2,8 +2,8 @@
 #![tactic(auto)]
 
 use analyser::{
-    Fault, Output, Ran, ReadSource, WatchFault, Words, WriteSink, capture_over, fault_line,
-    read_words,
+    Fault, Output, Ran, ReadSource, WatchFault, Invocation, WriteSink, capture_over, fault_line,
+    read_arguments,
 };
 use std::io;
 use std::io::{BufReader, BufWriter, Write};
@@ -69,8 +69,8 @@ fn main(rt: HostRuntime) -> ExitCode {
     let Ok(words) = arguments(&rt) else {
         return ExitCode::from(USAGE);
     };
-    match read_words(rt.alloc(), &words) {
-        Ok(Some(Words::Capture { code })) => {
+    match read_arguments(rt.alloc(), &words) {
+        Ok(Some(Invocation::Capture { code })) => {
             let ran = capture(&rt, code).unwrap_or_else(|_| no_memory(&rt));
             finish(&rt, &ran)
         }

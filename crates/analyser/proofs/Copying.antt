@@ -20,7 +20,7 @@ use Rattle.pcap_io.specs.Capture.{capture_header}
 use Rattle.pcap_io.specs.Layout.{header_of}
 use Rattle.pcap_io.specs.declared.layout.HeaderFault.{HeaderFault}
 use Rattle.pcap_io.specs.declared.layout.Layout.{Layout}
-use Rattle.analyser.specs.Capture.{captured, captured_all, capture_text, IsRecording}
+use Rattle.analyser.specs.Capture.{record_of, records_of, capture_text, IsRecording}
 
 -- ---- one frame behind another
 
@@ -106,12 +106,12 @@ leads_more p (Some bytes) done q (Some rest) (Some more) f h t = record {
 
 -- ---- the capture so far
 
-pub captured_all-append : (p : List Packed) (fs gs : List Frame) → captured_all p (fs ++ gs) ≡ captured_all p fs ++ captured_all p gs
-captured_all-append p [] gs = refl
-captured_all-append p (f ∷ fs) gs = ap (λ (x : List ℕ). captured p f ++ x) (captured_all-append p fs gs) ∙ sym (append_assoc (captured p f) (captured_all p fs) (captured_all p gs))
+pub records_of-append : (p : List Packed) (fs gs : List Frame) → records_of p (fs ++ gs) ≡ records_of p fs ++ records_of p gs
+records_of-append p [] gs = refl
+records_of-append p (f ∷ fs) gs = ap (λ (x : List ℕ). record_of p f ++ x) (records_of-append p fs gs) ∙ sym (append_assoc (record_of p f) (records_of p fs) (records_of p gs))
 
-pub captured_all_more : (p : List Packed) (fs : List Frame) (f : Frame) → captured_all p (fs ++ f ∷ []) ≡ captured_all p fs ++ captured p f
-captured_all_more p fs f = captured_all-append p fs (f ∷ []) ∙ ap (λ (x : List ℕ). captured_all p fs ++ x) (append-nil (captured p f))
+pub captured_all_more : (p : List Packed) (fs : List Frame) (f : Frame) → records_of p (fs ++ f ∷ []) ≡ records_of p fs ++ record_of p f
+captured_all_more p fs f = records_of-append p fs (f ∷ []) ∙ ap (λ (x : List ℕ). records_of p fs ++ x) (append-nil (record_of p f))
 
 -- ---- what the exits have written
 
@@ -125,44 +125,44 @@ on_err_any (Err e) p = p
 
 -- at the ending all frames were copied
 pub ended : (p : List Packed) (c0 c1 before now after : Option (List ℕ)) (from to : Position) (done : List Frame) (e : Ending)
-    → Appends c0 c1 (captured_all p done) → Leads from before done to now → to.count ≤ to.most → IsNext to now after (items.End e)
-    → IfSome before (λ bytes. (frames : List Frame) × Holds from bytes frames e × Appends c0 c1 (captured_all p frames))
+    → Appends c0 c1 (records_of p done) → Leads from before done to now → to.count ≤ to.most → IsNext to now after (items.End e)
+    → IfSome before (λ bytes. (frames : List Frame) × Holds from bytes frames e × Appends c0 c1 (records_of p frames))
 ended p c0 c1 None now after from to done e a h few next = tt
 ended p c0 c1 (Some bytes) None after from to done e a h few next = absurd h
 ended p c0 c1 (Some bytes) (Some rest) after from to done e a h few next =
     (done, subst (λ (fs : List Frame). Holds from bytes fs e) (append-nil done) (h.forward [] e (holds_end to rest e few next)), a)
 
 -- after a fault between two frames a front of the records was written
-pub given_up : (p : List Packed) (c0 c1 before now : Option (List ℕ)) (from to : Position) (done : List Frame)
-    → Appends c0 c1 (captured_all p done) → Leads from before done to now
-    → IfSome before (λ bytes. (frames : List Frame) (e : Ending) → Holds from bytes frames e → AppendsFront c0 c1 (captured_all p frames))
-given_up p c0 c1 None now from to done a h = tt
-given_up p c0 c1 (Some bytes) None from to done a h = absurd h
-given_up p c0 c1 (Some bytes) (Some rest) from to done a h = λ frames e k.
+pub aborted : (p : List Packed) (c0 c1 before now : Option (List ℕ)) (from to : Position) (done : List Frame)
+    → Appends c0 c1 (records_of p done) → Leads from before done to now
+    → IfSome before (λ bytes. (frames : List Frame) (e : Ending) → Holds from bytes frames e → AppendsFront c0 c1 (records_of p frames))
+aborted p c0 c1 None now from to done a h = tt
+aborted p c0 c1 (Some bytes) None from to done a h = absurd h
+aborted p c0 c1 (Some bytes) (Some rest) from to done a h = λ frames e k.
     let so_far = h.back frames e k in
-    front_of c0 c1 (captured_all p done) (captured_all p so_far.left) (captured_all p frames) a
-    (ap (captured_all p) so_far.same ∙ captured_all-append p done so_far.left)
+    front_of c0 c1 (records_of p done) (records_of p so_far.left) (records_of p frames) a
+    (ap (records_of p) so_far.same ∙ records_of-append p done so_far.left)
 
 -- and so after a fault within a frame's record
 pub given_up_within : (p : List Packed) (c0 c1 c2 before now after : Option (List ℕ)) (from to : Position) (done : List Frame) (f : Frame)
-    → Appends c0 c1 (captured_all p done) → Leads from before done to now → TakesFrame to now after f → AppendsFront c1 c2 (captured p f)
-    → IfSome before (λ bytes. (frames : List Frame) (e : Ending) → Holds from bytes frames e → AppendsFront c0 c2 (captured_all p frames))
+    → Appends c0 c1 (records_of p done) → Leads from before done to now → TakesFrame to now after f → AppendsFront c1 c2 (record_of p f)
+    → IfSome before (λ bytes. (frames : List Frame) (e : Ending) → Holds from bytes frames e → AppendsFront c0 c2 (records_of p frames))
 given_up_within p c0 c1 c2 None now after from to done f a h t b = tt
 given_up_within p c0 c1 c2 (Some bytes) None after from to done f a h t b = absurd h
 given_up_within p c0 c1 c2 (Some bytes) (Some rest) None from to done f a h t b = absurd t.gone
 given_up_within p c0 c1 c2 (Some bytes) (Some rest) (Some more) from to done f a h t b = λ frames e k.
     let so_far = (leads_more from (Some bytes) done to (Some rest) (Some more) f h t).back frames e k in
     let n = b.0 in
-    let part = captured_all p done ++ take n (captured p f) in
-    let tail = drop n (captured p f) ++ captured_all p so_far.left in
-    let text : captured_all p frames ≡ part ++ tail =
-    ap (captured_all p) so_far.same ∙ captured_all-append p (done ++ f ∷ []) so_far.left
-    ∙ ap (λ (x : List ℕ). x ++ captured_all p so_far.left) (captured_all_more p done f)
-    ∙ append_assoc (captured_all p done) (captured p f) (captured_all p so_far.left)
-    ∙ ap (λ (x : List ℕ). captured_all p done ++ (x ++ captured_all p so_far.left)) (sym (take-append-drop n (captured p f)))
-    ∙ ap (λ (x : List ℕ). captured_all p done ++ x) (append_assoc (take n (captured p f)) (drop n (captured p f)) (captured_all p so_far.left))
-    ∙ sym (append_assoc (captured_all p done) (take n (captured p f)) tail) in
-    front_of c0 c2 part tail (captured_all p frames) (Appends-trans c0 c1 c2 (captured_all p done) (take n (captured p f)) a b.1) text
+    let part = records_of p done ++ take n (record_of p f) in
+    let tail = drop n (record_of p f) ++ records_of p so_far.left in
+    let text : records_of p frames ≡ part ++ tail =
+    ap (records_of p) so_far.same ∙ records_of-append p (done ++ f ∷ []) so_far.left
+    ∙ ap (λ (x : List ℕ). x ++ records_of p so_far.left) (captured_all_more p done f)
+    ∙ append_assoc (records_of p done) (record_of p f) (records_of p so_far.left)
+    ∙ ap (λ (x : List ℕ). records_of p done ++ (x ++ records_of p so_far.left)) (sym (take-append-drop n (record_of p f)))
+    ∙ ap (λ (x : List ℕ). records_of p done ++ x) (append_assoc (take n (record_of p f)) (drop n (record_of p f)) (records_of p so_far.left))
+    ∙ sym (append_assoc (records_of p done) (take n (record_of p f)) tail) in
+    front_of c0 c2 part tail (records_of p frames) (Appends-trans c0 c1 c2 (records_of p done) (take n (record_of p f)) a b.1) text
 
 -- ---- the whole call
 
@@ -195,27 +195,27 @@ layout_is a b bytes p q = same_ok a b (sym p ∙ q)
 
 -- all was copied
 pub all_captured : (p : List Packed) (before behind c0 c1 c2 : Option (List ℕ)) (from : Position) (e : Ending) → from ≡ start_at Network.A from.layout (2 ^ 32) 0 → Opens before behind from.layout
-    → Appends c0 c1 capture_header → IfSome behind (λ bytes. (frames : List Frame) × Holds from bytes frames e × Appends c1 c2 (captured_all p frames))
+    → Appends c0 c1 capture_header → IfSome behind (λ bytes. (frames : List Frame) × Holds from bytes frames e × Appends c1 c2 (records_of p frames))
     → IfSome before (λ bytes. (frames : List Frame) × IsRecording Network.A 0 bytes frames e × Appends c0 c2 (capture_text p frames))
 all_captured p None behind c0 c1 c2 from e start opened a h = tt
 all_captured p (Some bytes) behind c0 c1 c2 from e start opened a h =
-    let found : (frames : List Frame) × Holds from (drop 24 bytes) frames e × Appends c1 c2 (captured_all p frames) =
-    subst (λ (o : Option (List ℕ)). IfSome o (λ bs. (frames : List Frame) × Holds from bs frames e × Appends c1 c2 (captured_all p frames))) opened.1 h in (
+    let found : (frames : List Frame) × Holds from (drop 24 bytes) frames e × Appends c1 c2 (records_of p frames) =
+    subst (λ (o : Option (List ℕ)). IfSome o (λ bs. (frames : List Frame) × Holds from bs frames e × Appends c1 c2 (records_of p frames))) opened.1 h in (
       found.0,
       record { layout = from.layout; header = opened.0; holds = subst (λ (q : Position). Holds q (drop 24 bytes) found.0 e) start found.1 },
-      Appends-trans c0 c1 c2 capture_header (captured_all p found.0) a found.2,
+      Appends-trans c0 c1 c2 capture_header (records_of p found.0) a found.2,
     )
 
 -- a front was written
 pub front_captured : (p : List Packed) (before behind c0 c1 c2 : Option (List ℕ)) (from : Position) → from ≡ start_at Network.A from.layout (2 ^ 32) 0 → Opens before behind from.layout
-    → Appends c0 c1 capture_header → IfSome behind (λ bytes. (frames : List Frame) (e : Ending) → Holds from bytes frames e → AppendsFront c1 c2 (captured_all p frames))
+    → Appends c0 c1 capture_header → IfSome behind (λ bytes. (frames : List Frame) (e : Ending) → Holds from bytes frames e → AppendsFront c1 c2 (records_of p frames))
     → IfSome before (λ bytes. (frames : List Frame) (e : Ending) → IsRecording Network.A 0 bytes frames e → AppendsFront c0 c2 (capture_text p frames))
 front_captured p None behind c0 c1 c2 from start opened a h = tt
 front_captured p (Some bytes) behind c0 c1 c2 from start opened a h = λ frames e r.
-    let found : (frames : List Frame) (e : Ending) → Holds from (drop 24 bytes) frames e → AppendsFront c1 c2 (captured_all p frames) =
-    subst (λ (o : Option (List ℕ)). IfSome o (λ bs. (frames : List Frame) (e : Ending) → Holds from bs frames e → AppendsFront c1 c2 (captured_all p frames))) opened.1 h in
+    let found : (frames : List Frame) (e : Ending) → Holds from (drop 24 bytes) frames e → AppendsFront c1 c2 (records_of p frames) =
+    subst (λ (o : Option (List ℕ)). IfSome o (λ bs. (frames : List Frame) (e : Ending) → Holds from bs frames e → AppendsFront c1 c2 (records_of p frames))) opened.1 h in
     let same : r.layout ≡ from.layout = layout_is r.layout from.layout bytes r.header opened.0 in
     let holds : Holds from (drop 24 bytes) frames e =
     subst (λ (q : Position). Holds q (drop 24 bytes) frames e) (sym start)
     (subst (λ (l : Layout). Holds (start_at Network.A l (2 ^ 32) 0) (drop 24 bytes) frames e) same r.holds) in
-    front_behind c0 c1 c2 capture_header (captured_all p frames) a (found frames e holds)
+    front_behind c0 c1 c2 capture_header (records_of p frames) a (found frames e holds)

@@ -15,21 +15,21 @@ abbrev pub answer_for : List Packed → Frame → ℕ
 answer_for p f = answer_of p f.bytes f.whole
 
 -- how many bytes are kept of an accepted frame
-abbrev pub kept : List Packed → Frame → ℕ
-kept p f = min (answer_for p f) (length f.bytes)
+abbrev pub kept_len : List Packed → Frame → ℕ
+kept_len p f = min (answer_for p f) (length f.bytes)
 
 -- the record of a frame in the capture; a rejected frame has none
-abbrev pub captured : List Packed → Frame → List ℕ
-captured p f = if answer_for p f == 0 then [] else record_text f (kept p f)
+abbrev pub record_of : List Packed → Frame → List ℕ
+record_of p f = if answer_for p f == 0 then [] else record_text f (kept_len p f)
 
 -- the records of the accepted frames, in order
-abbrev pub captured_all : List Packed → List Frame → List ℕ
-captured_all p [] = []
-captured_all p (f ∷ fs) = captured p f ++ captured_all p fs
+abbrev pub records_of : List Packed → List Frame → List ℕ
+records_of p [] = []
+records_of p (f ∷ fs) = record_of p f ++ records_of p fs
 
 -- the whole capture of frames
 abbrev pub capture_text : List Packed → List Frame → List ℕ
-capture_text p frames = capture_header ++ captured_all p frames
+capture_text p frames = capture_header ++ records_of p frames
 
 -- The recording's split: the bytes are a header, these frames and this ending. Every list of bytes with a good header has just
 -- one such split. 2^32 frames are read at the most.

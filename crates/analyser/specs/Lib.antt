@@ -1,5 +1,5 @@
 pub mod Line
 pub mod Capture
-pub mod Whole
-pub mod Over
-pub mod Words
+pub mod Cause
+pub mod Commands
+pub mod Arguments

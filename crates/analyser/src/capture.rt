@@ -8,8 +8,8 @@ ghost use Rattle.pcap_io.specs.Position.{Holds};
 ghost use Rattle.pcap_io.specs.Reader.{position_of, source_of};
 ghost use Rattle.pcap_io.specs.Writer.{sink_of, has_failed};
 ghost use Rattle.pcap_io.specs.declared.recording.Stage.TheVariants.{Going};
-ghost use Rattle.analyser.specs.Capture.{answer_for, captured, captured_all, capture_text, IsRecording};
-ghost use Rattle.analyser.specs.Whole.{HasCause, open_fault};
+ghost use Rattle.analyser.specs.Capture.{answer_for, record_of, records_of, capture_text, IsRecording};
+ghost use Rattle.analyser.specs.Cause.{HasCause, open_fault};
 
 use crate::fault::{Output, WatchFault};
 use afdx_frame::{Network, TapFrame};
@@ -50,10 +50,10 @@ fn write_accepted<W: OutSink>(
     writer: &mut CaptureWriter<W>,
 ) -> Result<(), WatchFault>
     requires { has_failed writer.old ≡ false }
-    ensures whole { OnOk result (Appends (W.contents (sink_of writer.old)) (W.contents (sink_of writer.new)) (captured program.now frame.now)) }
+    ensures whole { OnOk result (Appends (W.contents (sink_of writer.old)) (W.contents (sink_of writer.new)) (record_of program.now frame.now)) }
     ensures going { OnOk result (has_failed writer.new ≡ false) }
     ensures sound { OnOk result (W.failures (sink_of writer.new) ≡ W.failures (sink_of writer.old)) }
-    ensures front { OnErr result (AppendsFront (W.contents (sink_of writer.old)) (W.contents (sink_of writer.new)) (captured program.now frame.now)) }
+    ensures front { OnErr result (AppendsFront (W.contents (sink_of writer.old)) (W.contents (sink_of writer.new)) (record_of program.now frame.now)) }
     ensures fault { IfErr result (λ f. f ≡ WatchFault.Write Output.Capture) }
     ensures cause { OnErr result (CountsFailure (W.failures (sink_of writer.old)) (W.failures (sink_of writer.new))) }
 {
@@ -86,10 +86,10 @@ fn copy_accepted<S: TapSource, W: OutSink>(
     requires writing { has_failed writer.old ≡ false }
     ensures copied { IfOk result (λ ending. IfSome (S.remaining (source_of reader.old)) (λ bytes. (frames : List Frame)
         × Holds (position_of reader.old) bytes frames ending
-        × Appends (W.contents (sink_of writer.old)) (W.contents (sink_of writer.new)) (captured_all program.now frames))) }
+        × Appends (W.contents (sink_of writer.old)) (W.contents (sink_of writer.new)) (records_of program.now frames))) }
     ensures front { OnErr result (IfSome (S.remaining (source_of reader.old)) (λ bytes. (frames : List Frame) (ending : Ending)
         → Holds (position_of reader.old) bytes frames ending
-        → AppendsFront (W.contents (sink_of writer.old)) (W.contents (sink_of writer.new)) (captured_all program.now frames))) }
+        → AppendsFront (W.contents (sink_of writer.old)) (W.contents (sink_of writer.new)) (records_of program.now frames))) }
     ensures sound { OnOk result ((S.failures (source_of reader.new) ≡ S.failures (source_of reader.old)) × (W.failures (sink_of writer.new) ≡ W.failures (sink_of writer.old))) }
     ensures cause { IfErr result (λ fault. HasCause fault (S.failures (source_of reader.old)) (S.failures (source_of reader.new))
         (W.failures (sink_of writer.old)) (W.failures (sink_of writer.new))) }

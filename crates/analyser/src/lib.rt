@@ -2,14 +2,14 @@
 //! words of its command line.
 #![tactic(auto)]
 
+mod arguments;
 mod capture;
+mod commands;
 mod devices;
 mod fault;
-mod over;
-mod words;
 
+pub use arguments::{Invocation, read_arguments};
 pub use capture::{WatchRefused, capture_one};
+pub use commands::{Ran, capture_over};
 pub use devices::{ReadSource, WriteSink};
 pub use fault::{Fault, Output, WatchFault, fault_line};
-pub use over::{Ran, capture_over};
-pub use words::{Words, read_words};

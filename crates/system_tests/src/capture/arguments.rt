@@ -1,6 +1,6 @@
 //! The words of the command line.
 
-use analyser::{Words, read_words};
+use analyser::{Invocation, read_arguments};
 use std::alloc::{AllocError, Global};
 use std::test::Fail;
 
@@ -28,9 +28,9 @@ fn filters_are_taken(rt: HostRuntime) -> Result<(), Fail> {
     ];
     for (texts, code) in cases {
         let words = words(rt.alloc(), texts)?;
-        let read = read_words(rt.alloc(), &words)?;
+        let read = read_arguments(rt.alloc(), &words)?;
         match read {
-            Some(Words::Capture { code: found }) => assert_eq!(rt; found, code),
+            Some(Invocation::Capture { code: found }) => assert_eq!(rt; found, code),
             None => assert!(rt; false, "{texts:?}"),
         }
     }
@@ -58,7 +58,7 @@ fn other_words_are_refused(rt: HostRuntime) -> Result<(), Fail> {
     ];
     for texts in cases {
         let words = words(rt.alloc(), texts)?;
-        assert!(rt; read_words(rt.alloc(), &words).is_err(), "{texts:?}");
+        assert!(rt; read_arguments(rt.alloc(), &words).is_err(), "{texts:?}");
     }
     Ok(())
 }

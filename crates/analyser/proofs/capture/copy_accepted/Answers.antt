@@ -1,7 +1,7 @@
 use Rattle.std.proofs.Common.{[], ◌∷◌, ◌++◌, ◌∙◌, arith}
 use Rattle.std.proofs.KnownBytes.{Appends-trans}
 use Rattle.pcap_io.specs.Reader.{source_of}
-use Rattle.analyser.proofs.Copying.{leads_more, captured_all_more, on_err_any, ended, given_up, given_up_within}
+use Rattle.analyser.proofs.Copying.{leads_more, captured_all_more, on_err_any, ended, aborted, given_up_within}
 use Rattle.analyser.proofs.capture.copy_accepted.Goals as goal
 
 pub returns-in_err-write_accepted-in-Ok-Frame-clause-front : goal.returns-in_err-write_accepted-in-Ok-Frame-clause-front
@@ -40,9 +40,9 @@ returns-in-Ok-End-clause-copied g c =
 pub returns-in-Err-Device-clause-front : goal.returns-in-Err-Device-clause-front
 returns-in-Err-Device-clause-front g c =
     let at = c.loop-frame.invariant.copied in
-    given_up _ _ _ _ _ _ _ at.0 at.1 at.2
+    aborted _ _ _ _ _ _ _ at.0 at.1 at.2
 
 pub returns-in-Err-Memory-clause-front : goal.returns-in-Err-Memory-clause-front
 returns-in-Err-Memory-clause-front g c =
     let at = c.loop-frame.invariant.copied in
-    given_up _ _ _ _ _ _ _ at.0 at.1 at.2
+    aborted _ _ _ _ _ _ _ at.0 at.1 at.2

@@ -3,7 +3,7 @@ ghost use Rattle.std.specs.Prelude.{◌≡◌, ◌≢◌, List, None, IfOk, IfEr
 ghost use Rattle.bpf_isa.specs.declared.packed.Packed.{Packed};
 ghost use Rattle.analyser.specs.declared.fault.WatchFault.{WatchFault};
 ghost use Rattle.analyser.specs.Line.{line_of};
-ghost use Rattle.analyser.specs.Over.{IsFilter, IsFilterFault, HasCaptured, Leaves};
+ghost use Rattle.analyser.specs.Commands.{IsFilter, IsFilterFault, HoldsCapture, Leaves};
 
 use crate::capture::{WatchRefused, capture_one};
 use crate::fault::{Fault, fault_line};
@@ -68,11 +68,11 @@ pub fn capture_over<S: TapSource + Drop, W: OutSink>(
     // At status 0 the text holds a filter, and the sink has what it had, followed by the capture of the
     // recording's frames.
     ensures captured { result.status ≡ 0 → (result.line ≡ None) × ((p : List Packed) × IsFilter code.now p
-        × HasCaptured p (S.remaining source) (W.contents sink) (W.contents result.sink)) }
+        × HoldsCapture p (S.remaining source) (W.contents sink) (W.contents result.sink)) }
     ensures sound { result.status ≡ 0 → W.failures result.sink ≡ W.failures sink }
 
     // At any other it is 1, and the line tells the fault.
-    ensures given_up { result.status ≢ 0 → (result.status ≡ 1) × ((fault : Fault)
+    ensures aborted { result.status ≢ 0 → (result.status ≡ 1) × ((fault : Fault)
         × IfSome result.line (λ line. string_bytes line ≡ line_of fault)
         × Leaves fault code.now (S.remaining source) (W.contents sink) (W.contents result.sink)
         (W.failures sink) (W.failures result.sink)) }

@@ -8,16 +8,16 @@ use Rattle.pcap_io.specs.declared.recording.Ending.{Ending}
 use Rattle.analyser.specs.declared.fault.WatchFault.{WatchFault}
 use Rattle.analyser.specs.declared.fault.Fault.TheVariants as fault
 use Rattle.analyser.specs.Capture.{capture_text, IsRecording}
-use Rattle.analyser.specs.Whole.{HasCause}
+use Rattle.analyser.specs.Cause.{HasCause}
 use Rattle.analyser.specs.declared.fault.WatchFault.TheVariants as watch
 use Rattle.analyser.specs.declared.fault.Output.TheVariants as output
-use Rattle.analyser.specs.Over.{HasCaptured, HasSinkCause}
-use Rattle.analyser.proofs.over.capture_over.Goals as goal
+use Rattle.analyser.specs.Commands.{HoldsCapture, HasSinkCause}
+use Rattle.analyser.proofs.commands.capture_over.Goals as goal
 
 -- the ending of a capture isn't told further
 with_ending : (p : List Packed) (bytes before behind : Option (List ℕ)) (ending : Ending)
     → IfSome bytes (λ bs. (frames : List Frame) × IsRecording networks.A 0 bs frames ending × Appends before behind (capture_text p frames))
-    → HasCaptured p bytes before behind
+    → HoldsCapture p bytes before behind
 with_ending p None before behind ending h = tt
 with_ending p (Some bs) before behind ending h = (h.0, ending, h.1, h.2)
 
@@ -44,8 +44,8 @@ behind : {A : Type 0} (source : Option A) (failures : A → ℕ) (w : WatchFault
 behind None failures w a old new some h = cc
 behind (Some s) failures w a old new some h = of_sink w a (failures s) old new h
 
-pub returns-clause-given_up : goal.returns-clause-given_up
-returns-clause-given_up g c = λ _.
+pub returns-clause-aborted : goal.returns-clause-aborted
+returns-clause-aborted g c = λ _.
     let told = c.failed-in-Err-capture_one.ensures in
     let refused = c.in-Err-capture_one.ensures in (
       told.status,

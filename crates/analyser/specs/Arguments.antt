@@ -5,8 +5,8 @@ use Rattle.clap.specs.Words.{App, app_of, Row, Rule, Text, first_of, new_app, ne
 use Rattle.clap.specs.declared.builder.command.Command.{Command}
 use Rattle.clap.specs.declared.builder.command.Command.TheViews.{out-Command}
 use Rattle.clap.specs.declared.builder.action.ArgAction.TheVariants.{Set}
-use Rattle.analyser.specs.declared.words.Words.{Words}
-use Rattle.analyser.specs.declared.words.Words.TheVariants as words
+use Rattle.analyser.specs.declared.arguments.Invocation.{Invocation}
+use Rattle.analyser.specs.declared.arguments.Invocation.TheVariants as words
 
 abbrev pub code_rule : Rule
 code_rule = record (new_rule (codes "code")) { long = Some (codes "code"); value_names = 1; action = Some Set; required = true }
@@ -34,5 +34,5 @@ code_in (Some met) = if bytes_eq met.0 (codes "capture") then first_of (codes "c
 abbrev pub code_asked : List Text → Option Text
 code_asked texts = code_in (subcommand_of afdxmon_app texts)
 
-abbrev pub code_of : Words → Text
+abbrev pub code_of : Invocation → Text
 code_of (words.Capture code) = code.now

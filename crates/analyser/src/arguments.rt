@@ -2,14 +2,14 @@
 ghost use Rattle.std.specs.Prelude.{◌≡◌, true, map, IfOk, IfErr, option_map, string_bytes};
 ghost use Rattle.clap.specs.Words.{FailsBy, fault_of, kind_of, subcommand_rows_of, takes};
 ghost use Rattle.clap.specs.declared.error.kind.ErrorKind.TheVariants.{OutOfMemory};
-ghost use Rattle.analyser.specs.Words.{IsCapture, afdxmon_app, code_asked, code_in, code_of};
+ghost use Rattle.analyser.specs.Arguments.{IsCapture, afdxmon_app, code_asked, code_in, code_of};
 
 use clap::{Arg, ArgAction, ArgMatches, Command, Error};
 use std::alloc::{AllocError, Global};
 
 /// What the words ask for.
 #[derive(Clone, Copy, Debug, PartialEq, Eq)]
-pub enum Words<'a> {
+pub enum Invocation<'a> {
     /// Copy the frames that a filter accepts from standard input to standard output.
     Capture {
         /// The filter, in the numeric form.
@@ -33,13 +33,13 @@ fn capture_command<'a>(alloc: Global) -> Result<Command<'a>, AllocError>
 }
 
 /// What the matches of a command line ask for.
-fn words_of<'a>(matches: &ArgMatches<'a>) -> Option<Words<'a>>
+fn arguments_of<'a>(matches: &ArgMatches<'a>) -> Option<Invocation<'a>>
     ensures { option_map code_of result ≡ code_in (subcommand_rows_of matches.now) }
 {
     match matches.subcommand() {
         Some((name, given)) if name == "capture" => {
             let code = given.get_str("code")?;
-            Some(Words::Capture { code })
+            Some(Invocation::Capture { code })
         }
         _ => None,
     }
@@ -47,7 +47,10 @@ fn words_of<'a>(matches: &ArgMatches<'a>) -> Option<Words<'a>>
 
 /// Reads the program's words, the program's own name first. An `Err` has the text for the user; so has
 /// a request for help.
-pub fn read_words<'a>(alloc: Global, words: &'a [String]) -> Result<Option<Words<'a>>, Error>
+pub fn read_arguments<'a>(
+    alloc: Global,
+    words: &'a [String],
+) -> Result<Option<Invocation<'a>>, Error>
     ensures meant { IfOk result (λ found. option_map code_of found ≡ code_asked (map string_bytes words.now)) }
     // Ok where clap's rules find no fault; else an error of the kind that they find, or for want of memory.
     ensures kinds { FailsBy (fault_of afdxmon_app (map string_bytes words.now)) result }
@@ -58,5 +61,5 @@ pub fn read_words<'a>(alloc: Global, words: &'a [String]) -> Result<Option<Words
         .subcommand_required(true)
         .subcommand(capture_command(alloc)?)?;
     let matches = command.try_get_matches_from(words)?;
-    Ok(words_of(&matches))
+    Ok(arguments_of(&matches))
 }

@@ -30,8 +30,8 @@ IsFilterFault text (fault.Load f None) = (words : List Packed) × (numeric_of te
 IsFilterFault text _ = ⊥
 
 -- the sink has what it had, followed by the capture of the recording's frames
-abbrev pub HasCaptured : List Packed → Option (List ℕ) → Option (List ℕ) → Option (List ℕ) → Type 0
-HasCaptured p bytes before behind = IfSome bytes (λ bs. (frames : List Frame) × (ending : Ending)
+abbrev pub HoldsCapture : List Packed → Option (List ℕ) → Option (List ℕ) → Option (List ℕ) → Type 0
+HoldsCapture p bytes before behind = IfSome bytes (λ bs. (frames : List Frame) × (ending : Ending)
     × IsRecording networks.A 0 bs frames ending × Appends before behind (capture_text p frames))
 
 -- The sink's part of a fault: it failed where the fault names it, and else it didn't. (The source is gone behind the call, so that
@@ -44,7 +44,7 @@ HasSinkCause watch.Memory old new = new ≡ old
 HasSinkCause _ old new = ⊥
 
 -- What a capture with a sound filter left when it was given up: a front of the capture, and nothing where the recording has no header.
-pub record IsGivenUp (p : List Packed) (w : WatchFault) (bytes before behind : Option (List ℕ)) (old new : ℕ) : Type 0 where
+pub record IsAborted (p : List Packed) (w : WatchFault) (bytes before behind : Option (List ℕ)) (old new : ℕ) : Type 0 where
   pub front : IfSome bytes (λ bs. (frames : List Frame) (ending : Ending) → IsRecording networks.A 0 bs frames ending → AppendsFront before behind (capture_text p frames))
   pub unwritten : IfSome bytes (λ bs. (f : HeaderFault) → header_of bs ≡ Err f → Keeps before behind)
   pub header : (f : HeaderFault) → w ≡ watch.Header networks.A f → Keeps before behind × IfSome bytes (λ bs. header_of bs ≡ Err f)
@@ -53,5 +53,5 @@ pub record IsGivenUp (p : List Packed) (w : WatchFault) (bytes before behind : O
 
 -- what a fault leaves, with the sink's failures before the call and after it
 abbrev pub Leaves : Fault → List ℕ → Option (List ℕ) → Option (List ℕ) → Option (List ℕ) → ℕ → ℕ → Type 0
-Leaves (fault.Watch w) text bytes before behind old new = (p : List Packed) × IsFilter text p × IsGivenUp p w bytes before behind old new
+Leaves (fault.Watch w) text bytes before behind old new = (p : List Packed) × IsFilter text p × IsAborted p w bytes before behind old new
 Leaves f text bytes before behind old new = IsFilterFault text f × Keeps before behind × (new ≡ old)

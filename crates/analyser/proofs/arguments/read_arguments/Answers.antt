@@ -4,8 +4,8 @@ use Rattle.clap.specs.Words.{AddsSubcommand, App, HasKind, app_of, fault_of, is_
 use Rattle.clap.specs.Simple.{app_of_fields}
 use Rattle.clap.specs.declared.builder.command.Command.{Command}
 use Rattle.clap.specs.declared.builder.command.Command.TheOpen.{Command-F}
-use Rattle.analyser.specs.Words.{IsCapture, afdxmon_app, with_required, capture_app, code_in}
-use Rattle.analyser.proofs.words.read_words.Goals as goal
+use Rattle.analyser.specs.Arguments.{IsCapture, afdxmon_app, with_required, capture_app, code_in}
+use Rattle.analyser.proofs.arguments.read_arguments.Goals as goal
 
 afdxmon_is : afdxmon_app ≡ with_subcommand (with_required (new_app (codes "afdxmon"))) capture_app.top
 unfolding afdxmon_app
@@ -51,4 +51,4 @@ unfolding afdxmon_app
 returns-clause-meant c =
     let is = built c.new.result c.subcommand_required.result c.in_ok-capture_command.field-0 c.in_ok-command.command c.new.ensures.app
     (ap app_of_fields c.subcommand_required.ensures ∙ ap wanting_of c.about.ensures) c.in_ok-capture_command.ensures c.in_ok-command.ensures in
-    c.words_of.ensures ∙ ap code_in ((c.in_ok-matches.ensures.matches (ap is_simple is)).1 ∙ ap (λ (a : App). subcommand_of a (map string_bytes c.args.words.now)) is)
+    c.arguments_of.ensures ∙ ap code_in ((c.in_ok-matches.ensures.matches (ap is_simple is)).1 ∙ ap (λ (a : App). subcommand_of a (map string_bytes c.args.words.now)) is)

@@ -3,8 +3,8 @@ use Rattle.std.specs.Str.{bytes_eq}
 use Rattle.clap.specs.Words.{Row, Text, found_of, first_value, rows_of}
 use Rattle.clap.specs.declared.parser.matches.Found.{Found}
 use Rattle.clap.proofs.WalkLemmas.{first_value-rows}
-use Rattle.analyser.specs.Words.{code_in}
-use Rattle.analyser.proofs.words.words_of.Goals as goal
+use Rattle.analyser.specs.Arguments.{code_in}
+use Rattle.analyser.proofs.arguments.arguments_of.Goals as goal
 
 -- the two halves of what was met
 both : {B X Y : Type 0} (met : Option B) (f : B → X) (g : B → Y) (x : X) (y : Y) → Some x ≡ option_map f met
