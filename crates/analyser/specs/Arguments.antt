@@ -14,12 +14,14 @@ code_rule = record (new_rule (codes "code")) { long = Some (codes "code"); value
 abbrev pub capture_app : App
 capture_app = with_rule (new_app (codes "capture")) code_rule
 
--- a command that wants a subcommand
-abbrev pub with_required : App → App
-with_required a = record { top = record a.top { subcommand_required = true }; subs = a.subs }
+-- the program's own command, which has a version and requires a subcommand
+abbrev pub program_app : App
+program_app =
+    let a = new_app (codes "afdxmon") in
+    record { top = record a.top { has_version = true; subcommand_required = true }; subs = a.subs }
 
 unfoldable pub afdxmon_app : App
-afdxmon_app = with_subcommand (with_required (new_app (codes "afdxmon"))) capture_app.top
+afdxmon_app = with_subcommand program_app capture_app.top
 
 -- the command is that of capture
 abbrev pub IsCapture : Command → Type 0

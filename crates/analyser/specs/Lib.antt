@@ -3,3 +3,4 @@ pub mod Capture
 pub mod Cause
 pub mod Commands
 pub mod Arguments
+pub mod Exit

@@ -1,8 +1,8 @@
 //! The words of the command line.
 ghost use Rattle.std.specs.Prelude.{◌≡◌, true, map, IfOk, IfErr, option_map, string_bytes};
-ghost use Rattle.clap.specs.Words.{FailsBy, fault_of, kind_of, subcommand_rows_of, takes};
+ghost use Rattle.clap.specs.Words.{FailsBy, fault_of, app_of, kind_of, subcommand_rows_of, takes};
 ghost use Rattle.clap.specs.declared.error.kind.ErrorKind.TheVariants.{OutOfMemory};
-ghost use Rattle.analyser.specs.Arguments.{IsCapture, afdxmon_app, code_asked, code_in, code_of};
+ghost use Rattle.analyser.specs.Arguments.{IsCapture, afdxmon_app, program_app, code_asked, code_in, code_of};
 
 use clap::{Arg, ArgAction, ArgMatches, Command, Error};
 use std::alloc::{AllocError, Global};
@@ -17,19 +17,38 @@ pub enum Invocation<'a> {
     },
 }
 
+/// The version that `--version` prints.
+const VERSION: &str = "0.1.0";
+
+/// What stands after the options in the help of `capture`.
+const CAPTURE_EXAMPLE: &str = "\
+Example: keep the frames of virtual link 5
+  afdxmon capture --code \"$(tcpdump -y EN10MB -ddd 'ether[4:2] = 5')\" < recording.pcap > link5.pcap";
+
 /// The command `capture`.
 fn capture_command<'a>(alloc: Global) -> Result<Command<'a>, AllocError>
     ensures { IfOk result IsCapture }
 {
     let code = Arg::new(alloc, "code")
         .long("code")
-        .value_name("NUMERIC TEXT")
-        .help("The filter, as `tcpdump -ddd` or bpf_asm prints it")
+        .value_name("FILTER")
+        .help("The filter in the numeric form, as `tcpdump -ddd` prints it")
         .required(true)
         .action(ArgAction::Set);
     Command::new(alloc, "capture")
         .about("Copies the frames that a filter accepts, from standard input to standard output")
+        .after_help(CAPTURE_EXAMPLE)
         .arg(code)
+}
+
+/// The program's own command, before its subcommands.
+fn program_command<'a>(alloc: Global) -> Command<'a>
+    ensures { app_of result ≡ program_app }
+{
+    Command::new(alloc, "afdxmon")
+        .about("Analyses recordings of AFDX networks (ARINC 664 Part 7)")
+        .version(VERSION)
+        .subcommand_required(true)
 }
 
 /// What the matches of a command line ask for.
@@ -56,10 +75,7 @@ pub fn read_arguments<'a>(
     ensures kinds { FailsBy (fault_of afdxmon_app (map string_bytes words.now)) result }
     ensures refused { IfErr result (λ e. takes afdxmon_app (map string_bytes words.now) ≡ true → kind_of e ≡ OutOfMemory) }
 {
-    let command = Command::new(alloc, "afdxmon")
-        .about("Analyses recordings of AFDX networks (ARINC 664 Part 7)")
-        .subcommand_required(true)
-        .subcommand(capture_command(alloc)?)?;
+    let command = program_command(alloc).subcommand(capture_command(alloc)?)?;
     let matches = command.try_get_matches_from(words)?;
     Ok(arguments_of(&matches))
 }

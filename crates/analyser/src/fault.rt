@@ -1,12 +1,14 @@
 //! Why the program gave up, and the line that says so.
-ghost use Rattle.std.specs.Prelude.{◌≡◌, ◌++◌, OnOk, IfOk, string_bytes};
-ghost use Rattle.analyser.specs.Line.{line_of, numeric_part, load_part, watch_part, header_part, network_part, filter_part};
+ghost use Rattle.std.specs.Prelude.{◌≡◌, IfOk, string_bytes};
+ghost use Rattle.analyser.specs.Line.{line_of, header_part, network_part};
 
 use afdx_frame::Network;
 use bpf_isa::NumericFault;
 use bpf_loader::LoadFault;
 use pcap_io::HeaderFault;
 use std::alloc::{AllocError, Global};
+use std::fmt;
+use std::fmt::{Display, Formatter};
 use thiserror::Error;
 
 /// One of the two files that an analysis writes.
@@ -67,32 +69,50 @@ pub enum Fault {
     Watch(WatchFault),
 }
 
-fn push_numeric(line: &mut String, fault: &NumericFault) -> Result<(), AllocError>
-    ensures { OnOk result (string_bytes line.new ≡ string_bytes line.old ++ numeric_part fault.now) }
-{
-    match fault {
-        NumericFault::Character { at } => write!(line, "1 Character at {at}"),
-        NumericFault::Number { at } => write!(line, "2 Number at {at}"),
-        NumericFault::Form { at } => write!(line, "3 Form at {at}"),
-        NumericFault::Count { at } => write!(line, "4 Count at {at}"),
-        NumericFault::TooMany { at } => write!(line, "5 TooMany at {at}"),
-        NumericFault::Memory => line.push_str("6 Memory"),
+/// The number, name and place of a fault of the numeric form.
+#[derive(Clone, Copy)]
+struct NumericPart(NumericFault);
+
+impl Display for NumericPart {
+    ghost use Rattle.std.specs.Prelude.{Some};
+    ghost use Rattle.analyser.specs.Line.{numeric_part};
+
+    ghost output = { λ part. Some (numeric_part part.0) };
+
+    fn fmt<W: fmt::Write>(&self, f: &mut Formatter<W>) -> fmt::Result {
+        match self.0 {
+            NumericFault::Character { at } => write!(f, "1 Character at {at}"),
+            NumericFault::Number { at } => write!(f, "2 Number at {at}"),
+            NumericFault::Form { at } => write!(f, "3 Form at {at}"),
+            NumericFault::Count { at } => write!(f, "4 Count at {at}"),
+            NumericFault::TooMany { at } => write!(f, "5 TooMany at {at}"),
+            NumericFault::Memory => f.write_str("6 Memory"),
+        }
     }
 }
 
-fn push_load(line: &mut String, fault: &LoadFault) -> Result<(), AllocError>
-    ensures { OnOk result (string_bytes line.new ≡ string_bytes line.old ++ load_part fault.now) }
-{
-    match fault {
-        LoadFault::Length => line.push_str("1 Length"),
-        LoadFault::UnknownCode { at } => write!(line, "2 UnknownCode at {at}"),
-        LoadFault::ZeroDivisor { at } => write!(line, "3 ZeroDivisor at {at}"),
-        LoadFault::Shift { at } => write!(line, "4 Shift at {at}"),
-        LoadFault::Scratch { at } => write!(line, "5 Scratch at {at}"),
-        LoadFault::Offset { at } => write!(line, "6 Offset at {at}"),
-        LoadFault::Jump { at } => write!(line, "7 Jump at {at}"),
-        LoadFault::NoReturn => line.push_str("8 NoReturn"),
-        LoadFault::Unstored { at, word } => write!(line, "9 Unstored at {at} word {word}"),
+/// The number, name and place of a load fault.
+#[derive(Clone, Copy)]
+struct LoadPart(LoadFault);
+
+impl Display for LoadPart {
+    ghost use Rattle.std.specs.Prelude.{Some};
+    ghost use Rattle.analyser.specs.Line.{load_part};
+
+    ghost output = { λ part. Some (load_part part.0) };
+
+    fn fmt<W: fmt::Write>(&self, f: &mut Formatter<W>) -> fmt::Result {
+        match self.0 {
+            LoadFault::Length => f.write_str("1 Length"),
+            LoadFault::UnknownCode { at } => write!(f, "2 UnknownCode at {at}"),
+            LoadFault::ZeroDivisor { at } => write!(f, "3 ZeroDivisor at {at}"),
+            LoadFault::Shift { at } => write!(f, "4 Shift at {at}"),
+            LoadFault::Scratch { at } => write!(f, "5 Scratch at {at}"),
+            LoadFault::Offset { at } => write!(f, "6 Offset at {at}"),
+            LoadFault::Jump { at } => write!(f, "7 Jump at {at}"),
+            LoadFault::NoReturn => f.write_str("8 NoReturn"),
+            LoadFault::Unstored { at, word } => write!(f, "9 Unstored at {at} word {word}"),
+        }
     }
 }
 
@@ -116,63 +136,91 @@ fn network_name(network: Network) -> &'static str
     }
 }
 
-fn push_watch(line: &mut String, fault: &WatchFault) -> Result<(), AllocError>
-    ensures { OnOk result (string_bytes line.new ≡ string_bytes line.old ++ watch_part fault.now) }
-{
-    match fault {
-        WatchFault::Workers => line.push_str("1 Workers"),
-        WatchFault::Header { network, fault } => {
-            line.push_str("2 Header ")?;
-            line.push_str(network_name(*network))?;
-            line.push_str(" ")?;
-            line.push_str(header_name(*fault))
+/// The number and name of a run's fault, and what it concerns.
+#[derive(Clone, Copy)]
+struct WatchPart(WatchFault);
+
+impl Display for WatchPart {
+    ghost use Rattle.std.specs.Prelude.{Some};
+    ghost use Rattle.analyser.specs.Line.{watch_part};
+
+    ghost output = { λ part. Some (watch_part part.0) };
+
+    fn fmt<W: fmt::Write>(&self, f: &mut Formatter<W>) -> fmt::Result {
+        match self.0 {
+            WatchFault::Workers => f.write_str("1 Workers"),
+            WatchFault::Header { network, fault } => {
+                let (network, fault) = (network_name(network), header_name(fault));
+                write!(f, "2 Header {network} {fault}")
+            }
+            WatchFault::Read { network } => {
+                let network = network_name(network);
+                write!(f, "3 Read {network}")
+            }
+            WatchFault::Write {
+                output: Output::Capture,
+            } => f.write_str("4 Write capture"),
+            WatchFault::Write {
+                output: Output::Ledger,
+            } => f.write_str("4 Write ledger"),
+            WatchFault::Spawn => f.write_str("5 Spawn"),
+            WatchFault::RingLost => f.write_str("6 RingLost"),
+            WatchFault::Memory => f.write_str("7 Memory"),
+            WatchFault::Filters => f.write_str("8 Filters"),
         }
-        WatchFault::Read { network } => {
-            line.push_str("3 Read ")?;
-            line.push_str(network_name(*network))
-        }
-        WatchFault::Write {
-            output: Output::Capture,
-        } => line.push_str("4 Write capture"),
-        WatchFault::Write {
-            output: Output::Ledger,
-        } => line.push_str("4 Write ledger"),
-        WatchFault::Spawn => line.push_str("5 Spawn"),
-        WatchFault::RingLost => line.push_str("6 RingLost"),
-        WatchFault::Memory => line.push_str("7 Memory"),
-        WatchFault::Filters => line.push_str("8 Filters"),
     }
 }
 
-fn push_filter(line: &mut String, filter: Option<u8>) -> Result<(), AllocError>
-    ensures { OnOk result (string_bytes line.new ≡ string_bytes line.old ++ filter_part filter) }
-{
-    match filter {
-        Some(number) => write!(line, " filter {number}"),
-        None => Ok(()),
+/// The number of a filter of the table; that of the command line has none.
+#[derive(Clone, Copy)]
+struct FilterPart(Option<u8>);
+
+impl Display for FilterPart {
+    ghost use Rattle.std.specs.Prelude.{Some};
+    ghost use Rattle.analyser.specs.Line.{filter_part};
+
+    ghost output = { λ part. Some (filter_part part.0) };
+
+    fn fmt<W: fmt::Write>(&self, f: &mut Formatter<W>) -> fmt::Result {
+        match self.0 {
+            Some(number) => write!(f, " filter {number}"),
+            None => Ok(()),
+        }
+    }
+}
+
+/// The fault line, without its newline.
+impl Display for Fault {
+    ghost use Rattle.std.specs.Prelude.{Some};
+    ghost use Rattle.analyser.specs.Line.{line_of};
+
+    ghost output = { λ fault. Some (line_of fault) };
+
+    fn fmt<W: fmt::Write>(&self, f: &mut Formatter<W>) -> fmt::Result {
+        match *self {
+            Fault::Numeric { fault, filter } => {
+                let (fault, filter) = (NumericPart(fault), FilterPart(filter));
+                write!(f, "afdxmon: numeric {fault}{filter}")
+            }
+            Fault::Load { fault, filter } => {
+                let (fault, filter) = (LoadPart(fault), FilterPart(filter));
+                write!(f, "afdxmon: load {fault}{filter}")
+            }
+            Fault::Watch(fault) => {
+                let fault = WatchPart(fault);
+                write!(f, "afdxmon: watch {fault}")
+            }
+        }
     }
 }
 
 /// The line that the program prints for a fault, without the newline.
+///
+/// # Errors
+///
+/// `AllocError` if there is no memory for the line.
 pub fn fault_line(alloc: Global, fault: &Fault) -> Result<String, AllocError>
     ensures { IfOk result (λ line. string_bytes line ≡ line_of fault.now) }
 {
-    let mut line = String::from_str(alloc, "afdxmon: ")?;
-    match fault {
-        Fault::Numeric { fault, filter } => {
-            line.push_str("numeric ")?;
-            push_numeric(&mut line, fault)?;
-            push_filter(&mut line, *filter)?;
-        }
-        Fault::Load { fault, filter } => {
-            line.push_str("load ")?;
-            push_load(&mut line, fault)?;
-            push_filter(&mut line, *filter)?;
-        }
-        Fault::Watch(fault) => {
-            line.push_str("watch ")?;
-            push_watch(&mut line, fault)?;
-        }
-    }
-    Ok(line)
+    fault.to_string(alloc)
 }

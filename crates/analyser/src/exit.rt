@@ -1,0 +1,47 @@
+//! How the program ends: its exit status, and what it tells standard error.
+ghost use Rattle.std.specs.Prelude.{◌≡◌};
+ghost use Rattle.analyser.specs.Exit.{exit_of, status_of};
+
+use crate::fault::{Fault, Output, WatchFault};
+use pcap_io::Ending;
+
+/// The exit status of invalid arguments, after clap's text.
+pub const USAGE: u8 = 2;
+
+/// How a command ended.
+#[derive(Clone, Copy, Debug)]
+pub enum Exit {
+    /// Status 0: the whole recording was read.
+    Success,
+    /// Status 0: the recording ended early. What stands before the ending was read.
+    Note(Ending),
+    /// Status 1.
+    Fault(Fault),
+}
+
+impl Exit {
+    /// The end of a capture, from what it came to and whether its output was flushed. An output that
+    /// can't be flushed is one that can't be written.
+    pub fn of_capture(outcome: Result<Ending, Fault>, flushed: bool) -> Exit
+        ensures { result ≡ exit_of outcome flushed }
+    {
+        match outcome {
+            Err(fault) => Exit::Fault(fault),
+            Ok(_) if !flushed => Exit::Fault(Fault::Watch(WatchFault::Write {
+                output: Output::Capture,
+            })),
+            Ok(Ending::Clean(_)) => Exit::Success,
+            Ok(ending) => Exit::Note(ending),
+        }
+    }
+
+    /// The program's exit status.
+    pub fn status(&self) -> u8
+        ensures { result ≡ status_of self.now }
+    {
+        match self {
+            Exit::Success | Exit::Note(_) => 0,
+            Exit::Fault(_) => 1,
+        }
+    }
+}
