@@ -1,80 +1,81 @@
 //! `afdxmon`: analyses recordings of AFDX networks (ARINC 664 Part 7).
+//!
+//! The program opens standard input and output, hands them to the command of `analyser` and tells how
+//! it ended. What a command does stands in that crate, with its contract.
 #![tactic(auto)]
 
 use analyser::{
-    Fault, Output, Ran, ReadSource, WatchFault, Invocation, WriteSink, capture_over, fault_line,
-    read_arguments,
+    CaptureRun, Exit, Fault, Invocation, Note, USAGE, WatchFault, advice, read_arguments,
+    run_capture,
 };
+use pcap_io::{ReadSource, WriteSink};
 use std::io;
-use std::io::{BufReader, BufWriter, Write};
+use std::io::{BufWriter, ErrorKind, IsTerminal, Write};
 use std::process::ExitCode;
 
-/// The bytes that are read from the system, and written to it, at once.
+/// How many bytes are handed to the system at once.
 const BLOCK: usize = 65536;
-
-/// The status of a fault.
-const FAULT: u8 = 1;
-
-/// The status of wrong words.
-const USAGE: u8 = 2;
 
 /// Copies the frames that the filter accepts from standard input to standard output. What was
 /// written before a fault is handed to the system too.
-fn capture(rt: &HostRuntime, code: &str) -> io::Result<Ran<()>> {
-    let alloc = rt.alloc();
-    let source = ReadSource::new(BufReader::with_capacity(alloc, BLOCK, rt.stdin())?);
-    let sink = WriteSink::new(BufWriter::with_capacity(alloc, BLOCK, rt.stdout())?);
-    let Ran {
-        mut status,
-        mut line,
+fn capture(rt: &HostRuntime, code: &str) -> Exit {
+    let Ok(output) = BufWriter::with_capacity(rt.alloc(), BLOCK, rt.stdout()) else {
+        return Exit::Fault(Fault::Watch(WatchFault::Memory));
+    };
+    let source = ReadSource::new(rt.stdin());
+    let CaptureRun {
+        outcome,
+        source: _,
         sink,
-    } = capture_over(alloc, code, source, sink);
-    if sink.into_writer().flush().is_err() && status == 0 {
-        let fault = Fault::Watch(WatchFault::Write {
-            output: Output::Capture,
-        });
-        status = FAULT;
-        line = fault_line(alloc, &fault).ok();
-    }
-    Ok(Ran {
-        status,
-        line,
-        sink: (),
-    })
+    } = run_capture(rt.alloc(), code, source, WriteSink::new(output));
+    let flushed = sink.into_writer().flush().is_ok();
+    Exit::of_capture(outcome, flushed)
 }
 
-/// Prints the line of a fault, and gives the program's status.
-fn finish(rt: &HostRuntime, ran: &Ran<()>) -> ExitCode {
-    if let Some(line) = &ran.line {
-        let _ = rt.eprintln(line);
-    }
-    ExitCode::from(ran.status)
-}
-
-/// What a command leaves where there was no memory to begin it.
-fn no_memory(rt: &HostRuntime) -> Ran<()> {
-    Ran {
-        status: FAULT,
-        line: fault_line(rt.alloc(), &Fault::Watch(WatchFault::Memory)).ok(),
-        sink: (),
+/// Tells standard error how a command ended: the fault line or the note, and to a person at a terminal
+/// what a fault means.
+fn tell(rt: &HostRuntime, exit: &Exit) -> io::Result<()> {
+    match exit {
+        Exit::Success => Ok(()),
+        Exit::Note(ending) => rt.eprintln(Note(*ending)),
+        Exit::Fault(fault) => {
+            rt.eprintln(*fault)?;
+            if rt.stderr().is_terminal() {
+                rt.eprintln(advice(fault))?;
+            }
+            Ok(())
+        }
     }
 }
 
-/// The words that the program was called with.
+/// Why the arguments can't be had as text.
+fn unreadable(error: &io::Error) -> &'static str {
+    match error.kind() {
+        ErrorKind::InvalidData => "afdxmon: an argument is not valid UTF-8",
+        _ => "afdxmon: the arguments can't be read",
+    }
+}
+
+/// The arguments that the program was called with, its own name first.
 fn arguments(rt: &HostRuntime) -> io::Result<Vec<String>> {
     Ok(std::env::args(rt)?.collect(rt.alloc())?)
 }
 
 fn main(rt: HostRuntime) -> ExitCode {
-    let Ok(words) = arguments(&rt) else {
-        return ExitCode::from(USAGE);
-    };
-    match read_arguments(rt.alloc(), &words) {
-        Ok(Some(Invocation::Capture { code })) => {
-            let ran = capture(&rt, code).unwrap_or_else(|_| no_memory(&rt));
-            finish(&rt, &ran)
+    // Where standard error can't be written, the status alone tells how the program ended.
+    let arguments = match arguments(&rt) {
+        Ok(arguments) => arguments,
+        Err(error) => {
+            let _ = rt.eprintln(unreadable(&error));
+            return ExitCode::from(USAGE);
         }
-        Ok(None) => ExitCode::from(USAGE),
+    };
+    match read_arguments(rt.alloc(), &arguments) {
+        Ok(Invocation::Capture { code }) => {
+            let exit = capture(&rt, code);
+            let _ = tell(&rt, &exit);
+            ExitCode::from(exit.status())
+        }
         Err(error) => {
             let _ = rt.eprint(error);
             ExitCode::from(USAGE)
