@@ -4,3 +4,4 @@ mod allocation;
 mod arguments;
 mod devices;
 mod lines;
+mod real_size;

@@ -6,6 +6,12 @@ use pcap_io::Script;
 use std::alloc::{AllocError, Global};
 use std::test::Fail;
 
+/// A filter that accepts every frame whole.
+pub const EVERY: &str = "1,6 0 0 4294967295,";
+
+/// The filter of the first run: it accepts the frames of virtual link 5, whole.
+pub const ONE_LINK: &str = "4,40 0 0 4,21 0 1 5,6 0 0 4294967295,6 0 0 0,";
+
 /// A device that never fails and passes all that it can.
 pub const SOUND: Script = Script {
     piece: usize::MAX,
@@ -13,23 +19,29 @@ pub const SOUND: Script = Script {
     miss: None,
 };
 
-/// Room for any capture of these tests.
+/// Room for any capture of the first run.
 pub const ROOM: usize = 512;
 
-/// The header of a recording in nanoseconds, the least significant byte first.
+/// A sink with room for all.
+pub const WIDE: Script = Script {
+    most: ROOM,
+    ..SOUND
+};
+
+/// The file header of a little-endian nanosecond recording.
 pub const HEADER: [u8; 24] = [
     0x4d, 0x3c, 0xb2, 0xa1, 2, 0, 4, 0, 0, 0, 0, 0, 0, 0, 0, 0, 0, 0, 4, 0, 1, 0, 0, 0,
 ];
 
 /// The recording of the first run: two frames of 60 bytes, 176 bytes in all.
 pub const FIRST_RUN: [u8; 176] = [
-    // The header: nanoseconds, the least significant byte first, version 2.4, Ethernet.
+    // The file header: little-endian nanoseconds, version 2.4, Ethernet.
     0x4d, 0x3c, 0xb2, 0xa1, 2, 0, 4, 0, 0, 0, 0, 0, 0, 0, 0, 0, 0, 0, 4, 0, 1, 0, 0, 0,
-    // 0 ns, 60 bytes held of 60: a frame of link 5.
+    // 0 ns, 60 bytes captured of 60: a frame of link 5.
     0, 0, 0, 0, 0, 0, 0, 0, 60, 0, 0, 0, 60, 0, 0, 0, 3, 0, 0, 0, 0, 5, 0, 0, 0, 0, 0, 0, 0, 0, 0,
     0, 0, 0, 0, 0, 0, 0, 0, 0, 0, 0, 0, 0, 0, 0, 0, 0, 0, 0, 0, 0, 0, 0, 0, 0, 0, 0, 0, 0, 0, 0, 0,
     0, 0, 0, 0, 0, 0, 0, 0, 0, 0, 0, 0, 1,
-    // 1 ns, 60 bytes held of 60: a frame of link 6.
+    // 1 ns, 60 bytes captured of 60: a frame of link 6.
     0, 0, 0, 0, 1, 0, 0, 0, 60, 0, 0, 0, 60, 0, 0, 0, 3, 0, 0, 0, 0, 6, 0, 0, 0, 0, 0, 0, 0, 0, 0,
     0, 0, 0, 0, 0, 0, 0, 0, 0, 0, 0, 0, 0, 0, 0, 0, 0, 0, 0, 0, 0, 0, 0, 0, 0, 0, 0, 0, 0, 0, 0, 0,
     0, 0, 0, 0, 0, 0, 0, 0, 0, 0, 0, 0, 1,

@@ -1,19 +1,17 @@
-//! Calls that take memory have two answers: the right one, or want of memory.
+//! Calls that allocate return the right answer, or say that they are out of memory.
 //!
-//! The script `tests/refusals.sh` has each growth in them refused in turn. A test `refusal_..` then
-//! passes by either answer, and a test `ample_..` by the right one alone, so it tells whether a growth
-//! was refused. With ample memory both have to pass.
+//! The script `tests/allocations.sh` has each allocation in them fail in turn. A test `refusal_..` then
+//! passes by either answer, and a test `ample_..` by the right one alone, so it tells whether an
+//! allocation failed. With ample memory both have to pass.
 
-use crate::support::{FIRST_RUN, ROOM, SOUND};
+use crate::support::{FIRST_RUN, ONE_LINK, SOUND, WIDE};
 use analyser::{Fault, capture_over, fault_line};
 use bpf_isa::{NumericFault, Packed, read_numeric, write_numeric};
 use bpf_loader::LoadFault;
 use pcap_io::{MemSink, MemSource, OutSink, Script};
 use std::process::Abort;
 
-/// The filter of the first run, and its words.
-const ONE_LINK: &str = "4,40 0 0 4,21 0 1 5,6 0 0 4294967295,6 0 0 0,";
-
+/// The instructions of the first run's filter.
 const WORDS: [Packed; 4] = [
     Packed {
         code: 40,
@@ -88,13 +86,12 @@ fn makes_a_line(rt: &(impl Abort + AllocGlobal)) -> bool {
     true
 }
 
-/// Copies the first run. Where there was no memory, what is written is a front of the capture.
+/// Copies the first run. Where there was no memory, what is written is a prefix of the capture.
 fn copies_the_first_run(rt: &(impl Abort + AllocGlobal)) -> bool {
     let alloc = rt.alloc();
-    let most = ROOM;
     let (Ok(bytes), Ok(sink)) = (
         Vec::from_slice(alloc, &FIRST_RUN),
-        MemSink::new(alloc, Script { most, ..SOUND }),
+        MemSink::new(alloc, WIDE),
     ) else {
         return false;
     };

@@ -1,7 +1,7 @@
 //! Devices that fail once, or stop, at every place: the fault is that device's, and what was written
-//! is a front of the capture.
+//! is a prefix of the capture.
 
-use crate::support::{FIRST_RUN, ROOM, SOUND, loaded};
+use crate::support::{EVERY, FIRST_RUN, SOUND, WIDE, loaded};
 use afdx_frame::Network;
 use analyser::{Output, Ran, WatchFault, capture_one, capture_over};
 use bpf_loader::Program;
@@ -10,17 +10,8 @@ use std::alloc::{AllocError, Global};
 use std::process::Abort;
 use std::test::Fail;
 
-/// A filter that accepts all frames whole: the capture of the first run is its recording.
-const EVERY: &str = "1,6 0 0 4294967295,";
-
 /// The bytes of the first run's recording, and of its capture.
 const LEN: usize = 176;
-
-/// A sink with room for all.
-const WIDE: Script = Script {
-    most: ROOM,
-    ..SOUND
-};
 
 /// What a device's fault is, and its line.
 #[derive(Clone, Copy)]
@@ -62,7 +53,7 @@ fn devices(alloc: Global, scripts: (Script, Script)) -> Result<(MemSource, MemSi
     Ok((source, MemSink::new(alloc, scripts.1)?))
 }
 
-/// The command says the same as `capture_one` and leaves the same bytes.
+/// The command tells the same as `capture_one` and leaves the same bytes.
 fn agrees(rt: &impl Abort, ran: &Ran<MemSink>, failed: bool, line: &str, written: &[u8]) {
     assert_eq!(rt; ran.status, u8::from(failed));
     match &ran.line {
@@ -76,8 +67,8 @@ fn agrees(rt: &impl Abort, ran: &Ran<MemSink>, failed: bool, line: &str, written
 }
 
 /// Runs `capture_one` and the command over devices of which one may fail. Either nothing failed and
-/// all is written, or the fault is the given one and what is written is a front of all. Answers whether
-/// it failed, and how many bytes were written.
+/// all is written, or the fault is the given one and what is written is a prefix of all. Returns
+/// whether it failed, and how many bytes were written.
 fn tried(
     rt: &(impl Abort + AllocGlobal),
     scripts: (Script, Script),
@@ -105,6 +96,17 @@ fn tried(
     Ok((failed, sink.taken().len()))
 }
 
+/// How many bytes a capture of every frame has, once the source gave so many: its file header, and the
+/// packets that lie whole in them.
+fn complete_prefix(given: usize) -> usize {
+    match given {
+        0..24 => 0,
+        24..100 => 24,
+        100..LEN => 100,
+        _ => LEN,
+    }
+}
+
 #[test]
 fn a_source_that_stops(rt: HostRuntime) -> Result<(), Fail> {
     for piece in [1, 7, usize::MAX] {
@@ -115,9 +117,9 @@ fn a_source_that_stops(rt: HostRuntime) -> Result<(), Fail> {
                 miss: None,
             };
             let (failed, written) = tried(&rt, (source, WIDE), READ)?;
-            // The read behind the last byte, which finds the end, fails too.
+            // The read after the last byte, which finds the end, fails too.
             assert_eq!(rt; failed, most <= LEN, "after {most} bytes");
-            assert_eq!(rt; written == 0, most < 24, "after {most} bytes");
+            assert_eq!(rt; written, complete_prefix(most), "after {most} bytes");
         }
     }
     Ok(())
@@ -135,8 +137,9 @@ fn a_source_that_misses(rt: HostRuntime) -> Result<(), Fail> {
             let (failed, written) = tried(&rt, (source, WIDE), READ)?;
             if piece == 1 {
                 assert_eq!(rt; failed, call <= 176, "call {call}");
-                assert_eq!(rt; written == 0, call < 24, "call {call}");
+                assert_eq!(rt; written, complete_prefix(call as usize), "call {call}");
             }
+            assert_eq!(rt; written, complete_prefix(written), "call {call}");
             assert!(rt; failed || call > 0);
             assert!(rt; !failed || call <= 176);
         }

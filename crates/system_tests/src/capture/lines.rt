@@ -1,20 +1,11 @@
 //! The command `capture` over devices: what it writes, its status and the line of its fault.
 
-use crate::support::{FIRST_RUN, HEADER, ROOM, SOUND};
+use crate::support::{FIRST_RUN, HEADER, ONE_LINK, SOUND, WIDE};
 use analyser::{Ran, capture_over};
 use pcap_io::{MemSink, MemSource, Script};
 use std::alloc::{AllocError, Global};
 use std::process::Abort;
 use std::test::Fail;
-
-/// The filter of the first run: link 5 alone, its frames whole.
-const ONE_LINK: &str = "4,40 0 0 4,21 0 1 5,6 0 0 4294967295,6 0 0 0,";
-
-/// A sink with room for all.
-const WIDE: Script = Script {
-    most: ROOM,
-    ..SOUND
-};
 
 /// The command over these bytes.
 fn ran(
