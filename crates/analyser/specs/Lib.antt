@@ -1,6 +1,6 @@
-pub mod Line
-pub mod Capture
-pub mod Cause
-pub mod Commands
 pub mod Arguments
+pub mod Capture
+pub mod Commands
+pub mod Copy
 pub mod Exit
+pub mod Line

@@ -3,18 +3,18 @@ ghost use Rattle.std.specs.Prelude.{◌≡◌, ◌≤◌, None, Some, IfOk, IfEr
 ghost use Rattle.std.specs.Io.KnownBytes.{Appends};
 ghost use Rattle.afdx_frame.specs.LentFrame.{frame_of_lent};
 ghost use Rattle.pcap_io.specs.Device.{Writes};
-ghost use Rattle.pcap_io.specs.Reader.{position_of, source_of, remaining_of};
+ghost use Rattle.pcap_io.specs.Reader.{position_of, reading_of};
 ghost use Rattle.pcap_io.specs.Writer.{sink_of, has_failed};
 ghost use Rattle.pcap_io.specs.declared.recording.Stage.TheVariants.{Going};
 ghost use Rattle.analyser.specs.Capture.{answer_for, record_of, devices_of, IsCaptured, IsAborted};
-ghost use Rattle.analyser.specs.Copy.{IsCopied, StopsCopy, open_fault};
+ghost use Rattle.analyser.specs.Copy.{IsCopied, StopsCopy, copying_of, open_fault};
 
 use crate::fault::{Output, WatchFault};
 use afdx_frame::{LentFrame, Network};
 use bpf_loader::Program;
 use bpf_machine::run;
 use pcap_io::{
-    CaptureWriter, Ending, Found, OpenFault, OpenRefused, OutSink, ReadFault, TapReader, TapSource,
+    CaptureWriter, Ending, Found, OpenFault, OpenRefused, OutSink, ReadFault, TapReader, TapSource, WriteFault,
 };
 use std::alloc::Global;
 
@@ -64,4 +64,121 @@ fn write_accepted<W: OutSink>(
     }
     let keep = answer.min(frame.view().bytes().len() as u32);
     writer.put_lent(frame, keep)
+}
+
+/// The capture's device failed.
+const CAPTURE_FAILED: WatchFault = WatchFault::Write {
+    output: Output::Capture,
+};
+
+/// Copies what is left of a recording, up to its ending.
+fn copy_accepted<S: TapSource, W: OutSink>(
+    alloc: Global,
+    program: &Program,
+    reader: &mut TapReader<S>,
+    writer: &mut CaptureWriter<W>,
+) -> Result<Ending, WatchFault>
+    requires reading { (position_of reader.old).stage ≡ Going }
+    requires bounded { (position_of reader.old).count ≤ (position_of reader.old).most }
+    requires writing { has_failed writer.old ≡ false }
+    ensures copied { IfOk result (λ ending. IsCopied program.now ending
+        (copying_of (reading_of S.remaining S.failures reader.old)
+            (W.contents (sink_of writer.old)) (W.failures (sink_of writer.old)))
+        (copying_of (reading_of S.remaining S.failures reader.new)
+            (W.contents (sink_of writer.new)) (W.failures (sink_of writer.new)))) }
+    ensures stopped { IfErr result (λ fault. StopsCopy program.now fault
+        (copying_of (reading_of S.remaining S.failures reader.old)
+            (W.contents (sink_of writer.old)) (W.failures (sink_of writer.old)))
+        (copying_of (reading_of S.remaining S.failures reader.new)
+            (W.contents (sink_of writer.new)) (W.failures (sink_of writer.new)))) }
+{
+    loop {
+        match reader.advance(alloc) {
+            Ok(Found::Frame) => {
+                let frame = reader.frame();
+                if write_accepted(program, &frame, writer).is_err() {
+                    return Err(CAPTURE_FAILED);
+                }
+            }
+            Ok(Found::End(ending)) => return Ok(ending),
+            Err(ReadFault::Device) => {
+                return Err(WatchFault::Read {
+                    network: Network::A,
+                });
+            }
+            Err(ReadFault::Memory) => return Err(WatchFault::Memory),
+            Err(ReadFault::Failed) => unreachable!(),
+        }
+    }
+}
+
+/// What it means that tap A wasn't opened.
+fn fault_of_open(fault: OpenFault) -> WatchFault
+    ensures { result ≡ open_fault fault }
+{
+    match fault {
+        OpenFault::Header(fault) => WatchFault::Header {
+            network: Network::A,
+            fault,
+        },
+        OpenFault::Device => WatchFault::Read {
+            network: Network::A,
+        },
+    }
+}
+
+/// A capture that was aborted.
+fn refused<S, W>(fault: WatchFault, source: S, sink: W) -> WatchRefused<S, (), W, ()>
+    ensures { result ≡ record { fault = fault; a = Some source; b = None; capture = sink; ledger = tt } }
+{
+    WatchRefused {
+        fault,
+        a: Some(source),
+        b: None,
+        capture: sink,
+        ledger: (),
+    }
+}
+
+/// Copies the frames of a recording that the filter accepts, each cut to the filter's return value, and
+/// returns how the recording ended.
+///
+/// The tap is read as network A, up to 2^32 frames, with no window for late timestamps. Both devices
+/// come back. The source may have been read ahead of the last frame, by no more than 262144 bytes.
+///
+/// # Errors
+///
+/// `Header` or `Read` if the recording can't be opened, and then nothing was written; `Read`, `Write`
+/// or `Memory` after some of its frames, of which the sink has the whole capture.
+pub fn capture_one<S: TapSource, W: OutSink>(
+    alloc: Global,
+    program: &Program,
+    source: S,
+    sink: W,
+) -> Result<(Ending, S, W), WatchRefused<S, (), W, ()>>
+    ensures captured { IfOk result (λ done. IsCaptured program.now done.0
+        (devices_of S.remaining S.failures W.contents W.failures source sink)
+        (devices_of S.remaining S.failures W.contents W.failures done.1 done.2)) }
+    ensures aborted { IfErr result (λ refused. IfSome refused.a (λ a. IsAborted program.now refused.fault
+        (devices_of S.remaining S.failures W.contents W.failures source sink)
+        (devices_of S.remaining S.failures W.contents W.failures a refused.capture))) }
+    ensures back { IfErr result (λ refused. IsSome refused.a × (refused.b ≡ None)) }
+{
+    let mut reader = match TapReader::open(source, Network::A, 1 << 32, 0) {
+        Ok(reader) => reader,
+        Err(OpenRefused { source, fault }) => {
+            return Err(refused(fault_of_open(fault), source, sink));
+        }
+    };
+    let mut writer = match CaptureWriter::begin(sink) {
+        Ok(writer) => writer,
+        Err(sink) => return Err(refused(CAPTURE_FAILED, reader.into_source(), sink)),
+    };
+    let copied = copy_accepted(alloc, program, &mut reader, &mut writer);
+    let source = reader.into_source();
+    let sink = writer.finish();
+    match copied {
+        Ok(ending) => Ok((ending, source, sink)),
+        Err(fault) => Err(refused(fault, source, sink)),
+    }
 }

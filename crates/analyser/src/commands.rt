@@ -1,8 +1,9 @@
 //! The commands, over sources and sinks: from the text of the arguments to how the command ended.
-ghost use Rattle.std.specs.Prelude.{◌≡◌, ◌≢◌, None, IfErr, IfOk, IfSome, string_bytes};
-ghost use Rattle.analyser.specs.declared.fault.WatchFault.{WatchFault};
+ghost use Rattle.std.specs.Prelude.{IfErr, IfOk, Result};
+ghost use Rattle.pcap_io.specs.declared.recording.Ending.{Ending};
+ghost use Rattle.analyser.specs.declared.fault.Fault.{Fault};
 ghost use Rattle.analyser.specs.Capture.{devices_of};
-ghost use Rattle.analyser.specs.Commands.{IsCaptureRun, IsFilter, IsFilterFault, LeavesLine};
+ghost use Rattle.analyser.specs.Commands.{IsCaptureRun, IsFilter, IsFilterFault, IsRan};
 
 use crate::capture::{WatchRefused, capture_one};
 use crate::exit::Exit;
@@ -75,7 +76,42 @@ pub fn run_capture<S: TapSource, W: OutSink>(
             source,
             sink,
         },
-        Err(refused) => {
-        }
+        Err(WatchRefused {
+            fault,
+            a: Some(source),
+            b: _,
+            capture,
+            ledger: _,
+        }) => CaptureRun {
+            outcome: Err(Fault::Watch(fault)),
+            source,
+            sink: capture,
+        },
+        Err(_) => unreachable!(),
+    }
+}
+
+/// The command `capture` with its status and its fault line. The source is dropped.
+pub fn capture_over<S: TapSource + Drop, W: OutSink>(
+    alloc: Global,
+    code: &str,
+    source: S,
+    sink: W,
+) -> Ran<W>
+    ensures { (outcome : Result Ending Fault) × (rest : S)
+        × IsCaptureRun code.now outcome
+        (devices_of S.remaining S.failures W.contents W.failures source sink)
+        (devices_of S.remaining S.failures W.contents W.failures rest result.sink)
+        × IsRan outcome result.status result.line }
+{
+    let run = run_capture(alloc, code, source, sink);
+    let line = match &run.outcome {
+        Ok(_) => None,
+        Err(fault) => fault_line(alloc, fault).ok(),
+    };
+    Ran {
+        status: Exit::of_capture(run.outcome, true).status(),
+        line,
+        sink: run.sink,
     }
 }

@@ -5,15 +5,13 @@
 mod arguments;
 mod capture;
 mod commands;
-mod devices;
 mod exit;
 mod fault;
 mod message;
 
 pub use arguments::{Invocation, read_arguments};
 pub use capture::{WatchRefused, capture_one};
-pub use commands::{Ran, capture_over};
-pub use devices::{ReadSource, WriteSink};
+pub use commands::{CaptureRun, Ran, capture_over, run_capture};
 pub use exit::{Exit, USAGE};
 pub use fault::{Fault, Output, WatchFault, fault_line};
 pub use message::{Note, advice};
