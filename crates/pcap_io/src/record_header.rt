@@ -1,46 +1,44 @@
-//! The fields in front of each record's bytes.
+//! The header of each record.
 ghost use Rattle.std.specs.Prelude.{◌≡◌, ◌<◌, ◌*◌, ◌^◌, length};
 ghost use Rattle.pcap_io.specs.Layout.{fractions_of};
-ghost use Rattle.pcap_io.specs.Recording.{head_of, stamp_at, reason_at};
+ghost use Rattle.pcap_io.specs.Recording.{header_fields, stamp_at, reason_at};
 
 use crate::layout::{Layout, Precision, number_of};
 use crate::recording::BadReason;
+use afdx_frame::MAX_SNAPLEN;
 
-/// The bytes of a record's fields.
-pub const HEAD_LEN: usize = 16;
+/// The bytes of a record's header.
+pub const RECORD_HEADER_LEN: usize = 16;
 
-/// The most bytes that a record may hold.
-pub const MOST_HELD: u32 = 262_144;
-
-/// The fields in front of a record's bytes.
+/// The header of a record (pcap savefile format 2.4): what it claims of the bytes that follow it.
 #[derive(Clone, Copy, Debug)]
-pub struct Head {
+pub struct RecordHeader {
     pub seconds: u32,
-    /// Of a second, in the recording's unit.
+    /// Part of a second, in the recording's unit.
     pub fraction: u32,
-    /// How many bytes of the frame follow.
-    pub held: u32,
+    /// How many bytes of the frame were captured. They follow the header.
+    pub captured_len: u32,
     /// How many bytes the frame had on the wire.
-    pub wire: u32,
+    pub original_len: u32,
 }
 
-impl Head {
+impl RecordHeader {
     /// Reads the four fields.
-    #[inline]
-    pub fn read(layout: Layout, bytes: &[u8]) -> Head
-        requires { length bytes.now ≡ 16 }
-        ensures { result ≡ head_of layout bytes.now }
+    #[inline(always)]
+    pub fn read(layout: Layout, bytes: &[u8]) -> RecordHeader
+        requires { length bytes.now ≡ RECORD_HEADER_LEN }
+        ensures { result ≡ header_fields layout bytes.now }
     {
-        Head {
+        RecordHeader {
             seconds: number_of(layout.order, bytes),
             fraction: number_of(layout.order, &bytes[4..]),
-            held: number_of(layout.order, &bytes[8..]),
-            wire: number_of(layout.order, &bytes[12..]),
+            captured_len: number_of(layout.order, &bytes[8..]),
+            original_len: number_of(layout.order, &bytes[12..]),
         }
     }
 
     /// The record's stamp, in nanoseconds.
-    #[inline]
+    #[inline(always)]
     pub fn stamp(&self, layout: Layout) -> u64
         ensures value { result ≡ stamp_at layout self.now.seconds self.now.fraction }
         // Below 2^32 seconds, where the fraction makes no second.
@@ -54,9 +52,9 @@ impl Head {
         u64::from(self.seconds) * 1_000_000_000 + u64::from(self.fraction) * unit
     }
 
-    /// What is wrong with the fields, where the greatest stamp before is `high` and stamps may come
-    /// `late` nanoseconds late.
-    #[inline]
+    /// What is wrong with the header after records whose greatest stamp is `high`, where a stamp may
+    /// come `late` nanoseconds late: the first reason that fits.
+    #[inline(always)]
     pub fn reason(&self, layout: Layout, late: u64, high: u64) -> Option<BadReason>
         ensures { result ≡ reason_at layout late high self.now }
     {
@@ -64,7 +62,7 @@ impl Head {
             Precision::Nanoseconds => 1_000_000_000,
             Precision::Microseconds => 1_000_000,
         };
-        if self.held > MOST_HELD {
+        if self.captured_len as usize > MAX_SNAPLEN {
             Some(BadReason::Length)
         } else if self.fraction >= fractions {
             Some(BadReason::Fraction)

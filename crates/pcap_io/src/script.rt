@@ -16,7 +16,7 @@ pub struct Script {
 
 /// Where a device stands in its script.
 #[derive(Clone, Copy, Debug, PartialEq, Eq)]
-pub struct Course {
+pub struct ScriptState {
     pub piece: usize,
     /// How many bytes may still pass.
     pub left: usize,
@@ -26,14 +26,14 @@ pub struct Course {
     pub failures: u64,
 }
 
-impl Course {
+impl ScriptState {
     ghost use Rattle.pcap_io.specs.Script.{start_of, fails, answer_of, after_call};
 
     /// The start of a script.
-    pub fn new(script: Script) -> Course
+    pub fn new(script: Script) -> ScriptState
         ensures { result ≡ start_of script }
     {
-        Course {
+        ScriptState {
             piece: script.piece,
             left: script.most,
             miss: script.miss,
