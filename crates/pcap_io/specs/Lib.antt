@@ -1,6 +1,8 @@
+pub mod Block
 pub mod Bytes
 pub mod Capture
 pub mod Device
+pub mod Items
 pub mod Layout
 pub mod Recording
 pub mod Script

@@ -1,7 +1,9 @@
 //! Recordings
 #![tactic(auto)]
 
+mod block;
 mod device;
+mod item;
 mod layout;
 mod mem_sink;
 mod mem_source;
@@ -14,6 +16,7 @@ mod write_sink;
 mod writer;
 
 pub use device::{DeviceFault, OutSink, TapSource};
+pub use item::{Found, Item, ReadFault};
 pub use layout::HeaderFault;
 pub use mem_sink::MemSink;
 pub use mem_source::MemSource;
