@@ -1,6 +1,6 @@
 -- What draws and reads do to the bytes that were read ahead.
 use Rattle.std.proofs.Common.{◌≡◌, ℕ, ◌+◌, ◌-◌, ◌≤◌, List, [], ◌++◌, length, take, drop, slice_range, Option, Some, None, Result, Ok, Err, OnErr, refl, sym, ap, ◌∙◌, subst, arith, append_assoc, drop-drop}
-use Rattle.std.proofs.lemmas.List.{length-drop, length-append, length-take-le, take_at}
+use Rattle.std.proofs.lemmas.List.{length-drop, length-append, length-take, length-take-le, take_at}
 use borrow.Rule.Slice.PartMut.{put_mid}
 use Rattle.std.specs.Io.KnownBytes.{Keeps, Consumes, prepend_known}
 use Rattle.pcap_io.specs.Device.{TakesAtMost}
@@ -37,6 +37,10 @@ takes_across a b old new n none (gone, few, p) =
 
 pub takes_fewer : (a b : Option (List ℕ)) (n m : ℕ) → n ≤ m → TakesAtMost n a b → TakesAtMost m a b
 takes_fewer a b n m le (gone, few, p) = (gone, omega arith, p)
+
+-- as many as a buffer has
+pub takes_of : (a b : Option (List ℕ)) (n m : ℕ) (bytes : List ℕ) → length bytes ≤ m → Consumes a b (take n bytes) → TakesAtMost m a b
+takes_of a b n m bytes le p = (take n bytes, omega (arith, length-take n bytes), p)
 
 pub none_between : (e : ℕ) (xs : List ℕ) → slice_range xs e e ≡ []
 none_between e xs =

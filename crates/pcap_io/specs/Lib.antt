@@ -4,6 +4,8 @@ pub mod Capture
 pub mod Device
 pub mod Items
 pub mod Layout
+pub mod Position
+pub mod Reader
 pub mod Recording
 pub mod Script
 pub mod Std
