@@ -3,6 +3,7 @@ use Rattle.std.specs.Prelude.{ℕ, ◌<◌, ◌≤◌, ◌*◌, ◌^◌, List, l
 use Rattle.std.specs.Ordering.{nat_cmp, ordering_then}
 use Rattle.std.specs.declared.cmp.Ordering.{Ordering}
 use Rattle.std.specs.declared.cmp.Ordering.TheVariants.{Less, Equal, Greater}
+use Rattle.afdx_frame.specs.declared.bounds.TheConstants.{MAX_SNAPLEN}
 use Rattle.afdx_frame.specs.declared.key.Network.{Network}
 use Rattle.afdx_frame.specs.declared.key.Network.TheVariants.{A, B}
 use Rattle.afdx_frame.specs.declared.key.Key.{Key}
@@ -17,12 +18,28 @@ pub record Frame : Type 0 where
   -- what the recording holds of it
   pub bytes : List ℕ
 
--- The bounds of each frame: 2^32 frames a tap, 2^32 seconds, 262144 bytes held, and no more than were on the wire.
+-- a frame of these parts
+abbrev pub frame_with : Network → ℕ → ℕ → ℕ → List ℕ → Frame
+frame_with network number stamp whole bytes = record {
+  network = network;
+  number = number;
+  stamp = stamp;
+  whole = whole;
+  bytes = bytes;
+}
+
+-- The bounds of each frame: 2^32 frames a tap, 2^32 seconds, libpcap's largest snapshot length, and no more bytes captured
+-- than were on the wire.
 pub record IsFrame (f : Frame) : Type 0 where
   pub number_fits : f.number < 2 ^ 32
   pub stamp_fits : f.stamp < 1000000000 * 2 ^ 32
-  pub few_bytes : length f.bytes ≤ 262144
+  pub few_bytes : length f.bytes ≤ MAX_SNAPLEN
   pub within_whole : length f.bytes ≤ f.whole
+
+-- the same bounds on a frame's parts, of which `captured` is the number of bytes
+abbrev pub AreWithin : ℕ → ℕ → ℕ → ℕ → Type 0
+AreWithin number stamp whole captured =
+    (number < 2 ^ 32) × (stamp < 1000000000 * 2 ^ 32) × (captured ≤ MAX_SNAPLEN) × (captured ≤ whole)
 
 -- the frame's place in the order of both taps
 abbrev pub key_of : Frame → Key

@@ -1,3 +1,4 @@
 pub mod Frame
+pub mod LentFrame
 pub mod Number
 pub mod View

@@ -1,17 +1,21 @@
+//! A frame that owns its bytes.
 ghost use Rattle.std.specs.Prelude.{◌≡◌, IsOk, IfOk, IfErr, ◌↔◌};
-ghost use Rattle.afdx_frame.specs.Frame.{Frame, IsFrame, key_of};
+ghost use Rattle.afdx_frame.specs.Frame.{IsFrame, frame_with, key_of};
+ghost use Rattle.afdx_frame.specs.LentFrame.{frame_of_lent};
 ghost use Rattle.afdx_frame.specs.View.{view_bytes};
 
+use crate::bounds::is_within_bounds;
 use crate::key::{Key, Network, Stamp};
+use crate::lent_frame::LentFrame;
 use crate::view::FrameView;
 use std::marker::Model;
 
-/// A frame as a tap recorded it: the network, its place in the recording, when it came, its length
-/// on the wire and the bytes that the recording holds, the first of the frame and often not all.
+/// A frame as a tap recorded it: the network, its index in the recording, when it came, its length
+/// on the wire and the captured bytes, which are the first of the frame and often not all.
 ///
 /// Each frame keeps these bounds: a number below 2^32 and a stamp below 2^32 seconds (what pcap 2.4
-/// counts with), at most 262144 bytes held (libpcap's largest snapshot), and no more than there were
-/// on the wire.
+/// counts with), at most 262144 bytes captured (libpcap's largest snapshot length), and no more than
+/// there were on the wire.
 #[derive(Debug, Drop)]
 pub struct TapFrame {
     network: Network,
@@ -22,21 +26,19 @@ pub struct TapFrame {
 }
 
 impl Model for TapFrame {
-    ghost use Rattle.afdx_frame.specs.Frame.{Frame, IsFrame};
+    ghost use Rattle.afdx_frame.specs.Frame.{Frame, IsFrame, frame_with};
 
     ghost Value = { Frame };
 
-    ghost view = { λ f. record { network = f.network; number = f.number; stamp = f.stamp.0; whole = f.whole; bytes = f.bytes.items } };
+    ghost view = { λ f. frame_with f.network f.number f.stamp.0 f.whole f.bytes.items };
 
-    ghost invariant = { λ f. IsFrame (record { network = f.network; number = f.number; stamp = f.stamp.0; whole = f.whole; bytes = f.bytes.items }) };
+    ghost invariant = { λ f. IsFrame (frame_with f.network f.number f.stamp.0 f.whole f.bytes.items) };
 }
-
-/// The most bytes that a record of a recording may hold: libpcap's largest snapshot.
-pub const MOST_HELD: usize = 262144;
 
 impl TapFrame {
     /// A frame of these parts: `number` counts from 0, `whole` is the length on the wire in bytes.
-    /// Takes no memory. An `Err` gives the bytes back: a part is out of bounds.
+    /// Allocates nothing. An `Err` gives the bytes back: a part is out of bounds.
+    #[inline]
     pub fn new(
         network: Network,
         number: u64,
@@ -44,15 +46,11 @@ impl TapFrame {
         whole: u32,
         bytes: Vec<u8>,
     ) -> Result<TapFrame, Vec<u8>>
-        ensures ok { IsOk result ↔ IsFrame (record { network = network; number = number; stamp = stamp.0; whole = whole; bytes = bytes.items }) }
-        ensures frame { IfOk result (λ f. f ≡ record { network = network; number = number; stamp = stamp.0; whole = whole; bytes = bytes.items }) }
+        ensures ok { IsOk result ↔ IsFrame (frame_with network number stamp.0 whole bytes.items) }
+        ensures frame { IfOk result (λ f. f ≡ frame_with network number stamp.0 whole bytes.items) }
         ensures given_back { IfErr result (λ b. b ≡ bytes) }
     {
-        if number < 1 << 32
-            && stamp.0 < 1_000_000_000 << 32
-            && bytes.len() <= MOST_HELD
-            && bytes.len() <= whole as usize
-        {
+        if is_within_bounds(number, stamp, whole, bytes.len()) {
             Ok(TapFrame {
                 network,
                 number,
@@ -66,13 +64,15 @@ impl TapFrame {
     }
 
     /// The network of the tap.
+    #[inline(always)]
     pub fn network(&self) -> Network
         ensures { result ≡ self.now.network }
     {
         self.network
     }
 
-    /// The place in the recording, from 0 and below 2^32.
+    /// The index in the recording, from 0 and below 2^32.
+    #[inline(always)]
     pub fn number(&self) -> u64
         ensures value { result ≡ self.now.number }
         ensures bounds { IsFrame self.now }
@@ -81,6 +81,7 @@ impl TapFrame {
     }
 
     /// When the frame came, below 2^32 seconds.
+    #[inline(always)]
     pub fn stamp(&self) -> Stamp
         ensures value { result.0 ≡ self.now.stamp }
         ensures bounds { IsFrame self.now }
@@ -89,6 +90,7 @@ impl TapFrame {
     }
 
     /// The frame's length on the wire, in bytes.
+    #[inline(always)]
     pub fn whole(&self) -> u32
         ensures value { result ≡ self.now.whole }
         ensures bounds { IsFrame self.now }
@@ -97,6 +99,7 @@ impl TapFrame {
     }
 
     /// The frame's place in the order of both taps.
+    #[inline]
     pub fn key(&self) -> Key
         ensures { result ≡ key_of self.now }
     {
@@ -107,7 +110,16 @@ impl TapFrame {
         }
     }
 
-    /// The bytes that the recording holds, lent: nothing is copied.
+    /// The same frame with its bytes borrowed.
+    #[inline(always)]
+    pub fn lent(&self) -> LentFrame<'_>
+        ensures { frame_of_lent result ≡ self.now }
+    {
+        LentFrame::new(self.network, self.number, self.stamp, self.whole, &self.bytes).unwrap()
+    }
+
+    /// The captured bytes, borrowed.
+    #[inline(always)]
     pub fn view(&self) -> FrameView<'_>
         ensures value { view_bytes result ≡ self.now.bytes }
         ensures bounds { IsFrame self.now }
@@ -115,7 +127,8 @@ impl TapFrame {
         FrameView::new(&self.bytes)
     }
 
-    /// The bytes that the recording holds, with their memory.
+    /// The captured bytes, with their memory.
+    #[inline]
     pub fn into_bytes(self) -> Vec<u8>
         ensures value { result.items ≡ self.bytes }
         ensures bounds { IsFrame self }

@@ -1,2 +1,7 @@
+pub mod Bytes
+pub mod Draws
+pub mod FileHeader
+pub mod Parse
+pub mod RecordBytes
 pub mod Steps
 pub mod Transfers

@@ -1,36 +1,48 @@
 -- What a step of a reader finds, from what its reads found.
-use Rattle.std.proofs.Common.{◌≡◌, ◌≢◌, ℕ, ◌-◌, ◌<◌, ◌≤◌, true, false, List, ◌++◌, length, take, drop, Option, Some, None, IfSome, nat_lt, nat_eq, refl, sym, ap, ◌∙◌, subst, arith}
+use Rattle.std.proofs.Common.{◌≡◌, ◌≢◌, ℕ, ◌+◌, ◌-◌, ◌<◌, ◌≤◌, max, true, false, List, [], ◌++◌, length, take, drop, Option, Some, None, IfSome, Ok, Err, nat_lt, nat_eq, refl, sym, ap, ◌∙◌, subst, arith}
 use Rattle.std.proofs.lemmas.Bool.{le-ltb, lt-ltb, ne_eqb}
 use Rattle.std.proofs.lemmas.List.{take_at, take_all, append-nil, length-append}
-use Rattle.std.proofs.KnownBytes.{Consumes-trans}
-use Rattle.std.specs.Io.KnownBytes.{Consumes, IsAtEnd}
-use Rattle.afdx_frame.specs.Frame.{Frame}
-use Rattle.pcap_io.specs.Recording.{IsBytes, head_text, head_of, reason_at}
-use Rattle.pcap_io.specs.Spelling.{text_again, fine_from_none, number_fits, IsBytes-drop}
-use Rattle.pcap_io.specs.Position.{ending_here, frame_at, TakesFrame, TakesAtMost, IsStartOf, IsStart, TakesHead, EndsShort, StartLeaves}
-use Rattle.pcap_io.specs.declared.head.Head.{Head}
+use Rattle.std.proofs.KnownBytes.{Consumes-trans, Consumes-kept, Consumes-nil}
+use Rattle.std.specs.Io.KnownBytes.{Consumes, IsAtEnd, Keeps}
+use Rattle.afdx_frame.specs.Frame.{Frame, frame_with}
+use Rattle.afdx_frame.specs.declared.bounds.TheConstants.{MAX_SNAPLEN}
+use Rattle.pcap_io.specs.Block.{IsDrawFault}
+use Rattle.pcap_io.specs.Bytes.{IsBytes}
+use Rattle.pcap_io.specs.Device.{CountsFailure, TakesAtMost}
+use Rattle.pcap_io.specs.Recording.{header_bytes, header_fields, reason_at, stamp_at}
+use Rattle.pcap_io.specs.Position.{Advances, EndsShort, IsNext, IsReadFault, IsStart, IsStartOf, ItemLeaves, LacksMemory, Reading, StartLeaves, TakesFrame, TakesHeader, after_item, ending_here, frame_at}
+use Rattle.pcap_io.specs.declared.record_header.RecordHeader.{RecordHeader}
+use Rattle.pcap_io.specs.declared.record_header.TheConstants.{RECORD_HEADER_LEN}
 use Rattle.pcap_io.specs.declared.recording.BadReason.{BadReason}
+use Rattle.pcap_io.specs.declared.recording.Ending.{Ending}
 use Rattle.pcap_io.specs.declared.recording.Ending.TheVariants.{Clean, Cut, Bad}
-use Rattle.pcap_io.specs.declared.stepping.Position.{Position}
-use Rattle.pcap_io.specs.declared.stepping.Start.{Start}
-use Rattle.pcap_io.specs.declared.stepping.Start.TheVariants as starts
+use Rattle.pcap_io.specs.declared.recording.Stage.{Stage}
+use Rattle.pcap_io.specs.declared.recording.Stage.TheVariants as stages
+use Rattle.pcap_io.specs.declared.position.Position.{Position}
+use Rattle.pcap_io.specs.declared.position.Start.{Start}
+use Rattle.pcap_io.specs.declared.position.Start.TheVariants as starts
+use Rattle.pcap_io.specs.declared.item.Item.{Item}
+use Rattle.pcap_io.specs.declared.item.Item.TheVariants as items
+use Rattle.pcap_io.specs.declared.item.ReadFault.{ReadFault}
+use Rattle.pcap_io.specs.declared.item.ReadFault.TheVariants as faults
+use Rattle.pcap_io.proofs.RecordBytes.{header_bytes_read_back, fine_from_none, number_fits, IsBytes-drop}
 
 -- 16 bytes whose fields are wrong end the recording, whatever follows
 pub bad_at_head : (p : Position) (head more : List ℕ) (reason : BadReason) → length head ≡ 16 → p.count ≢ p.most
-    → reason_at p.layout p.late p.high (head_of p.layout head) ≡ Some reason → ending_here p (head ++ more) ≡ Some (Bad p.count reason)
+    → reason_at p.layout p.late p.high (header_fields p.layout head) ≡ Some reason → ending_here p (head ++ more) ≡ Some (Bad p.count reason)
 bad_at_head p head more reason size few wrong =
     let rest : List ℕ = head ++ more in
     let len = length-append head more in
     let some : nat_eq (length rest) 0 ≡ false = ne_eqb (length rest) 0 (λ e. absurd (omega (arith, size, len, e))) in
     let other : nat_eq p.count p.most ≡ false = ne_eqb p.count p.most few in
     let long : nat_lt (length rest) 16 ≡ false = le-ltb (length rest) 16 (omega (arith, size, len)) in
-    let reads : reason_at p.layout p.late p.high (head_of p.layout (take 16 rest)) ≡ Some reason =
-    ap (λ (h : List ℕ). reason_at p.layout p.late p.high (head_of p.layout h)) (take_at head more 16 size) ∙ wrong in
+    let reads : reason_at p.layout p.late p.high (header_fields p.layout (take 16 rest)) ≡ Some reason =
+    ap (λ (h : List ℕ). reason_at p.layout p.late p.high (header_fields p.layout h)) (take_at head more 16 size) ∙ wrong in
     rw (some, other, long, reads) refl
 
 -- fine fields with fewer bytes behind them than they announce cut the recording
 pub cut_at_head : (p : Position) (head body : List ℕ) → length head ≡ 16 → p.count ≢ p.most
-    → reason_at p.layout p.late p.high (head_of p.layout head) ≡ None → length body < (head_of p.layout head).held
+    → reason_at p.layout p.late p.high (header_fields p.layout head) ≡ None → length body < (header_fields p.layout head).captured_len
     → ending_here p (head ++ body) ≡ Some (Cut p.count)
 cut_at_head p head body size few fine short =
     let rest : List ℕ = head ++ body in
@@ -39,22 +51,22 @@ cut_at_head p head body size few fine short =
     let some : nat_eq (length rest) 0 ≡ false = ne_eqb (length rest) 0 (λ e. absurd (omega (arith, size, len, e))) in
     let other : nat_eq p.count p.most ≡ false = ne_eqb p.count p.most few in
     let long : nat_lt (length rest) 16 ≡ false = le-ltb (length rest) 16 (omega (arith, size, len)) in
-    let reads : reason_at p.layout p.late p.high (head_of p.layout (take 16 rest)) ≡ None =
-    ap (λ (h : List ℕ). reason_at p.layout p.late p.high (head_of p.layout h)) front ∙ fine in
-    let lacks : nat_lt (length rest - 16) (head_of p.layout (take 16 rest)).held ≡ true =
-    ap (λ (h : List ℕ). nat_lt (length rest - 16) (head_of p.layout h).held) front ∙ lt-ltb (length rest - 16) _ (omega (arith, size, len, short)) in
+    let reads : reason_at p.layout p.late p.high (header_fields p.layout (take 16 rest)) ≡ None =
+    ap (λ (h : List ℕ). reason_at p.layout p.late p.high (header_fields p.layout h)) front ∙ fine in
+    let lacks : nat_lt (length rest - 16) (header_fields p.layout (take 16 rest)).captured_len ≡ true =
+    ap (λ (h : List ℕ). nat_lt (length rest - 16) (header_fields p.layout h).captured_len) front ∙ lt-ltb (length rest - 16) _ (omega (arith, size, len, short)) in
     rw (some, other, long, reads, lacks) refl
 
 -- what the first reads found is what stands there
 pub start_from : (p : Position) (before after : Option (List ℕ)) (head : List ℕ) (came : ℕ) (start : Start) → length head ≡ 16 → IsBytes head
     → Consumes before after (take came head) → (came < 16 → IsAtEnd after) → IsStartOf p head came start → IsStart p before after start
-start_from p before after head came (starts.Head fields) size fits gone end (all, few, read, fine) = (
+start_from p before after head came (starts.Header fields) size fits gone end (all, few, read, fine) = (
   head,
   record {
     size = size;
     are_bytes = fits;
-    few = few;
-    fine = subst (λ (h : Head). reason_at p.layout p.late p.high h ≡ None) read fine;
+    bounded = few;
+    fine = subst (λ (h : RecordHeader). reason_at p.layout p.late p.high h ≡ None) read fine;
     gone = subst (Consumes before after) (take_all came head (omega (arith, size, all))) gone;
   },
   read,
@@ -64,19 +76,19 @@ start_from p (Some xs) None head came (starts.End e) size fits gone end found = 
 start_from p (Some xs) (Some ys) head came (starts.End e) size fits gone end found = ap (ending_here p) gone ∙ found ys end
 
 -- fine fields and their bytes are a good record's frame
-pub step_frame : (p : Position) (before mid after : Option (List ℕ)) (head body : List ℕ) (f : Frame) → p.count ≤ p.most → TakesHead p before mid head
-    → length body ≡ (head_of p.layout head).held → Consumes mid after body
-    → f ≡ frame_at p (head_of p.layout head) body
+pub step_frame : (p : Position) (before mid after : Option (List ℕ)) (head body : List ℕ) (f : Frame) → p.count ≤ p.most → TakesHeader p before mid head
+    → length body ≡ (header_fields p.layout head).captured_len → Consumes mid after body
+    → f ≡ frame_at p (header_fields p.layout head) body
     → TakesFrame p before after f
 step_frame p before mid after head body f within t size gone same =
-    let h = head_of p.layout head in
+    let h = header_fields p.layout head in
     let fine = fine_from_none p.layout p.late p.high h t.fine in
-    let text = text_again p.layout head t.size t.are_bytes in
-    let held : head_text p.layout h.seconds h.fraction (length body) h.wire ≡ head = ap (λ (n : ℕ). head_text p.layout h.seconds h.fraction n h.wire) size ∙ text in
+    let text = header_bytes_read_back p.layout head t.size t.are_bytes in
+    let held : header_bytes p.layout h.seconds h.fraction (length body) h.original_len ≡ head = ap (λ (n : ℕ). header_bytes p.layout h.seconds h.fraction n h.original_len) size ∙ text in
     record {
-      taken = record { seconds = h.seconds; fraction = h.fraction; wire = h.wire; bytes = body };
-      good = record { few_bytes = omega (arith, size, fine.few); seconds_fit = number_fits p.layout.order head t.are_bytes; wire_fits = number_fits p.layout.order (drop 12 head) (IsBytes-drop 12 head t.are_bytes); within_second = fine.within; in_time = fine.in_time };
-      few = omega (arith, t.few);
+      taken = record { seconds = h.seconds; fraction = h.fraction; original_len = h.original_len; bytes = body };
+      good = record { few_bytes = omega (arith, size, fine.few); seconds_fit = number_fits p.layout.order head t.are_bytes; original_len_fits = number_fits p.layout.order (drop 12 head) (IsBytes-drop 12 head t.are_bytes); within_second = fine.within; in_time = fine.in_time };
+      bounded = omega (arith, t.bounded);
       same = same;
       gone = subst (λ (l : List ℕ). Consumes before after (l ++ body)) (sym held) (Consumes-trans before mid after head body t.gone gone);
     }
@@ -87,28 +99,135 @@ gone_all xs None bytes gone end = absurd gone
 gone_all xs (Some ys) bytes gone end = gone ∙ ap (λ (l : List ℕ). bytes ++ l) end ∙ append-nil bytes
 
 -- fine fields and too few bytes at the end
-pub step_cut : (p : Position) (before mid after : Option (List ℕ)) (head body : List ℕ) → TakesHead p before mid head
-    → Consumes mid after body → length body < (head_of p.layout head).held → IsAtEnd after
+pub step_cut : (p : Position) (before mid after : Option (List ℕ)) (head body : List ℕ) → TakesHeader p before mid head
+    → Consumes mid after body → length body < (header_fields p.layout head).captured_len → IsAtEnd after
     → IfSome before (λ bytes. ending_here p bytes ≡ Some (Cut p.count))
 step_cut p None mid after head body t gone short end = tt
 step_cut p (Some xs) mid after head body t gone short end =
     let all = gone_all xs after (head ++ body) (Consumes-trans (Some xs) mid after head body t.gone gone) end in
-    ap (ending_here p) all ∙ cut_at_head p head body t.size t.few t.fine short
+    ap (ending_here p) all ∙ cut_at_head p head body t.size t.bounded t.fine short
 
 -- ---- how much a step takes
 
 -- the fields of a record that may stand here, and no more behind them than they announce
-pub takes_record : (p : Position) (before mid after : Option (List ℕ)) (fields : Head) → IsStart p before mid (starts.Head fields) → TakesAtMost fields.held mid after
+pub takes_record : (p : Position) (before mid after : Option (List ℕ)) (fields : RecordHeader) → IsStart p before mid (starts.Header fields) → TakesAtMost fields.captured_len mid after
     → TakesAtMost 262160 before after
 takes_record p before mid after fields (head, t, same) (gone, few, rest) =
-    let fine = fine_from_none p.layout p.late p.high (head_of p.layout head) t.fine in
-    let held = ap (λ (h : Head). h.held) same in
+    let fine = fine_from_none p.layout p.late p.high (header_fields p.layout head) t.fine in
+    let held = ap (λ (h : RecordHeader). h.captured_len) same in
     (head ++ gone, omega (arith, length-append head gone, t.size, held, few, fine.few), Consumes-trans before mid after head gone t.gone rest)
 
 -- what the first reads leave
 pub start_leaves : (before after : Option (List ℕ)) (came : ℕ) (start : Start) → (came < 16 → IsAtEnd after) → TakesAtMost 16 before after → EndsShort came start
     → StartLeaves before after start
-start_leaves before after came (starts.Head head) end taken short = tt
+start_leaves before after came (starts.Header head) end taken short = tt
 start_leaves before after came (starts.End (Clean n)) end taken short = end short
 start_leaves before after came (starts.End (Cut n)) end taken short = end short
 start_leaves before after came (starts.End (Bad n reason)) end taken short = taken
+
+-- ---- a record whose header was read
+
+-- all of its bytes came
+pub frame_found : (p : Position) (before mid after : Option (List ℕ)) (fields : RecordHeader) (body : List ℕ) (f : Frame) → p.count ≤ p.most
+    → IsStart p before mid (starts.Header fields) → length body ≡ fields.captured_len → Consumes mid after body → f ≡ frame_at p fields body
+    → TakesFrame p before after f
+frame_found p before mid after fields body f within (header, t, same) size gone made =
+    step_frame p before mid after header body f within t (size ∙ ap (λ (h : RecordHeader). h.captured_len) same) gone (made ∙ ap (λ (h : RecordHeader). frame_at p h body) same)
+
+-- too few came
+pub cut_found : (p q : Position) (before mid after : Option (List ℕ)) (fields : RecordHeader) (body : List ℕ) → q ≡ p → IsStart p before mid (starts.Header fields)
+    → Consumes mid after body → length body < fields.captured_len → IsAtEnd after → IfSome before (λ bytes. ending_here p bytes ≡ Some (Cut q.count))
+cut_found p q before mid after fields body stands (header, t, same) gone short end =
+    let size : length body < (header_fields p.layout header).captured_len = omega (arith, ap (λ (h : RecordHeader). h.captured_len) same) in
+    let found : IfSome before (λ bytes. ending_here p bytes ≡ Some (Cut p.count)) = step_cut p before mid after header body t gone size end in
+    subst (λ (n : ℕ). IfSome before (λ bytes. ending_here p bytes ≡ Some (Cut n))) (sym (ap (λ (x : Position). x.count) stands)) found
+
+-- the frame that is lent is the record's
+pub lent_same : (p q : Position) (fields : RecordHeader) (stamp whole : ℕ) (body : List ℕ) → q ≡ p → stamp ≡ stamp_at q.layout fields.seconds fields.fraction
+    → whole ≡ max fields.original_len fields.captured_len → length body ≡ fields.captured_len → frame_with q.network q.count stamp whole body ≡ frame_at p fields body
+lent_same p q fields stamp whole body stands came size held =
+    ap (λ (s : ℕ). frame_with q.network q.count s whole body) came
+    ∙ ap (λ (w : ℕ). frame_with q.network q.count (stamp_at q.layout fields.seconds fields.fraction) w body) (size ∙ ap (λ (n : ℕ). max fields.original_len n) (sym held))
+    ∙ ap (λ (x : Position). frame_at x fields body) stands
+
+kept_header : (p : Position) (before mid after : Option (List ℕ)) (header : List ℕ) → TakesHeader p before mid header → Keeps mid after → TakesHeader p before after header
+kept_header p before mid after header t kept =
+    record { size = t.size; are_bytes = t.are_bytes; bounded = t.bounded; fine = t.fine; gone = Consumes-kept before mid after header t.gone kept }
+
+-- no memory for its bytes
+pub lacks_memory : (p : Position) (before mid after : Option (List ℕ)) (fields : RecordHeader) → IsStart p before mid (starts.Header fields) → Keeps mid after
+    → 0 < fields.captured_len → LacksMemory p before after
+lacks_memory p before mid after fields (header, t, same) kept some =
+    (header, kept_header p before mid after header t kept, omega (arith, ap (λ (h : RecordHeader). h.captured_len) same))
+
+-- a fault as its bytes were drawn
+pub body_fault : (p : Position) (before mid after : Option (List ℕ)) (old m new : ℕ) (fields : RecordHeader) (f : ReadFault) → IsStart p before mid (starts.Header fields)
+    → Keeps mid after → m ≡ old → IsDrawFault fields.captured_len m new f → IsReadFault p before after old new f
+body_fault p before mid after old m new fields faults.Device start kept same fault = subst (λ (n : ℕ). CountsFailure n new) same fault
+body_fault p before mid after old m new fields faults.Memory start kept same fault =
+    (fault.0 ∙ same, lacks_memory p before mid after fields start kept fault.1)
+body_fault p before mid after old m new fields faults.Failed start kept same fault = absurd fault
+
+-- ---- a call
+
+pub advances_ok : {A : Type 0} (as_item : A → Item) (old new : Reading) (a : A) → IsNext old.position old.remaining new.remaining (as_item a)
+    → new.position ≡ after_item old.position (as_item a) → new.position.count ≤ new.position.most → new.failures ≡ old.failures
+    → TakesAtMost (RECORD_HEADER_LEN + MAX_SNAPLEN) old.remaining new.remaining → ItemLeaves old.remaining new.remaining (as_item a)
+    → Advances as_item old new (Ok a)
+advances_ok as_item old new a item after bounded same taken left = record {
+  item = λ going. item;
+  after = after;
+  after_fault = tt;
+  bounded = bounded;
+  no_failure = same;
+  fault = tt;
+  taken = taken;
+  left = λ going. left;
+}
+
+pub advances_err : {A : Type 0} (as_item : A → Item) (old new : Reading) (f : ReadFault) → IsReadFault old.position old.remaining new.remaining old.failures new.failures f
+    → new.position ≡ record old.position { stage = stages.Failed } → new.position.count ≤ new.position.most
+    → TakesAtMost (RECORD_HEADER_LEN + MAX_SNAPLEN) old.remaining new.remaining → Advances as_item old new (Err f)
+advances_err as_item old new f fault after bounded taken = record {
+  item = λ going. tt;
+  after = tt;
+  after_fault = after;
+  bounded = bounded;
+  no_failure = tt;
+  fault = fault;
+  taken = taken;
+  left = λ going. tt;
+}
+
+takes_none : (known : Option (List ℕ)) → TakesAtMost (RECORD_HEADER_LEN + MAX_SNAPLEN) known known
+takes_none known = ([], omega arith, Consumes-nil known)
+
+-- a reader that had ended stays as it is
+pub advances_ended : {A : Type 0} (as_item : A → Item) (old : Reading) (a : A) (e : Ending) → old.position.stage ≡ stages.Ended e → as_item a ≡ items.End e
+    → old.position.count ≤ old.position.most → Advances as_item old old (Ok a)
+advances_ended as_item old a e ended is bounded =
+    let stays : after_item old.position (as_item a) ≡ old.position = ap (after_item old.position) is ∙ ap (λ (s : Stage). record old.position { stage = s }) (sym ended) in
+    record {
+      item = λ going. absurd (cc);
+      after = sym stays;
+      after_fault = tt;
+      bounded = bounded;
+      no_failure = refl;
+      fault = tt;
+      taken = takes_none old.remaining;
+      left = λ going. absurd (cc);
+    }
+
+-- and so does one that had failed
+pub advances_failed : {A : Type 0} (as_item : A → Item) (old : Reading) → old.position.stage ≡ stages.Failed → old.position.count ≤ old.position.most
+    → Advances as_item old old (Err faults.Failed)
+advances_failed as_item old failed bounded = record {
+  item = λ going. tt;
+  after = tt;
+  after_fault = ap (λ (s : Stage). record old.position { stage = s }) failed;
+  bounded = bounded;
+  no_failure = tt;
+  fault = (refl, failed);
+  taken = takes_none old.remaining;
+  left = λ going. tt;
+}

@@ -1,19 +1,14 @@
 -- What one more read or write adds to those before it.
-use Rattle.std.proofs.Common.{◌≡◌, ℕ, ◌+◌, ◌≤◌, min, max, Bool, true, false, ◌||◌, List, ◌++◌, length, take, drop, nat_lt, Option, Some, None, IfSome, Result, Ok, Err, OnErr, refl, sym, ap, ◌∙◌, subst, arith, inl, inr, ◌⊎◌}
+use Rattle.std.proofs.Common.{◌≡◌, ℕ, ◌+◌, ◌-◌, ◌^◌, ◌≤◌, min, max, Bool, true, false, ◌||◌, List, ◌++◌, length, take, drop, nat_lt, Option, Some, None, IfSome, Result, Ok, Err, IsErr, refl, sym, ap, ◌∙◌, subst, arith, inl, inr, ◌⊎◌}
 use Rattle.std.proofs.lemmas.List.{length-take-le, take-append-le, take_at, drop_at, take-append-drop, take_all, take_min, drop-drop, length-drop, length-append}
 use Rattle.std.proofs.Math.Seq.{take-append-add}
 use Rattle.std.proofs.KnownBytes.{Consumes-trans, Appends-trans}
 use Rattle.std.specs.Io.KnownBytes.{Consumes, Appends}
 use Rattle.std.proofs.lemmas.Bool.{eqb-false, le-ltb}
 use borrow.Rule.Slice.PartMut.{put_mid, post_of}
-use Rattle.byteorder.specs.Endian.{big_number}
-use Rattle.pcap_io.specs.Device.{AppendsFront}
-use Rattle.pcap_io.specs.Position.{Opens}
-use Rattle.pcap_io.specs.Layout.{layout_of_magic, checked, header_of}
-use Rattle.pcap_io.specs.declared.layout.Layout.{Layout}
-use Rattle.pcap_io.specs.declared.layout.HeaderFault.{HeaderFault}
+use Rattle.pcap_io.specs.Device.{AppendsPrefix, Writes}
 use Rattle.pcap_io.specs.Script.{fails, answer_of}
-use Rattle.pcap_io.specs.declared.course.Course.{Course}
+use Rattle.pcap_io.specs.declared.script.ScriptState.{ScriptState}
 use Rattle.pcap_io.specs.declared.device.DeviceFault.{DeviceFault}
 
 -- the front of a buffer after more was read behind its front
@@ -64,7 +59,7 @@ same_ok : (a b : ℕ) → ◌≡◌ {A = Result ℕ DeviceFault} (Ok a) (Ok b) �
 same_ok a b e = cc
 
 -- what a device over memory passes: none only where none is asked for
-pub answered : (c : Course) (asked p : ℕ) → answer_of c asked ≡ Ok p → (p ≤ asked) × (p ≡ 0 → asked ≡ 0)
+pub answered : (c : ScriptState) (asked p : ℕ) → answer_of c asked ≡ Ok p → (p ≤ asked) × (p ≡ 0 → asked ≡ 0)
 answered c asked p e = elim (which (fails c)) [
   | inl t ↦ let no = rw t at e in cc
   | inr f ↦
@@ -76,49 +71,42 @@ answered c asked p e = elim (which (fails c)) [
 -- ---- two writes
 
 -- the first failed
-pub front_first : (a b : Option (List ℕ)) (first second : List ℕ) → AppendsFront a b first → AppendsFront a b (first ++ second)
-front_first a b first second (n, h) =
+pub prefix_first : (a b : Option (List ℕ)) (first second : List ℕ) → AppendsPrefix a b first → AppendsPrefix a b (first ++ second)
+prefix_first a b first second (n, h) =
     let m = min n (length first) in
     let same : take n first ≡ take m (first ++ second) = sym (take_min n first) ∙ sym (take-append-le m first second (omega arith)) in
     (m, subst (Appends a b) same h)
 
 -- the second failed
-pub front_second : (a b c : Option (List ℕ)) (first second : List ℕ) → Appends a b first → AppendsFront b c second → AppendsFront a c (first ++ second)
-front_second a b c first second whole (n, h) =
+pub prefix_second : (a b c : Option (List ℕ)) (first second : List ℕ) → Appends a b first → AppendsPrefix b c second → AppendsPrefix a c (first ++ second)
+prefix_second a b c first second whole (n, h) =
     (length first + n, subst (Appends a c) (sym (take-append-add first second n)) (Appends-trans a b c first (take n second) whole h))
 
-pub on_err_from : {T E Q : Type 0} (r : Result T E) → Q → OnErr r Q
-on_err_from (Ok x) q = tt
-on_err_from (Err e) q = q
+-- the first failed
+pub writes_first : {T U E F : Type 0} (q : Result T E) (r : Result U F) (f : F) (a b : Option (List ℕ)) (m n : ℕ) (first second all : List ℕ)
+    → IsErr q → r ≡ Err f → first ++ second ≡ all → Writes r a b m n first → Writes q a b m n all
+writes_first (Ok x) r f a b m n first second all q_err r_err e w = cc
+writes_first (Err x) (Ok y) f a b m n first second all q_err r_err e w = cc
+writes_first (Err x) (Err y) f a b m n first second all q_err r_err e w = record {
+  complete = tt;
+  prefix = subst (AppendsPrefix a b) e (prefix_first a b first second w.prefix);
+  no_failure = tt;
+  fault = w.fault;
+}
 
--- ---- a header
-
-abbrev opened : List ℕ → Result Layout HeaderFault
-opened header = checked header (layout_of_magic (big_number 4 header))
-
-long_header : (bytes : List ℕ) → 24 ≤ length bytes → header_of bytes ≡ opened (take 24 bytes)
-long_header bytes long =
-    let test : nat_lt (length bytes) 24 ≡ false = le-ltb (length bytes) 24 long in
-    rw test refl
-
--- a header says the same whatever follows
-pub header-append : (header more : List ℕ) → length header ≡ 24 → header_of (header ++ more) ≡ header_of header
-header-append header more size =
-    long_header (header ++ more) (omega (arith, size, length-append header more))
-    ∙ ap opened (take_at header more 24 size ∙ sym (take_all 24 header (omega (arith, size))))
-    ∙ sym (long_header header (omega (arith, size)))
-
-pub header_from : (before after : Option (List ℕ)) (header : List ℕ) (came : ℕ) (r : Result Layout HeaderFault) → length header ≡ 24 → 24 ≤ came
-    → Consumes before after (take came header) → header_of header ≡ r → IfSome before (λ bytes. header_of bytes ≡ r)
-header_from None after header came r size all gone read = tt
-header_from (Some xs) None header came r size all gone read = absurd gone
-header_from (Some xs) (Some ys) header came r size all gone read =
-    ap header_of (gone ∙ ap (λ (h : List ℕ). h ++ ys) (take_all came header (omega (arith, size, all)))) ∙ header-append header ys size ∙ read
-
-pub opens_from : (before after : Option (List ℕ)) (header : List ℕ) (came : ℕ) (layout : Layout) → length header ≡ 24 → 24 ≤ came
-    → Consumes before after (take came header) → header_of header ≡ Ok layout → Opens before after layout
-opens_from None after header came layout size all gone read = tt
-opens_from (Some xs) None header came layout size all gone read = absurd gone
-opens_from (Some xs) (Some ys) header came layout size all gone read =
-    let split : xs ≡ header ++ ys = gone ∙ ap (λ (h : List ℕ). h ++ ys) (take_all came header (omega (arith, size, all))) in
-    (header_from (Some xs) (Some ys) header came (Ok layout) size all gone read, ap Some (sym (ap (drop 24) split ∙ drop_at header ys 24 size)))
+-- the second came to this
+pub writes_second : {T U E F : Type 0} (q : Result T E) (r : Result U F) (y : U) (a b c : Option (List ℕ)) (m n o : ℕ) (first second all : List ℕ)
+    → r ≡ Ok y → first ++ second ≡ all → Writes r a b m n first → Writes q b c n o second → Writes q a c m o all
+writes_second q (Err z) y a b c m n o first second all r_ok e w v = cc
+writes_second (Ok x) (Ok z) y a b c m n o first second all r_ok e w v = record {
+  complete = subst (Appends a c) e (Appends-trans a b c first second w.complete v.complete);
+  prefix = tt;
+  no_failure = v.no_failure ∙ w.no_failure;
+  fault = tt;
+}
+writes_second (Err x) (Ok z) y a b c m n o first second all r_ok e w v = record {
+  complete = tt;
+  prefix = subst (AppendsPrefix a c) e (prefix_second a b c first second w.complete v.prefix);
+  no_failure = tt;
+  fault = v.fault ∙ ap (λ (k : ℕ). min (k + 1) (2 ^ 64 - 1)) w.no_failure;
+}

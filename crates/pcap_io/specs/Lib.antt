@@ -1,12 +1,13 @@
+pub mod Block
+pub mod Bytes
 pub mod Capture
 pub mod Device
-pub mod Laws
+pub mod Items
 pub mod Layout
 pub mod Position
 pub mod Reader
 pub mod Recording
 pub mod Script
-pub mod Spelling
-pub mod Splitting
+pub mod Std
 pub mod Supply
 pub mod Writer

@@ -1,10 +1,12 @@
 -- What a recording holds (pcap savefile format 2.4): good records, one after another, and then a rest that ends it.
-use Rattle.std.specs.Prelude.{◌≡◌, ℕ, ◌+◌, ◌-◌, ◌*◌, ◌^◌, ◌<◌, ◌≤◌, max, List, [], ◌∷◌, ◌++◌, length, take, drop, flat_map, slice_index, Option, Some, None, nat_lt, nat_le, ◌==◌, if◌then◌else◌}
-use Rattle.afdx_frame.specs.Frame.{Frame}
+use Rattle.std.specs.Prelude.{◌≡◌, ℕ, ◌+◌, ◌-◌, ◌*◌, ◌^◌, ◌<◌, ◌≤◌, max, List, [], ◌∷◌, ◌++◌, length, take, drop, flat_map, Option, Some, None, nat_lt, nat_le, ◌==◌, if◌then◌else◌}
+use Rattle.afdx_frame.specs.Frame.{Frame, frame_with}
+use Rattle.afdx_frame.specs.declared.bounds.TheConstants.{MAX_SNAPLEN}
 use Rattle.afdx_frame.specs.declared.key.Network.{Network}
 use Rattle.pcap_io.specs.Layout.{number_in, bytes_in, nanoseconds_of, fractions_of}
 use Rattle.pcap_io.specs.declared.layout.Layout.{Layout}
-use Rattle.pcap_io.specs.declared.head.Head.{Head}
+use Rattle.pcap_io.specs.declared.record_header.RecordHeader.{RecordHeader}
+use Rattle.pcap_io.specs.declared.record_header.TheConstants.{RECORD_HEADER_LEN}
 use Rattle.pcap_io.specs.declared.recording.BadReason.{BadReason}
 use Rattle.pcap_io.specs.declared.recording.BadReason.TheVariants.{Length, Fraction, StampBack, TooMany}
 use Rattle.pcap_io.specs.declared.recording.Ending.{Ending}
@@ -16,21 +18,17 @@ pub record Record : Type 0 where
   -- of a second, in the layout's unit
   pub fraction : ℕ
   -- the length on the wire
-  pub wire : ℕ
+  pub original_len : ℕ
   pub bytes : List ℕ
 
--- each is a byte
-abbrev pub IsBytes : List ℕ → Type 0
-IsBytes bytes = (i : ℕ) → slice_index bytes i < 256
-
--- the fields in front of a record's bytes, 16 bytes
-abbrev pub head_text : Layout → ℕ → ℕ → ℕ → ℕ → List ℕ
-head_text layout seconds fraction held wire =
-    bytes_in layout.order 4 seconds ++ (bytes_in layout.order 4 fraction ++ (bytes_in layout.order 4 held ++ bytes_in layout.order 4 wire))
+-- a record's header: stamp, captured length and original length
+abbrev pub header_bytes : Layout → ℕ → ℕ → ℕ → ℕ → List ℕ
+header_bytes layout seconds fraction captured original =
+    bytes_in layout.order 4 seconds ++ (bytes_in layout.order 4 fraction ++ (bytes_in layout.order 4 captured ++ bytes_in layout.order 4 original))
 
 -- a record as it stands in a recording
-abbrev pub spelled : Layout → Record → List ℕ
-spelled layout r = head_text layout r.seconds r.fraction (length r.bytes) r.wire ++ r.bytes
+abbrev pub record_bytes : Layout → Record → List ℕ
+record_bytes layout r = header_bytes layout r.seconds r.fraction (length r.bytes) r.original_len ++ r.bytes
 
 -- a stamp in nanoseconds
 abbrev pub stamp_at : Layout → ℕ → ℕ → ℕ
@@ -42,25 +40,19 @@ stamp_of layout r = stamp_at layout r.seconds r.fraction
 
 -- The record's frame, the n-th of its recording. Its length on the wire is at least that of its bytes (this project's rule).
 abbrev pub frame_of : Network → Layout → ℕ → Record → Frame
-frame_of network layout n r = record {
-  network = network;
-  number = n;
-  stamp = stamp_of layout r;
-  whole = max r.wire (length r.bytes);
-  bytes = r.bytes;
-}
+frame_of network layout n r = frame_with network n (stamp_of layout r) (max r.original_len (length r.bytes)) r.bytes
 
 -- the frames of records, numbered from n
 abbrev pub frames_of : Network → Layout → ℕ → List Record → List Frame
 frames_of network layout n [] = []
 frames_of network layout n (r ∷ rs) = frame_of network layout n r ∷ frames_of network layout (n + 1) rs
 
--- A record that may stand behind others whose greatest stamp is `high`, 0 where there are none. A stamp may come late, by no
--- more than `late` nanoseconds.
+-- A record that may follow others whose greatest stamp is `high`, 0 where there are none. A stamp may come late, by no more than
+-- `late` nanoseconds.
 pub record IsGood (layout : Layout) (late high : ℕ) (r : Record) : Type 0 where
-  pub few_bytes : length r.bytes ≤ 262144
+  pub few_bytes : length r.bytes ≤ MAX_SNAPLEN
   pub seconds_fit : r.seconds < 2 ^ 32
-  pub wire_fits : r.wire < 2 ^ 32
+  pub original_len_fits : r.original_len < 2 ^ 32
   pub within_second : r.fraction < fractions_of layout.precision
   pub in_time : high ≤ stamp_of layout r + late
 
@@ -69,45 +61,45 @@ abbrev pub high_after : Layout → ℕ → List Record → ℕ
 high_after layout high [] = high
 high_after layout high (r ∷ rs) = high_after layout (max high (stamp_of layout r)) rs
 
--- each record may stand behind those before it
+-- each record may follow those before it
 abbrev pub AreGood : Layout → ℕ → ℕ → List Record → Type 0
 AreGood layout late high [] = Unit {0}
 AreGood layout late high (r ∷ rs) = IsGood layout late high r × AreGood layout late (max high (stamp_of layout r)) rs
 
--- the fields that 16 bytes spell
-abbrev pub head_of : Layout → List ℕ → Head
-head_of layout bytes = record {
+-- the fields of a header
+abbrev pub header_fields : Layout → List ℕ → RecordHeader
+header_fields layout bytes = record {
   seconds = number_in layout.order 4 bytes;
   fraction = number_in layout.order 4 (drop 4 bytes);
-  held = number_in layout.order 4 (drop 8 bytes);
-  wire = number_in layout.order 4 (drop 12 bytes);
+  captured_len = number_in layout.order 4 (drop 8 bytes);
+  original_len = number_in layout.order 4 (drop 12 bytes);
 }
 
--- what is wrong with a record's fields: the first that fits
-abbrev pub reason_at : Layout → ℕ → ℕ → Head → Option BadReason
+-- what is wrong with a header: the first reason that fits
+abbrev pub reason_at : Layout → ℕ → ℕ → RecordHeader → Option BadReason
 reason_at layout late high head =
-    if nat_lt 262144 head.held then Some Length
+    if nat_lt MAX_SNAPLEN head.captured_len then Some Length
     else if nat_le (fractions_of layout.precision) head.fraction then Some Fraction
     else if nat_lt (stamp_at layout head.seconds head.fraction + late) high then Some StampBack
     else None
 
--- the ending at fields with `left` bytes behind them
-abbrev pub ending_behind : ℕ → Head → ℕ → Option BadReason → Option Ending
-ending_behind n head left (Some reason) = Some (Bad n reason)
-ending_behind n head left None = if nat_lt left head.held then Some (Cut n) else None
+-- the ending at a header that `left` bytes follow
+abbrev pub ending_after : ℕ → RecordHeader → ℕ → Option BadReason → Option Ending
+ending_after n head left (Some reason) = Some (Bad n reason)
+ending_after n head left None = if nat_lt left head.captured_len then Some (Cut n) else None
 
--- The ending behind n records whose greatest stamp is `high`, where `rest` is left and `most` records are read: the first that
+-- The ending after n records whose greatest stamp is `high`, where `rest` is left and `most` records are read: the first that
 -- fits. None: another good record stands there.
 abbrev pub ending_at : Layout → ℕ → ℕ → ℕ → ℕ → List ℕ → Option Ending
 ending_at layout most late n high rest =
     if length rest == 0 then Some (Clean n)
     else if n == most then Some (Bad n TooMany)
-    else if nat_lt (length rest) 16 then Some (Cut n)
-    else ending_behind n (head_of layout (take 16 rest)) (length rest - 16) (reason_at layout late high (head_of layout (take 16 rest)))
+    else if nat_lt (length rest) RECORD_HEADER_LEN then Some (Cut n)
+    else ending_after n (header_fields layout (take RECORD_HEADER_LEN rest)) (length rest - RECORD_HEADER_LEN) (reason_at layout late high (header_fields layout (take RECORD_HEADER_LEN rest)))
 
--- Behind n records whose greatest stamp is `high` the bytes are these good records and a rest that ends the recording so.
-pub record Splits (layout : Layout) (most late n high : ℕ) (bytes : List ℕ) (records : List Record) (rest : List ℕ) (ending : Ending) : Type 0 where
-  pub whole : bytes ≡ flat_map (spelled layout) records ++ rest
+-- After n records whose greatest stamp is `high` the bytes are these good records and a rest that ends the recording so.
+pub record Parses (layout : Layout) (most late n high : ℕ) (bytes : List ℕ) (records : List Record) (rest : List ℕ) (ending : Ending) : Type 0 where
+  pub complete : bytes ≡ flat_map (record_bytes layout) records ++ rest
   pub good : AreGood layout late high records
-  pub few : n + length records ≤ most
+  pub bounded : n + length records ≤ most
   pub ends : ending_at layout most late (n + length records) (high_after layout high records) rest ≡ Some ending

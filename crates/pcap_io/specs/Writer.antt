@@ -1,5 +1,5 @@
 -- What contracts see of a writer of captures.
-use Rattle.std.specs.Prelude.{Bool}
+use Rattle.std.specs.Prelude.{Bool, Result, Ok, Err}
 use Rattle.pcap_io.specs.declared.writer.CaptureWriter.{CaptureWriter}
 
 -- what it writes to
@@ -9,3 +9,8 @@ sink_of writer = writer.sink
 -- its device has failed
 abbrev pub has_failed : {W : Type 0} → CaptureWriter W → Bool
 has_failed writer = writer.failed
+
+-- what it wrote to, whether it stands or gave its sink back
+abbrev pub sink_after : {W : Type 0} → Result (CaptureWriter W) W → W
+sink_after (Ok writer) = sink_of writer
+sink_after (Err sink) = sink

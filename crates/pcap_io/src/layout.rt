@@ -45,11 +45,11 @@ pub enum HeaderFault {
     LinkType,
 }
 
-/// The bytes of a header.
-pub const HEADER_LEN: usize = 24;
+/// The bytes of a file header.
+pub const FILE_HEADER_LEN: usize = 24;
 
 /// The number in the first four bytes.
-#[inline]
+#[inline(always)]
 pub fn number_of(order: Order, bytes: &[u8]) -> u32
     requires { 4 ≤ length bytes.now }
     ensures { result ≡ number_in order 4 bytes.now }

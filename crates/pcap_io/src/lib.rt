@@ -1,29 +1,30 @@
-//! Recordings of a network tap in the pcap savefile format 2.4: a reader of frames, a writer of
-//! accepted frames, and devices over memory to try both on.
+//! Recordings
 #![tactic(auto)]
 
-mod course;
+mod block;
 mod device;
-mod head;
-mod laws;
+mod item;
 mod layout;
 mod mem_sink;
 mod mem_source;
+mod position;
+mod read_source;
 mod reader;
 mod recording;
-mod stepping;
-#[cfg(test)]
-mod tests;
+mod record_header;
+mod script;
 mod transfer;
+mod write_sink;
 mod writer;
 
-pub use course::Script;
 pub use device::{DeviceFault, OutSink, TapSource};
-pub use laws::{capture_is_read, one_split, some_split};
+pub use item::{Found, Item, ReadFault};
 pub use layout::HeaderFault;
 pub use mem_sink::MemSink;
 pub use mem_source::MemSource;
 pub use reader::{OpenFault, OpenRefused, TapReader};
+pub use read_source::ReadSource;
 pub use recording::{BadReason, Ending};
-pub use stepping::{Item, ReadFault};
+pub use script::Script;
+pub use write_sink::WriteSink;
 pub use writer::{CaptureWriter, WriteFault};

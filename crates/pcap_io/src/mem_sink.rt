@@ -1,19 +1,19 @@
 //! A sink over memory.
 ghost use Rattle.std.specs.Prelude.{◌≡◌, ◌++◌, ◌≤◌, ◌<◌, [], Some, take, length, IfOk, OnOk, OnErr};
 ghost use Rattle.std.specs.Io.KnownBytes.{WriteAppends};
-ghost use Rattle.pcap_io.specs.Script.{start_of, passed, answer_of, after_call};
-ghost use Rattle.pcap_io.specs.Device.{CountsFailure, IsSound};
+ghost use Rattle.pcap_io.specs.Script.{start_of, passed_count, answer_of, after_call};
+ghost use Rattle.pcap_io.specs.Device.{CountsFailure, NoFailure};
 
-use crate::course::{Course, Script};
 use crate::device::{DeviceFault, OutSink};
+use crate::script::{Script, ScriptState};
 use std::alloc::{AllocError, Global};
 use std::marker::Model;
 
-/// A sink that takes bytes into memory as its script says, and tells them.
+/// A sink that takes bytes into memory as its script says, and exposes them.
 #[derive(Debug, Drop)]
 pub struct MemSink {
     bytes: Vec<u8>,
-    course: Course,
+    state: ScriptState,
 }
 
 impl Model for MemSink {
@@ -22,20 +22,20 @@ impl Model for MemSink {
 
     ghost Value = { Store };
 
-    ghost view = { λ s. record { bytes = s.bytes.items; course = s.course } };
+    ghost view = { λ s. record { bytes = s.bytes.items; state = s.state } };
 
     // There is room for all that may still pass.
-    ghost invariant = { λ s. vec_len s.bytes + s.course.left ≤ vec_capacity s.bytes };
+    ghost invariant = { λ s. vec_len s.bytes + s.state.left ≤ vec_capacity s.bytes };
 }
 
 impl MemSink {
     /// An empty sink, with room for all that its script lets pass.
     pub fn new(alloc: Global, script: Script) -> Result<MemSink, AllocError>
-        ensures { IfOk result (λ s. s ≡ record { bytes = []; course = start_of script }) }
+        ensures { IfOk result (λ s. s ≡ record { bytes = []; state = start_of script }) }
     {
         Ok(MemSink {
             bytes: Vec::with_capacity(alloc, script.most)?,
-            course: Course::new(script),
+            state: ScriptState::new(script),
         })
     }
 
@@ -50,21 +50,21 @@ impl MemSink {
 impl OutSink for MemSink {
     ghost contents = { λ s. Some s.bytes };
 
-    ghost failures = { λ s. s.course.failures };
+    ghost failures = { λ s. s.state.failures };
 
     fn write(&mut self, bytes: &[u8]) -> Result<usize, DeviceFault>
-        ensures answer { result ≡ answer_of self.old.course (length bytes.now) }
-        ensures taken { let n = passed self.old.course (length bytes.now) in
+        ensures answer { result ≡ answer_of self.old.state (length bytes.now) }
+        ensures taken { let n = passed_count self.old.state (length bytes.now) in
             self.new.bytes ≡ self.old.bytes ++ take n bytes.now }
-        ensures course { self.new.course ≡ after_call self.old.course (length bytes.now) }
+        ensures state { self.new.state ≡ after_call self.old.state (length bytes.now) }
         ensures bound { IfOk result (λ n. n ≤ length bytes.now) }
         ensures some { IfOk result (λ n. 0 < length bytes.now → 0 < n) }
         ensures bytes { WriteAppends (Some self.old.bytes) (Some self.new.bytes) result bytes.now }
-        ensures sound { OnOk result (IsSound self.old.course.failures self.new.course.failures) }
+        ensures no_failure { OnOk result (NoFailure self.old.state.failures self.new.state.failures) }
         ensures fault { OnErr result
-            (CountsFailure self.old.course.failures self.new.course.failures) }
+            (CountsFailure self.old.state.failures self.new.state.failures) }
     {
-        let passed = self.course.call(bytes.len())?;
+        let passed = self.state.call(bytes.len())?;
         self.bytes.extend_from_slice(&bytes[..passed]).unwrap();
         Ok(passed)
     }

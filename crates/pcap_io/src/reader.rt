@@ -1,21 +1,30 @@
 //! Reads the frames of a recording.
-ghost use Rattle.std.specs.Prelude.{◌≡◌, ◌≤◌, ◌^◌, drop, Some, Ok, Err, IfOk, IfErr, OnOk, OnErr, IfSome};
+ghost use Rattle.std.specs.Prelude.{◌≡◌, ◌+◌, ◌≤◌, ◌^◌, [], drop, Some, Ok, Err, IfOk, IfErr, OnOk, OnErr, IfSome};
+ghost use Rattle.afdx_frame.specs.Frame.{IsFrame};
+ghost use Rattle.afdx_frame.specs.LentFrame.{frame_of_lent};
+ghost use Rattle.pcap_io.specs.Device.{CountsFailure, TakesAtMost};
 ghost use Rattle.pcap_io.specs.Layout.{header_of};
-ghost use Rattle.pcap_io.specs.Position.{IsNext, IsOpenFault, IsReadFault, ItemLeaves, Opens, TakesAtMost, after_item, start_at};
+ghost use Rattle.afdx_frame.specs.declared.bounds.TheConstants.{MAX_SNAPLEN};
+ghost use Rattle.pcap_io.specs.declared.layout.TheConstants.{FILE_HEADER_LEN};
+ghost use Rattle.pcap_io.specs.declared.record_header.TheConstants.{RECORD_HEADER_LEN};
+ghost use Rattle.pcap_io.specs.Position.{Advances, HasRoom, IsNext, IsOpenFault, IsReadFault, IsStart, ItemLeaves, Opens, StartLeaves, after_item, found_item, start_at};
 
+use crate::block::BlockSource;
 use crate::device::{DeviceFault, TapSource};
-use crate::layout::{HEADER_LEN, HeaderFault, Layout, layout_of};
-use crate::recording::Stage;
-use crate::stepping::{Item, Position, ReadFault, step};
+use crate::item::{Found, Item, ReadFault};
+use crate::layout::{FILE_HEADER_LEN, HeaderFault, Layout, layout_of};
+use crate::position::{Position, Start, start_of};
+use crate::record_header::RECORD_HEADER_LEN;
+use crate::recording::{Ending, Stage};
 use crate::transfer::fill;
-use afdx_frame::Network;
+use afdx_frame::{LentFrame, Network, Stamp};
 use std::alloc::Global;
 use thiserror::Error;
 
 /// Why a reader wasn't opened.
 #[derive(Clone, Copy, Debug, PartialEq, Eq, Error)]
 pub enum OpenFault {
-    /// The bytes don't begin with a header that is read here.
+    /// The bytes don't begin with a file header that is read here.
     #[error("{0}")]
     Header(HeaderFault),
     /// The source failed.
@@ -50,40 +59,50 @@ pub struct OpenRefused<S> {
     pub fault: OpenFault,
 }
 
-/// Reads the header.
+/// Reads the file header.
 fn read_layout<S: TapSource>(source: &mut S) -> Result<Layout, OpenFault>
     ensures layout { IfOk result (Opens (S.remaining source.old) (S.remaining source.new)) }
-    ensures sound { OnOk result (S.failures source.new ≡ S.failures source.old) }
-    ensures fault { IfErr result
-        (IsOpenFault (S.remaining source.old) (S.failures source.old) (S.failures source.new)) }
-    ensures taken { OnErr result (TakesAtMost 24 (S.remaining source.old) (S.remaining source.new)) }
+    ensures no_failure { OnOk result (S.failures source.new ≡ S.failures source.old) }
+    ensures fault { IfErr result (IsOpenFault (S.remaining source.old)
+        (S.failures source.old) (S.failures source.new)) }
+    ensures taken { OnErr result
+        (TakesAtMost FILE_HEADER_LEN (S.remaining source.old) (S.remaining source.new)) }
 {
-    let mut header = [0u8; HEADER_LEN];
+    let mut header = [0u8; FILE_HEADER_LEN];
     let came = fill(source, &mut header)?;
-    if came < HEADER_LEN {
+    if came < FILE_HEADER_LEN {
         return Err(OpenFault::Header(HeaderFault::Short));
     }
     Ok(layout_of(&header)?)
 }
 
 /// Reads the frames of one network's recording (pcap savefile format 2.4), one after another.
+///
+/// It reads its source a block of 64 KiB at a time. `advance` goes on to the next frame, which
+/// `frame` lends out of the block; `next` gives a frame that owns its bytes.
 #[derive(Debug, Drop)]
 pub struct TapReader<S> {
-    source: S,
+    input: BlockSource<S>,
     position: Position,
-    ghost few: { position.count ≤ position.most },
-    ghost bounded: { position.most ≤ 2 ^ 32 },
+    /// Of the frame that was found last.
+    number: u64,
+    stamp: u64,
+    whole: u32,
+    ghost bounded: { position.count ≤ position.most },
+    ghost most: { position.most ≤ 2 ^ 32 },
 }
 
 impl<S: TapSource> TapReader<S> {
     ghost use Rattle.pcap_io.specs.declared.recording.Stage.TheVariants.{Going, Ended, Failed};
-    ghost use Rattle.pcap_io.specs.declared.stepping.Item.TheVariants.{End};
-    ghost use Rattle.pcap_io.specs.declared.stepping.ReadFault.TheVariants as faults;
+    ghost use Rattle.pcap_io.specs.declared.item.Item.TheVariants as items;
+    ghost use Rattle.pcap_io.specs.declared.item.Found.TheVariants as founds;
+    ghost use Rattle.pcap_io.specs.declared.item.ReadFault.TheVariants as faults;
     ghost use Rattle.pcap_io.specs.declared.recording.Ending.{Ending};
-    ghost use Rattle.pcap_io.specs.Reader.{position_of, source_of};
+    ghost use Rattle.pcap_io.specs.Reader.{position_of, source_of, unread_of, remaining_of, lent_of, reading_of};
 
-    /// Reads the header, and stands at the first record. At most `most` records are read, and a stamp
-    /// may lie `late` nanoseconds below the greatest before it. A refusal gives the source back.
+    /// Reads the file header, and stands at the first record. At most `most` records are read, and a
+    /// stamp may lie `late` nanoseconds below the greatest before it. A refusal gives the source
+    /// back. Allocates nothing.
     pub fn open(
         source: S,
         network: Network,
@@ -91,21 +110,25 @@ impl<S: TapSource> TapReader<S> {
         late: u64,
     ) -> Result<TapReader<S>, OpenRefused<S>>
         requires { most ≤ 2 ^ 32 }
-        // The header's layout is kept, and the header is gone.
-        ensures opened { IfOk result (λ r.
-            Opens (S.remaining source) (S.remaining (source_of r)) (position_of r).layout) }
+        // The header's layout is kept, and the header is gone. Nothing is read ahead.
+        ensures opened { IfOk result (λ r. Opens (S.remaining source)
+            (S.remaining (source_of r)) (position_of r).layout) }
+        ensures unread { IfOk result (λ r. unread_of r ≡ []) }
+        ensures remaining { IfOk result (λ r.
+            remaining_of S.remaining r ≡ S.remaining (source_of r)) }
         ensures start { IfOk result (λ r.
             position_of r ≡ start_at network (position_of r).layout most late) }
-        ensures sound { IfOk result (λ r. S.failures (source_of r) ≡ S.failures source) }
-        ensures fault { IfErr result (λ e.
-            IsOpenFault (S.remaining source) (S.failures source) (S.failures e.source) e.fault) }
-        // No more than a header is gone from the source that is given back.
-        ensures taken { IfErr result (λ e. TakesAtMost 24 (S.remaining source) (S.remaining e.source)) }
+        ensures no_failure { IfOk result (λ r. S.failures (source_of r) ≡ S.failures source) }
+        ensures fault { IfErr result (λ e. IsOpenFault (S.remaining source)
+            (S.failures source) (S.failures e.source) e.fault) }
+        // No more than a file header is gone from the source that is given back.
+        ensures taken { IfErr result (λ e.
+            TakesAtMost FILE_HEADER_LEN (S.remaining source) (S.remaining e.source)) }
     {
         let mut source = source;
         match read_layout(&mut source) {
             Ok(layout) => Ok(TapReader {
-                source,
+                input: BlockSource::new(source),
                 position: Position {
                     network,
                     layout,
@@ -115,49 +138,123 @@ impl<S: TapSource> TapReader<S> {
                     high: 0,
                     stage: Stage::Going,
                 },
+                number: 0,
+                stamp: 0,
+                whole: 0,
             }),
             Err(fault) => Err(OpenRefused { source, fault }),
         }
     }
 
-    /// The next frame, or the ending, which is given again at each later call. After a fault each later
-    /// call answers Failed.
-    pub fn next(&mut self, alloc: Global) -> Result<Item, ReadFault>
-        // The next good record's frame, or the ending of what is left.
-        ensures item { (position_of self.old).stage ≡ Going → IfOk result
-            (IsNext (position_of self.old)
-            (S.remaining (source_of self.old)) (S.remaining (source_of self.new))) }
-        ensures ended { (e : Ending) → (position_of self.old).stage ≡ Ended e
-            → (result ≡ Ok (End e)) × (source_of self.new ≡ source_of self.old) }
-        ensures failed { (position_of self.old).stage ≡ Failed
-            → (result ≡ Err faults.Failed) × (source_of self.new ≡ source_of self.old) }
-        ensures after { IfOk result (λ item.
-            position_of self.new ≡ after_item (position_of self.old) item) }
-        ensures few { (position_of self.new).count ≤ (position_of self.new).most }
-        ensures after_fault { OnErr result
-            (position_of self.new ≡ record (position_of self.old) { stage = Failed }) }
-        ensures sound { OnOk result
+    /// Reads the header of the next record.
+    #[inline(always)]
+    fn read_header(&mut self) -> Result<Start, DeviceFault>
+        ensures start { IfOk result (IsStart (position_of self.old)
+            (remaining_of S.remaining self.old) (remaining_of S.remaining self.new)) }
+        ensures position { position_of self.new ≡ position_of self.old }
+        ensures no_failure { OnOk result
             (S.failures (source_of self.new) ≡ S.failures (source_of self.old)) }
-        ensures fault { IfErr result (IsReadFault (position_of self.old).stage
+        ensures fault { OnErr result (CountsFailure
             (S.failures (source_of self.old)) (S.failures (source_of self.new))) }
-        // Whatever it answers, no more than one record is gone from the source.
-        ensures taken { TakesAtMost 262160
-            (S.remaining (source_of self.old)) (S.remaining (source_of self.new)) }
-        // A clean or a cut ending leaves nothing there. A bad one takes no more than the fields of a
-        // record.
-        ensures left { (position_of self.old).stage ≡ Going → IfOk result (ItemLeaves
-            (S.remaining (source_of self.old)) (S.remaining (source_of self.new))) }
+        ensures taken { TakesAtMost RECORD_HEADER_LEN
+            (remaining_of S.remaining self.old) (remaining_of S.remaining self.new) }
+        ensures left { IfOk result (StartLeaves
+            (remaining_of S.remaining self.old) (remaining_of S.remaining self.new)) }
+    {
+        let mut bytes = [0u8; RECORD_HEADER_LEN];
+        let came = self.input.draw_into(&mut bytes)?;
+        Ok(start_of(&self.position, &bytes, came))
+    }
+
+    /// Draws the next record, or finds the ending.
+    #[inline(always)]
+    fn find(&mut self, alloc: Global) -> Result<Found, ReadFault>
+        ensures item { IfOk result (λ a. IsNext (position_of self.old)
+            (remaining_of S.remaining self.old) (remaining_of S.remaining self.new) (found_item (lent_of self.new) a)) }
+        ensures room { IfOk result (λ a. HasRoom (position_of self.old) (found_item (lent_of self.new) a)) }
+        ensures position { position_of self.new ≡ position_of self.old }
+        ensures no_failure { OnOk result
+            (S.failures (source_of self.new) ≡ S.failures (source_of self.old)) }
+        ensures fault { IfErr result (IsReadFault (position_of self.old)
+            (remaining_of S.remaining self.old) (remaining_of S.remaining self.new)
+            (S.failures (source_of self.old)) (S.failures (source_of self.new))) }
+        ensures taken { TakesAtMost (RECORD_HEADER_LEN + MAX_SNAPLEN)
+            (remaining_of S.remaining self.old) (remaining_of S.remaining self.new) }
+        ensures left { IfOk result (λ a. ItemLeaves (remaining_of S.remaining self.old)
+            (remaining_of S.remaining self.new) (found_item (lent_of self.new) a)) }
+        ensures frame { result ≡ Ok founds.Frame → IsFrame (lent_of self.new) }
+    {
+        let header = match self.read_header()? {
+            Start::Header(header) => header,
+            Start::End(ending) => return Ok(Found::End(ending)),
+        };
+        if !self.input.draw(alloc, header.captured_len as usize)? {
+            return Ok(Found::End(Ending::Cut(self.position.count)));
+        }
+        self.number = self.position.count;
+        self.stamp = header.stamp(self.position.layout);
+        self.whole = header.original_len.max(header.captured_len);
+        Ok(Found::Frame)
+    }
+
+    /// Draws the next record into a frame of its own, or finds the ending.
+    #[inline(always)]
+    fn take(&mut self, alloc: Global) -> Result<Item, ReadFault>
+        ensures item { IfOk result (λ a. IsNext (position_of self.old)
+            (remaining_of S.remaining self.old) (remaining_of S.remaining self.new) a) }
+        ensures room { IfOk result (λ a. HasRoom (position_of self.old) a) }
+        ensures position { position_of self.new ≡ position_of self.old }
+        ensures no_failure { OnOk result
+            (S.failures (source_of self.new) ≡ S.failures (source_of self.old)) }
+        ensures fault { IfErr result (IsReadFault (position_of self.old)
+            (remaining_of S.remaining self.old) (remaining_of S.remaining self.new)
+            (S.failures (source_of self.old)) (S.failures (source_of self.new))) }
+        ensures taken { TakesAtMost (RECORD_HEADER_LEN + MAX_SNAPLEN)
+            (remaining_of S.remaining self.old) (remaining_of S.remaining self.new) }
+        ensures left { IfOk result (λ a. ItemLeaves (remaining_of S.remaining self.old)
+            (remaining_of S.remaining self.new) a) }
+    {
+        let header = match self.read_header()? {
+            Start::Header(header) => header,
+            Start::End(ending) => return Ok(Item::End(ending)),
+        };
+        let mut bytes = Vec::with_capacity(alloc, header.captured_len as usize)?;
+        if !self.input.draw(alloc, header.captured_len as usize)? {
+            return Ok(Item::End(Ending::Cut(self.position.count)));
+        }
+        bytes.extend_from_slice(self.input.drawn()).unwrap();
+        Ok(Item::Frame(self.position.frame(&header, bytes)))
+    }
+
+    /// Goes on to the next frame, which `frame` lends, or to the ending, which is found again at each
+    /// later call. After a fault each later call returns `Failed`.
+    ///
+    /// It allocates only where a block is first made, and where a record is longer than the block.
+    #[inline(always)]
+    pub fn advance(&mut self, alloc: Global) -> Result<Found, ReadFault>
+        ensures advances { Advances (found_item (lent_of self.new))
+            (reading_of S.remaining S.failures self.old)
+            (reading_of S.remaining S.failures self.new) result }
+        // The frame stands to be lent.
+        ensures frame { result ≡ Ok founds.Frame → IsFrame (lent_of self.new) }
+        ensures ended { (e : Ending) → (position_of self.old).stage ≡ Ended e
+            → (result ≡ Ok (founds.End e)) × (self.new ≡ self.old) }
+        ensures failed { (position_of self.old).stage ≡ Failed
+            → (result ≡ Err faults.Failed) × (self.new ≡ self.old) }
     {
         match self.position.stage {
             Stage::Failed => return Err(ReadFault::Failed),
-            Stage::Ended(ending) => return Ok(Item::End(ending)),
+            Stage::Ended(ending) => return Ok(Found::End(ending)),
             Stage::Going => {}
         }
-        let position = self.position;
-        match step(&mut self.source, &position, alloc) {
-            Ok(item) => {
-                self.position = position.after(&item);
-                Ok(item)
+        match self.find(alloc) {
+            Ok(Found::Frame) => {
+                self.position.pass_frame(self.stamp);
+                Ok(Found::Frame)
+            }
+            Ok(Found::End(ending)) => {
+                self.position.stage = Stage::Ended(ending);
+                Ok(Found::End(ending))
             }
             Err(fault) => {
                 self.position.stage = Stage::Failed;
@@ -166,14 +263,65 @@ impl<S: TapSource> TapReader<S> {
         }
     }
 
-    /// The source.
+    /// The frame that the last `advance` found. Its bytes are lent out of the reader's block until the
+    /// next call.
+    #[inline(always)]
+    pub fn frame(&self) -> LentFrame<'_>
+        requires { IsFrame (lent_of self.now) }
+        ensures { frame_of_lent result ≡ lent_of self.now }
+    {
+        LentFrame::new(
+            self.position.network,
+            self.number,
+            Stamp(self.stamp),
+            self.whole,
+            self.input.drawn(),
+        )
+        .unwrap()
+    }
+
+    /// The next frame, with bytes of its own, or the ending, which is given again at each later call.
+    /// After a fault each later call returns `Failed`.
+    pub fn next(&mut self, alloc: Global) -> Result<Item, ReadFault>
+        ensures advances { Advances (λ item. item) (reading_of S.remaining S.failures self.old)
+            (reading_of S.remaining S.failures self.new) result }
+        ensures ended { (e : Ending) → (position_of self.old).stage ≡ Ended e
+            → (result ≡ Ok (items.End e)) × (self.new ≡ self.old) }
+        ensures failed { (position_of self.old).stage ≡ Failed
+            → (result ≡ Err faults.Failed) × (self.new ≡ self.old) }
+    {
+        match self.position.stage {
+            Stage::Failed => return Err(ReadFault::Failed),
+            Stage::Ended(ending) => return Ok(Item::End(ending)),
+            Stage::Going => {}
+        }
+        match self.take(alloc) {
+            Ok(Item::Frame(frame)) => {
+                self.position.pass_frame(frame.stamp().0);
+                Ok(Item::Frame(frame))
+            }
+            Ok(Item::End(ending)) => {
+                self.position.stage = Stage::Ended(ending);
+                Ok(Item::End(ending))
+            }
+            Err(fault) => {
+                self.position.stage = Stage::Failed;
+                Err(fault)
+            }
+        }
+    }
+
+    /// The source. What was read ahead is lost.
     pub fn into_source(self) -> S
         ensures { result ≡ source_of self }
     {
         let TapReader {
-            source,
+            input,
             position: _,
+            number: _,
+            stamp: _,
+            whole: _,
         } = self;
-        source
+        input.into_source()
     }
 }

@@ -1,21 +1,20 @@
 //! Reads and writes in as many calls as the device takes.
 ghost use Rattle.std.specs.Prelude.{◌≡◌, ◌<◌, ◌≤◌, length, take, IfOk, OnOk, OnErr};
-ghost use Rattle.std.specs.Io.KnownBytes.{Consumes, Appends, IsAtEnd};
-ghost use Rattle.pcap_io.specs.Device.{CountsFailure, AppendsFront};
-ghost use Rattle.pcap_io.specs.Position.{TakesAtMost};
+ghost use Rattle.std.specs.Io.KnownBytes.{Consumes, IsAtEnd};
+ghost use Rattle.pcap_io.specs.Device.{CountsFailure, TakesAtMost, Writes};
 
 use crate::device::{DeviceFault, OutSink, TapSource};
 
-/// Fills the buffer from its front, and answers how many bytes came: all, or fewer at the end.
-#[inline]
+/// Fills the buffer from its start, and returns how many bytes came: all, or fewer at the end.
 pub fn fill<S: TapSource>(source: &mut S, buf: &mut [u8]) -> Result<usize, DeviceFault>
     ensures bound { IfOk result (λ n. n ≤ length buf.new) }
     ensures bytes { IfOk result (λ n.
         Consumes (S.remaining source.old) (S.remaining source.new) (take n buf.new)) }
     ensures end { IfOk result (λ n. n < length buf.new → IsAtEnd (S.remaining source.new)) }
-    ensures sound { OnOk result (S.failures source.new ≡ S.failures source.old) }
+    ensures no_failure { OnOk result (S.failures source.new ≡ S.failures source.old) }
     ensures fault { OnErr result (CountsFailure (S.failures source.old) (S.failures source.new)) }
-    ensures taken { OnErr result (TakesAtMost (length buf.old) (S.remaining source.old) (S.remaining source.new)) }
+    ensures taken { OnErr result
+        (TakesAtMost (length buf.old) (S.remaining source.old) (S.remaining source.new)) }
 {
     let mut done = 0;
     while done < buf.len() {
@@ -28,14 +27,11 @@ pub fn fill<S: TapSource>(source: &mut S, buf: &mut [u8]) -> Result<usize, Devic
     Ok(done)
 }
 
-/// Writes all the bytes. After a fault the device took a front of them.
+/// Writes all the bytes. After a fault the device took a prefix of them.
 #[inline]
 pub fn write_all<W: OutSink>(sink: &mut W, bytes: &[u8]) -> Result<(), DeviceFault>
-    ensures whole { OnOk result (Appends (W.contents sink.old) (W.contents sink.new) bytes.now) }
-    ensures front { OnErr result
-        (AppendsFront (W.contents sink.old) (W.contents sink.new) bytes.now) }
-    ensures sound { OnOk result (W.failures sink.new ≡ W.failures sink.old) }
-    ensures fault { OnErr result (CountsFailure (W.failures sink.old) (W.failures sink.new)) }
+    ensures { Writes result (W.contents sink.old) (W.contents sink.new)
+        (W.failures sink.old) (W.failures sink.new) bytes.now }
 {
     let mut done = 0;
     while done < bytes.len() {

@@ -11,5 +11,5 @@ loop-done-preserved g c =
     record {
       within = search rules;
       written = write_more _ _ _ done n bytes c.loop-done.invariant.within c.loop-done.invariant.written (rw (take_rest bytes done) at c.in_ok-done.ensures.bytes);
-      same = c.in_ok-done.ensures.sound.0 ∙ c.loop-done.invariant.same;
+      same = c.in_ok-done.ensures.no_failure.0 ∙ c.loop-done.invariant.same;
     }

@@ -1,0 +1,260 @@
+-- Laws of a recording's split: each list of bytes has one, and only one; and a reader's steps follow it.
+use Rattle.std.specs.Prelude.{◌≡◌, ◌≢◌, ℕ, zero, suc, ◌+◌, ◌-◌, ◌<◌, ◌≤◌, max, List, [], ◌∷◌, ◌++◌, length, take, drop, flat_map, Option, Some, None, IfSome}
+use Rattle.std.proofs.Common.{refl, sym, ap, ◌∙◌, subst, arith, add-zero, inl, inr, ◌⊎◌, lit<}
+use Rattle.std.proofs.lemmas.Bool.{cases_lt, ltb-false, eqb-false}
+use Rattle.std.proofs.lemmas.List.{append_assoc, append_cancel_left, length-append, take_at, drop_at, take-append-drop, length-take-le, length-drop, length-take, get_or-take, get_or_past}
+use Rattle.afdx_frame.specs.Frame.{Frame}
+use Rattle.pcap_io.specs.Bytes.{IsBytes}
+use Rattle.pcap_io.specs.Recording.{Record, IsGood, Parses, record_bytes, stamp_of, high_after, frames_of, frame_of, header_fields, ending_after, ending_at, header_bytes}
+use Rattle.pcap_io.proofs.RecordBytes.{good_goes_on, header-record_bytes, header_with, length-record_bytes, fractions_fit, fine_from_none, IsFine, header_bytes_read_back, number_fits, none_of, IsBytes-drop}
+use Rattle.pcap_io.specs.Position.{TakesFrame, IsNext, after_item, ending_here, Holds}
+use Rattle.pcap_io.specs.declared.layout.Layout.{Layout}
+use Rattle.pcap_io.specs.declared.record_header.RecordHeader.{RecordHeader}
+use Rattle.pcap_io.specs.declared.recording.BadReason.{BadReason}
+use Rattle.pcap_io.specs.declared.recording.Ending.{Ending}
+use Rattle.pcap_io.specs.declared.position.Position.{Position}
+use Rattle.pcap_io.specs.declared.item.Item.TheVariants as items
+
+-- ---- one more record in front
+
+pub parses_end : (l : Layout) (most late n high : ℕ) (bytes : List ℕ) (e : Ending) → n ≤ most → ending_at l most late n high bytes ≡ Some e
+    → Parses l most late n high bytes [] bytes e
+parses_end l most late n high bytes e few ends = record { complete = refl; good = tt; bounded = omega arith; ends = rw add-zero ends }
+
+pub parses_more : (l : Layout) (most late n high : ℕ) (r : Record) (bytes : List ℕ) (rs : List Record) (rest : List ℕ) (e : Ending) → IsGood l late high r
+    → Parses l most late (n + 1) (max high (stamp_of l r)) bytes rs rest e → Parses l most late n high (record_bytes l r ++ bytes) (r ∷ rs) rest e
+parses_more l most late n high r bytes rs rest e good s = record {
+  complete = ap (λ (b : List ℕ). record_bytes l r ++ b) s.complete ∙ sym (append_assoc (record_bytes l r) (flat_map (record_bytes l) rs) rest);
+  good = (good, s.good);
+  bounded = omega (arith, s.bounded);
+  ends = subst (λ (m : ℕ). ending_at l most late m (high_after l (max high (stamp_of l r)) rs) rest ≡ Some e) (omega arith) s.ends;
+}
+
+-- ---- only one split
+
+abbrev record_with : ℕ → ℕ → ℕ → List ℕ → Record
+record_with s f w b = record { seconds = s; fraction = f; original_len = w; bytes = b }
+
+same_record : (s f w s' f' w' : ℕ) (b b' : List ℕ) → s ≡ s' → f ≡ f' → w ≡ w' → b ≡ b' → record_with s f w b ≡ record_with s' f' w' b'
+same_record s f w s' f' w' b b' p q r t =
+    ap (λ (x : ℕ). record_with x f w b) p ∙ ap (λ (x : ℕ). record_with s' x w b) q ∙ ap (λ (x : ℕ). record_with s' f' x b) r ∙ ap (λ (x : List ℕ). record_with s' f' w' x) t
+
+-- no good record's text begins another's
+pub same_front : (l : Layout) (late high : ℕ) (r s : Record) (x y : List ℕ) → IsGood l late high r → IsGood l late high s
+    → record_bytes l r ++ x ≡ record_bytes l s ++ y → (r ≡ s) × (x ≡ y)
+same_front l late high r s x y good fine e =
+    let a = header-record_bytes l r x good.seconds_fit (fractions_fit l.precision r.fraction good.within_second) (omega (arith, good.few_bytes)) good.original_len_fits in
+    let b = header-record_bytes l s y fine.seconds_fit (fractions_fit l.precision s.fraction fine.within_second) (omega (arith, fine.few_bytes)) fine.original_len_fits in
+    let heads : header_with r.seconds r.fraction (length r.bytes) r.original_len ≡ header_with s.seconds s.fraction (length s.bytes) s.original_len =
+    sym a ∙ ap (λ (t : List ℕ). header_fields l (take 16 t)) e ∙ b in
+    let seconds : r.seconds ≡ s.seconds = ap (λ (h : RecordHeader). h.seconds) heads in
+    let fraction : r.fraction ≡ s.fraction = ap (λ (h : RecordHeader). h.fraction) heads in
+    let size : length r.bytes ≡ length s.bytes = ap (λ (h : RecordHeader). h.captured_len) heads in
+    let wire : r.original_len ≡ s.original_len = ap (λ (h : RecordHeader). h.original_len) heads in
+    let text : header_bytes l r.seconds r.fraction (length r.bytes) r.original_len ≡ header_bytes l s.seconds s.fraction (length s.bytes) s.original_len =
+    ap (λ (h : RecordHeader). header_bytes l h.seconds h.fraction h.captured_len h.original_len) heads in
+    let bodies : r.bytes ++ x ≡ s.bytes ++ y =
+    append_cancel_left (header_bytes l s.seconds s.fraction (length s.bytes) s.original_len) (r.bytes ++ x) (s.bytes ++ y)
+    (ap (λ (t : List ℕ). t ++ (r.bytes ++ x)) (sym text) ∙ sym (append_assoc _ r.bytes x) ∙ e ∙ append_assoc _ s.bytes y) in
+    let body : r.bytes ≡ s.bytes = sym (take_at r.bytes x (length r.bytes) refl) ∙ ap (take (length r.bytes)) bodies ∙ take_at s.bytes y (length r.bytes) (sym size) in
+    let behind : x ≡ y = sym (drop_at r.bytes x (length r.bytes) refl) ∙ ap (drop (length r.bytes)) bodies ∙ drop_at s.bytes y (length r.bytes) (sym size) in
+    (same_record _ _ _ _ _ _ _ _ seconds fraction wire body, behind)
+
+-- the same records, the same rest and the same ending
+pub record IsSame (rs ss : List Record) (rest other : List ℕ) (e f : Ending) : Type 0 where
+  pub same_records : rs ≡ ss
+  pub same_rest : rest ≡ other
+  pub same_ending : e ≡ f
+
+some_same : {A : Type 0} (x y : A) → Some x ≡ Some y → x ≡ y
+some_same x y e = cc
+
+none_some : {A : Type 0} (o : Option A) (x : A) → o ≡ None → o ≡ Some x → ⊥
+none_some o x p q = cc
+
+-- the split behind the first record
+pub tail_parse : (l : Layout) (most late n high : ℕ) (bytes : List ℕ) (r : Record) (rs : List Record) (rest : List ℕ) (e : Ending)
+    → Parses l most late n high bytes (r ∷ rs) rest e → Parses l most late (n + 1) (max high (stamp_of l r)) (flat_map (record_bytes l) rs ++ rest) rs rest e
+tail_parse l most late n high bytes r rs rest e s = record {
+  complete = refl;
+  good = s.good.1;
+  bounded = omega (arith, s.bounded);
+  ends = subst (λ (m : ℕ). ending_at l most late m (high_after l (max high (stamp_of l r)) rs) rest ≡ Some e) (omega arith) s.ends;
+}
+
+pub same_parse : (l : Layout) (most late n high : ℕ) (bytes : List ℕ) (rs ss : List Record) (rest other : List ℕ) (e f : Ending)
+    → Parses l most late n high bytes rs rest e → Parses l most late n high bytes ss other f → IsSame rs ss rest other e f
+same_parse l most late n high bytes [] [] rest other e f s t =
+    let same : rest ≡ other = sym s.complete ∙ t.complete in
+    record { same_records = refl; same_rest = same; same_ending = some_same e f (sym s.ends ∙ ap (λ (x : List ℕ). ending_at l most late (n + 0) high x) same ∙ t.ends) }
+same_parse l most late n high bytes [] (q ∷ ss) rest other e f s t =
+    let text : rest ≡ record_bytes l q ++ (flat_map (record_bytes l) ss ++ other) = sym s.complete ∙ t.complete ∙ append_assoc (record_bytes l q) (flat_map (record_bytes l) ss) other in
+    let goes = good_goes_on l most late (n + 0) high q (flat_map (record_bytes l) ss ++ other) t.good.0 (omega (arith, t.bounded)) in
+    absurd (none_some _ e (ap (ending_at l most late (n + 0) high) text ∙ goes) s.ends)
+same_parse l most late n high bytes (r ∷ rs) [] rest other e f s t =
+    let text : other ≡ record_bytes l r ++ (flat_map (record_bytes l) rs ++ rest) = sym t.complete ∙ s.complete ∙ append_assoc (record_bytes l r) (flat_map (record_bytes l) rs) rest in
+    let goes = good_goes_on l most late (n + 0) high r (flat_map (record_bytes l) rs ++ rest) s.good.0 (omega (arith, s.bounded)) in
+    absurd (none_some _ f (ap (ending_at l most late (n + 0) high) text ∙ goes) t.ends)
+same_parse l most late n high bytes (r ∷ rs) (q ∷ ss) rest other e f s t =
+    let first = same_front l late high r q (flat_map (record_bytes l) rs ++ rest) (flat_map (record_bytes l) ss ++ other) s.good.0 t.good.0
+    (sym (append_assoc (record_bytes l r) (flat_map (record_bytes l) rs) rest) ∙ sym s.complete ∙ t.complete ∙ append_assoc (record_bytes l q) (flat_map (record_bytes l) ss) other) in
+    let left : Parses l most late (n + 1) (max high (stamp_of l r)) (flat_map (record_bytes l) rs ++ rest) rs rest e = tail_parse l most late n high bytes r rs rest e s in
+    let right : Parses l most late (n + 1) (max high (stamp_of l q)) (flat_map (record_bytes l) ss ++ other) ss other f = tail_parse l most late n high bytes q ss other f t in
+    let moved : Parses l most late (n + 1) (max high (stamp_of l r)) (flat_map (record_bytes l) rs ++ rest) ss other f =
+    subst (λ (x : List ℕ). Parses l most late (n + 1) (max high (stamp_of l r)) x ss other f) (sym first.1)
+    (subst (λ (x : Record). Parses l most late (n + 1) (max high (stamp_of l x)) (flat_map (record_bytes l) ss ++ other) ss other f) (sym first.0) right) in
+    let more = same_parse l most late (n + 1) (max high (stamp_of l r)) (flat_map (record_bytes l) rs ++ rest) rs ss rest other e f left moved in
+    record { same_records = ap (λ (x : Record). x ∷ rs) first.0 ∙ ap (λ (xs : List Record). q ∷ xs) more.same_records; same_rest = more.same_rest; same_ending = more.same_ending }
+
+-- ---- some split
+
+-- where nothing ends, a good record stands
+pub record StandsGood (l : Layout) (most late n high : ℕ) (bytes : List ℕ) : Type 0 where
+  pub first : Record
+  pub more : List ℕ
+  pub good : IsGood l late high first
+  pub few : n ≢ most
+  pub same : bytes ≡ record_bytes l first ++ more
+
+none_behind : (n : ℕ) (head : RecordHeader) (left : ℕ) (o : Option BadReason) → ending_after n head left o ≡ None → (o ≡ None) × (head.captured_len ≤ left)
+none_behind n head left (Some reason) e = cc
+none_behind n head left None e = (refl, ltb-false left head.captured_len (none_of _ _ _ e).0)
+
+pub IsBytes-take : (n : ℕ) (bytes : List ℕ) → IsBytes bytes → IsBytes (take n bytes)
+IsBytes-take n bytes fits i = elim (cases_lt i n) [
+  | inl below ↦ subst (λ (x : ℕ). x < 256) (sym (get_or-take n bytes i 0 below)) (fits i)
+  | inr past ↦ subst (λ (x : ℕ). x < 256) (sym (get_or_past (take n bytes) i 0 (omega (arith, length-take n bytes)))) (lit< tt)
+]
+
+-- what holds where nothing ends
+record Standing (l : Layout) (most late n high : ℕ) (bytes : List ℕ) : Type 0 where
+  enough : 16 ≤ length bytes
+  few : n ≢ most
+  fine : IsFine l late high (header_fields l (take 16 bytes))
+  whole : (header_fields l (take 16 bytes)).captured_len ≤ length bytes - 16
+
+standing : (l : Layout) (most late n high : ℕ) (bytes : List ℕ) → ending_at l most late n high bytes ≡ None → Standing l most late n high bytes
+standing l most late n high bytes e =
+    let some = none_of _ _ _ e in
+    let other = none_of _ _ _ some.1 in
+    let long = none_of _ _ _ other.1 in
+    let behind = none_behind n (header_fields l (take 16 bytes)) (length bytes - 16) _ long.1 in
+    record {
+      enough = ltb-false (length bytes) 16 long.0;
+      few = eqb-false n most other.0;
+      fine = fine_from_none l late high (header_fields l (take 16 bytes)) behind.0;
+      whole = behind.1;
+    }
+
+pub goes_on : (l : Layout) (most late n high : ℕ) (bytes : List ℕ) → IsBytes bytes → ending_at l most late n high bytes ≡ None → StandsGood l most late n high bytes
+goes_on l most late n high bytes fits e =
+    let stands = standing l most late n high bytes e in
+    let head : List ℕ = take 16 bytes in
+    let fields : RecordHeader = header_fields l head in
+    let size : length head ≡ 16 = length-take-le 16 bytes stands.enough in
+    let head_fits : IsBytes head = IsBytes-take 16 bytes fits in
+    let rest : List ℕ = drop 16 bytes in
+    let body : List ℕ = take fields.captured_len rest in
+    let held : length body ≡ fields.captured_len = length-take-le fields.captured_len rest (omega (arith, length-drop 16 bytes, stands.whole)) in
+    let text : header_bytes l fields.seconds fields.fraction (length body) fields.original_len ≡ head =
+    ap (λ (h : ℕ). header_bytes l fields.seconds fields.fraction h fields.original_len) held ∙ header_bytes_read_back l head size head_fits in
+    record {
+      first = record { seconds = fields.seconds; fraction = fields.fraction; original_len = fields.original_len; bytes = body };
+      more = drop fields.captured_len rest;
+      good = record {
+        few_bytes = omega (arith, held, stands.fine.few);
+        seconds_fit = number_fits l.order head head_fits;
+        original_len_fits = number_fits l.order (drop 12 head) (IsBytes-drop 12 head head_fits);
+        within_second = stands.fine.within;
+        in_time = stands.fine.in_time;
+      };
+      few = stands.few;
+      same =
+          sym (take-append-drop 16 bytes) ∙ ap (λ (x : List ℕ). x ++ rest) (sym text)
+          ∙ ap (λ (x : List ℕ). header_bytes l fields.seconds fields.fraction (length body) fields.original_len ++ x) (sym (take-append-drop fields.captured_len rest))
+          ∙ sym (append_assoc (header_bytes l fields.seconds fields.fraction (length body) fields.original_len) body (drop fields.captured_len rest));
+    }
+
+-- a split
+abbrev pub HasParse : Layout → ℕ → ℕ → ℕ → ℕ → List ℕ → Type 0
+HasParse l most late n high bytes = (records : List Record) × (rest : List ℕ) × (ending : Ending) × Parses l most late n high bytes records rest ending
+
+option_cases : {A : Type 0} (o : Option A) → ((x : A) × (o ≡ Some x)) ⊎ (o ≡ None)
+option_cases None = inr refl
+option_cases (Some x) = inl (x, refl)
+
+shorter : (l : Layout) (most late n high fuel : ℕ) (bytes : List ℕ) (g : StandsGood l most late n high bytes) → length bytes ≤ fuel → length g.more + 16 ≤ fuel
+shorter l most late n high fuel bytes g short =
+    omega (arith, ap length g.same, length-append (record_bytes l g.first) g.more, length-record_bytes l g.first)
+
+more_fit : (l : Layout) (most late n high : ℕ) (bytes : List ℕ) (g : StandsGood l most late n high bytes) → IsBytes bytes → IsBytes g.more
+more_fit l most late n high bytes g fits =
+    let behind : drop (length (record_bytes l g.first)) bytes ≡ g.more = ap (drop (length (record_bytes l g.first))) g.same ∙ drop_at (record_bytes l g.first) g.more (length (record_bytes l g.first)) refl in
+    subst IsBytes behind (IsBytes-drop (length (record_bytes l g.first)) bytes fits)
+
+pub some_parse : (fuel : ℕ) (l : Layout) (most late n high : ℕ) (bytes : List ℕ) → length bytes ≤ fuel → IsBytes bytes → n ≤ most → HasParse l most late n high bytes
+some_parse zero l most late n high bytes short fits within = elim (option_cases (ending_at l most late n high bytes)) [
+  | inl found ↦ ([], bytes, found.0, parses_end l most late n high bytes found.0 within found.1)
+  | inr none ↦ let g = goes_on l most late n high bytes fits none in absurd (omega (arith, shorter l most late n high 0 bytes g short))
+]
+some_parse (suc fuel) l most late n high bytes short fits within = elim (option_cases (ending_at l most late n high bytes)) [
+  | inl found ↦ ([], bytes, found.0, parses_end l most late n high bytes found.0 within found.1)
+  | inr none ↦
+      let g = goes_on l most late n high bytes fits none in
+      let size = shorter l most late n high (suc fuel) bytes g short in
+      let next = some_parse fuel l most late (n + 1) (max high (stamp_of l g.first)) g.more (omega (arith, size)) (more_fit l most late n high bytes g fits) (omega (arith, g.few)) in (
+        g.first ∷ next.0,
+        next.1,
+        next.2,
+        subst (λ (x : List ℕ). Parses l most late n high x (g.first ∷ next.0) next.1 next.2) (sym g.same)
+            (parses_more l most late n high g.first g.more next.0 next.1 next.2 g.good next.3),
+      )
+]
+
+-- ---- a reader's steps
+
+pub holds_end : (p : Position) (bytes : List ℕ) (e : Ending) → p.count ≤ p.most → ending_here p bytes ≡ Some e → Holds p bytes [] e
+holds_end p bytes e within ends = record {
+  records = [];
+  rest = bytes;
+  parse = parses_end p.layout p.most p.late p.count p.high bytes e within ends;
+  same = refl;
+}
+
+-- a frame that was read stands in front of those behind it
+pub holds_more : (p : Position) (bytes more : List ℕ) (f : Frame) (fs : List Frame) (e : Ending) → TakesFrame p (Some bytes) (Some more) f
+    → Holds (after_item p (items.Frame f)) more fs e → Holds p bytes (f ∷ fs) e
+holds_more p bytes more f fs e t h =
+    let l = p.layout in
+    let stamp : f.stamp ≡ stamp_of l t.taken = ap (λ (x : Frame). x.stamp) t.same in
+    let parse : Parses l p.most p.late (p.count + 1) (max p.high (stamp_of l t.taken)) more h.records h.rest e =
+    subst (λ (x : ℕ). Parses l p.most p.late (p.count + 1) (max p.high x) more h.records h.rest e) stamp h.parse in
+    record {
+      records = t.taken ∷ h.records;
+      rest = h.rest;
+      parse = subst (λ (x : List ℕ). Parses l p.most p.late p.count p.high x (t.taken ∷ h.records) h.rest e) (sym t.gone)
+          (parses_more l p.most p.late p.count p.high t.taken more h.records h.rest e t.good parse);
+      same = ap (λ (x : Frame). x ∷ fs) t.same ∙ ap (λ (xs : List Frame). frame_of p.network l p.count t.taken ∷ xs) h.same;
+    }
+
+-- no others are held
+pub one_holds : (p : Position) (bytes : List ℕ) (fs gs : List Frame) (e d : Ending) → Holds p bytes fs e → Holds p bytes gs d → (fs ≡ gs) × (e ≡ d)
+one_holds p bytes fs gs e d h k =
+    let one = same_parse p.layout p.most p.late p.count p.high bytes h.records k.records h.rest k.rest e d h.parse k.parse in
+    (h.same ∙ ap (frames_of p.network p.layout p.count) one.same_records ∙ sym k.same, one.same_ending)
+
+-- what the bytes hold, where they are known
+abbrev pub KnownToHold : Position → Option (List ℕ) → List Frame → Ending → Type 0
+KnownToHold p known fs e = IfSome known (λ bytes. Holds p bytes fs e)
+
+-- a reader that stands here and gave its ending
+pub known_end : (p : Position) (before after : Option (List ℕ)) (e : Ending) → p.count ≤ p.most → IsNext p before after (items.End e) → KnownToHold p before [] e
+known_end p None after e within ends = tt
+known_end p (Some bytes) after e within ends = holds_end p bytes e within ends
+
+-- a reader that stands here and gave a frame
+pub known_more : (p : Position) (before after : Option (List ℕ)) (f : Frame) (fs : List Frame) (e : Ending) → IsNext p before after (items.Frame f)
+    → KnownToHold (after_item p (items.Frame f)) after fs e → KnownToHold p before (f ∷ fs) e
+known_more p None after f fs e t h = tt
+known_more p (Some bytes) None f fs e t h = absurd t.gone
+known_more p (Some bytes) (Some more) f fs e t h = holds_more p bytes more f fs e t h

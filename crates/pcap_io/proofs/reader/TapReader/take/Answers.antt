@@ -1,0 +1,43 @@
+use Rattle.std.proofs.Common.{rules, ◌≡◌, ◌∙◌, ℕ, List, ◌++◌, ap, length}
+use Rattle.std.proofs.lemmas.Result.{err_from_is_err_and}
+use Rattle.pcap_io.specs.Block.{drawn_bytes}
+use Rattle.pcap_io.specs.Position.{frame_at}
+use Rattle.pcap_io.specs.declared.position.Position.{Position}
+use Rattle.pcap_io.specs.Reader.{position_of}
+use Rattle.pcap_io.proofs.Steps.{body_fault, cut_found, frame_found, takes_record}
+use Rattle.pcap_io.proofs.reader.TapReader.take.Goals as goal
+
+pub returns-in_err-draw-clause-fault : goal.returns-in_err-draw-clause-fault
+returns-in_err-draw-clause-fault g c =
+    let start = rw c.in-Header.is at c.in_ok-header.ensures.start in
+    let p = err_from_is_err_and c.from_residual-in_err-draw.result c.from_residual-in_err-draw.ensures.1 in
+    rw (p.1, p.2) (body_fault _ _ _ _ _ _ _ _ _ start c.in_err-draw.ensures.kept c.in_ok-header.ensures.no_failure c.in_err-draw.ensures.fault)
+
+pub returns-then-not-branch-clause-item : goal.returns-then-not-branch-clause-item
+returns-then-not-branch-clause-item g c =
+    let start = rw c.in-Header.is at c.in_ok-header.ensures.start in
+    let short = c.in_ok-draw.ensures.short (search rules) in
+    cut_found _ _ _ _ _ _ _ c.read_header.ensures.position start c.in_ok-draw.ensures.bytes short.0 short.1
+
+pub returns-then-not-branch-clause-taken : goal.returns-then-not-branch-clause-taken
+returns-then-not-branch-clause-taken g c =
+    let start = rw c.in-Header.is at c.in_ok-header.ensures.start in
+    takes_record _ _ _ _ _ start (drawn_bytes c.draw.new.self, search rules, c.in_ok-draw.ensures.bytes)
+
+pub returns-clause-item : goal.returns-clause-item
+returns-clause-item g c =
+    let p = position_of c.args.self.now in
+    let q = position_of c.read_header.new.self in
+    let header = c.in-Header.header in
+    let body = drawn_bytes c.draw.new.self in
+    let start = rw c.in-Header.is at c.in_ok-header.ensures.start in
+    let held : length body ≡ header.captured_len = c.in_ok-draw.ensures.complete (search rules) in
+    let copied : c.extend_from_slice.new.self.items ≡ body =
+    (rw c.unwrap.ensures at c.extend_from_slice.ensures.items) ∙ ap (λ (l : List ℕ). l ++ c.drawn.result.now) c.in_ok-bytes.ensures.items ∙ c.drawn.ensures in
+    frame_found p _ _ _ header body _ (search rules) start held c.in_ok-draw.ensures.bytes
+    (c.frame.ensures ∙ ap (λ (l : List ℕ). frame_at q header l) copied ∙ ap (λ (x : Position). frame_at x header body) c.read_header.ensures.position)
+
+pub returns-clause-taken : goal.returns-clause-taken
+returns-clause-taken g c =
+    let start = rw c.in-Header.is at c.in_ok-header.ensures.start in
+    takes_record _ _ _ _ _ start (drawn_bytes c.draw.new.self, search rules, c.in_ok-draw.ensures.bytes)

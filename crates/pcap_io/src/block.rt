@@ -1,0 +1,293 @@
+//! A source that is read a block at a time, and lends what is drawn from it.
+ghost use Rattle.std.specs.Prelude.{◌≡◌, ◌+◌, ◌-◌, ◌<◌, ◌≤◌, [], true, false, length, min, max, take, vec_len, IfOk, IfErr, OnOk, OnErr};
+ghost use Rattle.std.specs.Io.KnownBytes.{Consumes, IsAtEnd, Keeps, prepend_known};
+ghost use Rattle.afdx_frame.specs.declared.bounds.TheConstants.{MAX_SNAPLEN};
+ghost use Rattle.pcap_io.specs.Device.{CountsFailure, TakesAtMost};
+ghost use Rattle.pcap_io.specs.Items.{items_of};
+
+use crate::device::{DeviceFault, TapSource};
+use crate::item::ReadFault;
+use crate::transfer::fill;
+use afdx_frame::MAX_SNAPLEN;
+use std::alloc::{AllocError, Global};
+
+/// The bytes of a block that holds no longer record.
+const BLOCK_LEN: usize = 65_536;
+
+/// A source, and a block of the bytes that were read ahead from it.
+#[derive(Debug, Drop)]
+pub struct BlockSource<S> {
+    source: S,
+    /// None until bytes are drawn that it has to hold.
+    block: Option<Vec<u8>>,
+    /// Where the bytes start that were drawn last. They end where the unread ones start.
+    from: usize,
+    /// Where the unread bytes start, and where they end.
+    start: usize,
+    end: usize,
+    ghost drawn: { from ≤ start },
+    ghost ordered: { start ≤ end },
+    ghost in_bounds: { end ≤ length (items_of block) },
+    ghost bounded: { length (items_of block) ≤ MAX_SNAPLEN },
+}
+
+/// A block of at least so many bytes.
+fn new_block(alloc: Global, len: usize) -> Result<Vec<u8>, AllocError>
+    requires { len ≤ MAX_SNAPLEN }
+    ensures room { IfOk result (λ block. len ≤ vec_len block) }
+    ensures bounded { IfOk result (λ block. vec_len block ≤ MAX_SNAPLEN) }
+{
+    let len = len.max(BLOCK_LEN);
+    let mut block = Vec::with_capacity(alloc, len)?;
+    block.resize(len, 0)?;
+    Ok(block)
+}
+
+/// Reads behind the first `end` bytes until at least `len` stand there, or the source ends. Returns
+/// how many stand there then, after a fault too.
+fn read_until<S: TapSource>(
+    source: &mut S,
+    bytes: &mut [u8],
+    end: usize,
+    len: usize,
+) -> (usize, Result<(), DeviceFault>)
+    requires within { end ≤ length bytes.old }
+    requires room { len ≤ length bytes.old }
+    ensures within { result.0 ≤ length bytes.new }
+    ensures kept { Keeps (prepend_known (take end bytes.old) (S.remaining source.old))
+        (prepend_known (take result.0 bytes.new) (S.remaining source.new)) }
+    ensures end { OnOk result.1 (result.0 < len → IsAtEnd (S.remaining source.new)) }
+    ensures no_failure { OnOk result.1 (S.failures source.new ≡ S.failures source.old) }
+    ensures fault { OnErr result.1 (CountsFailure (S.failures source.old) (S.failures source.new)) }
+{
+    let mut end = end;
+    while end < len {
+        match source.read(&mut bytes[end..]) {
+            Ok(0) => return (end, Ok(())),
+            Ok(n) => end += n,
+            Err(fault) => return (end, Err(fault)),
+        }
+    }
+    (end, Ok(()))
+}
+
+impl<S: TapSource> BlockSource<S> {
+    ghost use Rattle.pcap_io.specs.Block.{block_source, unread_bytes, drawn_bytes, block_remaining, IsDrawFault};
+
+    /// A source of which nothing was read ahead. Allocates nothing.
+    pub fn new(source: S) -> BlockSource<S>
+        ensures source { block_source result ≡ source }
+        ensures unread { unread_bytes result ≡ [] }
+    {
+        BlockSource {
+            source,
+            block: None,
+            from: 0,
+            start: 0,
+            end: 0,
+        }
+    }
+
+    /// The bytes of the block.
+    #[inline(always)]
+    fn bytes(&self) -> &[u8]
+        ensures { result.now ≡ items_of self.now.block }
+    {
+        match &self.block {
+            Some(block) => block.as_slice(),
+            None => &[],
+        }
+    }
+
+    /// Moves the next bytes into the buffer, and returns how many came: all, or fewer at the end.
+    /// Allocates nothing.
+    #[inline(always)]
+    pub fn draw_into(&mut self, buf: &mut [u8]) -> Result<usize, DeviceFault>
+        ensures bound { IfOk result (λ n. n ≤ length buf.new) }
+        ensures bytes { IfOk result (λ n. Consumes (block_remaining S.remaining self.old)
+            (block_remaining S.remaining self.new) (take n buf.new)) }
+        ensures end { IfOk result (λ n. n < length buf.new
+            → IsAtEnd (block_remaining S.remaining self.new)) }
+        ensures no_failure { OnOk result
+            (S.failures (block_source self.new) ≡ S.failures (block_source self.old)) }
+        ensures fault { OnErr result (CountsFailure
+            (S.failures (block_source self.old)) (S.failures (block_source self.new))) }
+        ensures taken { OnErr result (TakesAtMost (length buf.old)
+            (block_remaining S.remaining self.old) (block_remaining S.remaining self.new)) }
+    {
+        let start = self.start;
+        let len = buf.len();
+        if len <= self.end - start {
+            buf.copy_from_slice(&self.bytes()[start..start + len]);
+            self.start = start + len;
+            return Ok(len);
+        }
+        self.draw_across(buf)
+    }
+
+    /// Moves the next bytes into a buffer that the unread ones don't fill.
+    #[cold]
+    #[inline(never)]
+    fn draw_across(&mut self, buf: &mut [u8]) -> Result<usize, DeviceFault>
+        requires { self.old.end - self.old.start < length buf.old }
+        ensures bound { IfOk result (λ n. n ≤ length buf.new) }
+        ensures bytes { IfOk result (λ n. Consumes (block_remaining S.remaining self.old)
+            (block_remaining S.remaining self.new) (take n buf.new)) }
+        ensures end { IfOk result (λ n. n < length buf.new
+            → IsAtEnd (block_remaining S.remaining self.new)) }
+        ensures no_failure { OnOk result
+            (S.failures (block_source self.new) ≡ S.failures (block_source self.old)) }
+        ensures fault { OnErr result (CountsFailure
+            (S.failures (block_source self.old)) (S.failures (block_source self.new))) }
+        ensures taken { OnErr result (TakesAtMost (length buf.old)
+            (block_remaining S.remaining self.old) (block_remaining S.remaining self.new)) }
+    {
+        let (start, end) = (self.start, self.end);
+        let unread = end - start;
+        buf[..unread].copy_from_slice(&self.bytes()[start..end]);
+        self.start = end;
+        let came = fill(&mut self.source, &mut buf[unread..])?;
+        Ok(unread + came)
+    }
+
+    /// Draws the next `len` bytes, which `drawn` lends until the next draw. False: fewer were left,
+    /// and they are gone.
+    #[inline(always)]
+    pub fn draw(&mut self, alloc: Global, len: usize) -> Result<bool, ReadFault>
+        requires { len ≤ MAX_SNAPLEN }
+        ensures complete { IfOk result (λ all. all ≡ true
+            → length (drawn_bytes self.new) ≡ len) }
+        ensures bytes { OnOk result (Consumes (block_remaining S.remaining self.old)
+            (block_remaining S.remaining self.new) (drawn_bytes self.new)) }
+        ensures short { IfOk result (λ all. all ≡ false
+            → (length (drawn_bytes self.new) < len)
+            × IsAtEnd (block_remaining S.remaining self.new)) }
+        ensures no_failure { OnOk result
+            (S.failures (block_source self.new) ≡ S.failures (block_source self.old)) }
+        ensures fault { IfErr result (IsDrawFault len
+            (S.failures (block_source self.old)) (S.failures (block_source self.new))) }
+        ensures kept { OnErr result (Keeps (block_remaining S.remaining self.old)
+            (block_remaining S.remaining self.new)) }
+    {
+        if len <= self.end - self.start {
+            self.from = self.start;
+            self.start += len;
+            return Ok(true);
+        }
+        self.draw_more(alloc, len)
+    }
+
+    /// Draws where too few bytes stand in the block.
+    #[cold]
+    #[inline(never)]
+    fn draw_more(&mut self, alloc: Global, len: usize) -> Result<bool, ReadFault>
+        requires room { len ≤ MAX_SNAPLEN }
+        requires some { 0 < len }
+        ensures complete { IfOk result (λ all. all ≡ true
+            → length (drawn_bytes self.new) ≡ len) }
+        ensures bytes { OnOk result (Consumes (block_remaining S.remaining self.old)
+            (block_remaining S.remaining self.new) (drawn_bytes self.new)) }
+        ensures short { IfOk result (λ all. all ≡ false
+            → (length (drawn_bytes self.new) < len)
+            × IsAtEnd (block_remaining S.remaining self.new)) }
+        ensures no_failure { OnOk result
+            (S.failures (block_source self.new) ≡ S.failures (block_source self.old)) }
+        ensures fault { IfErr result (IsDrawFault len
+            (S.failures (block_source self.old)) (S.failures (block_source self.new))) }
+        ensures kept { OnErr result (Keeps (block_remaining S.remaining self.old)
+            (block_remaining S.remaining self.new)) }
+    {
+        self.move_to_front();
+        self.grow(alloc, len)?;
+        self.read_ahead(len)?;
+        self.from = 0;
+        self.start = len.min(self.end);
+        Ok(len <= self.end)
+    }
+
+    /// Moves the unread bytes to the start of the block.
+    fn move_to_front(&mut self)
+        ensures unread { unread_bytes self.new ≡ unread_bytes self.old }
+        ensures source { block_source self.new ≡ block_source self.old }
+        ensures from { self.new.from ≡ 0 }
+        ensures start { self.new.start ≡ 0 }
+        ensures end { self.new.end ≡ self.old.end - self.old.start }
+    {
+        let (start, end) = (self.start, self.end);
+        if let Some(block) = &mut self.block {
+            block.copy_within(start..end, 0);
+        }
+        self.from = 0;
+        self.start = 0;
+        self.end = end - start;
+    }
+
+    /// Makes room for `len` bytes in the block.
+    fn grow(&mut self, alloc: Global, len: usize) -> Result<(), AllocError>
+        requires { len ≤ MAX_SNAPLEN }
+        ensures unread { unread_bytes self.new ≡ unread_bytes self.old }
+        ensures source { block_source self.new ≡ block_source self.old }
+        ensures from { self.new.from ≡ self.old.from }
+        ensures start { self.new.start ≡ self.old.start }
+        ensures end { self.new.end ≡ self.old.end }
+        ensures room { OnOk result (len ≤ length (items_of self.new.block)) }
+    {
+        match &mut self.block {
+            None => self.block = Some(new_block(alloc, len)?),
+            Some(block) => {
+                if block.len() < len {
+                    block.resize(len, 0)?;
+                }
+            }
+        }
+        Ok(())
+    }
+
+    /// Reads into the block, from whose start on the unread bytes stand, until `len` of them stand
+    /// there or the source ends.
+    fn read_ahead(&mut self, len: usize) -> Result<(), DeviceFault>
+        requires from { self.old.from ≡ 0 }
+        requires start { self.old.start ≡ 0 }
+        requires room { len ≤ length (items_of self.old.block) }
+        ensures from { self.new.from ≡ 0 }
+        ensures start { self.new.start ≡ 0 }
+        ensures kept { Keeps (block_remaining S.remaining self.old)
+            (block_remaining S.remaining self.new) }
+        ensures end { OnOk result (self.new.end < len
+            → IsAtEnd (S.remaining (block_source self.new))) }
+        ensures no_failure { OnOk result
+            (S.failures (block_source self.new) ≡ S.failures (block_source self.old)) }
+        ensures fault { OnErr result (CountsFailure
+            (S.failures (block_source self.old)) (S.failures (block_source self.new))) }
+    {
+        let Some(block) = &mut self.block else {
+            return Ok(());
+        };
+        let (end, answer) = read_until(&mut self.source, block.as_mut_slice(), self.end, len);
+        self.end = end;
+        answer
+    }
+
+    /// What the last draw gave.
+    #[inline(always)]
+    pub fn drawn(&self) -> &[u8]
+        ensures { result.now ≡ drawn_bytes self.now }
+    {
+        let (from, start) = (self.from, self.start);
+        &self.bytes()[from..start]
+    }
+
+    /// The source. What was read ahead is lost.
+    pub fn into_source(self) -> S
+        ensures { result ≡ block_source self }
+    {
+        let BlockSource {
+            source,
+            block: _,
+            from: _,
+            start: _,
+            end: _,
+        } = self;
+        source
+    }
+}

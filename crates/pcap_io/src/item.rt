@@ -1,0 +1,60 @@
+//! What a reader finds, and why it may find nothing.
+ghost use Rattle.std.specs.Prelude.{◌≡◌};
+
+use crate::device::DeviceFault;
+use crate::recording::Ending;
+use afdx_frame::TapFrame;
+use std::alloc::AllocError;
+use thiserror::Error;
+
+/// The next item of a recording, with a frame that owns its bytes.
+#[derive(Debug, Drop)]
+pub enum Item {
+    /// The next frame.
+    Frame(TapFrame),
+    /// The recording's ending, again at each later call.
+    End(Ending),
+}
+
+/// What stands at a reader's place.
+#[derive(Clone, Copy, Debug, PartialEq, Eq)]
+pub enum Found {
+    /// A frame, which the reader lends until the next call.
+    Frame,
+    /// The recording's ending, again at each later call.
+    End(Ending),
+}
+
+/// Why a reader found nothing.
+#[derive(Clone, Copy, Debug, PartialEq, Eq, Error)]
+pub enum ReadFault {
+    /// The source failed.
+    #[error("the device failed")]
+    Device,
+    /// There was no memory for a frame's bytes.
+    #[error("out of memory")]
+    Memory,
+    /// The reader had failed before.
+    #[error("the reader has failed before")]
+    Failed,
+}
+
+impl From<DeviceFault> for ReadFault {
+    ghost use Rattle.pcap_io.specs.declared.item.ReadFault.TheVariants.{Device};
+
+    ghost from_gives = { λ _ e. e ≡ Device };
+
+    fn from(_fault: DeviceFault) -> ReadFault {
+        ReadFault::Device
+    }
+}
+
+impl From<AllocError> for ReadFault {
+    ghost use Rattle.pcap_io.specs.declared.item.ReadFault.TheVariants.{Memory};
+
+    ghost from_gives = { λ _ e. e ≡ Memory };
+
+    fn from(_fault: AllocError) -> ReadFault {
+        ReadFault::Memory
+    }
+}
