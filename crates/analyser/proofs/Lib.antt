@@ -1,1 +1,2 @@
 pub mod Copying
+mod Whole

@@ -1,5 +1,5 @@
 -- What the command `capture` leaves, by the text of its filter and what its devices show (this project's profile).
-use Rattle.std.specs.Prelude.{◌≡◌, ℕ, List, Option, None, Result, Ok, Err, map, IfSome, string_bytes}
+use Rattle.std.specs.Prelude.{◌≡◌, ℕ, List, Option, None, Result, Ok, Err, map, IfSome}
 use Rattle.bpf_isa.specs.Numeric.{numeric_of, IsFault, HasCount}
 use Rattle.bpf_isa.specs.Table.{canonical_word}
 use Rattle.bpf_isa.specs.declared.numeric.fault.NumericFault.TheVariants as numeric
@@ -31,7 +31,7 @@ abbrev pub IsCaptureRun : List ℕ → Result Ending Fault → Devices → Devic
 IsCaptureRun text (Ok ending) before after = (p : List Packed) × IsFilter text p × IsCaptured p ending before after
 IsCaptureRun text (Err f) before after = Leaves text f before after
 
--- the status and the fault line of what a capture came to
-abbrev pub IsRan : Result Ending Fault → ℕ → Option String → Type 0
+-- The status and the fault line of what a capture came to. The line is missing where there was no memory for it.
+abbrev pub IsRan : Result Ending Fault → ℕ → Option (List ℕ) → Type 0
 IsRan (Ok ending) status line = (status ≡ 0) × (line ≡ None)
-IsRan (Err f) status line = (status ≡ 1) × IfSome line (λ text. string_bytes text ≡ line_of f)
+IsRan (Err f) status line = (status ≡ 1) × IfSome line (λ text. text ≡ line_of f)

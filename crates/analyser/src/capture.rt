@@ -14,7 +14,8 @@ use afdx_frame::{LentFrame, Network};
 use bpf_loader::Program;
 use bpf_machine::run;
 use pcap_io::{
-    CaptureWriter, Ending, Found, OpenFault, OpenRefused, OutSink, ReadFault, TapReader, TapSource, WriteFault,
+    CaptureWriter, Ending, Found, OpenFault, OpenRefused, OutSink, ReadFault, TapReader, TapSource,
+    WriteFault,
 };
 use std::alloc::Global;
 
@@ -50,20 +51,21 @@ fn write_accepted<W: OutSink>(
     program: &Program,
     frame: &LentFrame<'_>,
     writer: &mut CaptureWriter<W>,
-) -> Result<(), WriteFault>
+) -> Result<(), WatchFault>
     requires { has_failed writer.old ≡ false }
     ensures written { Writes result
         (W.contents (sink_of writer.old)) (W.contents (sink_of writer.new))
         (W.failures (sink_of writer.old)) (W.failures (sink_of writer.new))
         (record_of program.now (frame_of_lent frame.now)) }
     ensures going { OnOk result (has_failed writer.new ≡ false) }
+    ensures fault { IfErr result (λ fault. fault ≡ WatchFault.Write Output.Capture) }
 {
     let answer = answer_for(program, frame);
     if answer == 0 {
         return Ok(());
     }
     let keep = answer.min(frame.view().bytes().len() as u32);
-    writer.put_lent(frame, keep)
+    writer.put_lent(frame, keep).map_err(|_| CAPTURE_FAILED)
 }
 
 /// The capture's device failed.
@@ -83,22 +85,20 @@ fn copy_accepted<S: TapSource, W: OutSink>(
     requires writing { has_failed writer.old ≡ false }
     ensures copied { IfOk result (λ ending. IsCopied program.now ending
         (copying_of (reading_of S.remaining S.failures reader.old)
-            (W.contents (sink_of writer.old)) (W.failures (sink_of writer.old)))
+        (W.contents (sink_of writer.old)) (W.failures (sink_of writer.old)))
         (copying_of (reading_of S.remaining S.failures reader.new)
-            (W.contents (sink_of writer.new)) (W.failures (sink_of writer.new)))) }
+        (W.contents (sink_of writer.new)) (W.failures (sink_of writer.new)))) }
     ensures stopped { IfErr result (λ fault. StopsCopy program.now fault
         (copying_of (reading_of S.remaining S.failures reader.old)
-            (W.contents (sink_of writer.old)) (W.failures (sink_of writer.old)))
+        (W.contents (sink_of writer.old)) (W.failures (sink_of writer.old)))
         (copying_of (reading_of S.remaining S.failures reader.new)
-            (W.contents (sink_of writer.new)) (W.failures (sink_of writer.new)))) }
+        (W.contents (sink_of writer.new)) (W.failures (sink_of writer.new)))) }
 {
     loop {
         match reader.advance(alloc) {
             Ok(Found::Frame) => {
                 let frame = reader.frame();
-                if write_accepted(program, &frame, writer).is_err() {
-                    return Err(CAPTURE_FAILED);
-                }
+                write_accepted(program, &frame, writer)?;
             }
             Ok(Found::End(ending)) => return Ok(ending),
             Err(ReadFault::Device) => {

@@ -1,5 +1,5 @@
 //! The commands, over sources and sinks: from the text of the arguments to how the command ended.
-ghost use Rattle.std.specs.Prelude.{IfErr, IfOk, Result};
+ghost use Rattle.std.specs.Prelude.{IfErr, IfOk, Result, option_map, string_bytes};
 ghost use Rattle.pcap_io.specs.declared.recording.Ending.{Ending};
 ghost use Rattle.analyser.specs.declared.fault.Fault.{Fault};
 ghost use Rattle.analyser.specs.Capture.{devices_of};
@@ -76,18 +76,21 @@ pub fn run_capture<S: TapSource, W: OutSink>(
             source,
             sink,
         },
-        Err(WatchRefused {
-            fault,
-            a: Some(source),
-            b: _,
-            capture,
-            ledger: _,
-        }) => CaptureRun {
-            outcome: Err(Fault::Watch(fault)),
-            source,
-            sink: capture,
-        },
-        Err(_) => unreachable!(),
+        Err(refused) => {
+            let WatchRefused {
+                fault,
+                a,
+                b: _,
+                capture: sink,
+                ledger: _,
+            } = refused;
+            let Some(source) = a else { unreachable!() };
+            CaptureRun {
+                outcome: Err(Fault::Watch(fault)),
+                source,
+                sink,
+            }
+        }
     }
 }
 
@@ -102,7 +105,7 @@ pub fn capture_over<S: TapSource + Drop, W: OutSink>(
         × IsCaptureRun code.now outcome
         (devices_of S.remaining S.failures W.contents W.failures source sink)
         (devices_of S.remaining S.failures W.contents W.failures rest result.sink)
-        × IsRan outcome result.status result.line }
+        × IsRan outcome result.status (option_map string_bytes result.line) }
 {
     let run = run_capture(alloc, code, source, sink);
     let line = match &run.outcome {

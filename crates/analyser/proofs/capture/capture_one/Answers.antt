@@ -1,16 +1,38 @@
-use Rattle.analyser.proofs.Copying.{any_some, no_front, front_longer, all_captured, front_captured}
+use Rattle.std.proofs.Common.{refl}
+use Rattle.pcap_io.specs.Reader.{reading_of, unread_of}
+use Rattle.pcap_io.specs.Writer.{sink_of}
+use Rattle.analyser.specs.Copy.{copying_of}
+use Rattle.analyser.proofs.Whole.{aborted, captured}
 use Rattle.analyser.proofs.capture.capture_one.Goals as goal
-
-pub returns-in-Err-clause-front : goal.returns-in-Err-clause-front
-returns-in-Err-clause-front g c = rw c.refused.ensures (any_some (g.S.TapSource.remaining c.args.source) _ (λ bytes frames e r. no_front _ _))
-
-pub returns-in-Err-begin-clause-front : goal.returns-in-Err-begin-clause-front
-returns-in-Err-begin-clause-front g c = rw c.refused-in-Err-begin.ensures (any_some (g.S.TapSource.remaining c.args.source) _ (λ bytes frames e r. front_longer _ _ _ _ c.in-Err-begin.ensures.front))
 
 pub returns-in-Ok-copied-clause-captured : goal.returns-in-Ok-copied-clause-captured
 returns-in-Ok-copied-clause-captured g c =
-    rw c.finish-sink.ensures (all_captured _ _ _ _ _ _ _ _ c.in-Ok.ensures.start c.in-Ok.ensures.opened c.in-Ok-begin.ensures.whole c.in-Ok-copied.ensures.copied)
+    let opened = c.in-Ok.ensures in
+    rw (c.into_source-source.ensures.source, c.finish-sink.ensures) (captured _ _ _ _ _ _
+    (record {
+      start = opened.start;
+      opens = rw opened.remaining opened.opened;
+      header = c.in-Ok-begin.ensures.written.complete;
+      source_before = opened.no_failure;
+      sink_before = c.in-Ok-begin.ensures.written.no_failure;
+      unread = (unread_of c.copy_accepted-copied.new.reader, c.into_source-source.ensures.lost, refl);
+      contents = refl;
+      source_after = refl;
+      sink_after = refl;
+    }) c.in-Ok-copied.ensures.copied)
 
-pub returns-in-Err-copied-clause-front : goal.returns-in-Err-copied-clause-front
-returns-in-Err-copied-clause-front g c =
-    rw (c.refused-in-Err-copied.ensures, c.finish-sink.ensures) (front_captured _ _ _ _ _ _ _ c.in-Ok.ensures.start c.in-Ok.ensures.opened c.in-Ok-begin.ensures.whole c.in-Err-copied.ensures.front)
+pub returns-in-Err-copied-clause-aborted : goal.returns-in-Err-copied-clause-aborted
+returns-in-Err-copied-clause-aborted g c =
+    let opened = c.in-Ok.ensures in
+    rw (c.refused-in-Err-copied.ensures, c.into_source-source.ensures.source, c.finish-sink.ensures) (aborted _ c.in-Err-copied.fault _ _ _ _
+    (record {
+      start = opened.start;
+      opens = rw opened.remaining opened.opened;
+      header = c.in-Ok-begin.ensures.written.complete;
+      source_before = opened.no_failure;
+      sink_before = c.in-Ok-begin.ensures.written.no_failure;
+      unread = (unread_of c.copy_accepted-copied.new.reader, c.into_source-source.ensures.lost, refl);
+      contents = refl;
+      source_after = refl;
+      sink_after = refl;
+    }) c.in-Err-copied.ensures.stopped)
