@@ -4,6 +4,7 @@
 mod block;
 mod device;
 mod item;
+mod laws;
 mod layout;
 mod mem_sink;
 mod mem_source;
@@ -19,6 +20,7 @@ mod writer;
 
 pub use device::{DeviceFault, OutSink, TapSource};
 pub use item::{Found, Item, ReadFault};
+pub use laws::{capture_is_read, every_recording_parses, one_parse, reading_gives_the_parse};
 pub use layout::HeaderFault;
 pub use mem_sink::MemSink;
 pub use mem_source::MemSource;
