@@ -95,8 +95,7 @@ whole_capture network most late keep frames can few =
     let records : List ℕ = flat_map (λ f. record_text f (keep f)) frames in
     let zero : 0 + length frames ≡ length frames = omega arith in
     let behind : records ≡ drop FILE_HEADER_LEN (capture_header ++ records) = sym (drop_at capture_header records FILE_HEADER_LEN header_size) in
-    let held = rw zero at (records_hold network most late 0 0 keep frames can (omega arith)) in
-    (
+    let held = rw zero at (records_hold network most late 0 0 keep frames can (omega arith)) in (
       header-append capture_header records header_size ∙ header_is_read,
       subst (λ (b : List ℕ). Holds (start_at network capture_layout most late) b (capture_frames network 0 keep frames) (Clean (length frames))) behind held,
     )

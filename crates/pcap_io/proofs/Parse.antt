@@ -243,8 +243,8 @@ one_holds p bytes fs gs e d h k =
     let one = same_parse p.layout p.most p.late p.count p.high bytes h.records k.records h.rest k.rest e d h.parse k.parse in
     (h.same ∙ ap (frames_of p.network p.layout p.count) one.same_records ∙ sym k.same, one.same_ending)
 
--- behind the first frame the others are held
-tail_holds : (p : Position) (bytes more : List ℕ) (f : Frame) (all : List Frame) (e : Ending) (rs : List Record) (rest : List ℕ) → TakesFrame p (Some bytes) (Some more) f
+-- after the first frame the others are held
+pub tail_holds : (p : Position) (bytes more : List ℕ) (f : Frame) (all : List Frame) (e : Ending) (rs : List Record) (rest : List ℕ) → TakesFrame p (Some bytes) (Some more) f
     → Parses p.layout p.most p.late p.count p.high bytes rs rest e → all ≡ frames_of p.network p.layout p.count rs
     → (others : List Frame) × (all ≡ f ∷ others) × Holds (after_frame p f.stamp) more others e
 tail_holds p bytes more f all e [] rest t s same =
@@ -261,8 +261,7 @@ tail_holds p bytes more f all e (r ∷ rs) rest t s same =
     let tail : Parses l p.most p.late (p.count + 1) (max p.high (stamp_of l r)) behind rs rest e = tail_parse l p.most p.late p.count p.high bytes r rs rest e s in
     let moved : Parses l p.most p.late (p.count + 1) (max p.high f.stamp) more rs rest e =
     subst (λ (x : ℕ). Parses l p.most p.late (p.count + 1) (max p.high x) more rs rest e) stamp
-    (subst (λ (b : List ℕ). Parses l p.most p.late (p.count + 1) (max p.high (stamp_of l r)) b rs rest e) first.1 tail) in
-    (
+    (subst (λ (b : List ℕ). Parses l p.most p.late (p.count + 1) (max p.high (stamp_of l r)) b rs rest e) first.1 tail) in (
       frames_of p.network l (p.count + 1) rs,
       same ∙ ap (λ (x : Frame). x ∷ frames_of p.network l (p.count + 1) rs) frame,
       record { records = rs; rest = rest; parse = moved; same = refl },
@@ -290,3 +289,12 @@ reads_prefix p q bytes left (f ∷ fs) all e (Some mid, t, more) held =
     let tail = tail_holds p bytes mid f all e held.records held.rest t held.parse held.same in
     let next = reads_prefix (after_frame p f.stamp) q mid left fs tail.0 e more tail.2 in
     (next.0, tail.1 ∙ ap (λ (x : List Frame). f ∷ x) next.1, next.2)
+
+-- one more call that gave a frame
+pub reads_more : (p q : Position) (before mid after : Option (List ℕ)) (frames : List Frame) (f : Frame) → Reads p before frames q mid → TakesFrame q mid after f
+    → Reads p before (frames ++ f ∷ []) (after_frame q f.stamp) after
+reads_more p q before mid after [] f (here, same) t =
+    let moved : TakesFrame p before after f =
+    subst (λ (x : Position). TakesFrame x before after f) (sym here) (subst (λ (x : Option (List ℕ)). TakesFrame q x after f) (sym same) t) in
+    (after, moved, (ap (λ (x : Position). after_frame x f.stamp) here, refl))
+reads_more p q before mid after (g ∷ gs) f (next, u, more) t = (next, u, reads_more (after_frame p g.stamp) q next mid after gs f more t)
