@@ -115,7 +115,14 @@ impl TapFrame {
     pub fn lent(&self) -> LentFrame<'_>
         ensures { frame_of_lent result ≡ self.now }
     {
-        LentFrame::new(self.network, self.number, self.stamp, self.whole, &self.bytes).unwrap()
+        let TapFrame {
+            network,
+            number,
+            stamp,
+            whole,
+            bytes,
+        } = self;
+        LentFrame::new(*network, *number, *stamp, *whole, bytes).unwrap()
     }
 
     /// The captured bytes, borrowed.

@@ -1,5 +1,18 @@
-//! Frames of an AFDX tap: what a recording holds of each, its place in the order of both taps, and
-//! lent views of its bytes.
+//! Frames of an AFDX tap (ARINC 664 Part 7): what a recording holds of each, its place in the order of
+//! both taps, and borrowed views of its bytes.
+//!
+//! A reader of recordings (the crate `pcap_io`) finds frames and lends them as [`LentFrame`]s, out of
+//! its own block, or gives them as [`TapFrame`]s, which own their bytes. Both keep the same bounds.
+//! Filters and analysers look at a frame's bytes through its [`FrameView`], and put frames of both
+//! networks in order by their [`Key`]s.
+//!
+//! ```
+//! let frame = TapFrame::new(Network::A, 0, Stamp(1_000_000_000), 60, bytes)?;
+//! let view = frame.view();
+//! if let (Some(vl), Some(sequence)) = (view.vl(), view.sequence()) {
+//!     println!(rt; "link {} number {sequence}, {} bytes", vl.0, frame.whole())?;
+//! }
+//! ```
 #![tactic(auto)]
 
 mod bounds;

@@ -1,4 +1,5 @@
 pub mod Bytes
+pub mod Captures
 pub mod Draws
 pub mod FileHeader
 pub mod Parse

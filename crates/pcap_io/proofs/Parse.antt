@@ -1,4 +1,4 @@
--- Laws of a recording's split: each list of bytes has one, and only one; and a reader's steps follow it.
+-- Each list of bytes has one parse, and only one, and a reader's calls give it.
 use Rattle.std.specs.Prelude.{◌≡◌, ◌≢◌, ℕ, zero, suc, ◌+◌, ◌-◌, ◌<◌, ◌≤◌, max, List, [], ◌∷◌, ◌++◌, length, take, drop, flat_map, Option, Some, None, IfSome}
 use Rattle.std.proofs.Common.{refl, sym, ap, ◌∙◌, subst, arith, add-zero, inl, inr, ◌⊎◌, lit<}
 use Rattle.std.proofs.lemmas.Bool.{cases_lt, ltb-false, eqb-false}
@@ -7,7 +7,7 @@ use Rattle.afdx_frame.specs.Frame.{Frame}
 use Rattle.pcap_io.specs.Bytes.{IsBytes}
 use Rattle.pcap_io.specs.Recording.{Record, IsGood, Parses, record_bytes, stamp_of, high_after, frames_of, frame_of, header_fields, ending_after, ending_at, header_bytes}
 use Rattle.pcap_io.proofs.RecordBytes.{good_goes_on, header-record_bytes, header_with, length-record_bytes, fractions_fit, fine_from_none, IsFine, header_bytes_read_back, number_fits, none_of, IsBytes-drop}
-use Rattle.pcap_io.specs.Position.{TakesFrame, IsNext, after_item, ending_here, Holds}
+use Rattle.pcap_io.specs.Position.{Holds, IsNext, Reads, TakesFrame, after_frame, after_item, ending_here}
 use Rattle.pcap_io.specs.declared.layout.Layout.{Layout}
 use Rattle.pcap_io.specs.declared.record_header.RecordHeader.{RecordHeader}
 use Rattle.pcap_io.specs.declared.recording.BadReason.{BadReason}
@@ -30,7 +30,7 @@ parses_more l most late n high r bytes rs rest e good s = record {
   ends = subst (λ (m : ℕ). ending_at l most late m (high_after l (max high (stamp_of l r)) rs) rest ≡ Some e) (omega arith) s.ends;
 }
 
--- ---- only one split
+-- ---- only one parse
 
 abbrev record_with : ℕ → ℕ → ℕ → List ℕ → Record
 record_with s f w b = record { seconds = s; fraction = f; original_len = w; bytes = b }
@@ -72,7 +72,7 @@ some_same x y e = cc
 none_some : {A : Type 0} (o : Option A) (x : A) → o ≡ None → o ≡ Some x → ⊥
 none_some o x p q = cc
 
--- the split behind the first record
+-- the parse after the first record
 pub tail_parse : (l : Layout) (most late n high : ℕ) (bytes : List ℕ) (r : Record) (rs : List Record) (rest : List ℕ) (e : Ending)
     → Parses l most late n high bytes (r ∷ rs) rest e → Parses l most late (n + 1) (max high (stamp_of l r)) (flat_map (record_bytes l) rs ++ rest) rs rest e
 tail_parse l most late n high bytes r rs rest e s = record {
@@ -106,7 +106,7 @@ same_parse l most late n high bytes (r ∷ rs) (q ∷ ss) rest other e f s t =
     let more = same_parse l most late (n + 1) (max high (stamp_of l r)) (flat_map (record_bytes l) rs ++ rest) rs ss rest other e f left moved in
     record { same_records = ap (λ (x : Record). x ∷ rs) first.0 ∙ ap (λ (xs : List Record). q ∷ xs) more.same_records; same_rest = more.same_rest; same_ending = more.same_ending }
 
--- ---- some split
+-- ---- some parse
 
 -- where nothing ends, a good record stands
 pub record StandsGood (l : Layout) (most late n high : ℕ) (bytes : List ℕ) : Type 0 where
@@ -175,7 +175,7 @@ goes_on l most late n high bytes fits e =
           ∙ sym (append_assoc (header_bytes l fields.seconds fields.fraction (length body) fields.original_len) body (drop fields.captured_len rest));
     }
 
--- a split
+-- a parse
 abbrev pub HasParse : Layout → ℕ → ℕ → ℕ → ℕ → List ℕ → Type 0
 HasParse l most late n high bytes = (records : List Record) × (rest : List ℕ) × (ending : Ending) × Parses l most late n high bytes records rest ending
 
@@ -211,7 +211,7 @@ some_parse (suc fuel) l most late n high bytes short fits within = elim (option_
       )
 ]
 
--- ---- a reader's steps
+-- ---- a reader's calls
 
 pub holds_end : (p : Position) (bytes : List ℕ) (e : Ending) → p.count ≤ p.most → ending_here p bytes ≡ Some e → Holds p bytes [] e
 holds_end p bytes e within ends = record {
@@ -243,18 +243,58 @@ one_holds p bytes fs gs e d h k =
     let one = same_parse p.layout p.most p.late p.count p.high bytes h.records k.records h.rest k.rest e d h.parse k.parse in
     (h.same ∙ ap (frames_of p.network p.layout p.count) one.same_records ∙ sym k.same, one.same_ending)
 
--- what the bytes hold, where they are known
-abbrev pub KnownToHold : Position → Option (List ℕ) → List Frame → Ending → Type 0
-KnownToHold p known fs e = IfSome known (λ bytes. Holds p bytes fs e)
+-- after the first frame the others are held
+pub tail_holds : (p : Position) (bytes more : List ℕ) (f : Frame) (all : List Frame) (e : Ending) (rs : List Record) (rest : List ℕ) → TakesFrame p (Some bytes) (Some more) f
+    → Parses p.layout p.most p.late p.count p.high bytes rs rest e → all ≡ frames_of p.network p.layout p.count rs
+    → (others : List Frame) × (all ≡ f ∷ others) × Holds (after_frame p f.stamp) more others e
+tail_holds p bytes more f all e [] rest t s same =
+    let l = p.layout in
+    let text : rest ≡ record_bytes l t.taken ++ more = sym s.complete ∙ t.gone in
+    let goes = good_goes_on l p.most p.late (p.count + 0) p.high t.taken more t.good (omega (arith, t.bounded)) in
+    absurd (none_some _ e (ap (ending_at l p.most p.late (p.count + 0) p.high) text ∙ goes) s.ends)
+tail_holds p bytes more f all e (r ∷ rs) rest t s same =
+    let l = p.layout in
+    let behind : List ℕ = flat_map (record_bytes l) rs ++ rest in
+    let first = same_front l p.late p.high r t.taken behind more s.good.0 t.good (sym (append_assoc (record_bytes l r) (flat_map (record_bytes l) rs) rest) ∙ sym s.complete ∙ t.gone) in
+    let frame : frame_of p.network l p.count r ≡ f = ap (frame_of p.network l p.count) first.0 ∙ sym t.same in
+    let stamp : stamp_of l r ≡ f.stamp = ap (λ (x : Frame). x.stamp) frame in
+    let tail : Parses l p.most p.late (p.count + 1) (max p.high (stamp_of l r)) behind rs rest e = tail_parse l p.most p.late p.count p.high bytes r rs rest e s in
+    let moved : Parses l p.most p.late (p.count + 1) (max p.high f.stamp) more rs rest e =
+    subst (λ (x : ℕ). Parses l p.most p.late (p.count + 1) (max p.high x) more rs rest e) stamp
+    (subst (λ (b : List ℕ). Parses l p.most p.late (p.count + 1) (max p.high (stamp_of l r)) b rs rest e) first.1 tail) in (
+      frames_of p.network l (p.count + 1) rs,
+      same ∙ ap (λ (x : Frame). x ∷ frames_of p.network l (p.count + 1) rs) frame,
+      record { records = rs; rest = rest; parse = moved; same = refl },
+    )
 
--- a reader that stands here and gave its ending
-pub known_end : (p : Position) (before after : Option (List ℕ)) (e : Ending) → p.count ≤ p.most → IsNext p before after (items.End e) → KnownToHold p before [] e
-known_end p None after e within ends = tt
-known_end p (Some bytes) after e within ends = holds_end p bytes e within ends
+-- calls up to an ending
+pub reads_to_end : (p q : Position) (bytes : List ℕ) (left after : Option (List ℕ)) (frames : List Frame) (e : Ending) → p.count ≤ p.most
+    → Reads p (Some bytes) frames q left → IsNext q left after (items.End e) → Holds p bytes frames e
+reads_to_end p q bytes left after [] e within (here, all) next =
+    let stands : IsNext p left after (items.End e) = subst (λ (x : Position). IsNext x left after (items.End e)) (sym here) next in
+    let found : IsNext p (Some bytes) after (items.End e) = subst (λ (x : Option (List ℕ)). IsNext p x after (items.End e)) (sym all) stands in
+    holds_end p bytes e within found
+reads_to_end p q bytes left after (f ∷ fs) e within (None, t, more) next = absurd t.gone
+reads_to_end p q bytes left after (f ∷ fs) e within (Some mid, t, more) next =
+    holds_more p bytes mid f fs e t (reads_to_end (after_frame p f.stamp) q mid left after fs e (omega (arith, t.bounded)) more next)
 
--- a reader that stands here and gave a frame
-pub known_more : (p : Position) (before after : Option (List ℕ)) (f : Frame) (fs : List Frame) (e : Ending) → IsNext p before after (items.Frame f)
-    → KnownToHold (after_item p (items.Frame f)) after fs e → KnownToHold p before (f ∷ fs) e
-known_more p None after f fs e t h = tt
-known_more p (Some bytes) None f fs e t h = absurd t.gone
-known_more p (Some bytes) (Some more) f fs e t h = holds_more p bytes more f fs e t h
+-- calls that come to no ending
+pub reads_prefix : (p q : Position) (bytes : List ℕ) (left : Option (List ℕ)) (frames all : List Frame) (e : Ending) → Reads p (Some bytes) frames q left
+    → Holds p bytes all e → (others : List Frame) × (all ≡ frames ++ others) × IfSome left (λ rest. Holds q rest others e)
+reads_prefix p q bytes left [] all e (here, same) held =
+    let moved : Holds q bytes all e = subst (λ (x : Position). Holds x bytes all e) here held in
+    (all, refl, subst (λ (x : Option (List ℕ)). IfSome x (λ rest. Holds q rest all e)) same moved)
+reads_prefix p q bytes left (f ∷ fs) all e (None, t, more) held = absurd t.gone
+reads_prefix p q bytes left (f ∷ fs) all e (Some mid, t, more) held =
+    let tail = tail_holds p bytes mid f all e held.records held.rest t held.parse held.same in
+    let next = reads_prefix (after_frame p f.stamp) q mid left fs tail.0 e more tail.2 in
+    (next.0, tail.1 ∙ ap (λ (x : List Frame). f ∷ x) next.1, next.2)
+
+-- one more call that gave a frame
+pub reads_more : (p q : Position) (before mid after : Option (List ℕ)) (frames : List Frame) (f : Frame) → Reads p before frames q mid → TakesFrame q mid after f
+    → Reads p before (frames ++ f ∷ []) (after_frame q f.stamp) after
+reads_more p q before mid after [] f (here, same) t =
+    let moved : TakesFrame p before after f =
+    subst (λ (x : Position). TakesFrame x before after f) (sym here) (subst (λ (x : Option (List ℕ)). TakesFrame q x after f) (sym same) t) in
+    (after, moved, (ap (λ (x : Position). after_frame x f.stamp) here, refl))
+reads_more p q before mid after (g ∷ gs) f (next, u, more) t = (next, u, reads_more (after_frame p g.stamp) q next mid after gs f more t)

@@ -1,28 +1,21 @@
 -- What a step of a reader finds, from what its reads found.
-use Rattle.std.proofs.Common.{◌≡◌, ◌≢◌, ℕ, ◌+◌, ◌-◌, ◌<◌, ◌≤◌, max, true, false, List, [], ◌++◌, length, take, drop, Option, Some, None, IfSome, Ok, Err, nat_lt, nat_eq, refl, sym, ap, ◌∙◌, subst, arith}
+use Rattle.std.proofs.Common.{◌≡◌, ◌≢◌, ℕ, ◌-◌, ◌<◌, ◌≤◌, max, true, false, List, ◌++◌, length, take, drop, Option, Some, None, IfSome, nat_lt, nat_eq, refl, sym, ap, ◌∙◌, subst, arith}
 use Rattle.std.proofs.lemmas.Bool.{le-ltb, lt-ltb, ne_eqb}
 use Rattle.std.proofs.lemmas.List.{take_at, take_all, append-nil, length-append}
-use Rattle.std.proofs.KnownBytes.{Consumes-trans, Consumes-kept, Consumes-nil}
+use Rattle.std.proofs.KnownBytes.{Consumes-trans, Consumes-kept}
 use Rattle.std.specs.Io.KnownBytes.{Consumes, IsAtEnd, Keeps}
 use Rattle.afdx_frame.specs.Frame.{Frame, frame_with}
-use Rattle.afdx_frame.specs.declared.bounds.TheConstants.{MAX_SNAPLEN}
 use Rattle.pcap_io.specs.Block.{IsDrawFault}
 use Rattle.pcap_io.specs.Bytes.{IsBytes}
 use Rattle.pcap_io.specs.Device.{CountsFailure, TakesAtMost}
 use Rattle.pcap_io.specs.Recording.{header_bytes, header_fields, reason_at, stamp_at}
-use Rattle.pcap_io.specs.Position.{Advances, EndsShort, IsNext, IsReadFault, IsStart, IsStartOf, ItemLeaves, LacksMemory, Reading, StartLeaves, TakesFrame, TakesHeader, after_item, ending_here, frame_at}
+use Rattle.pcap_io.specs.Position.{EndsShort, IsReadFault, IsStart, IsStartOf, LacksMemory, StartLeaves, TakesFrame, TakesHeader, ending_here, frame_at}
 use Rattle.pcap_io.specs.declared.record_header.RecordHeader.{RecordHeader}
-use Rattle.pcap_io.specs.declared.record_header.TheConstants.{RECORD_HEADER_LEN}
 use Rattle.pcap_io.specs.declared.recording.BadReason.{BadReason}
-use Rattle.pcap_io.specs.declared.recording.Ending.{Ending}
 use Rattle.pcap_io.specs.declared.recording.Ending.TheVariants.{Clean, Cut, Bad}
-use Rattle.pcap_io.specs.declared.recording.Stage.{Stage}
-use Rattle.pcap_io.specs.declared.recording.Stage.TheVariants as stages
 use Rattle.pcap_io.specs.declared.position.Position.{Position}
 use Rattle.pcap_io.specs.declared.position.Start.{Start}
 use Rattle.pcap_io.specs.declared.position.Start.TheVariants as starts
-use Rattle.pcap_io.specs.declared.item.Item.{Item}
-use Rattle.pcap_io.specs.declared.item.Item.TheVariants as items
 use Rattle.pcap_io.specs.declared.item.ReadFault.{ReadFault}
 use Rattle.pcap_io.specs.declared.item.ReadFault.TheVariants as faults
 use Rattle.pcap_io.proofs.RecordBytes.{header_bytes_read_back, fine_from_none, number_fits, IsBytes-drop}
@@ -167,67 +160,3 @@ body_fault p before mid after old m new fields faults.Device start kept same fau
 body_fault p before mid after old m new fields faults.Memory start kept same fault =
     (fault.0 ∙ same, lacks_memory p before mid after fields start kept fault.1)
 body_fault p before mid after old m new fields faults.Failed start kept same fault = absurd fault
-
--- ---- a call
-
-pub advances_ok : {A : Type 0} (as_item : A → Item) (old new : Reading) (a : A) → IsNext old.position old.remaining new.remaining (as_item a)
-    → new.position ≡ after_item old.position (as_item a) → new.position.count ≤ new.position.most → new.failures ≡ old.failures
-    → TakesAtMost (RECORD_HEADER_LEN + MAX_SNAPLEN) old.remaining new.remaining → ItemLeaves old.remaining new.remaining (as_item a)
-    → Advances as_item old new (Ok a)
-advances_ok as_item old new a item after bounded same taken left = record {
-  item = λ going. item;
-  after = after;
-  after_fault = tt;
-  bounded = bounded;
-  no_failure = same;
-  fault = tt;
-  taken = taken;
-  left = λ going. left;
-}
-
-pub advances_err : {A : Type 0} (as_item : A → Item) (old new : Reading) (f : ReadFault) → IsReadFault old.position old.remaining new.remaining old.failures new.failures f
-    → new.position ≡ record old.position { stage = stages.Failed } → new.position.count ≤ new.position.most
-    → TakesAtMost (RECORD_HEADER_LEN + MAX_SNAPLEN) old.remaining new.remaining → Advances as_item old new (Err f)
-advances_err as_item old new f fault after bounded taken = record {
-  item = λ going. tt;
-  after = tt;
-  after_fault = after;
-  bounded = bounded;
-  no_failure = tt;
-  fault = fault;
-  taken = taken;
-  left = λ going. tt;
-}
-
-takes_none : (known : Option (List ℕ)) → TakesAtMost (RECORD_HEADER_LEN + MAX_SNAPLEN) known known
-takes_none known = ([], omega arith, Consumes-nil known)
-
--- a reader that had ended stays as it is
-pub advances_ended : {A : Type 0} (as_item : A → Item) (old : Reading) (a : A) (e : Ending) → old.position.stage ≡ stages.Ended e → as_item a ≡ items.End e
-    → old.position.count ≤ old.position.most → Advances as_item old old (Ok a)
-advances_ended as_item old a e ended is bounded =
-    let stays : after_item old.position (as_item a) ≡ old.position = ap (after_item old.position) is ∙ ap (λ (s : Stage). record old.position { stage = s }) (sym ended) in
-    record {
-      item = λ going. absurd (cc);
-      after = sym stays;
-      after_fault = tt;
-      bounded = bounded;
-      no_failure = refl;
-      fault = tt;
-      taken = takes_none old.remaining;
-      left = λ going. absurd (cc);
-    }
-
--- and so does one that had failed
-pub advances_failed : {A : Type 0} (as_item : A → Item) (old : Reading) → old.position.stage ≡ stages.Failed → old.position.count ≤ old.position.most
-    → Advances as_item old old (Err faults.Failed)
-advances_failed as_item old failed bounded = record {
-  item = λ going. tt;
-  after = tt;
-  after_fault = ap (λ (s : Stage). record old.position { stage = s }) failed;
-  bounded = bounded;
-  no_failure = tt;
-  fault = (refl, failed);
-  taken = takes_none old.remaining;
-  left = λ going. tt;
-}

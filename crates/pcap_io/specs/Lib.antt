@@ -3,6 +3,7 @@ pub mod Bytes
 pub mod Capture
 pub mod Device
 pub mod Items
+pub mod Laws
 pub mod Layout
 pub mod Position
 pub mod Reader

@@ -14,7 +14,6 @@ use Rattle.pcap_io.specs.declared.record_header.RecordHeader.{RecordHeader}
 use Rattle.pcap_io.specs.declared.record_header.TheConstants.{RECORD_HEADER_LEN}
 use Rattle.pcap_io.specs.declared.recording.Ending.{Ending}
 use Rattle.pcap_io.specs.declared.recording.Ending.TheVariants.{Clean, Cut, Bad}
-use Rattle.pcap_io.specs.declared.recording.Stage.{Stage}
 use Rattle.pcap_io.specs.declared.recording.Stage.TheVariants as stages
 use Rattle.pcap_io.specs.declared.position.Position.{Position}
 use Rattle.pcap_io.specs.declared.position.Start.{Start}

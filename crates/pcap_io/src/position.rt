@@ -55,6 +55,7 @@ impl Position {
 pub enum Start {
     /// The header of a record that may stand there.
     Header(RecordHeader),
+    /// The ending.
     End(Ending),
 }
 

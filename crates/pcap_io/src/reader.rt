@@ -1,5 +1,5 @@
 //! Reads the frames of a recording.
-ghost use Rattle.std.specs.Prelude.{◌≡◌, ◌+◌, ◌≤◌, ◌^◌, [], drop, Some, Ok, Err, IfOk, IfErr, OnOk, OnErr, IfSome};
+ghost use Rattle.std.specs.Prelude.{◌≡◌, ◌+◌, ◌≤◌, ◌^◌, [], length, drop, Some, Ok, Err, IfOk, IfErr, OnOk, OnErr, IfSome};
 ghost use Rattle.afdx_frame.specs.Frame.{IsFrame};
 ghost use Rattle.afdx_frame.specs.LentFrame.{frame_of_lent};
 ghost use Rattle.pcap_io.specs.Device.{CountsFailure, TakesAtMost};
@@ -311,9 +311,10 @@ impl<S: TapSource> TapReader<S> {
         }
     }
 
-    /// The source. What was read ahead is lost.
+    /// The source. What was read ahead of the reader's position is lost, at most 262144 bytes.
     pub fn into_source(self) -> S
-        ensures { result ≡ source_of self }
+        ensures source { result ≡ source_of self }
+        ensures lost { length (unread_of self) ≤ MAX_SNAPLEN }
     {
         let TapReader {
             input,

@@ -1,4 +1,4 @@
-use Rattle.std.proofs.Common.{rules, ◌≡◌, ◌+◌, ◌-◌, ◌∙◌, ap, sym, arith, length, take, drop, List, ℕ, ◌++◌, slice_range}
+use Rattle.std.proofs.Common.{rules, ◌≡◌, ◌+◌, ◌∙◌, ap, sym, arith, length, take, List, ℕ, ◌++◌, slice_range}
 use Rattle.std.proofs.lemmas.List.{take_all}
 use Rattle.pcap_io.specs.Items.{items_of}
 use Rattle.pcap_io.proofs.Draws.{split, consumes_front}

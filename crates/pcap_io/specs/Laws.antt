@@ -1,0 +1,47 @@
+-- After its header each recording parses in one way into good records and a rest that ends it; a reader's calls give that parse;
+-- and the capture of frames is a recording that gives the frames back.
+use Rattle.std.specs.Prelude.{◌≡◌, ℕ, ◌≤◌, List, ◌++◌, length, drop, Option, Some, Ok, IfSome}
+use Rattle.afdx_frame.specs.Frame.{Frame}
+use Rattle.afdx_frame.specs.declared.key.Network.{Network}
+use Rattle.pcap_io.specs.Bytes.{IsBytes}
+use Rattle.pcap_io.specs.Capture.{AreCapturable, capture_frames, capture_layout, capture_of}
+use Rattle.pcap_io.specs.Layout.{header_of}
+use Rattle.pcap_io.specs.Position.{Holds, IsNext, Reads, start_at}
+use Rattle.pcap_io.specs.Recording.{Record, Parses}
+use Rattle.pcap_io.specs.declared.item.Item.TheVariants as items
+use Rattle.pcap_io.specs.declared.layout.Layout.{Layout}
+use Rattle.pcap_io.specs.declared.layout.TheConstants.{FILE_HEADER_LEN}
+use Rattle.pcap_io.specs.declared.position.Position.{Position}
+use Rattle.pcap_io.specs.declared.recording.Ending.{Ending}
+use Rattle.pcap_io.specs.declared.recording.Ending.TheVariants.{Clean}
+
+abbrev pub EveryRecordingParses : Type 0
+EveryRecordingParses = (layout : Layout) (most late : ℕ) (bytes : List ℕ) → IsBytes bytes
+    → (records : List Record) × (rest : List ℕ) × (ending : Ending) × Parses layout most late 0 0 bytes records rest ending
+
+abbrev pub OneParse : Type 0
+OneParse = (layout : Layout) (most late : ℕ) (bytes : List ℕ) (records others : List Record) (rest left : List ℕ) (ending last : Ending)
+    → Parses layout most late 0 0 bytes records rest ending → Parses layout most late 0 0 bytes others left last
+    → (records ≡ others) × (rest ≡ left) × (ending ≡ last)
+
+-- From a position on, bytes hold one list of frames and one ending.
+abbrev pub HoldsOne : Type 0
+HoldsOne = (p : Position) (bytes : List ℕ) (frames others : List Frame) (ending last : Ending)
+    → Holds p bytes frames ending → Holds p bytes others last → (frames ≡ others) × (ending ≡ last)
+
+-- Calls that give frames and then an ending give those that the bytes hold.
+abbrev pub ReadsToEnd : Type 0
+ReadsToEnd = (p q : Position) (bytes : List ℕ) (left after : Option (List ℕ)) (frames : List Frame) (ending : Ending) → p.count ≤ p.most
+    → Reads p (Some bytes) frames q left → IsNext q left after (items.End ending) → Holds p bytes frames ending
+
+-- Calls that give frames alone give a prefix of those that the bytes hold, and leave the bytes that hold the others.
+abbrev pub ReadsPrefix : Type 0
+ReadsPrefix = (p q : Position) (bytes : List ℕ) (left : Option (List ℕ)) (frames all : List Frame) (ending : Ending)
+    → Reads p (Some bytes) frames q left → Holds p bytes all ending
+    → (others : List Frame) × (all ≡ frames ++ others) × IfSome left (λ rest. Holds q rest others ending)
+
+-- The capture of frames in time order is a recording of these frames, cut to what is kept, that ends clean.
+abbrev pub CaptureIsRead : Type 0
+CaptureIsRead = (network : Network) (most late : ℕ) (keep : Frame → ℕ) (frames : List Frame) → AreCapturable keep 0 frames → length frames ≤ most
+    → (header_of (capture_of keep frames) ≡ Ok capture_layout)
+    × Holds (start_at network capture_layout most late) (drop FILE_HEADER_LEN (capture_of keep frames)) (capture_frames network 0 keep frames) (Clean (length frames))

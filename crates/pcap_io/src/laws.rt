@@ -1,0 +1,26 @@
+//! Laws of recordings, which hold of the definitions alone.
+ghost use Rattle.pcap_io.specs.Laws.{CaptureIsRead, EveryRecordingParses, HoldsOne, OneParse, ReadsPrefix, ReadsToEnd};
+
+/// The bytes after a file header parse into good records, and a rest that ends the recording.
+pub fn every_recording_parses()
+    ensures { EveryRecordingParses }
+{}
+
+/// They parse in one way only.
+pub fn one_parse()
+    ensures records { OneParse }
+    ensures frames { HoldsOne }
+{}
+
+/// Calls of a reader, one after another, give the parse: all of it up to the ending, and a prefix of
+/// its frames before.
+pub fn reading_gives_the_parse()
+    ensures all { ReadsToEnd }
+    ensures prefix { ReadsPrefix }
+{}
+
+/// A capture of frames in time order is a recording of these frames, with the bytes that were kept of
+/// each.
+pub fn capture_is_read()
+    ensures { CaptureIsRead }
+{}
