@@ -71,11 +71,13 @@ fn main(rt: HostRuntime) -> ExitCode {
         }
     };
     match read_arguments(rt.alloc(), &arguments) {
-        Ok(Invocation::Capture { code }) => {
+        Ok(Some(Invocation::Capture { code })) => {
             let exit = capture(&rt, code);
             let _ = tell(&rt, &exit);
             ExitCode::from(exit.status())
         }
+        // clap requires a command, so this is not met.
+        Ok(None) => ExitCode::from(USAGE),
         Err(error) => {
             let _ = rt.eprint(error);
             ExitCode::from(USAGE)
