@@ -1,6 +1,6 @@
 -- The numeric form of a program (bpf_asm, `tcpdump -ddd`), as this project's profile reads it.
-use Rattle.std.specs.Prelude.{ℕ, ◌+◌, ◌-◌, ◌*◌, ◌^◌, ◌<◌, ◌≤◌, Bool, ◌||◌, not, List, [], ◌∷◌, ◌++◌, length, fold, filter, position, decimal, codes, Option, Some, None, Result, Ok, Err, nat_lt, ◌==◌, if◌then◌else◌, ◌≡◌}
-use Rattle.std.specs.List.{slice_split, filter_map, flat_map, All}
+use Rattle.std.specs.Prelude.{ℕ, ◌+◌, ◌-◌, ◌*◌, ◌^◌, ◌<◌, Bool, ◌||◌, not, List, [], ◌∷◌, ◌++◌, length, fold, filter, position, decimal, codes, Option, Some, None, Result, Ok, Err, nat_lt, ◌==◌, if◌then◌else◌, ◌≡◌}
+use Rattle.std.specs.List.{slice_split, filter_map, flat_map}
 use Rattle.std.specs.Char.{is_ascii_digit}
 use Rattle.bpf_isa.specs.declared.packed.Packed.{Packed}
 use Rattle.bpf_isa.specs.declared.numeric.fault.NumericFault.{NumericFault}
@@ -103,13 +103,18 @@ words_of (item ∷ items) = do
   words ← words_of items
   Ok (word ∷ words)
 
+-- the further items of a text that ends at the place end: there are as many as the count says
+unfoldable pub counted_words : ℕ → ℕ → List Item → Result (List Packed) NumericFault
+counted_words end count items = do
+  words ← words_of items
+  if length words == count then Ok words else Err (Count end)
+
 -- the items of a text that ends at the place end
 unfoldable pub program_of : ℕ → List Item → Result (List Packed) NumericFault
 program_of end [] = Err (Form end)
 program_of end (first ∷ others) = do
   count ← count_of first.0 first.1
-  words ← words_of others
-  if length words == count then Ok words else Err (Count end)
+  counted_words end count others
 
 -- the first byte that the form does not know stands before all else
 abbrev pub unless_at : Option ℕ → Result (List Packed) NumericFault → Result (List Packed) NumericFault
@@ -119,7 +124,7 @@ unless_at (Some at) read = Err (Character at)
 unfoldable pub numeric_of : List ℕ → Result (List Packed) NumericFault
 numeric_of text = unless_at (position (λ b. not (is_allowed b)) text) (program_of (length text) (items_in 0 text))
 
--- the bytes are all known, and the first item is a count
+-- the bytes are all known, and the first item is a count of at least 1
 pub record HasCount (text : List ℕ) : Type 0 where
   pub known : position (λ b. not (is_allowed b)) text ≡ None
   pub first : Item
@@ -127,6 +132,7 @@ pub record HasCount (text : List ℕ) : Type 0 where
   pub items : items_in 0 text ≡ first ∷ others
   pub count : ℕ
   pub counted : count_of first.0 first.1 ≡ Ok count
+  pub positive : 0 < count
 
 -- ---- What a reader answers: this, or that there was no memory.
 
@@ -141,8 +147,3 @@ IsFault (TooMany at) read = read ≡ Err (TooMany at)
 abbrev pub Gives : {X Y : Type 0} → (X → Y) → Result X NumericFault → Result Y NumericFault → Type 0
 Gives view (Ok x) read = read ≡ Ok (view x)
 Gives view (Err e) read = IsFault e read
-
--- ---- The law: what is written is read as the same words.
-
-abbrev pub ReadsAgain : List Packed → Type 0
-ReadsAgain ws = length ws ≤ 4096 → All IsPacked ws → numeric_of (numeric_text ws) ≡ Ok ws

@@ -16,7 +16,7 @@ pub use family::{
     Alu, Condition, Family, Jump, Load, LoadX, Move, Operator, Return, Size, Source, Store,
 };
 pub use insn::{Insn, canonical};
-pub use numeric::{NumericFault, numeric_text_reads_back, read_numeric, write_numeric};
+pub use numeric::{NumericFault, read_numeric, write_numeric};
 pub use packed::Packed;
 pub use state::{Outcome, State};
 

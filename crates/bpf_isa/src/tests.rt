@@ -377,9 +377,7 @@ fn starts_at_zero(rt: HostRuntime) {
 }
 
 #[test]
-fn operands_and_conditions(rt: HostRuntime) {
-    assert_eq!(rt; Source::K(7).value(&BEFORE), 7);
-    assert_eq!(rt; Source::X.value(&BEFORE), 11);
+fn conditions(rt: HostRuntime) {
     assert!(rt; Condition::AtLeast.holds(u32::MAX, u32::MAX));
     assert!(rt; !Condition::Greater.holds(1, u32::MAX));
 }

@@ -1,6 +1,6 @@
-ghost use Rattle.std.specs.Prelude.{◌≡◌, ◌≤◌, ℕ, List, [], ◌∷◌, Err, IfOk, MatchOption, position, not, vec_len};
+ghost use Rattle.std.specs.Prelude.{◌≡◌, ◌<◌, ◌≤◌, ℕ, List, [], ◌∷◌, Err, IfOk, MatchOption, position, not};
 ghost use Rattle.bpf_isa.specs.declared.numeric.fault.NumericFault.TheVariants.{Form, Memory};
-ghost use Rattle.bpf_isa.specs.Numeric.{Gives, is_allowed, numbers_in, items_in, number_of, count_of, word_of, words_of, numeric_of, HasCount};
+ghost use Rattle.bpf_isa.specs.Numeric.{Gives, is_allowed, numbers_in, items_in, number_of, count_of, word_of, counted_words, numeric_of, HasCount};
 
 use crate::numeric::fault::NumericFault;
 use crate::numeric::part::{Item, Part, is_allowed};
@@ -81,15 +81,32 @@ fn read_word(item: Item<'_>) -> Result<Packed, NumericFault>
     })
 }
 
-/// The instructions in a row; `count` of them are announced.
-fn read_words(alloc: Global, count: usize, text: Part<'_>) -> Result<Vec<Packed>, NumericFault>
-    ensures { Gives (λ v. v.items) result (words_of (items_in text.entry.at text.entry.bytes.now)) }
+/// The instructions of a text that ends at `end` and whose count says `count`. Memory follows the count,
+/// and not the text: further items are checked and not kept.
+fn read_words(
+    alloc: Global,
+    count: usize,
+    end: usize,
+    text: Part<'_>,
+) -> Result<Vec<Packed>, NumericFault>
+    ensures exact { Gives (λ v. v.items) result
+        (counted_words end count (items_in text.entry.at text.entry.bytes.now)) }
+    ensures memory { result ≡ Err Memory → 0 < count }
 {
     let mut words = Vec::with_capacity(alloc, count)?;
+    let mut surplus = false;
     let mut rest = text;
     while let Some((item, after)) = rest.next_item() {
-        words.push(read_word(item)?)?;
+        let word = read_word(item)?;
+        if words.len() < count {
+            words.push(word)?;
+        } else {
+            surplus = true;
+        }
         rest = after;
+    }
+    if surplus || words.len() < count {
+        return Err(NumericFault::Count { at: end });
     }
     Ok(words)
 }
@@ -109,8 +126,7 @@ fn unknown_at(bytes: &[u8]) -> Option<usize>
 pub fn read_numeric(alloc: Global, text: &str) -> Result<Vec<Packed>, NumericFault>
     // The words of the text, or its first fault, unless memory runs out.
     ensures exact { Gives (λ v. v.items) result (numeric_of text.now) }
-    ensures few { IfOk result (λ v. vec_len v ≤ 4096) }
-    // Memory is answered only where the text has a sound count.
+    // Memory is answered only where the text has a count of at least 1.
     ensures memory { result ≡ Err Memory → HasCount text.now }
 {
     let bytes = text.as_bytes();
@@ -121,9 +137,5 @@ pub fn read_numeric(alloc: Global, text: &str) -> Result<Vec<Packed>, NumericFau
         return Err(NumericFault::Form { at: bytes.len() });
     };
     let count = read_count(first)?;
-    let words = read_words(alloc, count, rest)?;
-    if words.len() != count {
-        return Err(NumericFault::Count { at: bytes.len() });
-    }
-    Ok(words)
+    read_words(alloc, count, bytes.len(), rest)
 }

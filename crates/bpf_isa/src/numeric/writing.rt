@@ -1,7 +1,6 @@
-ghost use Rattle.std.specs.Prelude.{◌≡◌, ◌++◌, ◌≤◌, List, length, Ok, IfOk, OnOk};
+ghost use Rattle.std.specs.Prelude.{◌≡◌, ◌++◌, ◌≤◌, length, Ok, IfOk, OnOk};
 ghost use Rattle.std.specs.String.{string_bytes};
-ghost use Rattle.bpf_isa.specs.Numeric.{word_text, numeric_text, IsPacked, numeric_of, ReadsAgain};
-ghost use Rattle.bpf_isa.specs.declared.packed.Packed.{Packed};
+ghost use Rattle.bpf_isa.specs.Numeric.{word_text, numeric_text, IsPacked, numeric_of};
 
 use crate::packed::Packed;
 use std::alloc::{AllocError, Global};
@@ -30,8 +29,3 @@ pub fn write_numeric(alloc: Global, words: &[Packed]) -> Result<String, AllocErr
     }
     Ok(text)
 }
-
-/// The text of at most 4096 instructions reads as these instructions.
-pub fn numeric_text_reads_back()
-    ensures { (ws : List Packed) → ReadsAgain ws }
-{}
