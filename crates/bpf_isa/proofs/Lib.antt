@@ -1,3 +1,5 @@
+pub mod Flow
+pub mod Laws
 pub mod Decode
 pub mod Project
 pub mod Rows

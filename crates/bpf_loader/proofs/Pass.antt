@@ -15,7 +15,7 @@ use Rattle.bpf_isa.specs.Insns.{insn_word}
 use Rattle.bpf_isa.specs.Table.{Row, row, canonical_word}
 use Rattle.bpf_loader.specs.Paths.{successors, reads_word, stores_word, successors_at, reads_at, stores_at, IsPath, stored_on, IsUnstored}
 use Rattle.bpf_loader.specs.Faults.{ReadsUnstored, IsFirstUnstored, StoresBeforeReads, HasLength, HasSoundWords, ends_in_return, IsFirstFault}
-use Rattle.bpf_loader.specs.Laws.{successor_behind_at, IsSoundWord, sound_at, successor_within, read_below, stored_below}
+use Rattle.bpf_loader.proofs.Laws.{successor_behind_at, IsSoundWord, sound_at, successor_within, read_below, stored_below}
 use Rattle.bpf_loader.specs.Masks.{stored_after, narrowed, CanCarry, Carries, Lacks}
 use Rattle.bpf_loader.specs.Typed.{successors_of, word_read, word_stored}
 use Rattle.bpf_loader.specs.declared.fault.LoadFault.{LoadFault}
