@@ -8,17 +8,28 @@ mod family;
 mod insn;
 mod jump;
 mod load;
+mod load_x;
+mod moves;
 mod numeric;
 mod packed;
+mod returns;
+mod source;
 mod state;
+mod store;
 
-pub use family::{
-    Alu, Condition, Family, Jump, Load, LoadX, Move, Operator, Return, Size, Source, Store,
-};
+pub use alu::{Alu, Operator};
+pub use family::Family;
 pub use insn::{Insn, canonical};
+pub use jump::{Condition, Jump};
+pub use load::{Load, Size};
+pub use load_x::LoadX;
+pub use moves::Move;
 pub use numeric::{NumericFault, read_numeric, write_numeric};
 pub use packed::Packed;
+pub use returns::Return;
+pub use source::Source;
 pub use state::{Outcome, State};
+pub use store::Store;
 
 #[cfg(test)]
 mod tests;
