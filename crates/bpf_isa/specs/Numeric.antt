@@ -41,13 +41,13 @@ abbrev pub Part : Type 0
 Part = ℕ × List ℕ
 
 -- each piece with its place, where one byte stood between each two
-abbrev pub placed : ℕ → List (List ℕ) → List Part
-placed at [] = []
-placed at (piece ∷ pieces) = (at, piece) ∷ placed (at + length piece + 1) pieces
+abbrev pub with_offsets : ℕ → List (List ℕ) → List Part
+with_offsets at [] = []
+with_offsets at (piece ∷ pieces) = (at, piece) ∷ with_offsets (at + length piece + 1) pieces
 
 -- the parts between the bytes that end one
 abbrev pub parts : (ℕ → Bool) → ℕ → List ℕ → List Part
-parts ends at bytes = placed at (slice_split ends bytes)
+parts ends at bytes = with_offsets at (slice_split ends bytes)
 
 -- the numbers of an item stand between its blanks
 unfoldable pub numbers_in : ℕ → List ℕ → List Part

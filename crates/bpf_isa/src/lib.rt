@@ -1,6 +1,6 @@
 //! The instructions of classic BPF (McCanne and Jacobson 1993, and Linux's filter.rst): the packed form of
 //! a word, the machine's state, and seven families of typed instructions, each of which packs to words,
-//! is read from them and is carried out.
+//! is read from them and is masks_after out.
 #![tactic(auto)]
 
 mod alu;

@@ -72,18 +72,18 @@ fn item_len(bytes: &[u8]) -> usize
 impl<'a> Part<'a> {
     fn split_at(self, mid: usize) -> (Part<'a>, Part<'a>)
         requires { mid ≤ length self.bytes.now }
-        ensures front { (result.0.at ≡ self.entry.at) × (result.0.bytes.now ≡ take mid self.entry.bytes.now) }
-        ensures back { (result.1.at ≡ self.entry.at + mid) × (result.1.bytes.now ≡ drop mid self.entry.bytes.now) }
+        ensures prefix { (result.0.at ≡ self.entry.at) × (result.0.bytes.now ≡ take mid self.entry.bytes.now) }
+        ensures suffix { (result.1.at ≡ self.entry.at + mid) × (result.1.bytes.now ≡ drop mid self.entry.bytes.now) }
     {
-        let (front, back) = self.bytes.split_at(mid);
+        let (prefix, suffix) = self.bytes.split_at(mid);
         (
             Part {
                 at: self.at,
-                bytes: front,
+                bytes: prefix,
             },
             Part {
                 at: self.at + mid,
-                bytes: back,
+                bytes: suffix,
             },
         )
     }

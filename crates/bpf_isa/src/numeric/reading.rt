@@ -14,7 +14,7 @@ const MOST_WORDS: u32 = 4096;
 #[tactic(auto, unfolding(crate::specs::Numeric::number_of, crate::specs::Numeric::value_of))]
 fn read_number(digits: Part<'_>, most: u32) -> Result<u32, NumericFault>
     ensures value { result ≡ number_of most (digits.entry.at, digits.entry.bytes.now) }
-    ensures small { IfOk result (λ n. n ≤ most) }
+    ensures bounded { IfOk result (λ n. n ≤ most) }
 {
     let mut value: u64 = 0;
     for digit in digits.bytes {
@@ -31,7 +31,7 @@ fn read_number(digits: Part<'_>, most: u32) -> Result<u32, NumericFault>
 fn read_count(item: Item<'_>) -> Result<usize, NumericFault>
     ensures value { result ≡ count_of (item.entry.first.at, item.entry.first.bytes.now)
         (numbers_in item.entry.others.at item.entry.others.bytes.now) }
-    ensures few { IfOk result (λ n. n ≤ 4096) }
+    ensures bounded { IfOk result (λ n. n ≤ 4096) }
 {
     let at = item.first.at;
     if item.others.next_number().is_some() {

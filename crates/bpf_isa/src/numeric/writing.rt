@@ -19,7 +19,7 @@ fn push_word(text: &mut String, word: &Packed) -> Result<(), AllocError>
 pub fn write_numeric(alloc: Global, words: &[Packed]) -> Result<String, AllocError>
     ensures text { IfOk result (λ s. string_bytes s ≡ numeric_text words.now) }
     // It is read as the same words, where a program may have as many.
-    ensures again { length words.now ≤ 4096 → IfOk result (λ s. numeric_of (string_bytes s) ≡ Ok words.now) }
+    ensures reads_back { length words.now ≤ 4096 → IfOk result (λ s. numeric_of (string_bytes s) ≡ Ok words.now) }
 {
     let mut text = String::new(alloc);
     let count = words.len();
