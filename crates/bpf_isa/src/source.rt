@@ -5,17 +5,18 @@ ghost use Rattle.bpf_isa.specs.Values.{source_value};
 
 use crate::state::State;
 
-/// The second operand of arithmetic and tests. The code by X is that by k plus 8.
+/// The second operand of arithmetic and comparisons (`BPF_K`, `BPF_X`). The code with X is the code
+/// with k plus 8.
 #[derive(Clone, Copy, Debug, PartialEq, Eq)]
 pub enum Source {
-    /// The constant of the word.
+    /// The constant k.
     K(u32),
     /// The index register.
     X,
 }
 
 impl Source {
-    /// The operand's value in a state: the constant, or X.
+    /// The value of the operand: the constant, or X.
     #[inline(always)]
     pub(crate) fn value(self, state: &State) -> u32
         ensures { result ≡ source_value self state.now }

@@ -62,7 +62,7 @@ const fn word(code: u16, jt: u8, jf: u8, k: u32) -> Packed {
     Packed { code, jt, jf, k }
 }
 
-/// Whether a word may be masks_after out at a place.
+/// Whether a word may be carried out at a place.
 fn can_step(word: Packed, place: usize) -> bool
     requires { place < 4096 }
     ensures { IsTrue result → CanStep word place }

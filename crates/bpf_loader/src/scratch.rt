@@ -1,14 +1,18 @@
-ghost use Rattle.std.specs.Prelude.{◌≡◌, ℕ, true, ◌<◌, ◌≤◌, All, IfSome, MatchBool, MatchResult, length, slice_index};
+//! The check of scratch memory: no path loads a slot that it hasn't stored.
+
+ghost use Rattle.std.specs.Prelude.{◌≡◌, ℕ, true, ◌<◌, ◌≤◌, ◌-◌, ◌^◌, length, slice_index};
+ghost use Rattle.std.specs.Prelude.{All, IfSome, MatchBool, MatchResult};
 ghost use Rattle.std.specs.Int.{bit_at};
 ghost use Rattle.bpf_loader.specs.Typed.{successors_of, loaded_slot, stored_slot};
 ghost use Rattle.bpf_loader.specs.Masks.{mask_after, intersect_masks, CanCarry, Carries, Lacks};
-ghost use Rattle.bpf_loader.specs.Faults.{HasLength, HasNoWordFault, StoresBeforeReads, ends_in_return, IsFirstFault};
+ghost use Rattle.bpf_isa.specs.Machine.{max_insns, scratch_slots};
+ghost use Rattle.bpf_loader.specs.Faults.{HasLength, HasNoWordFault, StoresBeforeReads};
+ghost use Rattle.bpf_loader.specs.Faults.{ends_in_return, IsFirstFault};
 
 use crate::fault::LoadFault;
-use crate::program::MAX_LEN;
-use bpf_isa::{Family, Insn, Jump, Load, LoadX, Packed, Store};
+use bpf_isa::{Family, Insn, Jump, Load, LoadX, MAX_INSNS, Packed, Store};
 
-/// The scratch word that the instruction loads.
+/// The scratch memory slot that the instruction loads.
 fn loaded_slot(insn: Insn) -> Option<u32>
     ensures { result ≡ loaded_slot insn }
 {
@@ -18,7 +22,7 @@ fn loaded_slot(insn: Insn) -> Option<u32>
     }
 }
 
-/// The scratch word that the instruction stores.
+/// The scratch memory slot that the instruction stores.
 fn stored_slot(insn: Insn) -> Option<u32>
     ensures { result ≡ stored_slot insn }
 {
@@ -28,17 +32,17 @@ fn stored_slot(insn: Insn) -> Option<u32>
     }
 }
 
-/// Whether the mask has the scratch word.
+/// Whether the mask has the slot.
 fn has_stored(mask: u16, word: u32) -> bool
-    requires { word < 16 }
+    requires { word < scratch_slots }
     ensures { MatchBool result (bit_at mask word ≡ 1) (bit_at mask word ≡ 0) }
 {
     mask >> word & 1 == 1
 }
 
-/// The mask after the instruction.
+/// The mask after the instruction: one bit for each slot that every path so far has stored.
 fn mask_after(insn: Insn, before: u16) -> u16
-    requires { IfSome (stored_slot insn) (λ word. word < 16) }
+    requires { IfSome (stored_slot insn) (λ word. word < scratch_slots) }
     ensures { result ≡ mask_after (stored_slot insn) before }
 {
     match stored_slot(insn) {
@@ -47,7 +51,7 @@ fn mask_after(insn: Insn, before: u16) -> u16
     }
 }
 
-/// The masks of the instruction's successors keep only what this mask has.
+/// Takes the slots that this mask lacks out of the masks of the instruction's successors.
 fn intersect(masks: &mut [u16], pc: usize, insn: Insn, mask: u16)
     requires { All (λ next. next < length masks.old) (successors_of pc insn) }
     ensures { masks.new ≡ intersect_masks masks.old (successors_of pc insn) mask }
@@ -63,8 +67,7 @@ fn intersect(masks: &mut [u16], pc: usize, insn: Insn, mask: u16)
     }
 }
 
-/// Carries the masks over the instruction at a pc, unless it reads a scratch word that its mask
-/// lacks.
+/// Carries the masks over the instruction at the pc, unless it loads a slot that its mask lacks.
 fn carry(masks: &mut [u16], pc: usize, insn: Insn) -> Result<(), LoadFault>
     requires { CanCarry masks.old pc insn }
     ensures { MatchResult result
@@ -81,19 +84,20 @@ fn carry(masks: &mut [u16], pc: usize, insn: Insn) -> Result<(), LoadFault>
     Ok(())
 }
 
-/// The masks before the pass: only the first pc is reached, and nothing is stored there.
-fn masks_at_start() -> [u16; MAX_LEN]
-    ensures size { length result ≡ 4096 }
+/// The masks before the pass: no slot is stored at the first instruction, and no path has come to
+/// another.
+fn masks_at_start() -> [u16; MAX_INSNS]
+    ensures size { length result ≡ max_insns }
     ensures first { slice_index result 0 ≡ 0 }
-    ensures others { (pc : ℕ) → 1 ≤ pc → pc < 4096 → slice_index result pc ≡ 65535 }
+    ensures others { (pc : ℕ) → 1 ≤ pc → pc < max_insns → slice_index result pc ≡ 2 ^ 16 - 1 }
 {
-    let mut masks = [u16::MAX; MAX_LEN];
+    let mut masks = [u16::MAX; MAX_INSNS];
     masks[0] = 0;
     masks
 }
 
-/// Refuses the first read of a scratch word that some path from instruction 0 has not stored. Since
-/// jumps go forward, one pass in order has seen every path to a pc before it comes there.
+/// Refuses the first load of a slot that some path from instruction 0 hasn't stored. Since jumps go
+/// forward, one pass in order has seen every path to a pc before it comes there.
 pub(crate) fn check_scratch(words: &[Packed]) -> Result<(), LoadFault>
     requires has_length { HasLength words.now }
     requires no_word_fault { HasNoWordFault words.now }

@@ -1,15 +1,18 @@
+//! The faults of single instructions.
+
 ghost use Rattle.std.specs.Prelude.{◌≡◌, ◌<◌, MatchResult};
 ghost use Rattle.bpf_isa.specs.Table.{returns_answer};
-ghost use Rattle.bpf_loader.specs.Faults.{fault_of_word, HasNoWordFault, IsFirstWordFault, ends_in_return};
-ghost use Rattle.bpf_loader.specs.Typed.{fault_of_load, fault_of_load_x, fault_of_store, fault_of_alu, fault_of_jump, fault_of_insn};
+ghost use Rattle.bpf_loader.specs.Faults.{fault_of_word, HasNoWordFault, IsFirstWordFault};
+ghost use Rattle.bpf_loader.specs.Faults.{ends_in_return};
+ghost use Rattle.bpf_loader.specs.Typed.{fault_of_load, fault_of_load_x, fault_of_store};
+ghost use Rattle.bpf_loader.specs.Typed.{fault_of_alu, fault_of_jump, fault_of_insn};
 
 use crate::fault::LoadFault;
-use bpf_isa::{Alu, Family, Insn, Jump, Load, LoadX, Operator, Packed, Source, Store};
+use bpf_isa::{
+    Alu, Family, Insn, Jump, Load, LoadX, Operator, Packed, SCRATCH_SLOTS, Source, Store,
+};
 
-/// How many scratch words there are.
-const SCRATCH_SLOTS: u32 = 16;
-
-/// Absolute offsets lie below this one.
+/// Absolute offsets are below this one (this project's profile).
 const OFFSET_END: u32 = 1 << 31;
 
 fn load_fault(pc: usize, load: Load) -> Option<LoadFault>
@@ -17,7 +20,7 @@ fn load_fault(pc: usize, load: Load) -> Option<LoadFault>
 {
     match load {
         Load::Absolute(_, k) if k >= OFFSET_END => Some(LoadFault::Offset { at: pc }),
-        Load::Scratch(k) if k >= SCRATCH_SLOTS => Some(LoadFault::Scratch { at: pc }),
+        Load::Scratch(k) if k as usize >= SCRATCH_SLOTS => Some(LoadFault::Scratch { at: pc }),
         _ => None,
     }
 }
@@ -27,7 +30,7 @@ fn load_x_fault(pc: usize, load: LoadX) -> Option<LoadFault>
 {
     match load {
         LoadX::HeaderLength(k) if k >= OFFSET_END => Some(LoadFault::Offset { at: pc }),
-        LoadX::Scratch(k) if k >= SCRATCH_SLOTS => Some(LoadFault::Scratch { at: pc }),
+        LoadX::Scratch(k) if k as usize >= SCRATCH_SLOTS => Some(LoadFault::Scratch { at: pc }),
         _ => None,
     }
 }
@@ -36,7 +39,7 @@ fn store_fault(pc: usize, store: Store) -> Option<LoadFault>
     ensures { result ≡ fault_of_store pc store }
 {
     let (Store::A(k) | Store::X(k)) = store;
-    if k >= SCRATCH_SLOTS {
+    if k as usize >= SCRATCH_SLOTS {
         Some(LoadFault::Scratch { at: pc })
     } else {
         None
@@ -50,7 +53,7 @@ fn alu_fault(pc: usize, alu: Alu) -> Option<LoadFault>
         Alu::Binary(Operator::Div | Operator::Mod, Source::K(0)) => {
             Some(LoadFault::ZeroDivisor { at: pc })
         }
-        Alu::Binary(Operator::Lsh | Operator::Rsh, Source::K(k)) if k >= 32 => {
+        Alu::Binary(Operator::Lsh | Operator::Rsh, Source::K(k)) if k >= u32::BITS => {
             Some(LoadFault::Shift { at: pc })
         }
         _ => None,
@@ -72,7 +75,7 @@ fn jump_fault(len: usize, pc: usize, jump: Jump) -> Option<LoadFault>
     }
 }
 
-/// The first fault of one word, at its pc in a program of this length.
+/// The first fault of an instruction at its pc in a program of this length.
 pub(crate) fn word_fault(len: usize, pc: usize, word: Packed) -> Option<LoadFault>
     requires { pc < len }
     ensures { result ≡ fault_of_word len pc word }
@@ -90,7 +93,7 @@ pub(crate) fn word_fault(len: usize, pc: usize, word: Packed) -> Option<LoadFaul
     }
 }
 
-/// The first fault of a word, where a word has one.
+/// Refuses the first instruction that has a fault of its own.
 pub(crate) fn check_words(words: &[Packed]) -> Result<(), LoadFault>
     ensures { MatchResult result
         (λ _. HasNoWordFault words.now)
@@ -113,7 +116,7 @@ fn is_return(word: Packed) -> bool
     }
 }
 
-/// Whether the last word is a return.
+/// Whether the last instruction is a return.
 pub(crate) fn ends_in_return(words: &[Packed]) -> bool
     ensures { result ≡ ends_in_return words.now }
 {
