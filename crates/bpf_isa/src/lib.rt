@@ -49,6 +49,3 @@ pub use returns::Return;
 pub use source::Source;
 pub use state::{MAX_INSNS, Outcome, SCRATCH_SLOTS, State};
 pub use store::Store;
-
-#[cfg(test)]
-mod tests;

@@ -12,6 +12,3 @@ mod writing;
 pub use fault::NumericFault;
 pub use reading::read_numeric;
 pub use writing::write_numeric;
-
-#[cfg(test)]
-mod tests;

@@ -25,6 +25,3 @@ mod words;
 
 pub use fault::{LoadFault, LoadRefused};
 pub use program::Program;
-
-#[cfg(test)]
-mod tests;

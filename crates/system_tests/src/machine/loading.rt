@@ -1,12 +1,15 @@
-use crate::{LoadFault, Program};
+//! The loader by one program for each fault, and by paths.
+
 use bpf_isa::Packed;
+use bpf_loader::{LoadFault, Program};
 use std::alloc::{AllocError, Global};
 use std::process::Abort;
 use std::test::Fail;
 
+/// `ret #0`
 const RETURN_0: [u32; 4] = [6, 0, 0, 0];
 
-/// Words by their numbers: code, jt, jf and k.
+/// Packed instructions by their numbers: code, jt, jf and k.
 fn program(alloc: Global, numbers: &[[u32; 4]]) -> Result<Vec<Packed>, AllocError> {
     let mut words = Vec::new(alloc);
     for item in numbers {
@@ -20,7 +23,7 @@ fn program(alloc: Global, numbers: &[[u32; 4]]) -> Result<Vec<Packed>, AllocErro
     Ok(words)
 }
 
-/// The fault of these words, which come back as they were.
+/// The fault of these instructions, which are returned as they were.
 fn fault_of(
     rt: &(impl Abort + AllocGlobal),
     numbers: &[[u32; 4]],
@@ -37,41 +40,18 @@ fn fault_of(
 }
 
 #[test]
-fn lengths(rt: HostRuntime) -> Result<(), Fail> {
-    for (length, loads) in [(0, false), (1, true), (4096, true), (4097, false)] {
-        let words = vec![in rt.alloc(); Packed {
-            code: 6,
-            jt: 0,
-            jf: 0,
-            k: 0
-        }; length]?;
-        match Program::load(words) {
-            Ok(program) => {
-                assert!(rt; loads, "{length} words");
-                assert_eq!(rt; program.len(), length);
-            }
-            Err(refused) => {
-                assert!(rt; !loads, "{length} words");
-                assert_eq!(rt; refused.fault, LoadFault::Length);
-                assert_eq!(rt; refused.words.len(), length);
-            }
-        }
-    }
-    Ok(())
-}
-
-#[test]
 fn one_fault_each(rt: HostRuntime) -> Result<(), Fail> {
-    for (first, fault) in [
-        ([52, 0, 0, 0], LoadFault::ZeroDivisor { at: 0 }),
-        ([23, 0, 0, 0], LoadFault::UnknownCode { at: 0 }),
-        ([100, 0, 0, 32], LoadFault::Shift { at: 0 }),
-        ([2, 0, 0, 16], LoadFault::Scratch { at: 0 }),
-        ([32, 0, 0, 2147483648], LoadFault::Offset { at: 0 }),
-        ([5, 0, 0, 1], LoadFault::Jump { at: 0 }),
+    for (mnemonic, first, fault) in [
+        ("div #0", [52, 0, 0, 0], LoadFault::ZeroDivisor { at: 0 }),
+        ("code 23", [23, 0, 0, 0], LoadFault::UnknownCode { at: 0 }),
+        ("lsh #32", [100, 0, 0, 32], LoadFault::Shift { at: 0 }),
+        ("st M[16]", [2, 0, 0, 16], LoadFault::Scratch { at: 0 }),
+        ("ld [2^31]", [32, 0, 0, 2147483648], LoadFault::Offset { at: 0 }),
+        ("ja 1", [5, 0, 0, 1], LoadFault::Jump { at: 0 }),
     ] {
-        assert_eq!(rt; fault_of(&rt, &[first, RETURN_0])?, Some(fault));
+        assert_eq!(rt; fault_of(&rt, &[first, RETURN_0])?, Some(fault), "{mnemonic}");
     }
+    // ret #0; ld #1
     assert_eq!(rt;
         fault_of(&rt, &[RETURN_0, [0, 0, 0, 1]])?,
         Some(LoadFault::NoReturn)
@@ -81,13 +61,13 @@ fn one_fault_each(rt: HostRuntime) -> Result<(), Fail> {
 
 #[test]
 fn paths(rt: HostRuntime) -> Result<(), Fail> {
-    // One path jumps over the store.
+    // jeq #0, 0, 1; st M[0]; ld M[0]; ret a: one path jumps over the store
     let passed_by = [[21, 0, 1, 0], [2, 0, 0, 0], [96, 0, 0, 0], [22, 0, 0, 0]];
     assert_eq!(rt;
         fault_of(&rt, &passed_by)?,
         Some(LoadFault::Unstored { at: 2, word: 0 })
     );
-    // No path comes to the read.
+    // ja 1; ld M[0]; ret #0: no path comes to the load
     let unreached = [[5, 0, 0, 1], [96, 0, 0, 0], RETURN_0];
     assert_eq!(rt; fault_of(&rt, &unreached)?, None);
     Ok(())
@@ -95,6 +75,7 @@ fn paths(rt: HostRuntime) -> Result<(), Fail> {
 
 #[test]
 fn canonical_form(rt: HostRuntime) -> Result<(), Fail> {
+    // ret #7, with jump fields that it doesn't read
     let words = program(rt.alloc(), &[[6, 9, 9, 7]])?;
     let Ok(program) = Program::load(words) else {
         panic!(rt; "a return is loaded");
