@@ -1,3 +1,7 @@
+pub mod Entries
+pub mod FamilyLaws
+pub mod Flow
+pub mod PackedWords
 pub mod Decode
 pub mod Project
 pub mod Rows

@@ -12,7 +12,7 @@ use Rattle.std.proofs.lemmas.List.Elements.{All-from_recursion}
 use Rattle.std.proofs.lemmas.List.Splits.{slice_split_none, slice_split_at}
 use Rattle.std.proofs.lemmas.List.Concat.{flat_map-cons}
 use Rattle.bpf_isa.specs.declared.packed.Packed.{Packed}
-use Rattle.bpf_isa.specs.Numeric.{Part, word_text, numeric_text, IsPacked, placed, parts, is_blank, is_separator, is_allowed, numbers_in, item_of, items_in, value_of, number_of, count_of, word_of, words_of, program_of, numeric_of, ReadsAgain}
+use Rattle.bpf_isa.specs.Numeric.{Part, Item, word_text, numeric_text, IsPacked, with_offsets, parts, is_blank, is_separator, is_allowed, numbers_in, item_of, items_in, value_of, number_of, count_of, word_of, words_of, counted_words, program_of, numeric_of}
 use Rattle.bpf_isa.proofs.NumericParts.{numbers_of, items_of, kept, items_none}
 use Rattle.bpf_isa.proofs.NumericValues.{next_value}
 use Rattle.bpf_isa.proofs.NumericProgram.{known, counted}
@@ -86,20 +86,20 @@ number_reads most at n le small =
 numbers_more : (at n : ℕ) (rest : List ℕ) → n < 2 ^ 64 → numbers_in at (decimal n ++ 32 ∷ rest) ≡ (at, decimal n) ∷ numbers_in (at + length (decimal n) + 1) rest
 unfolding numbers_in
 numbers_more at n rest lt =
-    ap (λ (pieces : List (List ℕ)). numbers_of (placed at pieces)) (slice_split_at is_blank (decimal n) 32 rest (Free-all is_blank (decimal n) (Free-decimal is_blank no_blank n lt)) refl)
+    ap (λ (pieces : List (List ℕ)). numbers_of (with_offsets at pieces)) (slice_split_at is_blank (decimal n) 32 rest (Free-all is_blank (decimal n) (Free-decimal is_blank no_blank n lt)) refl)
     ∙ kept (at, decimal n) (parts is_blank (at + length (decimal n) + 1) rest) (decimal_nonempty n lt)
 
 numbers_last : (at n : ℕ) → n < 2 ^ 64 → numbers_in at (decimal n) ≡ (at, decimal n) ∷ []
 unfolding numbers_in
 numbers_last at n lt =
-    ap (λ (pieces : List (List ℕ)). numbers_of (placed at pieces)) (slice_split_none is_blank (decimal n) (Free-all is_blank (decimal n) (Free-decimal is_blank no_blank n lt)))
+    ap (λ (pieces : List (List ℕ)). numbers_of (with_offsets at pieces)) (slice_split_none is_blank (decimal n) (Free-all is_blank (decimal n) (Free-decimal is_blank no_blank n lt)))
     ∙ kept (at, decimal n) [] (decimal_nonempty n lt)
 
 -- ---- the items of a text
 
 items_more : (at : ℕ) (body rest : List ℕ) → Free is_separator body → items_in at (body ++ 44 ∷ rest) ≡ cons_option (item_of (numbers_in at body)) (items_in (at + length body + 1) rest)
 unfolding items_in
-items_more at body rest free = ap (λ (pieces : List (List ℕ)). items_of (placed at pieces)) (slice_split_at is_separator body 44 rest (Free-all is_separator body free) refl)
+items_more at body rest free = ap (λ (pieces : List (List ℕ)). items_of (with_offsets at pieces)) (slice_split_at is_separator body 44 rest (Free-all is_separator body free) refl)
 
 -- ---- a word
 
@@ -166,7 +166,11 @@ each_fits : (ws : List Packed) → All IsPacked ws → AllByRecursion IsPacked w
 each_fits [] h = tt
 each_fits (w ∷ ws) h = (h 0 w (omega arith), each_fits ws (λ k d lt. h (suc k) d (omega arith)))
 
-pub reads_back : (ws : List Packed) → ReadsAgain ws
+as_counted : (end : ℕ) (ws : List Packed) (items : List Item) → words_of items ≡ Ok ws → counted_words end (length ws) items ≡ Ok ws
+unfolding counted_words
+as_counted end ws items h = rw (h, eq-eqb (length ws) (length ws) refl) refl
+
+pub reads_back : (ws : List Packed) → length ws ≤ 4096 → All IsPacked ws → numeric_of (numeric_text ws) ≡ Ok ws
 reads_back ws few packed =
     let fits = each_fits ws packed in
     let n = length ws in
@@ -182,4 +186,4 @@ reads_back ws few packed =
     ∙ ap (λ (ps : List Part). cons_option (item_of ps) (items_in (0 + length (decimal n) + 1) rest)) (numbers_last 0 n small) in
     ap numeric_of written ∙ known text (position_free (λ b. not (is_allowed b)) text free) ∙ ap (program_of (length text)) items
     ∙ counted (length text) ((0, decimal n), []) (items_in (0 + length (decimal n) + 1) rest) n (counts n 0 few)
-    ∙ rw (words_read ws (0 + length (decimal n) + 1) fits, eq-eqb n n refl) refl
+    ∙ as_counted (length text) ws (items_in (0 + length (decimal n) + 1) rest) (words_read ws (0 + length (decimal n) + 1) fits)

@@ -7,7 +7,7 @@ use Rattle.std.proofs.lemmas.Bool.{cases_lt, cases_Bool, lt-ltb, or_cases, or_pa
 use Rattle.std.proofs.lemmas.List.Splits.{slice_split-cons_yes, slice_split-cons_no, slice_split_none, slice_split_first}
 use Rattle.std.proofs.lemmas.List.Sums.{prefix_len-le-length, prefix_len_stops, fails_before_first, passes_at_first}
 use Rattle.std.proofs.lemmas.List.{take_all, drop_all, drop_more, length-take, length-drop, get_or-take, get_or-drop, nil_from_length}
-use Rattle.bpf_isa.specs.Numeric.{Part, Item, placed, parts, is_blank, is_separator, is_space, numbers_in, item_of, items_in}
+use Rattle.bpf_isa.specs.Numeric.{Part, Item, with_offsets, parts, is_blank, is_separator, is_space, numbers_in, item_of, items_in}
 
 abbrev pub numbers_of : List Part → List Part
 numbers_of ps = filter (λ p. ltb 0 (length p.1)) ps
@@ -29,12 +29,12 @@ parts_first : (ends : ℕ → Bool) (at : ℕ) (bs : List ℕ) → position_or_l
     → parts ends at bs ≡ (at, take (position_or_len ends bs) bs) ∷ parts ends (at + position_or_len ends bs + 1) (drop (position_or_len ends bs + 1) bs)
 parts_first ends at bs lt =
     let e : length (take (position_or_len ends bs) bs) ≡ position_or_len ends bs = omega (arith, length-take (position_or_len ends bs) bs) in
-    ap (placed at) (slice_split_first ends bs 0 lt) ∙ ap (λ (n : ℕ). (at, take (position_or_len ends bs) bs) ∷ parts ends (at + n + 1) (drop (position_or_len ends bs + 1) bs)) e
+    ap (with_offsets at) (slice_split_first ends bs 0 lt) ∙ ap (λ (n : ℕ). (at, take (position_or_len ends bs) bs) ∷ parts ends (at + n + 1) (drop (position_or_len ends bs + 1) bs)) e
 
 parts_only : (ends : ℕ → Bool) (at : ℕ) (bs : List ℕ) → length bs ≤ position_or_len ends bs → parts ends at bs ≡ (at, bs) ∷ []
 parts_only ends at bs le = rw (slice_split_none ends bs (λ k d lt. fails_before_first ends bs k d (omega arith))) refl
 
--- F skips one such byte, and so each of those in front
+-- F skips one such byte, and so each of those in prefix
 skip_all : {X : Type 0} (F : ℕ → List ℕ → X) (p : ℕ → Bool) → ((at c : ℕ) (cs : List ℕ) → p c ≡ true → F at (c ∷ cs) ≡ F (at + 1) cs)
     → (at : ℕ) (bs : List ℕ) → F at bs ≡ F (at + prefix_len p bs) (drop (prefix_len p bs) bs)
 skip_all F p step at [] = ap (λ n. F n []) (sym (add-zero at))
@@ -100,7 +100,7 @@ pub items_none : (at : ℕ) → items_in at [] ≡ []
 unfolding items_in
 items_none at = rw (numbers_none at) refl
 
-items_of_blank : (at c : ℕ) (pieces : List (List ℕ)) → is_blank c ≡ true → items_of (placed at (onto_first c pieces)) ≡ items_of (placed (at + 1) pieces)
+items_of_blank : (at c : ℕ) (pieces : List (List ℕ)) → is_blank c ≡ true → items_of (with_offsets at (onto_first c pieces)) ≡ items_of (with_offsets (at + 1) pieces)
 items_of_blank at c [] h = rw (numbers_skip at c [] h, numbers_none (at + 1)) refl
 items_of_blank at c (w ∷ ws) h =
     let e : at + suc (length w) + 1 ≡ at + 1 + length w + 1 = omega arith in
@@ -112,7 +112,7 @@ items_skip at c cs h =
     elim (cases_Bool (is_separator c)) [
       | inl ends_here ↦ ap items_of (parts_cons is_separator at c cs ends_here) ∙ rw (numbers_none at) refl
       | inr goes_on ↦ elim (or_cases (is_blank c) (is_separator c) h) [
-        | inl blank ↦ ap (λ (pieces : List (List ℕ)). items_of (placed at pieces)) (slice_split-cons_no is_separator c cs goes_on) ∙ items_of_blank at c (slice_split is_separator cs) blank
+        | inl blank ↦ ap (λ (pieces : List (List ℕ)). items_of (with_offsets at pieces)) (slice_split-cons_no is_separator c cs goes_on) ∙ items_of_blank at c (slice_split is_separator cs) blank
         | inr ends_here ↦ absurd cc
       ]
     ]
@@ -140,7 +140,7 @@ items_take at bs =
 
 -- ---- what the reader does
 
--- rest is what follows the bytes in front that p passes: there are no others, or its first isn't one
+-- rest is what follows the bytes in prefix that p passes: there are no others, or its first isn't one
 stops : (p : ℕ → Bool) (bs rest : List ℕ) → rest ≡ drop (prefix_len p bs) bs → 0 < length rest → p (get_or rest 0 0) ≡ false
 stops p bs rest e lt =
     let n = prefix_len p bs in
@@ -162,7 +162,7 @@ pub items_end : (at : ℕ) (bs rest : List ℕ) → rest ≡ drop (prefix_len is
 items_end at bs rest e none =
     skip_all items_in is_space items_skip at bs ∙ ap (items_in (at + prefix_len is_space bs)) (sym e ∙ nil_from_length rest none) ∙ items_none (at + prefix_len is_space bs)
 
--- the item in front isn't empty
+-- the item in prefix isn't empty
 pub item_long : (bs rest : List ℕ) → rest ≡ drop (prefix_len is_space bs) bs → 0 < length rest → 0 < position_or_len is_separator rest
 item_long bs rest e some =
     first_within is_separator rest some (or_parts (is_blank (get_or rest 0 0)) (is_separator (get_or rest 0 0)) (stops is_space bs rest e some)).1

@@ -1,10 +1,9 @@
 -- The whole text: which of its faults comes first.
-use Rattle.std.proofs.Common.{◌≡◌, ℕ, Bool, true, false, cond, ltb, eqb, not, List, [], ◌∷◌, length, Option, Some, None, Result, Ok, Err, refl, sym, ap, ◌∙◌}
+use Rattle.std.proofs.Common.{◌≡◌, ℕ, ◌<◌, Bool, true, false, cond, ltb, not, List, [], ◌∷◌, length, Option, Some, None, Result, Ok, Err, refl, sym, ap, ◌∙◌}
 use Rattle.std.specs.Prelude.{position}
-use Rattle.bpf_isa.specs.declared.packed.Packed.{Packed}
 use Rattle.bpf_isa.specs.declared.numeric.fault.NumericFault.{NumericFault}
-use Rattle.bpf_isa.specs.declared.numeric.fault.NumericFault.TheVariants.{Character, Number, Form, Count, TooMany, Memory}
-use Rattle.bpf_isa.specs.Numeric.{◌>>=◌, Part, Item, value_of, number_of, HasCount, is_allowed, items_in, count_of, words_of, program_of, unless_at, numeric_of, IsFault}
+use Rattle.bpf_isa.specs.declared.numeric.fault.NumericFault.TheVariants.{Character, Number, Form, TooMany, Memory}
+use Rattle.bpf_isa.specs.Numeric.{◌>>=◌, Part, Item, value_of, number_of, HasCount, is_allowed, items_in, count_of, word_of, counted_words, program_of, unless_at, numeric_of, IsFault}
 use Rattle.bpf_isa.proofs.NumericWords.{is_fault}
 
 pub foreign : (text : List ℕ) (at : ℕ) → Some at ≡ position (λ b. not (is_allowed b)) text → numeric_of text ≡ Err (Character at)
@@ -20,7 +19,7 @@ unfolding program_of
 no_item text h e = known text h ∙ ap (program_of (length text)) e
 
 pub counted : (end : ℕ) (first : Item) (others : List Item) (count : ℕ) → count_of first.0 first.1 ≡ Ok count
-    → program_of end (first ∷ others) ≡ (words_of others >>= λ words. cond (eqb (length words) count) (Ok words) (Err (Count end)))
+    → program_of end (first ∷ others) ≡ counted_words end count others
 unfolding program_of
 counted end first others count h = rw h refl
 
@@ -39,51 +38,42 @@ begin text first others b = known text b.known ∙ ap (program_of (length text))
 pub bad_count : (text : List ℕ) (first : Item) (others : List Item) (e : NumericFault) → Begins text first others → Err e ≡ count_of first.0 first.1 → IsFault e (numeric_of text)
 bad_count text first others e b h = is_fault e (numeric_of text) (begin text first others b ∙ uncounted (length text) first others e (sym h))
 
--- a fault of the words is one of the text
-passes_on : (e : NumericFault) (end count : ℕ) (read : Result (List Packed) NumericFault) → IsFault e read → IsFault e (read >>= λ words. cond (eqb (length words) count) (Ok words) (Err (Count end)))
-passes_on Memory end count read h = tt
-passes_on (Character at) end count read h = rw h refl
-passes_on (Number at) end count read h = rw h refl
-passes_on (Form at) end count read h = rw h refl
-passes_on (Count at) end count read h = rw h refl
-passes_on (TooMany at) end count read h = rw h refl
+-- the text is what its words are
+pub words_are : (text : List ℕ) (first : Item) (others : List Item) (count : ℕ) → Begins text first others → Ok count ≡ count_of first.0 first.1
+    → numeric_of text ≡ counted_words (length text) count others
+words_are text first others count b h = begin text first others b ∙ counted (length text) first others count (sym h)
 
-pub bad_words : (text : List ℕ) (first : Item) (others : List Item) (count : ℕ) (e : NumericFault) → Begins text first others → Ok count ≡ count_of first.0 first.1
-    → IsFault e (words_of others) → IsFault e (numeric_of text)
-bad_words text first others count e b h bad =
-    rw (begin text first others b, counted (length text) first others count (sym h)) (passes_on e (length text) count (words_of others) bad)
+-- ---- memory is no fault of a text
 
-whole : (text : List ℕ) (first : Item) (others : List Item) (count : ℕ) (words : List Packed) → Begins text first others → Ok count ≡ count_of first.0 first.1
-    → words_of others ≡ Ok words → numeric_of text ≡ cond (eqb (length words) count) (Ok words) (Err (Count (length text)))
-whole text first others count words b h read =
-    begin text first others b ∙ counted (length text) first others count (sym h)
-    ∙ ap (λ (r : Result (List Packed) NumericFault). r >>= λ words. cond (eqb (length words) count) (Ok words) (Err (Count (length text)))) read
+abbrev answered : Result ℕ NumericFault → Result ℕ NumericFault
+answered r = r
 
-pub miscounted : (text : List ℕ) (first : Item) (others : List Item) (count : ℕ) (words : List Packed) → Begins text first others → Ok count ≡ count_of first.0 first.1
-    → words_of others ≡ Ok words → eqb (length words) count ≡ false → numeric_of text ≡ Err (Count (length text))
-miscounted text first others count words b h read ne = whole text first others count words b h read ∙ rw ne refl
+bind_no_memory : {A B : Type 0} (r : Result A NumericFault) (f : A → Result B NumericFault) → (r ≡ Err Memory → ⊥) → ((a : A) → f a ≡ Err Memory → ⊥) → (r >>= f) ≡ Err Memory → ⊥
+bind_no_memory (Ok a) f h k e = k a e
+bind_no_memory (Err x) f h k e = let same : x ≡ Memory = cc in h (ap (λ (y : NumericFault). Err y) same)
 
-pub all_there : (text : List ℕ) (first : Item) (others : List Item) (count : ℕ) (words : List Packed) → Begins text first others → Ok count ≡ count_of first.0 first.1
-    → words_of others ≡ Ok words → eqb (length words) count ≡ true → numeric_of text ≡ Ok words
-all_there text first others count words b h read eq = whole text first others count words b h read ∙ rw eq refl
+unless_memory : (b : Bool) (fault : NumericFault) (n : ℕ) → (fault ≡ Memory → ⊥) → answered (cond b (Err fault) (Ok n)) ≡ Err Memory → ⊥
+unless_memory true fault n other e = let same : fault ≡ Memory = cc in other same
+unless_memory false fault n other e = cc
 
--- ---- memory is no fault of the count
-
-abbrev counting : Result ℕ NumericFault → Result ℕ NumericFault
-counting r = r
-
-too_many : (b : Bool) (at n : ℕ) → counting (cond b (Err (TooMany at)) (Ok n)) ≡ Err Memory → ⊥
-too_many true at n e = cc
-too_many false at n e = cc
-
-too_large : (b : Bool) (at n : ℕ) → (counting (cond b (Err (Number at)) (Ok n)) >>= λ n. counting (cond (ltb 4096 n) (Err (TooMany at)) (Ok n))) ≡ Err Memory → ⊥
-too_large true at n e = cc
-too_large false at n e = too_many (ltb 4096 n) at n e
+number_no_memory : (most : ℕ) (number : Part) → number_of most number ≡ Err Memory → ⊥
+unfolding number_of
+number_no_memory most number e = unless_memory (ltb most (value_of number.1)) (Number number.0) (value_of number.1) (λ h. cc) e
 
 pub count_no_memory : (first : Part) (others : List Part) → count_of first others ≡ Err Memory → ⊥
-unfolding count_of number_of
-count_no_memory first [] e = too_large (ltb 0xffff_ffff (value_of first.1)) first.0 (value_of first.1) e
+unfolding count_of
+count_no_memory first [] e = bind_no_memory (number_of 0xffff_ffff first) (λ n. cond (ltb 4096 n) (Err (TooMany first.0)) (Ok n)) (number_no_memory 0xffff_ffff first) (λ n. unless_memory (ltb 4096 n) (TooMany first.0) n (λ h. cc)) e
 count_no_memory first (_ ∷ _) e = cc
 
-pub has_count : (text : List ℕ) (first : Item) (others : List Item) (count : ℕ) → Begins text first others → Ok count ≡ count_of first.0 first.1 → HasCount text
-has_count text first others count b h = record { known = sym b.known; first = first; others = others; items = b.items; count = count; counted = sym h }
+pub word_no_memory : (code : Part) (others : List Part) → word_of code others ≡ Err Memory → ⊥
+unfolding word_of
+word_no_memory code [] e = cc
+word_no_memory code (_ ∷ []) e = cc
+word_no_memory code (_ ∷ _ ∷ []) e = cc
+word_no_memory code (jt ∷ jf ∷ k ∷ []) e =
+    bind_no_memory (number_of 0xffff code) _ (number_no_memory 0xffff code) (λ c. bind_no_memory (number_of 0xff jt) _ (number_no_memory 0xff jt)
+    (λ t. bind_no_memory (number_of 0xff jf) _ (number_no_memory 0xff jf) (λ f. bind_no_memory (number_of 0xffff_ffff k) _ (number_no_memory 0xffff_ffff k) (λ n h. cc)))) e
+word_no_memory code (_ ∷ _ ∷ _ ∷ _ ∷ _) e = cc
+
+pub has_count : (text : List ℕ) (first : Item) (others : List Item) (count : ℕ) → Begins text first others → Ok count ≡ count_of first.0 first.1 → 0 < count → HasCount text
+has_count text first others count b h some = record { known = sym b.known; first = first; others = others; items = b.items; count = count; counted = sym h; positive = some }

@@ -3,8 +3,8 @@ pub mod Table
 pub mod Families
 pub mod Values
 pub mod Insns
+pub mod Operands
 pub mod Laws
-pub mod Flow
 pub mod Numeric
 pub use Rattle.afdx_frame.specs.Number
 pub use Rattle.afdx_frame.specs.View

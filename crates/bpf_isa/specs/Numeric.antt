@@ -1,8 +1,9 @@
 -- The numeric form of a program (bpf_asm, `tcpdump -ddd`), as this project's profile reads it.
-use Rattle.std.specs.Prelude.{ℕ, ◌+◌, ◌-◌, ◌*◌, ◌^◌, ◌<◌, ◌≤◌, Bool, ◌||◌, not, List, [], ◌∷◌, ◌++◌, length, fold, filter, position, decimal, codes, Option, Some, None, Result, Ok, Err, nat_lt, ◌==◌, if◌then◌else◌, ◌≡◌}
-use Rattle.std.specs.List.{slice_split, filter_map, flat_map, All}
+use Rattle.std.specs.Prelude.{ℕ, ◌+◌, ◌-◌, ◌*◌, ◌^◌, ◌<◌, Bool, ◌||◌, not, List, [], ◌∷◌, ◌++◌, length, fold, filter, position, decimal, codes, Option, Some, None, Result, Ok, Err, nat_lt, ◌==◌, if◌then◌else◌, ◌≡◌}
+use Rattle.std.specs.List.{slice_split, filter_map, flat_map}
 use Rattle.std.specs.Char.{is_ascii_digit}
 use Rattle.bpf_isa.specs.declared.packed.Packed.{Packed}
+use Rattle.bpf_isa.specs.Machine.{max_insns}
 use Rattle.bpf_isa.specs.declared.numeric.fault.NumericFault.{NumericFault}
 use Rattle.bpf_isa.specs.declared.numeric.fault.NumericFault.TheVariants.{Character, Number, Form, Count, TooMany, Memory}
 
@@ -35,19 +36,19 @@ is_space b = is_blank b || is_separator b
 abbrev pub is_allowed : ℕ → Bool
 is_allowed b = is_ascii_digit b || is_blank b || is_separator b
 
--- ---- Cutting: a part of the text is the place where it begins and its bytes.
+-- ---- Parts: the bytes of a part of the text, and the offset where it begins.
 
 abbrev pub Part : Type 0
 Part = ℕ × List ℕ
 
--- each piece with its place, where one byte stood between each two
-abbrev pub placed : ℕ → List (List ℕ) → List Part
-placed at [] = []
-placed at (piece ∷ pieces) = (at, piece) ∷ placed (at + length piece + 1) pieces
+-- each piece with its offset, if one byte stands between each two
+abbrev pub with_offsets : ℕ → List (List ℕ) → List Part
+with_offsets at [] = []
+with_offsets at (piece ∷ pieces) = (at, piece) ∷ with_offsets (at + length piece + 1) pieces
 
 -- the parts between the bytes that end one
 abbrev pub parts : (ℕ → Bool) → ℕ → List ℕ → List Part
-parts ends at bytes = placed at (slice_split ends bytes)
+parts ends at bytes = with_offsets at (slice_split ends bytes)
 
 -- the numbers of an item stand between its blanks
 unfoldable pub numbers_in : ℕ → List ℕ → List Part
@@ -83,7 +84,7 @@ number_of most number = if nat_lt most (value_of number.1) then Err (Number numb
 unfoldable pub count_of : Part → List Part → Result ℕ NumericFault
 count_of first [] = do
   n ← number_of 0xffff_ffff first
-  if nat_lt 4096 n then Err (TooMany first.0) else Ok n
+  if nat_lt max_insns n then Err (TooMany first.0) else Ok n
 count_of first (_ ∷ _) = Err (Form first.0)
 
 -- a further item: code, jt, jf and k
@@ -103,15 +104,20 @@ words_of (item ∷ items) = do
   words ← words_of items
   Ok (word ∷ words)
 
--- the items of a text that ends at the place end
+-- the items after the count in a text of this length: there are as many as the count says
+unfoldable pub counted_words : ℕ → ℕ → List Item → Result (List Packed) NumericFault
+counted_words end count items = do
+  words ← words_of items
+  if length words == count then Ok words else Err (Count end)
+
+-- the items of a text of this length
 unfoldable pub program_of : ℕ → List Item → Result (List Packed) NumericFault
 program_of end [] = Err (Form end)
 program_of end (first ∷ others) = do
   count ← count_of first.0 first.1
-  words ← words_of others
-  if length words == count then Ok words else Err (Count end)
+  counted_words end count others
 
--- the first byte that the form does not know stands before all else
+-- a byte that the form doesn't have comes before all other faults
 abbrev pub unless_at : Option ℕ → Result (List Packed) NumericFault → Result (List Packed) NumericFault
 unless_at None read = read
 unless_at (Some at) read = Err (Character at)
@@ -119,7 +125,7 @@ unless_at (Some at) read = Err (Character at)
 unfoldable pub numeric_of : List ℕ → Result (List Packed) NumericFault
 numeric_of text = unless_at (position (λ b. not (is_allowed b)) text) (program_of (length text) (items_in 0 text))
 
--- the bytes are all known, and the first item is a count
+-- the form has all the bytes, and the first item is a count of at least 1
 pub record HasCount (text : List ℕ) : Type 0 where
   pub known : position (λ b. not (is_allowed b)) text ≡ None
   pub first : Item
@@ -127,8 +133,9 @@ pub record HasCount (text : List ℕ) : Type 0 where
   pub items : items_in 0 text ≡ first ∷ others
   pub count : ℕ
   pub counted : count_of first.0 first.1 ≡ Ok count
+  pub positive : 0 < count
 
--- ---- What a reader answers: this, or that there was no memory.
+-- ---- What a reader returns: this, or out of memory.
 
 abbrev pub IsFault : {Y : Type 0} → NumericFault → Result Y NumericFault → Type 0
 IsFault Memory read = Unit {0}
@@ -141,8 +148,3 @@ IsFault (TooMany at) read = read ≡ Err (TooMany at)
 abbrev pub Gives : {X Y : Type 0} → (X → Y) → Result X NumericFault → Result Y NumericFault → Type 0
 Gives view (Ok x) read = read ≡ Ok (view x)
 Gives view (Err e) read = IsFault e read
-
--- ---- The law: what is written is read as the same words.
-
-abbrev pub ReadsAgain : List Packed → Type 0
-ReadsAgain ws = length ws ≤ 4096 → All IsPacked ws → numeric_of (numeric_text ws) ≡ Ok ws

@@ -11,7 +11,4 @@ mod writing;
 
 pub use fault::NumericFault;
 pub use reading::read_numeric;
-pub use writing::{numeric_text_reads_back, write_numeric};
-
-#[cfg(test)]
-mod tests;
+pub use writing::write_numeric;

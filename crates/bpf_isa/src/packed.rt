@@ -1,21 +1,23 @@
+//! One packed instruction.
+
 ghost use Rattle.std.specs.Prelude.{◌≡◌};
 ghost use Rattle.bpf_isa.specs.Families.{word_k};
 
 /// One instruction as the kernel and libpcap pack it (`struct sock_filter`, `struct bpf_insn`).
 #[derive(Clone, Copy, Debug, PartialEq, Eq)]
 pub struct Packed {
-    /// The operation. Its three lowest bits are the class.
+    /// The operation. Its three lowest bits are the class (`BPF_CLASS`).
     pub code: u16,
-    /// How many instructions a conditional jump skips where its test holds.
+    /// How many instructions a conditional jump skips if its comparison holds.
     pub jt: u8,
-    /// How many it skips where the test fails.
+    /// How many it skips if the comparison fails.
     pub jf: u8,
     /// The operand.
     pub k: u32,
 }
 
 impl Packed {
-    /// A word whose jump fields are 0.
+    /// The instruction with jt and jf 0.
     #[inline(always)]
     pub(crate) fn with_k(code: u16, k: u32) -> Packed
         ensures { result ≡ word_k code k }

@@ -1,3 +1,5 @@
+pub mod Laws
+pub mod Typed
 pub mod ByInsn
 pub mod Canonical
 pub mod Pass

@@ -13,75 +13,75 @@ use Rattle.bpf_isa.specs.declared.packed.Packed.{Packed}
 use Rattle.bpf_isa.specs.declared.insn.Insn.{Insn}
 use Rattle.bpf_isa.specs.Insns.{insn_word}
 use Rattle.bpf_isa.specs.Table.{Row, row, canonical_word}
-use Rattle.bpf_loader.specs.Paths.{successors, reads_word, stores_word, successors_at, reads_at, stores_at, IsPath, stored_on, IsUnstored}
-use Rattle.bpf_loader.specs.Faults.{ReadsUnstored, IsFirstUnstored, StoresBeforeReads, HasLength, HasSoundWords, ends_in_return, IsFirstFault}
-use Rattle.bpf_loader.specs.Laws.{successor_behind_at, IsSoundWord, sound_at, successor_within, read_below, stored_below}
-use Rattle.bpf_loader.specs.Masks.{stored_after, narrowed, CanCarry, Carries, Lacks}
-use Rattle.bpf_loader.specs.Typed.{successors_of, word_read, word_stored}
+use Rattle.bpf_loader.specs.Paths.{successors, loads_slot, stores_slot, successors_at, reads_at, stores_at, IsPath, is_stored_on, IsUnstored}
+use Rattle.bpf_loader.specs.Faults.{ReadsUnstored, IsFirstUnstored, StoresBeforeReads, HasLength, HasNoWordFault, ends_in_return, IsFirstFault}
+use Rattle.bpf_loader.proofs.Laws.{successor_behind_at, IsFaultlessWord, faultless_at, successor_within, read_below, stored_below}
+use Rattle.bpf_loader.specs.Masks.{mask_after, intersect_masks, CanCarry, Carries, Lacks}
+use Rattle.bpf_loader.specs.Typed.{successors_of, loaded_slot, stored_slot}
 use Rattle.bpf_loader.specs.declared.fault.LoadFault.{LoadFault}
 use Rattle.bpf_loader.specs.declared.fault.LoadFault.TheVariants.{Unstored}
 use Rattle.bpf_loader.proofs.ByInsn.{successors_by_insn, reads_by_insn, stores_by_insn}
 
--- ---- one mask narrowed
+-- ---- one mask intersect_masks
 
 mask_at : List ℕ → ℕ → ℕ → ℕ
-mask_at masks place word = bit_at (slice_index masks place) word
+mask_at masks pc word = bit_at (slice_index masks pc) word
 
 abbrev one_narrowed : List ℕ → ℕ → ℕ → List ℕ
-one_narrowed masks place mask = slice_set masks place (bit_and (slice_index masks place) mask)
+one_narrowed masks pc mask = slice_set masks pc (bit_and (slice_index masks pc) mask)
 
--- a bit of the mask that is narrowed, and of the others
-one_same : (masks : List ℕ) (place mask word : ℕ) → place < length masks → bit_at (slice_index (one_narrowed masks place mask) place) word ≡ min (bit_at (slice_index masks place) word) (bit_at mask word)
-one_same masks place mask word below =
-    ap (λ n. bit_at n word) (get_or-set_same masks place (bit_and (slice_index masks place) mask) 0 below) ∙ bit_at_and (slice_index masks place) mask word
+-- a bit of the mask that is intersect_masks, and of the others
+one_same : (masks : List ℕ) (pc mask word : ℕ) → pc < length masks → bit_at (slice_index (one_narrowed masks pc mask) pc) word ≡ min (bit_at (slice_index masks pc) word) (bit_at mask word)
+one_same masks pc mask word below =
+    ap (λ n. bit_at n word) (get_or-set_same masks pc (bit_and (slice_index masks pc) mask) 0 below) ∙ bit_at_and (slice_index masks pc) mask word
 
-past_bit : (masks : List ℕ) (place word : ℕ) → length masks ≤ place → bit_at (slice_index masks place) word ≡ 0
-past_bit masks place word past = ap (λ n. bit_at n word) (get_or_past masks place 0 past) ∙ bit_at-zero word
+past_bit : (masks : List ℕ) (pc word : ℕ) → length masks ≤ pc → bit_at (slice_index masks pc) word ≡ 0
+past_bit masks pc word past = ap (λ n. bit_at n word) (get_or_past masks pc 0 past) ∙ bit_at-zero word
 
 -- a bit that is 0 stays 0
-one_keeps : (masks : List ℕ) (place mask j word : ℕ) → bit_at (slice_index masks j) word ≡ 0 → bit_at (slice_index (one_narrowed masks place mask) j) word ≡ 0
-one_keeps masks place mask j word e =
-    elim (cases_eq j place) [
+one_keeps : (masks : List ℕ) (pc mask j word : ℕ) → bit_at (slice_index masks j) word ≡ 0 → bit_at (slice_index (one_narrowed masks pc mask) j) word ≡ 0
+one_keeps masks pc mask j word e =
+    elim (cases_eq j pc) [
       | inl same ↦
           elim (cases_lt j (length masks)) [
             | inl below ↦
-                let e' : bit_at (slice_index masks place) word ≡ 0 = rw same at e in
-                let bound : place < length masks = omega arith in
-                let bit = one_same masks place mask word bound in
+                let e' : bit_at (slice_index masks pc) word ≡ 0 = rw same at e in
+                let bound : pc < length masks = omega arith in
+                let bit = one_same masks pc mask word bound in
                 rw same (omega arith)
-            | inr past ↦ past_bit (one_narrowed masks place mask) j word (omega (arith, length-set masks place (bit_and (slice_index masks place) mask)))
+            | inr past ↦ past_bit (one_narrowed masks pc mask) j word (omega (arith, length-set masks pc (bit_and (slice_index masks pc) mask)))
           ]
-      | inr differs ↦ ap (λ n. bit_at n word) (get_or-set_other masks place j (bit_and (slice_index masks place) mask) 0 differs) ∙ e
+      | inr differs ↦ ap (λ n. bit_at n word) (get_or-set_other masks pc j (bit_and (slice_index masks pc) mask) 0 differs) ∙ e
     ]
 
--- a bit that the mask lacks is 0 in the mask that is narrowed
-one_hits : (masks : List ℕ) (place mask word : ℕ) → bit_at mask word ≡ 0 → bit_at (slice_index (one_narrowed masks place mask) place) word ≡ 0
-one_hits masks place mask word e =
-    elim (cases_lt place (length masks)) [
-      | inl below ↦ let bit = one_same masks place mask word below in omega arith
-      | inr past ↦ past_bit (one_narrowed masks place mask) place word (omega (arith, length-set masks place (bit_and (slice_index masks place) mask)))
+-- a bit that the mask lacks is 0 in the mask that is intersect_masks
+one_hits : (masks : List ℕ) (pc mask word : ℕ) → bit_at mask word ≡ 0 → bit_at (slice_index (one_narrowed masks pc mask) pc) word ≡ 0
+one_hits masks pc mask word e =
+    elim (cases_lt pc (length masks)) [
+      | inl below ↦ let bit = one_same masks pc mask word below in omega arith
+      | inr past ↦ past_bit (one_narrowed masks pc mask) pc word (omega (arith, length-set masks pc (bit_and (slice_index masks pc) mask)))
     ]
 
 -- where a bit that is 0 comes from
-one_from : (masks : List ℕ) (place mask j word : ℕ) → bit_at (slice_index (one_narrowed masks place mask) j) word ≡ 0 → (bit_at (slice_index masks j) word ≡ 0) ⊎ ((bit_at mask word ≡ 0) × (place ≡ j))
-one_from masks place mask j word e =
-    elim (cases_eq j place) [
+one_from : (masks : List ℕ) (pc mask j word : ℕ) → bit_at (slice_index (one_narrowed masks pc mask) j) word ≡ 0 → (bit_at (slice_index masks j) word ≡ 0) ⊎ ((bit_at mask word ≡ 0) × (pc ≡ j))
+one_from masks pc mask j word e =
+    elim (cases_eq j pc) [
       | inl same ↦
           elim (cases_lt j (length masks)) [
             | inl below ↦
-                let e' : bit_at (slice_index (one_narrowed masks place mask) place) word ≡ 0 = rw same at e in
-                let bound : place < length masks = omega arith in
-                let bit = one_same masks place mask word bound in
+                let e' : bit_at (slice_index (one_narrowed masks pc mask) pc) word ≡ 0 = rw same at e in
+                let bound : pc < length masks = omega arith in
+                let bit = one_same masks pc mask word bound in
                 elim (cases_eq (bit_at mask word) 0) [
                   | inl none ↦ inr (none, sym same)
                   | inr some ↦ inl (rw same (omega arith))
                 ]
             | inr past ↦ inl (past_bit masks j word past)
           ]
-      | inr differs ↦ inl (sym (ap (λ n. bit_at n word) (get_or-set_other masks place j (bit_and (slice_index masks place) mask) 0 differs)) ∙ e)
+      | inr differs ↦ inl (sym (ap (λ n. bit_at n word) (get_or-set_other masks pc j (bit_and (slice_index masks pc) mask) 0 differs)) ∙ e)
     ]
 
--- ---- the masks of some places narrowed
+-- ---- the masks of some pcs intersect_masks
 
 Contains-here : (x : ℕ) (xs : List ℕ) → Contains (x ∷ xs) x
 Contains-here x xs = (0, omega arith, refl)
@@ -93,33 +93,33 @@ Contains-cases : (x y : ℕ) (xs : List ℕ) → Contains (x ∷ xs) y → (x �
 Contains-cases x y xs (zero, below, is) = inl is
 Contains-cases x y xs (suc k, below, is) = inr (k, omega arith, is)
 
-keeps : (places masks : List ℕ) (mask j word : ℕ) → bit_at (slice_index masks j) word ≡ 0 → bit_at (slice_index (narrowed masks places mask) j) word ≡ 0
+keeps : (pcs masks : List ℕ) (mask j word : ℕ) → bit_at (slice_index masks j) word ≡ 0 → bit_at (slice_index (intersect_masks masks pcs mask) j) word ≡ 0
 keeps [] masks mask j word e = e
-keeps (place ∷ places) masks mask j word e =
-    keeps places (one_narrowed masks place mask) mask j word (one_keeps masks place mask j word e)
+keeps (pc ∷ pcs) masks mask j word e =
+    keeps pcs (one_narrowed masks pc mask) mask j word (one_keeps masks pc mask j word e)
 
-hits : (places masks : List ℕ) (mask j word : ℕ) → Contains places j → bit_at mask word ≡ 0 → bit_at (slice_index (narrowed masks places mask) j) word ≡ 0
+hits : (pcs masks : List ℕ) (mask j word : ℕ) → Contains pcs j → bit_at mask word ≡ 0 → bit_at (slice_index (intersect_masks masks pcs mask) j) word ≡ 0
 hits [] masks mask j word c e = absurd (omega (arith, c.1))
-hits (place ∷ places) masks mask j word c e =
-    elim (Contains-cases place j places c) [
+hits (pc ∷ pcs) masks mask j word c e =
+    elim (Contains-cases pc j pcs c) [
       | inl same ↦
-          let one : bit_at (slice_index (one_narrowed masks place mask) j) word ≡ 0 = subst (λ (n : ℕ). bit_at (slice_index (one_narrowed masks place mask) n) word ≡ 0) same (one_hits masks place mask word e) in
-          keeps places (one_narrowed masks place mask) mask j word one
-      | inr later ↦ hits places (one_narrowed masks place mask) mask j word later e
+          let one : bit_at (slice_index (one_narrowed masks pc mask) j) word ≡ 0 = subst (λ (n : ℕ). bit_at (slice_index (one_narrowed masks pc mask) n) word ≡ 0) same (one_hits masks pc mask word e) in
+          keeps pcs (one_narrowed masks pc mask) mask j word one
+      | inr later ↦ hits pcs (one_narrowed masks pc mask) mask j word later e
     ]
 
-comes_from : (places masks : List ℕ) (mask j word : ℕ) → bit_at (slice_index (narrowed masks places mask) j) word ≡ 0 → (bit_at (slice_index masks j) word ≡ 0) ⊎ ((bit_at mask word ≡ 0) × Contains places j)
+comes_from : (pcs masks : List ℕ) (mask j word : ℕ) → bit_at (slice_index (intersect_masks masks pcs mask) j) word ≡ 0 → (bit_at (slice_index masks j) word ≡ 0) ⊎ ((bit_at mask word ≡ 0) × Contains pcs j)
 comes_from [] masks mask j word e = inl e
-comes_from (place ∷ places) masks mask j word e =
-    elim (comes_from places (one_narrowed masks place mask) mask j word e) [
-      | inl before ↦ elim (one_from masks place mask j word before) [ inl first ↦ inl first | inr here ↦ inr (here.0, subst (λ (n : ℕ). Contains (n ∷ places) j) (sym here.1) (Contains-here j places)) ]
-      | inr later ↦ inr (later.0, Contains-later place j places later.1)
+comes_from (pc ∷ pcs) masks mask j word e =
+    elim (comes_from pcs (one_narrowed masks pc mask) mask j word e) [
+      | inl before ↦ elim (one_from masks pc mask j word before) [ inl first ↦ inl first | inr here ↦ inr (here.0, subst (λ (n : ℕ). Contains (n ∷ pcs) j) (sym here.1) (Contains-here j pcs)) ]
+      | inr later ↦ inr (later.0, Contains-later pc j pcs later.1)
     ]
 
-length-narrowed : (places masks : List ℕ) (mask : ℕ) → length (narrowed masks places mask) ≡ length masks
-length-narrowed [] masks mask = refl
-length-narrowed (place ∷ places) masks mask =
-    length-narrowed places (one_narrowed masks place mask) mask ∙ length-set masks place (bit_and (slice_index masks place) mask)
+length-intersect_masks : (pcs masks : List ℕ) (mask : ℕ) → length (intersect_masks masks pcs mask) ≡ length masks
+length-intersect_masks [] masks mask = refl
+length-intersect_masks (pc ∷ pcs) masks mask =
+    length-intersect_masks pcs (one_narrowed masks pc mask) mask ∙ length-set masks pc (bit_and (slice_index masks pc) mask)
 
 -- ---- the mask after an instruction
 
@@ -127,48 +127,48 @@ length-narrowed (place ∷ places) masks mask =
 abbrev stores_this : Option ℕ → ℕ → Bool
 stores_this stored word = option_map_or (λ k. k == word) stored false
 
-after_lacks : (stored : Option ℕ) (before word : ℕ) → IfSome stored (λ k. k < 16) → bit_at (stored_after stored before) word ≡ 0 → (bit_at before word ≡ 0) × (stores_this stored word ≡ false)
+after_lacks : (stored : Option ℕ) (before word : ℕ) → IfSome stored (λ k. k < 16) → bit_at (mask_after stored before) word ≡ 0 → (bit_at before word ≡ 0) × (stores_this stored word ≡ false)
 after_lacks None before word below e = (e, refl)
 after_lacks (Some k) before word below e =
     elim (cases_eq word k) [
-      | inl same ↦ let set = bit_at_set_same w16 before k below in let e' : bit_at (stored_after (Some k) before) k ≡ 0 = rw same at e in absurd (omega arith)
+      | inl same ↦ let set = bit_at_set_same w16 before k below in let e' : bit_at (mask_after (Some k) before) k ≡ 0 = rw same at e in absurd (omega arith)
       | inr differs ↦ (sym (bit_at_set_other w16 before k below word differs) ∙ e, ne_eqb k word (λ h. differs (sym h)))
     ]
 
-lacks_after : (stored : Option ℕ) (before word : ℕ) → IfSome stored (λ k. k < 16) → bit_at before word ≡ 0 → stores_this stored word ≡ false → bit_at (stored_after stored before) word ≡ 0
+lacks_after : (stored : Option ℕ) (before word : ℕ) → IfSome stored (λ k. k < 16) → bit_at before word ≡ 0 → stores_this stored word ≡ false → bit_at (mask_after stored before) word ≡ 0
 lacks_after None before word below e other = e
 lacks_after (Some k) before word below e other =
     bit_at_set_other w16 before k below word (λ h. eqb-false k word other (sym h)) ∙ e
 
 -- ---- what the masks say
 
--- The masks before the instruction at a place is passed. A bit is 0 only where some path has not stored the word; it is 0
--- wherever such a path has come through the places passed; and no read passed was of a word that some path had not stored.
-pub record Tracks (p : List Packed) (masks : List ℕ) (place : ℕ) : Type 0 where
+-- The masks before the instruction at a pc is passed. A bit is 0 only where some path has not stored the word; it is 0
+-- wherever such a path has come through the pcs passed; and no read passed was of a word that some path had not stored.
+pub record Tracks (p : List Packed) (masks : List ℕ) (pc : ℕ) : Type 0 where
   pub size : length masks ≡ 4096
   pub first : (word : ℕ) → bit_at (slice_index masks 0) word ≡ 0
   pub sound : (j word : ℕ) → j < 4096 → word < 16 → bit_at (slice_index masks j) word ≡ 0 → IsUnstored p word j
-  pub complete : (last j word : ℕ) → last < place → word < 16 → IsUnstored p word last → stores_at p word last ≡ false → Contains (successors_at p last) j → bit_at (slice_index masks j) word ≡ 0
-  pub checked : (earlier word : ℕ) → earlier < place → ReadsUnstored p word earlier → ⊥
+  pub complete : (last j word : ℕ) → last < pc → word < 16 → IsUnstored p word last → stores_at p word last ≡ false → Contains (successors_at p last) j → bit_at (slice_index masks j) word ≡ 0
+  pub checked : (earlier word : ℕ) → earlier < pc → ReadsUnstored p word earlier → ⊥
 
 -- a path goes on to a successor
-goes_on : (p : List Packed) (word place next : ℕ) → IsUnstored p word place → stores_at p word place ≡ false → Contains (successors_at p place) next → IsUnstored p word next
-goes_on p word place next h other c =
-    (place ∷ h.0, (h.1, c), or_from (stores_at p word place) (stored_on p word h.0) other h.2)
+goes_on : (p : List Packed) (word pc next : ℕ) → IsUnstored p word pc → stores_at p word pc ≡ false → Contains (successors_at p pc) next → IsUnstored p word next
+goes_on p word pc next h other c =
+    (pc ∷ h.0, (h.1, c), or_from (stores_at p word pc) (is_stored_on p word h.0) other h.2)
 
-lacks_by : (p : List Packed) (masks : List ℕ) (place word : ℕ) → Tracks p masks place → word < 16 → (way : List ℕ) → IsPath p way place → stored_on p word way ≡ false → bit_at (slice_index masks place) word ≡ 0
-lacks_by p masks place word t below [] path none = rw path (t.first word)
-lacks_by p masks place word t below (last ∷ earlier) path none =
-    let parts = or_parts (stores_at p word last) (stored_on p word earlier) none in
-    t.complete last place word (successor_behind_at p last place path.1) below (earlier, path.0, parts.1) parts.0 path.1
+lacks_by : (p : List Packed) (masks : List ℕ) (pc word : ℕ) → Tracks p masks pc → word < 16 → (way : List ℕ) → IsPath p way pc → is_stored_on p word way ≡ false → bit_at (slice_index masks pc) word ≡ 0
+lacks_by p masks pc word t below [] path none = rw path (t.first word)
+lacks_by p masks pc word t below (last ∷ earlier) path none =
+    let parts = or_parts (stores_at p word last) (is_stored_on p word earlier) none in
+    t.complete last pc word (successor_behind_at p last pc path.1) below (earlier, path.0, parts.1) parts.0 path.1
 
--- where some path to the place has not stored the word, the mask of the place lacks it
-unstored_lacks : (p : List Packed) (masks : List ℕ) (place word : ℕ) → Tracks p masks place → word < 16 → IsUnstored p word place → bit_at (slice_index masks place) word ≡ 0
-unstored_lacks p masks place word t below h = lacks_by p masks place word t below h.0 h.1 h.2
+-- where some path to the pc has not stored the word, the mask of the pc lacks it
+unstored_lacks : (p : List Packed) (masks : List ℕ) (pc word : ℕ) → Tracks p masks pc → word < 16 → IsUnstored p word pc → bit_at (slice_index masks pc) word ≡ 0
+unstored_lacks p masks pc word t below h = lacks_by p masks pc word t below h.0 h.1 h.2
 
 -- ---- before the pass
 
-start_sound : (p : List Packed) (masks : List ℕ) → ((place : ℕ) → 1 ≤ place → place < 4096 → slice_index masks place ≡ 65535) → (j word : ℕ) → j < 4096 → word < 16 → bit_at (slice_index masks j) word ≡ 0 → IsUnstored p word j
+start_sound : (p : List Packed) (masks : List ℕ) → ((pc : ℕ) → 1 ≤ pc → pc < 4096 → slice_index masks pc ≡ 65535) → (j word : ℕ) → j < 4096 → word < 16 → bit_at (slice_index masks j) word ≡ 0 → IsUnstored p word j
 start_sound p masks others zero word below in16 e = ([], refl, refl)
 start_sound p masks others (suc j) word below in16 e =
     let is : slice_index masks (suc j) ≡ 65535 = others (suc j) (omega arith) below in
@@ -176,7 +176,7 @@ start_sound p masks others (suc j) word below in16 e =
     let none : bit_at 65535 word ≡ 0 = rw is at e in
     absurd (omega arith)
 
-pub start_tracks : (p : List Packed) (masks : List ℕ) → length masks ≡ 4096 → slice_index masks 0 ≡ 0 → ((place : ℕ) → 1 ≤ place → place < 4096 → slice_index masks place ≡ 65535) → Tracks p masks 0
+pub start_tracks : (p : List Packed) (masks : List ℕ) → length masks ≡ 4096 → slice_index masks 0 ≡ 0 → ((pc : ℕ) → 1 ≤ pc → pc < 4096 → slice_index masks pc ≡ 65535) → Tracks p masks 0
 start_tracks p masks size first others = record {
   size = size;
   first = λ word. ap (λ n. bit_at n word) first ∙ bit_at-zero word;
@@ -187,133 +187,133 @@ start_tracks p masks size first others = record {
 
 -- ---- over one instruction
 
-module _ (p : List Packed) (masks : List ℕ) (place : ℕ) (successors : List ℕ) (read stored : Option ℕ) (t : Tracks p masks place) (at : place < 4096) (is_successors : successors_at p place ≡ successors) (is_read : (word : ℕ) → reads_at p word place ≡ option_map_or (λ k. k == word) read false) (is_stored : (word : ℕ) → stores_at p word place ≡ stores_this stored word) (in_read : IfSome read (λ k. k < 16)) (in_stored : IfSome stored (λ k. k < 16)) where
-  step_sound : (j word : ℕ) → j < 4096 → word < 16 → bit_at (slice_index (narrowed masks successors (stored_after stored (slice_index masks place))) j) word ≡ 0 → IsUnstored p word j
+module _ (p : List Packed) (masks : List ℕ) (pc : ℕ) (successors : List ℕ) (read stored : Option ℕ) (t : Tracks p masks pc) (at : pc < 4096) (is_successors : successors_at p pc ≡ successors) (is_read : (word : ℕ) → reads_at p word pc ≡ option_map_or (λ k. k == word) read false) (is_stored : (word : ℕ) → stores_at p word pc ≡ stores_this stored word) (in_read : IfSome read (λ k. k < 16)) (in_stored : IfSome stored (λ k. k < 16)) where
+  step_sound : (j word : ℕ) → j < 4096 → word < 16 → bit_at (slice_index (intersect_masks masks successors (mask_after stored (slice_index masks pc))) j) word ≡ 0 → IsUnstored p word j
   step_sound j word below in16 e =
-      elim (comes_from successors masks (stored_after stored (slice_index masks place)) j word e) [
+      elim (comes_from successors masks (mask_after stored (slice_index masks pc)) j word e) [
         | inl before ↦ t.sound j word below in16 before
         | inr here ↦
-            let lacks = after_lacks stored (slice_index masks place) word in_stored here.0 in
-            goes_on p word place j (t.sound place word at in16 lacks.0) (is_stored word ∙ lacks.1) (subst (λ (ss : List ℕ). Contains ss j) (sym is_successors) here.1)
+            let lacks = after_lacks stored (slice_index masks pc) word in_stored here.0 in
+            goes_on p word pc j (t.sound pc word at in16 lacks.0) (is_stored word ∙ lacks.1) (subst (λ (ss : List ℕ). Contains ss j) (sym is_successors) here.1)
       ]
 
-  step_complete : (last j word : ℕ) → last < place + 1 → word < 16 → IsUnstored p word last → stores_at p word last ≡ false → Contains (successors_at p last) j → bit_at (slice_index (narrowed masks successors (stored_after stored (slice_index masks place))) j) word ≡ 0
+  step_complete : (last j word : ℕ) → last < pc + 1 → word < 16 → IsUnstored p word last → stores_at p word last ≡ false → Contains (successors_at p last) j → bit_at (slice_index (intersect_masks masks successors (mask_after stored (slice_index masks pc))) j) word ≡ 0
   step_complete last j word before in16 h other c =
-      elim (cases_lt last place) [
-        | inl earlier ↦ keeps successors masks (stored_after stored (slice_index masks place)) j word (t.complete last j word earlier in16 h other c)
+      elim (cases_lt last pc) [
+        | inl earlier ↦ keeps successors masks (mask_after stored (slice_index masks pc)) j word (t.complete last j word earlier in16 h other c)
         | inr later ↦
-            let same : last ≡ place = omega arith in
-            let unstored : IsUnstored p word place = subst (IsUnstored p word) same h in
-            let other_here : stores_at p word place ≡ false = subst (λ (n : ℕ). stores_at p word n ≡ false) same other in
-            let follows : Contains (successors_at p place) j = subst (λ (n : ℕ). Contains (successors_at p n) j) same c in
-            let lacks = lacks_after stored (slice_index masks place) word in_stored (unstored_lacks p masks place word t in16 unstored) (sym (is_stored word) ∙ other_here) in
-            hits successors masks (stored_after stored (slice_index masks place)) j word (subst (λ (ss : List ℕ). Contains ss j) is_successors follows) lacks
+            let same : last ≡ pc = omega arith in
+            let unstored : IsUnstored p word pc = subst (IsUnstored p word) same h in
+            let other_here : stores_at p word pc ≡ false = subst (λ (n : ℕ). stores_at p word n ≡ false) same other in
+            let follows : Contains (successors_at p pc) j = subst (λ (n : ℕ). Contains (successors_at p n) j) same c in
+            let lacks = lacks_after stored (slice_index masks pc) word in_stored (unstored_lacks p masks pc word t in16 unstored) (sym (is_stored word) ∙ other_here) in
+            hits successors masks (mask_after stored (slice_index masks pc)) j word (subst (λ (ss : List ℕ). Contains ss j) is_successors follows) lacks
       ]
 
-  read_contradicts : (word : ℕ) (r : Option ℕ) → option_map_or (λ k. k == word) r false ≡ true → IfSome r (λ k. k < 16) → IfSome r (λ k. bit_at (slice_index masks place) k ≡ 1) → IsUnstored p word place → ⊥
+  read_contradicts : (word : ℕ) (r : Option ℕ) → option_map_or (λ k. k == word) r false ≡ true → IfSome r (λ k. k < 16) → IfSome r (λ k. bit_at (slice_index masks pc) k ≡ 1) → IsUnstored p word pc → ⊥
   read_contradicts word None e below set h = cc
   read_contradicts word (Some k) e below set h =
       let same : k ≡ word = eqb-true k word e in
       let in16 : word < 16 = subst (λ n. n < 16) same below in
-      let is_set : bit_at (slice_index masks place) word ≡ 1 = subst (λ n. bit_at (slice_index masks place) n ≡ 1) same set in
-      let lacks = unstored_lacks p masks place word t in16 h in
+      let is_set : bit_at (slice_index masks pc) word ≡ 1 = subst (λ n. bit_at (slice_index masks pc) n ≡ 1) same set in
+      let lacks = unstored_lacks p masks pc word t in16 h in
       omega arith
 
-  step_checked : IfSome read (λ k. bit_at (slice_index masks place) k ≡ 1) → (earlier word : ℕ) → earlier < place + 1 → ReadsUnstored p word earlier → ⊥
+  step_checked : IfSome read (λ k. bit_at (slice_index masks pc) k ≡ 1) → (earlier word : ℕ) → earlier < pc + 1 → ReadsUnstored p word earlier → ⊥
   step_checked set earlier word before h =
-      elim (cases_lt earlier place) [
+      elim (cases_lt earlier pc) [
         | inl passed ↦ t.checked earlier word passed h
         | inr later ↦
-            let same : earlier ≡ place = omega arith in
-            let here : ReadsUnstored p word place = subst (ReadsUnstored p word) same h in
+            let same : earlier ≡ pc = omega arith in
+            let here : ReadsUnstored p word pc = subst (ReadsUnstored p word) same h in
             read_contradicts word read (sym (is_read word) ∙ here.0) in_read set here.1
       ]
 
-  pub step_tracks : IfSome read (λ k. bit_at (slice_index masks place) k ≡ 1) → Tracks p (narrowed masks successors (stored_after stored (slice_index masks place))) (place + 1)
+  pub step_tracks : IfSome read (λ k. bit_at (slice_index masks pc) k ≡ 1) → Tracks p (intersect_masks masks successors (mask_after stored (slice_index masks pc))) (pc + 1)
   step_tracks set = record {
-    size = length-narrowed successors masks (stored_after stored (slice_index masks place)) ∙ t.size;
-    first = λ word. keeps successors masks (stored_after stored (slice_index masks place)) 0 word (t.first word);
+    size = length-intersect_masks successors masks (mask_after stored (slice_index masks pc)) ∙ t.size;
+    first = λ word. keeps successors masks (mask_after stored (slice_index masks pc)) 0 word (t.first word);
     sound = step_sound;
     complete = step_complete;
     checked = step_checked set;
   }
 
-  found_first : (word : ℕ) (r : Option ℕ) → r ≡ Some word → IfSome r (λ k. k < 16) → ((other : ℕ) → reads_at p other place ≡ option_map_or (λ k. k == other) r false) → bit_at (slice_index masks place) word ≡ 0 → IsFirstUnstored p place word
+  found_first : (word : ℕ) (r : Option ℕ) → r ≡ Some word → IfSome r (λ k. k < 16) → ((other : ℕ) → reads_at p other pc ≡ option_map_or (λ k. k == other) r false) → bit_at (slice_index masks pc) word ≡ 0 → IsFirstUnstored p pc word
   found_first word None e below reads unset = cc
   found_first word (Some k) e below reads unset =
       let same : k ≡ word = cc in
       let in16 : word < 16 = subst (λ n. n < 16) same below in
-      let here : reads_at p word place ≡ true = reads word ∙ eq-eqb k word same in
-      ((here, t.sound place word at in16 unset), λ earlier other before h. t.checked earlier other before h)
+      let here : reads_at p word pc ≡ true = reads word ∙ eq-eqb k word same in
+      ((here, t.sound pc word at in16 unset), λ earlier other before h. t.checked earlier other before h)
 
   -- a read of a word that the mask lacks is the first such read
-  pub step_finds : (word : ℕ) → read ≡ Some word → bit_at (slice_index masks place) word ≡ 0 → IsFirstUnstored p place word
+  pub step_finds : (word : ℕ) → read ≡ Some word → bit_at (slice_index masks pc) word ≡ 0 → IsFirstUnstored p pc word
   step_finds word e unset = found_first word read e in_read is_read unset
 
 -- ---- after the pass
 
-read_within : (p : List Packed) (word place : ℕ) → reads_at p word place ≡ true → place < length p
-read_within p word place e =
-    elim (cases_lt place (length p)) [
+read_within : (p : List Packed) (word pc : ℕ) → reads_at p word pc ≡ true → pc < length p
+read_within p word pc e =
+    elim (cases_lt pc (length p)) [
       | inl below ↦ below
       | inr past ↦
-          let none : reads_at p word place ≡ false = ap (λ (o : Option Packed). option_map_or (reads_word word) o false) (slice_get_past p place past) in
+          let none : reads_at p word pc ≡ false = ap (λ (o : Option Packed). option_map_or (loads_slot word) o false) (slice_get_past p pc past) in
           absurd (true≢false (sym e ∙ none))
     ]
 
 -- where every instruction was passed, every path to a read has stored
 pub passed_all : (p : List Packed) (masks : List ℕ) → Tracks p masks (length p) → StoresBeforeReads p
-passed_all p masks t place word reads way path =
-    true_from_ne_false (stored_on p word way)
-    (λ none. t.checked place word (read_within p word place reads) (reads, (way, path, none)))
+passed_all p masks t pc word reads way path =
+    true_from_ne_false (is_stored_on p word way)
+    (λ none. t.checked pc word (read_within p word pc reads) (reads, (way, path, none)))
 
--- ---- by the typed instruction at a place
+-- ---- by the typed instruction at a pc
 
 below_by : (r : Option ℕ) (t : ℕ → Bool) → ((word : ℕ) → t word ≡ option_map_or (λ k. k == word) r false) → ((word : ℕ) → t word ≡ true → word < 16) → IfSome r (λ k. k < 16)
 below_by None t is below = tt
 below_by (Some k) t is below = below k (is k ∙ eq-eqb k k refl)
 
--- the instruction that the word at a place unpacks to, in a program whose words are sound
-pub record Unpacked (p : List Packed) (place : ℕ) (i : Insn) : Type 0 where
+-- the instruction that the word at a pc unpacks to, in a program whose words are sound
+pub record Unpacked (p : List Packed) (pc : ℕ) (i : Insn) : Type 0 where
   pub w : Packed
-  pub at : slice_get p place ≡ Some w
+  pub at : slice_get p pc ≡ Some w
   pub is : insn_word i ≡ canonical_word w
 
-pub unpacked : (p : List Packed) (place : ℕ) (d : Packed) (i : Insn) → place < length p → insn_word i ≡ canonical_word (slice_index_or p place d) → Unpacked p place i
-unpacked p place d i below e = record { w = slice_index_or p place d; at = slice_get-get_or p place d below; is = e }
+pub unpacked : (p : List Packed) (pc : ℕ) (d : Packed) (i : Insn) → pc < length p → insn_word i ≡ canonical_word (slice_index_or p pc d) → Unpacked p pc i
+unpacked p pc d i below e = record { w = slice_index_or p pc d; at = slice_get-get_or p pc d below; is = e }
 
-module _ (p : List Packed) (masks : List ℕ) (place : ℕ) (i : Insn) (long : HasLength p) (sound : HasSoundWords p) (ends : ends_in_return p ≡ true) (u : Unpacked p place i) (t : Tracks p masks place) where
-  word_is_sound : IsSoundWord (length p) place u.w
-  word_is_sound = sound_at p place u.w sound u.at
+module _ (p : List Packed) (masks : List ℕ) (pc : ℕ) (i : Insn) (long : HasLength p) (sound : HasNoWordFault p) (ends : ends_in_return p ≡ true) (u : Unpacked p pc i) (t : Tracks p masks pc) where
+  word_is_sound : IsFaultlessWord (length p) pc u.w
+  word_is_sound = faultless_at p pc u.w sound u.at
 
-  reads_is : (word : ℕ) → reads_at p word place ≡ reads_word word u.w
-  reads_is word = ap (λ (o : Option Packed). option_map_or (reads_word word) o false) u.at
+  reads_is : (word : ℕ) → reads_at p word pc ≡ loads_slot word u.w
+  reads_is word = ap (λ (o : Option Packed). option_map_or (loads_slot word) o false) u.at
 
-  stores_is : (word : ℕ) → stores_at p word place ≡ stores_word word u.w
-  stores_is word = ap (λ (o : Option Packed). option_map_or (stores_word word) o false) u.at
+  stores_is : (word : ℕ) → stores_at p word pc ≡ stores_slot word u.w
+  stores_is word = ap (λ (o : Option Packed). option_map_or (stores_slot word) o false) u.at
 
-  read_in : IfSome (word_read i) (λ k. k < 16)
+  read_in : IfSome (loaded_slot i) (λ k. k < 16)
   read_in =
-      below_by (word_read i) (λ word. reads_at p word place) (λ word. reads_by_insn p word place u.w i u.at u.is)
-      (λ word e. read_below u.w (length p) place word word_is_sound (sym (reads_is word) ∙ e))
+      below_by (loaded_slot i) (λ word. reads_at p word pc) (λ word. reads_by_insn p word pc u.w i u.at u.is)
+      (λ word e. read_below u.w (length p) pc word word_is_sound (sym (reads_is word) ∙ e))
 
-  stored_in : IfSome (word_stored i) (λ k. k < 16)
+  stored_in : IfSome (stored_slot i) (λ k. k < 16)
   stored_in =
-      below_by (word_stored i) (λ word. stores_at p word place) (λ word. stores_by_insn p word place u.w i u.at u.is)
-      (λ word e. stored_below u.w (length p) place word word_is_sound (sym (stores_is word) ∙ e))
+      below_by (stored_slot i) (λ word. stores_at p word pc) (λ word. stores_by_insn p word pc u.w i u.at u.is)
+      (λ word e. stored_below u.w (length p) pc word word_is_sound (sym (stores_is word) ∙ e))
 
-  within : place < 4096
-  within = let below = slice_get_within p place u.w u.at in let most = long.1 in omega arith
+  within : pc < 4096
+  within = let below = slice_get_within p pc u.w u.at in let most = long.1 in omega arith
 
-  follows_within : All (λ next. next < length masks) (successors_of place i)
+  follows_within : All (λ next. next < length masks) (successors_of pc i)
   follows_within k d below =
-      let contained : Contains (successors_of place i) (slice_index_or (successors_of place i) k d) = Contains-get_or (successors_of place i) k d below in
-      let at_place : Contains (successors_at p place) (slice_index_or (successors_of place i) k d) = subst (λ (ss : List ℕ). Contains ss (slice_index_or (successors_of place i) k d)) (sym (successors_by_insn p place u.w i u.at u.is)) contained in
-      let of_word : Contains (successors place u.w) (slice_index_or (successors_of place i) k d) = subst (λ (ss : List ℕ). Contains ss (slice_index_or (successors_of place i) k d)) (ap (λ (o : Option Packed). option_map_or (successors place) o []) u.at) at_place in
-      let inside = successor_within p place u.w (slice_index_or (successors_of place i) k d) sound ends u.at of_word in
+      let contained : Contains (successors_of pc i) (slice_index_or (successors_of pc i) k d) = Contains-get_or (successors_of pc i) k d below in
+      let at_place : Contains (successors_at p pc) (slice_index_or (successors_of pc i) k d) = subst (λ (ss : List ℕ). Contains ss (slice_index_or (successors_of pc i) k d)) (sym (successors_by_insn p pc u.w i u.at u.is)) contained in
+      let of_word : Contains (successors pc u.w) (slice_index_or (successors_of pc i) k d) = subst (λ (ss : List ℕ). Contains ss (slice_index_or (successors_of pc i) k d)) (ap (λ (o : Option Packed). option_map_or (successors pc) o []) u.at) at_place in
+      let inside = successor_within p pc u.w (slice_index_or (successors_of pc i) k d) sound ends u.at of_word in
       let most = long.1 in let size = t.size in omega arith
 
-  pub can_carry : CanCarry masks place i
+  pub can_carry : CanCarry masks pc i
   can_carry = record {
     here = let at = within in let size = t.size in omega arith;
     successors = follows_within;
@@ -321,23 +321,23 @@ module _ (p : List Packed) (masks : List ℕ) (place : ℕ) (i : Insn) (long : H
     stored = stored_in;
   }
 
-  pub carry_tracks : (new : List ℕ) → Carries masks new place i → Tracks p new (place + 1)
+  pub carry_tracks : (new : List ℕ) → Carries masks new pc i → Tracks p new (pc + 1)
   carry_tracks new c =
-      subst (λ (ms : List ℕ). Tracks p ms (place + 1)) (sym c.masks)
-      (step_tracks p masks place (successors_of place i) (word_read i) (word_stored i) t within (successors_by_insn p place u.w i u.at u.is)
-      (λ word. reads_by_insn p word place u.w i u.at u.is) (λ word. stores_by_insn p word place u.w i u.at u.is) read_in stored_in c.read)
+      subst (λ (ms : List ℕ). Tracks p ms (pc + 1)) (sym c.masks)
+      (step_tracks p masks pc (successors_of pc i) (loaded_slot i) (stored_slot i) t within (successors_by_insn p pc u.w i u.at u.is)
+      (λ word. reads_by_insn p word pc u.w i u.at u.is) (λ word. stores_by_insn p word pc u.w i u.at u.is) read_in stored_in c.read)
 
-  pub carry_finds : (fault : LoadFault) → Lacks masks place i fault → IsFirstFault p fault
+  pub carry_finds : (fault : LoadFault) → Lacks masks pc i fault → IsFirstFault p fault
   carry_finds fault l =
-      let first : IsFirstUnstored p place l.word =
-      step_finds p masks place (successors_of place i) (word_read i) (word_stored i) t within (successors_by_insn p place u.w i u.at u.is)
-      (λ word. reads_by_insn p word place u.w i u.at u.is) (λ word. stores_by_insn p word place u.w i u.at u.is) read_in stored_in l.word l.read l.unset in
-      let found : IsFirstFault p (Unstored place l.word) = (long, sound, ends, first) in
+      let first : IsFirstUnstored p pc l.word =
+      step_finds p masks pc (successors_of pc i) (loaded_slot i) (stored_slot i) t within (successors_by_insn p pc u.w i u.at u.is)
+      (λ word. reads_by_insn p word pc u.w i u.at u.is) (λ word. stores_by_insn p word pc u.w i u.at u.is) read_in stored_in l.word l.read l.unset in
+      let found : IsFirstFault p (Unstored pc l.word) = (long, sound, ends, first) in
       subst (IsFirstFault p) (sym l.fault_is) found
 
--- the word at a place is listed
-pub not_unlisted : (p : List Packed) (place : ℕ) (d : Packed) → HasSoundWords p → place < length p → row (slice_index_or p place d).code ≡ None → ⊥
-not_unlisted p place d sound below none =
-    let listed : is_some (row (slice_index_or p place d).code) ≡ true = (sound_at p place (slice_index_or p place d) sound (slice_get-get_or p place d below)).listed in
-    let unlisted : is_some (row (slice_index_or p place d).code) ≡ false = ap (λ (r : Option Row). is_some r) none in
+-- the word at a pc is listed
+pub not_unlisted : (p : List Packed) (pc : ℕ) (d : Packed) → HasNoWordFault p → pc < length p → row (slice_index_or p pc d).code ≡ None → ⊥
+not_unlisted p pc d sound below none =
+    let listed : is_some (row (slice_index_or p pc d).code) ≡ true = (faultless_at p pc (slice_index_or p pc d) sound (slice_get-get_or p pc d below)).listed in
+    let unlisted : is_some (row (slice_index_or p pc d).code) ≡ false = ap (λ (r : Option Row). is_some r) none in
     true≢false (sym listed ∙ unlisted)

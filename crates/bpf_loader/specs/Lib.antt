@@ -1,6 +1,5 @@
 pub mod Paths
 pub mod Faults
-pub mod Laws
 pub mod Typed
 pub mod Masks
 pub use Rattle.bpf_isa.specs.Machine

@@ -1,16 +1,20 @@
-ghost use Rattle.std.specs.Prelude.{◌≡◌, ℕ, true, ◌<◌, ◌≤◌, All, IfSome, MatchBool, MatchResult, length, slice_index};
+//! The check of scratch memory: no path loads a slot that it hasn't stored.
+
+ghost use Rattle.std.specs.Prelude.{◌≡◌, ℕ, true, ◌<◌, ◌≤◌, ◌-◌, ◌^◌, length, slice_index};
+ghost use Rattle.std.specs.Prelude.{All, IfSome, MatchBool, MatchResult};
 ghost use Rattle.std.specs.Int.{bit_at};
-ghost use Rattle.bpf_loader.specs.Typed.{successors_of, word_read, word_stored};
-ghost use Rattle.bpf_loader.specs.Masks.{stored_after, narrowed, CanCarry, Carries, Lacks};
-ghost use Rattle.bpf_loader.specs.Faults.{HasLength, HasSoundWords, StoresBeforeReads, ends_in_return, IsFirstFault};
+ghost use Rattle.bpf_loader.specs.Typed.{successors_of, loaded_slot, stored_slot};
+ghost use Rattle.bpf_loader.specs.Masks.{mask_after, intersect_masks, CanCarry, Carries, Lacks};
+ghost use Rattle.bpf_isa.specs.Machine.{max_insns, scratch_slots};
+ghost use Rattle.bpf_loader.specs.Faults.{HasLength, HasNoWordFault, StoresBeforeReads};
+ghost use Rattle.bpf_loader.specs.Faults.{ends_in_return, IsFirstFault};
 
 use crate::fault::LoadFault;
-use crate::program::MAX_LEN;
-use bpf_isa::{Family, Insn, Jump, Load, LoadX, Packed, Store};
+use bpf_isa::{Family, Insn, Jump, Load, LoadX, MAX_INSNS, Packed, Store};
 
-/// The scratch word that the instruction loads.
-fn word_read(insn: Insn) -> Option<u32>
-    ensures { result ≡ word_read insn }
+/// The scratch memory slot that the instruction loads.
+fn loaded_slot(insn: Insn) -> Option<u32>
+    ensures { result ≡ loaded_slot insn }
 {
     match insn {
         Insn::Load(Load::Scratch(word)) | Insn::LoadX(LoadX::Scratch(word)) => Some(word),
@@ -18,9 +22,9 @@ fn word_read(insn: Insn) -> Option<u32>
     }
 }
 
-/// The scratch word that the instruction stores.
-fn word_stored(insn: Insn) -> Option<u32>
-    ensures { result ≡ word_stored insn }
+/// The scratch memory slot that the instruction stores.
+fn stored_slot(insn: Insn) -> Option<u32>
+    ensures { result ≡ stored_slot insn }
 {
     match insn {
         Insn::Store(Store::A(word) | Store::X(word)) => Some(word),
@@ -28,86 +32,86 @@ fn word_stored(insn: Insn) -> Option<u32>
     }
 }
 
-/// Whether the mask has the scratch word.
+/// Whether the mask has the slot.
 fn has_stored(mask: u16, word: u32) -> bool
-    requires { word < 16 }
+    requires { word < scratch_slots }
     ensures { MatchBool result (bit_at mask word ≡ 1) (bit_at mask word ≡ 0) }
 {
     mask >> word & 1 == 1
 }
 
-/// The mask after the instruction.
-fn stored_after(insn: Insn, before: u16) -> u16
-    requires { IfSome (word_stored insn) (λ word. word < 16) }
-    ensures { result ≡ stored_after (word_stored insn) before }
+/// The mask after the instruction: one bit for each slot that every path so far has stored.
+fn mask_after(insn: Insn, before: u16) -> u16
+    requires { IfSome (stored_slot insn) (λ word. word < scratch_slots) }
+    ensures { result ≡ mask_after (stored_slot insn) before }
 {
-    match word_stored(insn) {
+    match stored_slot(insn) {
         Some(word) => before | 1 << word,
         None => before,
     }
 }
 
-/// The masks of the instruction's successors keep only what this mask has.
-fn narrow(masks: &mut [u16], place: usize, insn: Insn, mask: u16)
-    requires { All (λ next. next < length masks.old) (successors_of place insn) }
-    ensures { masks.new ≡ narrowed masks.old (successors_of place insn) mask }
+/// Takes the slots that this mask lacks out of the masks of the instruction's successors.
+fn intersect(masks: &mut [u16], pc: usize, insn: Insn, mask: u16)
+    requires { All (λ next. next < length masks.old) (successors_of pc insn) }
+    ensures { masks.new ≡ intersect_masks masks.old (successors_of pc insn) mask }
 {
     match insn {
         Insn::Return(_) => {}
-        Insn::Jump(Jump::Always(skipped)) => masks[place + 1 + skipped as usize] &= mask,
+        Insn::Jump(Jump::Always(skipped)) => masks[pc + 1 + skipped as usize] &= mask,
         Insn::Jump(Jump::If(_, _, jt, jf)) => {
-            masks[place + 1 + jt as usize] &= mask;
-            masks[place + 1 + jf as usize] &= mask;
+            masks[pc + 1 + jt as usize] &= mask;
+            masks[pc + 1 + jf as usize] &= mask;
         }
-        _ => masks[place + 1] &= mask,
+        _ => masks[pc + 1] &= mask,
     }
 }
 
-/// Carries the masks over the instruction at a place, unless it reads a scratch word that its mask
-/// lacks.
-fn carry(masks: &mut [u16], place: usize, insn: Insn) -> Result<(), LoadFault>
-    requires { CanCarry masks.old place insn }
+/// Carries the masks over the instruction at the pc, unless it loads a slot that its mask lacks.
+fn carry(masks: &mut [u16], pc: usize, insn: Insn) -> Result<(), LoadFault>
+    requires { CanCarry masks.old pc insn }
     ensures { MatchResult result
-        (λ _. Carries masks.old masks.new place insn)
-        (λ fault. Lacks masks.old place insn fault) }
+        (λ _. Carries masks.old masks.new pc insn)
+        (λ fault. Lacks masks.old pc insn fault) }
 {
-    let before = masks[place];
-    if let Some(word) = word_read(insn)
+    let before = masks[pc];
+    if let Some(word) = loaded_slot(insn)
         && !has_stored(before, word)
     {
-        return Err(LoadFault::Unstored { at: place, word });
+        return Err(LoadFault::Unstored { at: pc, word });
     }
-    narrow(masks, place, insn, stored_after(insn, before));
+    intersect(masks, pc, insn, mask_after(insn, before));
     Ok(())
 }
 
-/// The masks before the pass: only the first place is reached, and nothing is stored there.
-fn masks_at_start() -> [u16; MAX_LEN]
-    ensures size { length result ≡ 4096 }
+/// The masks before the pass: no slot is stored at the first instruction, and no path has come to
+/// another.
+fn masks_at_start() -> [u16; MAX_INSNS]
+    ensures size { length result ≡ max_insns }
     ensures first { slice_index result 0 ≡ 0 }
-    ensures others { (place : ℕ) → 1 ≤ place → place < 4096 → slice_index result place ≡ 65535 }
+    ensures others { (pc : ℕ) → 1 ≤ pc → pc < max_insns → slice_index result pc ≡ 2 ^ 16 - 1 }
 {
-    let mut masks = [u16::MAX; MAX_LEN];
+    let mut masks = [u16::MAX; MAX_INSNS];
     masks[0] = 0;
     masks
 }
 
-/// Refuses the first read of a scratch word that some path from instruction 0 has not stored. Since
-/// jumps go forward, one pass in order has seen every path to a place before it comes there.
+/// Refuses the first load of a slot that some path from instruction 0 hasn't stored. Since jumps go
+/// forward, one pass in order has seen every path to a pc before it comes there.
 pub(crate) fn check_scratch(words: &[Packed]) -> Result<(), LoadFault>
-    requires long { HasLength words.now }
-    requires sound { HasSoundWords words.now }
-    requires ends { ends_in_return words.now ≡ true }
+    requires has_length { HasLength words.now }
+    requires no_word_fault { HasNoWordFault words.now }
+    requires returns { ends_in_return words.now ≡ true }
     ensures { MatchResult result
         (λ _. StoresBeforeReads words.now)
         (λ fault. IsFirstFault words.now fault) }
 {
     let mut masks = masks_at_start();
-    for (place, word) in words.iter().enumerate() {
+    for (pc, word) in words.iter().enumerate() {
         let Some(insn) = Insn::unpack(*word) else {
             unreachable!()
         };
-        carry(&mut masks, place, insn)?;
+        carry(&mut masks, pc, insn)?;
     }
     Ok(())
 }

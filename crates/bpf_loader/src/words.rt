@@ -1,103 +1,106 @@
+//! The faults of single instructions.
+
 ghost use Rattle.std.specs.Prelude.{◌≡◌, ◌<◌, MatchResult};
 ghost use Rattle.bpf_isa.specs.Table.{returns_answer};
-ghost use Rattle.bpf_loader.specs.Faults.{fault_of_word, HasSoundWords, IsFirstWordFault, ends_in_return};
-ghost use Rattle.bpf_loader.specs.Typed.{fault_of_load, fault_of_load_x, fault_of_store, fault_of_alu, fault_of_jump, fault_of_insn};
+ghost use Rattle.bpf_loader.specs.Faults.{fault_of_word, HasNoWordFault, IsFirstWordFault};
+ghost use Rattle.bpf_loader.specs.Faults.{ends_in_return};
+ghost use Rattle.bpf_loader.specs.Typed.{fault_of_load, fault_of_load_x, fault_of_store};
+ghost use Rattle.bpf_loader.specs.Typed.{fault_of_alu, fault_of_jump, fault_of_insn};
 
 use crate::fault::LoadFault;
-use bpf_isa::{Alu, Family, Insn, Jump, Load, LoadX, Operator, Packed, Source, Store};
+use bpf_isa::{
+    Alu, Family, Insn, Jump, Load, LoadX, Operator, Packed, SCRATCH_SLOTS, Source, Store,
+};
 
-/// How many scratch words there are.
-const SCRATCH_WORDS: u32 = 16;
-
-/// Absolute offsets lie below this one.
+/// Absolute offsets are below this one (this project's profile).
 const OFFSET_END: u32 = 1 << 31;
 
-fn load_fault(place: usize, load: Load) -> Option<LoadFault>
-    ensures { result ≡ fault_of_load place load }
+fn load_fault(pc: usize, load: Load) -> Option<LoadFault>
+    ensures { result ≡ fault_of_load pc load }
 {
     match load {
-        Load::Absolute(_, k) if k >= OFFSET_END => Some(LoadFault::Offset { at: place }),
-        Load::Scratch(k) if k >= SCRATCH_WORDS => Some(LoadFault::Scratch { at: place }),
+        Load::Absolute(_, k) if k >= OFFSET_END => Some(LoadFault::Offset { at: pc }),
+        Load::Scratch(k) if k as usize >= SCRATCH_SLOTS => Some(LoadFault::Scratch { at: pc }),
         _ => None,
     }
 }
 
-fn load_x_fault(place: usize, load: LoadX) -> Option<LoadFault>
-    ensures { result ≡ fault_of_load_x place load }
+fn load_x_fault(pc: usize, load: LoadX) -> Option<LoadFault>
+    ensures { result ≡ fault_of_load_x pc load }
 {
     match load {
-        LoadX::HeaderLength(k) if k >= OFFSET_END => Some(LoadFault::Offset { at: place }),
-        LoadX::Scratch(k) if k >= SCRATCH_WORDS => Some(LoadFault::Scratch { at: place }),
+        LoadX::HeaderLength(k) if k >= OFFSET_END => Some(LoadFault::Offset { at: pc }),
+        LoadX::Scratch(k) if k as usize >= SCRATCH_SLOTS => Some(LoadFault::Scratch { at: pc }),
         _ => None,
     }
 }
 
-fn store_fault(place: usize, store: Store) -> Option<LoadFault>
-    ensures { result ≡ fault_of_store place store }
+fn store_fault(pc: usize, store: Store) -> Option<LoadFault>
+    ensures { result ≡ fault_of_store pc store }
 {
     let (Store::A(k) | Store::X(k)) = store;
-    if k >= SCRATCH_WORDS {
-        Some(LoadFault::Scratch { at: place })
+    if k as usize >= SCRATCH_SLOTS {
+        Some(LoadFault::Scratch { at: pc })
     } else {
         None
     }
 }
 
-fn alu_fault(place: usize, alu: Alu) -> Option<LoadFault>
-    ensures { result ≡ fault_of_alu place alu }
+fn alu_fault(pc: usize, alu: Alu) -> Option<LoadFault>
+    ensures { result ≡ fault_of_alu pc alu }
 {
     match alu {
         Alu::Binary(Operator::Div | Operator::Mod, Source::K(0)) => {
-            Some(LoadFault::ZeroDivisor { at: place })
+            Some(LoadFault::ZeroDivisor { at: pc })
         }
-        Alu::Binary(Operator::Lsh | Operator::Rsh, Source::K(k)) if k >= 32 => {
-            Some(LoadFault::Shift { at: place })
+        Alu::Binary(Operator::Lsh | Operator::Rsh, Source::K(k)) if k >= u32::BITS => {
+            Some(LoadFault::Shift { at: pc })
         }
         _ => None,
     }
 }
 
-fn jump_fault(len: usize, place: usize, jump: Jump) -> Option<LoadFault>
-    requires { place < len }
-    ensures { result ≡ fault_of_jump len place jump }
+fn jump_fault(len: usize, pc: usize, jump: Jump) -> Option<LoadFault>
+    requires { pc < len }
+    ensures { result ≡ fault_of_jump len pc jump }
 {
     let farthest = match jump {
         Jump::Always(k) => k as usize,
         Jump::If(_, _, jt, jf) => jt.max(jf) as usize,
     };
-    if farthest >= len - (place + 1) {
-        Some(LoadFault::Jump { at: place })
+    if farthest >= len - (pc + 1) {
+        Some(LoadFault::Jump { at: pc })
     } else {
         None
     }
 }
 
-/// The first fault of one word, at its place in a program of this length.
-pub(crate) fn word_fault(len: usize, place: usize, word: Packed) -> Option<LoadFault>
-    requires { place < len }
-    ensures { result ≡ fault_of_word len place word }
+/// The first fault of an instruction at its pc in a program of this length.
+pub(crate) fn word_fault(len: usize, pc: usize, word: Packed) -> Option<LoadFault>
+    requires { pc < len }
+    ensures { result ≡ fault_of_word len pc word }
 {
     let Some(insn) = Insn::unpack(word) else {
-        return Some(LoadFault::UnknownCode { at: place });
+        return Some(LoadFault::UnknownCode { at: pc });
     };
     match insn {
-        Insn::Load(load) => load_fault(place, load),
-        Insn::LoadX(load) => load_x_fault(place, load),
-        Insn::Store(store) => store_fault(place, store),
-        Insn::Alu(alu) => alu_fault(place, alu),
-        Insn::Jump(jump) => jump_fault(len, place, jump),
+        Insn::Load(load) => load_fault(pc, load),
+        Insn::LoadX(load) => load_x_fault(pc, load),
+        Insn::Store(store) => store_fault(pc, store),
+        Insn::Alu(alu) => alu_fault(pc, alu),
+        Insn::Jump(jump) => jump_fault(len, pc, jump),
         Insn::Return(_) | Insn::Move(_) => None,
     }
 }
 
-/// The first fault of a word, where a word has one.
+/// Refuses the first instruction that has a fault of its own.
 pub(crate) fn check_words(words: &[Packed]) -> Result<(), LoadFault>
     ensures { MatchResult result
-        (λ _. HasSoundWords words.now)
+        (λ _. HasNoWordFault words.now)
         (λ fault. IsFirstWordFault words.now fault) }
 {
-    for (place, word) in words.iter().enumerate() {
-        if let Some(fault) = word_fault(words.len(), place, *word) {
+    for (pc, word) in words.iter().enumerate() {
+        if let Some(fault) = word_fault(words.len(), pc, *word) {
             return Err(fault);
         }
     }
@@ -113,7 +116,7 @@ fn is_return(word: Packed) -> bool
     }
 }
 
-/// Whether the last word is a return.
+/// Whether the last instruction is a return.
 pub(crate) fn ends_in_return(words: &[Packed]) -> bool
     ensures { result ≡ ends_in_return words.now }
 {

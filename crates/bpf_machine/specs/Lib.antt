@@ -1,5 +1,4 @@
 pub mod Branch
 pub mod Run
-pub mod Laws
 pub use Rattle.bpf_isa.specs.Table
 pub use Rattle.bpf_isa.specs.Machine

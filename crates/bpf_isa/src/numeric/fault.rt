@@ -1,13 +1,15 @@
+//! The faults of a text in the numeric form.
+
 ghost use Rattle.std.specs.Prelude.{◌≡◌};
 ghost use Rattle.bpf_isa.specs.declared.numeric.fault.NumericFault.TheVariants.{Memory};
 
 use std::alloc::{AllocError, AllocFailed};
 use thiserror::Error;
 
-/// Why a text is no program in the numeric form. A place counts bytes of the text, from 0.
+/// Why a text is no program in the numeric form. `at` is a byte offset in the text, from 0.
 ///
-/// `Character` stands before all others. Otherwise the items are checked from left to right, and
-/// in an item its form before its numbers; `Count` comes last.
+/// `Character` comes before all others. Then the items are checked from left to right, and in an
+/// item its form before its numbers. `Count` comes last.
 #[derive(Clone, Copy, Debug, PartialEq, Eq, Error)]
 pub enum NumericFault {
     /// The byte is no digit, blank, comma or newline.
@@ -16,17 +18,17 @@ pub enum NumericFault {
     /// The number is too large: a code over 65535, a jump over 255, or another over 2^32 - 1.
     #[error("number at {at}")]
     Number { at: usize },
-    /// The item whose first digit stands here has too few or too many numbers; at the text's
-    /// length, the text has no item.
+    /// The item that begins here has too few or too many numbers. At the text's length: the text
+    /// has no item.
     #[error("form at {at}")]
     Form { at: usize },
-    /// The text's length: it has fewer or more instructions than its count says.
+    /// The text has fewer or more instructions than its count says. `at` is the text's length.
     #[error("count at {at}")]
     Count { at: usize },
     /// The count is over 4096.
     #[error("too many at {at}")]
     TooMany { at: usize },
-    /// There is no memory for the instructions.
+    /// Out of memory for the instructions.
     #[error("memory")]
     Memory,
 }

@@ -1,10 +1,12 @@
 //! Cuts the text into items, and items into numbers.
 
-ghost use Rattle.std.specs.Prelude.{◌≡◌, ◌+◌, ◌^◌, ◌<◌, ◌≤◌, ℕ, [], ◌∷◌, take, drop, length, MatchOption, IfSome};
+ghost use Rattle.std.specs.Prelude.{◌≡◌, ◌+◌, ◌^◌, ◌<◌, ◌≤◌, ℕ, [], ◌∷◌, take, drop, length};
+ghost use Rattle.std.specs.Prelude.{MatchOption, IfSome};
 ghost use Rattle.std.specs.List.{prefix_len, position_or_len};
-ghost use Rattle.bpf_isa.specs.Numeric.{is_blank, is_separator, is_space, is_allowed, numbers_in, items_in};
+ghost use Rattle.bpf_isa.specs.Numeric.{is_blank, is_separator, is_space, is_allowed};
+ghost use Rattle.bpf_isa.specs.Numeric.{numbers_in, items_in};
 
-/// Some bytes of the text, and the place of the first of them.
+/// Some bytes of the text, and the offset of the first.
 #[derive(Clone, Copy)]
 pub(super) struct Part<'a> {
     pub(super) at: usize,
@@ -12,7 +14,7 @@ pub(super) struct Part<'a> {
     ghost within: { at + length bytes.now < 2 ^ 64 },
 }
 
-/// An item: its first number, and what follows that number.
+/// An item: its first number, and the bytes after it.
 #[derive(Clone, Copy)]
 pub(super) struct Item<'a> {
     pub(super) first: Part<'a>,
@@ -31,14 +33,14 @@ fn is_separator(byte: u8) -> bool
     matches!(byte, b',' | b'\n')
 }
 
-/// Whether the numeric form knows the byte.
+/// Whether the numeric form has the byte.
 pub(super) fn is_allowed(byte: u8) -> bool
     ensures { result ≡ is_allowed byte }
 {
     byte.is_ascii_digit() || is_blank(byte) || is_separator(byte)
 }
 
-/// How many blanks and separators the bytes begin with.
+/// The number of leading blanks and separators.
 fn space_len(bytes: &[u8]) -> usize
     ensures { result ≡ prefix_len is_space bytes.now }
 {
@@ -48,21 +50,21 @@ fn space_len(bytes: &[u8]) -> usize
         .count()
 }
 
-/// How many blanks the bytes begin with.
+/// The number of leading blanks.
 fn blank_len(bytes: &[u8]) -> usize
     ensures { result ≡ prefix_len is_blank bytes.now }
 {
     bytes.iter().take_while(|b| is_blank(**b)).count()
 }
 
-/// How many bytes stand before the first blank.
+/// The number of bytes before the first blank.
 fn number_len(bytes: &[u8]) -> usize
     ensures { result ≡ position_or_len is_blank bytes.now }
 {
     bytes.iter().take_while(|b| !is_blank(**b)).count()
 }
 
-/// How many bytes stand before the first separator.
+/// The number of bytes before the first separator.
 fn item_len(bytes: &[u8]) -> usize
     ensures { result ≡ position_or_len is_separator bytes.now }
 {
@@ -72,23 +74,25 @@ fn item_len(bytes: &[u8]) -> usize
 impl<'a> Part<'a> {
     fn split_at(self, mid: usize) -> (Part<'a>, Part<'a>)
         requires { mid ≤ length self.bytes.now }
-        ensures front { (result.0.at ≡ self.entry.at) × (result.0.bytes.now ≡ take mid self.entry.bytes.now) }
-        ensures back { (result.1.at ≡ self.entry.at + mid) × (result.1.bytes.now ≡ drop mid self.entry.bytes.now) }
+        ensures prefix { (result.0.at ≡ self.entry.at)
+            × (result.0.bytes.now ≡ take mid self.entry.bytes.now) }
+        ensures suffix { (result.1.at ≡ self.entry.at + mid)
+            × (result.1.bytes.now ≡ drop mid self.entry.bytes.now) }
     {
-        let (front, back) = self.bytes.split_at(mid);
+        let (prefix, suffix) = self.bytes.split_at(mid);
         (
             Part {
                 at: self.at,
-                bytes: front,
+                bytes: prefix,
             },
             Part {
                 at: self.at + mid,
-                bytes: back,
+                bytes: suffix,
             },
         )
     }
 
-    /// The first number of an item, and what follows it.
+    /// The first number of an item, and the bytes after it.
     pub(super) fn next_number(self) -> Option<(Part<'a>, Part<'a>)>
         ensures { MatchOption result
             (numbers_in self.entry.at self.entry.bytes.now ≡ [])
@@ -102,7 +106,7 @@ impl<'a> Part<'a> {
         Some(rest.split_at(number_len(rest.bytes)))
     }
 
-    /// The first item with a number in it, and what follows the item.
+    /// The first item that has a number, and the bytes after the item.
     pub(super) fn next_item(self) -> Option<(Item<'a>, Part<'a>)>
         ensures items { MatchOption result
             (items_in self.entry.at self.entry.bytes.now ≡ [])

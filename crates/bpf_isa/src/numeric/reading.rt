@@ -1,20 +1,23 @@
-ghost use Rattle.std.specs.Prelude.{◌≡◌, ◌≤◌, ℕ, List, [], ◌∷◌, Err, IfOk, MatchOption, position, not, vec_len};
+//! Reads the numeric form.
+
+ghost use Rattle.std.specs.Prelude.{◌≡◌, ◌<◌, ◌≤◌, ℕ, List, [], ◌∷◌, Err, position, not};
+ghost use Rattle.std.specs.Prelude.{IfOk, MatchOption};
 ghost use Rattle.bpf_isa.specs.declared.numeric.fault.NumericFault.TheVariants.{Form, Memory};
-ghost use Rattle.bpf_isa.specs.Numeric.{Gives, is_allowed, numbers_in, items_in, number_of, count_of, word_of, words_of, numeric_of, HasCount};
+ghost use Rattle.bpf_isa.specs.Machine.{max_insns};
+ghost use Rattle.bpf_isa.specs.Numeric.{Gives, is_allowed, numbers_in, items_in, number_of};
+ghost use Rattle.bpf_isa.specs.Numeric.{count_of, word_of, counted_words, numeric_of, HasCount};
 
 use crate::numeric::fault::NumericFault;
 use crate::numeric::part::{Item, Part, is_allowed};
 use crate::packed::Packed;
+use crate::state::MAX_INSNS;
 use std::alloc::Global;
 
-/// No program has more instructions (BPF_MAXINSNS).
-const MOST_WORDS: u32 = 4096;
-
-/// The value of a number, which is at most `most`.
+/// The value of a decimal number, which is at most `most`.
 #[tactic(auto, unfolding(crate::specs::Numeric::number_of, crate::specs::Numeric::value_of))]
 fn read_number(digits: Part<'_>, most: u32) -> Result<u32, NumericFault>
     ensures value { result ≡ number_of most (digits.entry.at, digits.entry.bytes.now) }
-    ensures small { IfOk result (λ n. n ≤ most) }
+    ensures bounded { IfOk result (λ n. n ≤ most) }
 {
     let mut value: u64 = 0;
     for digit in digits.bytes {
@@ -31,24 +34,25 @@ fn read_number(digits: Part<'_>, most: u32) -> Result<u32, NumericFault>
 fn read_count(item: Item<'_>) -> Result<usize, NumericFault>
     ensures value { result ≡ count_of (item.entry.first.at, item.entry.first.bytes.now)
         (numbers_in item.entry.others.at item.entry.others.bytes.now) }
-    ensures few { IfOk result (λ n. n ≤ 4096) }
+    ensures bounded { IfOk result (λ n. n ≤ max_insns) }
 {
     let at = item.first.at;
     if item.others.next_number().is_some() {
         return Err(NumericFault::Form { at });
     }
     let count = read_number(item.first, u32::MAX)?;
-    if count > MOST_WORDS {
+    if count as usize > MAX_INSNS {
         return Err(NumericFault::TooMany { at });
     }
     Ok(count as usize)
 }
 
-/// The three numbers behind an item's first, where there are just three.
+/// The three numbers after an item's first, if there are exactly three.
 #[tactic(auto, unfolding(crate::specs::Numeric::word_of))]
 fn last_three(others: Part<'_>) -> Option<(Part<'_>, Part<'_>, Part<'_>)>
     ensures { MatchOption result
-        ((code : ℕ × List ℕ) → word_of code (numbers_in others.entry.at others.entry.bytes.now) ≡ Err (Form code.0))
+        ((code : ℕ × List ℕ) → word_of code (numbers_in others.entry.at others.entry.bytes.now)
+        ≡ Err (Form code.0))
         (λ x. numbers_in others.entry.at others.entry.bytes.now
         ≡ (x.0.at, x.0.bytes.now) ∷ (x.1.at, x.1.bytes.now) ∷ (x.2.at, x.2.bytes.now) ∷ []) }
 {
@@ -69,9 +73,9 @@ fn read_word(item: Item<'_>) -> Result<Packed, NumericFault>
     let Some((jt, jf, k)) = last_three(item.others) else {
         return Err(NumericFault::Form { at: item.first.at });
     };
-    let code = read_number(item.first, 0xffff)?;
-    let jt = read_number(jt, 0xff)?;
-    let jf = read_number(jf, 0xff)?;
+    let code = read_number(item.first, u32::from(u16::MAX))?;
+    let jt = read_number(jt, u32::from(u8::MAX))?;
+    let jf = read_number(jf, u32::from(u8::MAX))?;
     let k = read_number(k, u32::MAX)?;
     Ok(Packed {
         code: code as u16,
@@ -81,20 +85,37 @@ fn read_word(item: Item<'_>) -> Result<Packed, NumericFault>
     })
 }
 
-/// The instructions in a row; `count` of them are announced.
-fn read_words(alloc: Global, count: usize, text: Part<'_>) -> Result<Vec<Packed>, NumericFault>
-    ensures { Gives (λ v. v.items) result (words_of (items_in text.entry.at text.entry.bytes.now)) }
+/// The instructions of a text of `end` bytes that claims `count` of them. The allocation follows
+/// the count and not the text: surplus items are checked and not kept.
+fn read_words(
+    alloc: Global,
+    count: usize,
+    end: usize,
+    text: Part<'_>,
+) -> Result<Vec<Packed>, NumericFault>
+    ensures exact { Gives (λ v. v.items) result
+        (counted_words end count (items_in text.entry.at text.entry.bytes.now)) }
+    ensures memory { result ≡ Err Memory → 0 < count }
 {
     let mut words = Vec::with_capacity(alloc, count)?;
+    let mut surplus = false;
     let mut rest = text;
     while let Some((item, after)) = rest.next_item() {
-        words.push(read_word(item)?)?;
+        let word = read_word(item)?;
+        if words.len() < count {
+            words.push(word)?;
+        } else {
+            surplus = true;
+        }
         rest = after;
+    }
+    if surplus || words.len() < count {
+        return Err(NumericFault::Count { at: end });
     }
     Ok(words)
 }
 
-/// The place of the first byte that the form does not know.
+/// The offset of the first byte that the form doesn't have.
 fn unknown_at(bytes: &[u8]) -> Option<usize>
     ensures { result ≡ position (λ b. not (is_allowed b)) bytes.now }
 {
@@ -103,14 +124,14 @@ fn unknown_at(bytes: &[u8]) -> Option<usize>
 
 /// Reads a program in the numeric form, as `tcpdump -ddd` prints it, with commas or newlines.
 ///
-/// Leading zeros are read, and blanks round a number. The fault is the first by the order that
-/// `NumericFault` states. No memory is asked for before the count is found to be at most 4096.
+/// Leading zeros are allowed, and blanks around a number. A text with several faults is refused
+/// with the first by the order that [`NumericFault`] states, or with `Memory`. The call allocates
+/// once, for the instructions, after it has read a count of at most [`MAX_INSNS`].
 #[tactic(auto, unfolding(crate::specs::Numeric::numeric_of, crate::specs::Numeric::program_of))]
 pub fn read_numeric(alloc: Global, text: &str) -> Result<Vec<Packed>, NumericFault>
-    // The words of the text, or its first fault, unless memory runs out.
+    // The instructions of the text or its first fault, or out of memory.
     ensures exact { Gives (λ v. v.items) result (numeric_of text.now) }
-    ensures few { IfOk result (λ v. vec_len v ≤ 4096) }
-    // Memory is answered only where the text has a sound count.
+    // It runs out of memory only if the text begins with a count of at least 1.
     ensures memory { result ≡ Err Memory → HasCount text.now }
 {
     let bytes = text.as_bytes();
@@ -121,9 +142,5 @@ pub fn read_numeric(alloc: Global, text: &str) -> Result<Vec<Packed>, NumericFau
         return Err(NumericFault::Form { at: bytes.len() });
     };
     let count = read_count(first)?;
-    let words = read_words(alloc, count, rest)?;
-    if words.len() != count {
-        return Err(NumericFault::Count { at: bytes.len() });
-    }
-    Ok(words)
+    read_words(alloc, count, bytes.len(), rest)
 }

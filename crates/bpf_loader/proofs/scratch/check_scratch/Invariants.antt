@@ -1,5 +1,5 @@
 use Rattle.bpf_loader.proofs.Pass.{Tracks}
 use Rattle.bpf_loader.proofs.scratch.check_scratch.Given as goal
 
-abbrev pub invariant-loop-place : goal.invariant-loop-place
-invariant-loop-place l = Tracks l.words l.masks l.place
+abbrev pub invariant-loop-pc : goal.invariant-loop-pc
+invariant-loop-pc l = Tracks l.words l.masks l.pc

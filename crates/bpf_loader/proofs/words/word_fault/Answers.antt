@@ -6,29 +6,29 @@ use Rattle.bpf_loader.proofs.words.word_fault.Goals as goal
 
 pub returns-in-Load : goal.returns-in-Load
 returns-in-Load c =
-    c.load_fault.ensures ∙ fault_by_insn c.args.len c.args.place c.args.word (insn.Load c.in-Load.load) (ap insn_word (sym c.in-Load.is) ∙ c.in-Some.ensures.found)
+    c.load_fault.ensures ∙ fault_by_insn c.args.len c.args.pc c.args.word (insn.Load c.in-Load.load) (ap insn_word (sym c.in-Load.is) ∙ c.in-Some.ensures.found)
 
 pub returns-in-LoadX : goal.returns-in-LoadX
 returns-in-LoadX c =
-    c.load_x_fault.ensures ∙ fault_by_insn c.args.len c.args.place c.args.word (insn.LoadX c.in-LoadX.load) (ap insn_word (sym c.in-LoadX.is) ∙ c.in-Some.ensures.found)
+    c.load_x_fault.ensures ∙ fault_by_insn c.args.len c.args.pc c.args.word (insn.LoadX c.in-LoadX.load) (ap insn_word (sym c.in-LoadX.is) ∙ c.in-Some.ensures.found)
 
 pub returns-in-Store : goal.returns-in-Store
 returns-in-Store c =
-    c.store_fault.ensures ∙ fault_by_insn c.args.len c.args.place c.args.word (insn.Store c.in-Store.store) (ap insn_word (sym c.in-Store.is) ∙ c.in-Some.ensures.found)
+    c.store_fault.ensures ∙ fault_by_insn c.args.len c.args.pc c.args.word (insn.Store c.in-Store.store) (ap insn_word (sym c.in-Store.is) ∙ c.in-Some.ensures.found)
 
 pub returns-in-Alu : goal.returns-in-Alu
 returns-in-Alu c =
-    c.alu_fault.ensures ∙ fault_by_insn c.args.len c.args.place c.args.word (insn.Alu c.in-Alu.alu) (ap insn_word (sym c.in-Alu.is) ∙ c.in-Some.ensures.found)
+    c.alu_fault.ensures ∙ fault_by_insn c.args.len c.args.pc c.args.word (insn.Alu c.in-Alu.alu) (ap insn_word (sym c.in-Alu.is) ∙ c.in-Some.ensures.found)
 
 pub returns-in-Jump : goal.returns-in-Jump
 returns-in-Jump c =
-    c.jump_fault.ensures ∙ fault_by_insn c.args.len c.args.place c.args.word (insn.Jump c.in-Jump.jump) (ap insn_word (sym c.in-Jump.is) ∙ c.in-Some.ensures.found)
+    c.jump_fault.ensures ∙ fault_by_insn c.args.len c.args.pc c.args.word (insn.Jump c.in-Jump.jump) (ap insn_word (sym c.in-Jump.is) ∙ c.in-Some.ensures.found)
 
 pub returns-in-Return : goal.returns-in-Return
 returns-in-Return c =
     elim c.in-Return.is [
       | inl end ↦
-          fault_by_insn c.args.len c.args.place c.args.word (insn.Return end.0) (ap insn_word (sym end.1) ∙ c.in-Some.ensures.found)
+          fault_by_insn c.args.len c.args.pc c.args.word (insn.Return end.0) (ap insn_word (sym end.1) ∙ c.in-Some.ensures.found)
       | inr move ↦
-          fault_by_insn c.args.len c.args.place c.args.word (insn.Move move.0) (ap insn_word (sym move.1) ∙ c.in-Some.ensures.found)
+          fault_by_insn c.args.len c.args.pc c.args.word (insn.Move move.0) (ap insn_word (sym move.1) ∙ c.in-Some.ensures.found)
     ]

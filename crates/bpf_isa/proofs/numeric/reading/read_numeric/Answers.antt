@@ -1,10 +1,9 @@
-use Rattle.std.proofs.Common.{◌≡◌, length, Err, sym, ap, ◌∙◌, eq-eqb, arith}
-use Rattle.std.proofs.lemmas.Bool.{ne_eqb}
+use Rattle.std.proofs.Common.{◌≡◌, Err, sym, ap, ◌∙◌}
 use Rattle.std.proofs.lemmas.Result.{err_from_is_err_and}
 use Rattle.bpf_isa.specs.declared.numeric.fault.NumericFault.{NumericFault}
 use Rattle.bpf_isa.specs.declared.numeric.fault.NumericFault.TheVariants.{Memory}
 use Rattle.bpf_isa.specs.Numeric.{Item, numbers_in, items_in}
-use Rattle.bpf_isa.proofs.NumericProgram.{Begins, foreign, no_item, bad_count, bad_words, miscounted, all_there, count_no_memory, has_count}
+use Rattle.bpf_isa.proofs.NumericProgram.{Begins, foreign, no_item, bad_count, words_are, count_no_memory, has_count}
 use Rattle.bpf_isa.proofs.numeric.reading.read_numeric.Goals as goal
 
 pub returns-in-Some-clause-exact : goal.returns-in-Some-clause-exact
@@ -24,39 +23,6 @@ returns-in_err-count-clause-exact c =
     let p = err_from_is_err_and c.from_residual.result c.from_residual.ensures.1 in
     rw (p.1, p.2, ← c.as_bytes-bytes.ensures.value) (bad_count text first others c.in_err-count.field-0.0 begins c.in_err-count.ensures.value)
 
-pub returns-in_err-words-clause-exact : goal.returns-in_err-words-clause-exact
-returns-in_err-words-clause-exact c =
-    let text = c.as_bytes-bytes.result.now in
-    let found = c.in-Some-next_item in
-    let first : Item = ((found.first.first.at, found.first.first.bytes.now), numbers_in found.first.others.at found.first.others.bytes.now) in
-    let others = items_in found.rest.at found.rest.bytes.now in
-    let begins : Begins text first others = record { known = c.in_default.ensures; items = found.ensures.items } in
-    let p = err_from_is_err_and c.from_residual-in_err-words.result c.from_residual-in_err-words.ensures.1 in
-    rw (p.1, p.2, ← c.as_bytes-bytes.ensures.value)
-    (bad_words text first others c.in_ok-count.count c.in_err-words.field-0.0 begins c.in_ok-count.ensures.value c.in_err-words.ensures)
-
-pub returns-then-len-count-clause-exact : goal.returns-then-len-count-clause-exact
-returns-then-len-count-clause-exact c =
-    let text = c.as_bytes-bytes.result.now in
-    let found = c.in-Some-next_item in
-    let first : Item = ((found.first.first.at, found.first.first.bytes.now), numbers_in found.first.others.at found.first.others.bytes.now) in
-    let others = items_in found.rest.at found.rest.bytes.now in
-    let begins : Begins text first others = record { known = c.in_default.ensures; items = found.ensures.items } in
-    let words = c.in_ok-words.words.items in
-    rw (← c.as_bytes-bytes.ensures.value)
-    (miscounted text first others c.in_ok-count.count words begins c.in_ok-count.ensures.value c.in_ok-words.ensures (ne_eqb (length words) c.in_ok-count.count (λ e. omega arith)))
-
-pub returns-clause-exact : goal.returns-clause-exact
-returns-clause-exact c =
-    let text = c.as_bytes-bytes.result.now in
-    let found = c.in-Some-next_item in
-    let first : Item = ((found.first.first.at, found.first.first.bytes.now), numbers_in found.first.others.at found.first.others.bytes.now) in
-    let others = items_in found.rest.at found.rest.bytes.now in
-    let begins : Begins text first others = record { known = c.in_default.ensures; items = found.ensures.items } in
-    let words = c.in_ok-words.words.items in
-    rw (← c.as_bytes-bytes.ensures.value)
-    (all_there text first others c.in_ok-count.count words begins c.in_ok-count.ensures.value c.in_ok-words.ensures (eq-eqb (length words) c.in_ok-count.count (omega arith)))
-
 pub returns-in_err-count-clause-memory : goal.returns-in_err-count-clause-memory
 returns-in_err-count-clause-memory c =
     let found = c.in-Some-next_item in
@@ -66,11 +32,20 @@ returns-in_err-count-clause-memory c =
     let none : fault ≡ Memory = cc (p.1, p.2, e) in
     absurd (count_no_memory (found.first.first.at, found.first.first.bytes.now) (numbers_in found.first.others.at found.first.others.bytes.now) (sym c.in_err-count.ensures.value ∙ ap (λ (x : NumericFault). Err x) none))
 
-pub returns-in_err-words-clause-memory : goal.returns-in_err-words-clause-memory
-returns-in_err-words-clause-memory c =
+pub returns-clause-exact : goal.returns-clause-exact
+returns-clause-exact c =
     let text = c.as_bytes-bytes.result.now in
     let found = c.in-Some-next_item in
     let first : Item = ((found.first.first.at, found.first.first.bytes.now), numbers_in found.first.others.at found.first.others.bytes.now) in
     let others = items_in found.rest.at found.rest.bytes.now in
     let begins : Begins text first others = record { known = c.in_default.ensures; items = found.ensures.items } in
-    λ e. rw (← c.as_bytes-bytes.ensures.value) (has_count text first others c.in_ok-count.count begins c.in_ok-count.ensures.value)
+    rw (← c.as_bytes-bytes.ensures.value, words_are text first others c.in_ok-count.count begins c.in_ok-count.ensures.value) c.read_words.ensures.exact
+
+pub returns-clause-memory : goal.returns-clause-memory
+returns-clause-memory c =
+    let text = c.as_bytes-bytes.result.now in
+    let found = c.in-Some-next_item in
+    let first : Item = ((found.first.first.at, found.first.first.bytes.now), numbers_in found.first.others.at found.first.others.bytes.now) in
+    let others = items_in found.rest.at found.rest.bytes.now in
+    let begins : Begins text first others = record { known = c.in_default.ensures; items = found.ensures.items } in
+    λ e. rw (← c.as_bytes-bytes.ensures.value) (has_count text first others c.in_ok-count.count begins c.in_ok-count.ensures.value (c.read_words.ensures.memory e))

@@ -1,28 +1,47 @@
-use Rattle.std.proofs.Common.{sym, ◌∙◌}
+use Rattle.std.proofs.Common.{◌≡◌, Err, sym, ap, ◌∙◌, arith}
 use Rattle.std.proofs.lemmas.Result.{err_from_is_err_and}
-use Rattle.bpf_isa.specs.Numeric.{Item, numbers_in, items_in, words_of}
-use Rattle.bpf_isa.proofs.NumericWords.{one_more, stops_at, all_read, is_fault}
+use Rattle.bpf_isa.specs.declared.numeric.fault.NumericFault.{NumericFault}
+use Rattle.bpf_isa.specs.declared.numeric.fault.NumericFault.TheVariants.{Memory}
+use Rattle.bpf_isa.specs.Numeric.{Item, numbers_in}
+use Rattle.bpf_isa.proofs.NumericProgram.{word_no_memory}
+use Rattle.bpf_isa.proofs.NumericWords.{kept_one, passed_one, fault_of_one, more_than_said, fewer_than_said, as_many_as_said}
 use Rattle.bpf_isa.proofs.numeric.reading.read_words.Goals as goal
+use Rattle.bpf_isa.proofs.numeric.reading.read_words.Goals.{then-surplus-via-then-surplus, then-surplus-via-else-surplus+then-len-count-2}
 
-pub returns-in_err-read_word : goal.returns-in_err-read_word
-returns-in_err-read_word c =
-    let p = err_from_is_err_and c.from_residual-in_err-read_word.result c.from_residual-in_err-read_word.ensures.1 in
+pub returns-in_err-word-clause-exact : goal.returns-in_err-word-clause-exact
+returns-in_err-word-clause-exact c =
     let item = c.in-Some.item in
-    let rest = c.loop-item.rest in
-    let now : Item = ((item.first.at, item.first.bytes.now), numbers_in item.others.at item.others.bytes.now) in
-    let fault = c.in_err-read_word.field-0.0 in
-    let stop = stops_at c.loop-item.words.items (items_in rest.at rest.bytes.now) (items_in c.in-Some.after.at c.in-Some.after.bytes.now) now fault c.in-Some.ensures.items (sym c.in_err-read_word.ensures) in
-    rw (p.1, p.2) (is_fault fault (words_of (items_in c.args.text.at c.args.text.bytes.now)) (sym c.loop-item.invariant ∙ stop))
+    let first : Item = ((item.first.at, item.first.bytes.now), numbers_in item.others.at item.others.bytes.now) in
+    let p = err_from_is_err_and c.from_residual-in_err-word.result c.from_residual-in_err-word.ensures.1 in
+    rw (p.1, p.2) (fault_of_one c.args.end _ _ _ _ _ _ first c.in_err-word.field-0.0 c.loop-item.invariant c.in-Some.ensures.items (sym c.in_err-word.ensures))
+
+pub returns-in_err-word-clause-memory : goal.returns-in_err-word-clause-memory
+returns-in_err-word-clause-memory c =
+    let item = c.in-Some.item in
+    let fault : NumericFault = c.in_err-word.field-0.0 in
+    let p = err_from_is_err_and c.from_residual-in_err-word.result c.from_residual-in_err-word.ensures.1 in
+    λ e.
+    let none : fault ≡ Memory = cc (p.1, p.2, e) in
+    absurd (word_no_memory (item.first.at, item.first.bytes.now) (numbers_in item.others.at item.others.bytes.now) (sym c.in_err-word.ensures ∙ ap (λ (x : NumericFault). Err x) none))
+
+pub loop-item-preserved-in_ok-push : goal.loop-item-preserved-in_ok-push
+loop-item-preserved-in_ok-push c =
+    let item = c.in-Some.item in
+    let first : Item = ((item.first.at, item.first.bytes.now), numbers_in item.others.at item.others.bytes.now) in
+    rw c.in_ok-push.ensures.items (kept_one _ _ _ _ _ _ first c.in_ok-word.word c.loop-item.invariant c.in-Some.ensures.items (sym c.in_ok-word.ensures) (omega (arith, c.if-len-count.true)))
 
 pub loop-item-preserved : goal.loop-item-preserved
 loop-item-preserved c =
     let item = c.in-Some.item in
-    let rest = c.loop-item.rest in
-    let now : Item = ((item.first.at, item.first.bytes.now), numbers_in item.others.at item.others.bytes.now) in
-    let more = items_in c.in-Some.after.at c.in-Some.after.bytes.now in
-    let step = one_more c.loop-item.words.items (items_in rest.at rest.bytes.now) more now c.in_ok-read_word.field-0 c.in-Some.ensures.items (sym c.in_ok-read_word.ensures) in
-    rw c.in_ok-push.ensures.items (sym step ∙ c.loop-item.invariant)
+    let first : Item = ((item.first.at, item.first.bytes.now), numbers_in item.others.at item.others.bytes.now) in
+    passed_one _ _ _ _ _ c.loop-item.surplus first c.in_ok-word.word c.loop-item.invariant c.in-Some.ensures.items (sym c.in_ok-word.ensures) (omega (arith, c.if-len-count.false))
 
-pub returns : goal.returns
-returns c =
-    sym c.loop-item.invariant ∙ all_read c.loop-item.words.items (items_in c.loop-item.rest.at c.loop-item.rest.bytes.now) c.in_default.ensures.items
+pub returns-then-surplus-clause-exact : goal.returns-then-surplus-clause-exact
+returns-then-surplus-clause-exact c =
+    elim c.then-surplus.branch [
+      | then-surplus-via-then-surplus w ↦ more_than_said c.args.end _ _ _ _ _ c.loop-item.invariant c.in_default.ensures.items w.if-surplus.true
+      | then-surplus-via-else-surplus+then-len-count-2 w ↦ fewer_than_said c.args.end _ _ _ _ _ c.loop-item.invariant c.in_default.ensures.items (omega (arith, w.if-len-count-2.true))
+    ]
+
+pub returns-clause-exact : goal.returns-clause-exact
+returns-clause-exact c = as_many_as_said c.args.end _ _ _ _ _ c.loop-item.invariant c.in_default.ensures.items c.if-surplus.false (omega (arith, c.if-len-count-2.false))

@@ -14,8 +14,8 @@ loop-word-preserved c = record {
   fits = All-more IsPacked _ _ _ c.loop-word-test.true c.loop-word.invariant.fits c.push_word.ensures.fits;
 }
 
-pub returns-clause-again : goal.returns-clause-again
-returns-clause-again c few =
+pub returns-clause-reads_back : goal.returns-clause-reads_back
+returns-clause-reads_back c few =
     let words = c.args.words.now in
     let whole : take c.loop-word.word-index words ≡ words = take_all c.loop-word.word-index words c.loop-word-test.false in
     let text : string_bytes c.loop-word.text ≡ numeric_text words = rw whole at c.loop-word.invariant.text in

@@ -39,4 +39,4 @@ returns-clause-shorter c =
     let e : rest ≡ drop (prefix_len is_space bs) bs = cc in
     let some : 0 < length rest = search rules in
     let long = item_long bs rest e some in
-    omega (arith, c.item_len.ensures, ap length e, ap length c.split_at-2.ensures.back.1, length-drop (prefix_len is_space bs) bs, length-drop c.item_len.result rest)
+    omega (arith, c.item_len.ensures, ap length e, ap length c.split_at-2.ensures.suffix.1, length-drop (prefix_len is_space bs) bs, length-drop c.item_len.result rest)

@@ -1,0 +1,404 @@
+//! The instruction table row by row, with values worked out by hand, and the families' codes.
+
+ghost use Rattle.std.specs.Prelude.{◌<◌, IsTrue};
+ghost use Rattle.bpf_isa.specs.Table.{CanStep};
+
+use afdx_frame::FrameView;
+use bpf_isa::{
+    Alu, Condition, Family, Insn, Jump, Load, LoadX, Move, Operator, Outcome, Packed, Return,
+    Source, State, Store, canonical,
+};
+use std::process::Abort;
+use std::test::Fail;
+
+/// The captured bytes of a frame. Its length on the wire is `WHOLE`.
+const FRAME: [u8; 24] = [
+    0x10, 0x21, 0x32, 0x43, 0x54, 0x65, 0x7d, 0x87, 0x98, 0xa9, 0xba, 0xcb, 0xdc, 0xed, 0xfe, 0x0f,
+    0x01, 0x12, 0x23, 0x34, 0x45, 0x56, 0x67, 0x78,
+];
+
+const WHOLE: u32 = 1514;
+
+/// M[i] is 50 + i.
+const BEFORE: State = State {
+    place: 10,
+    a: 74565,
+    x: 11,
+    scratch: [
+        50, 51, 52, 53, 54, 55, 56, 57, 58, 59, 60, 61, 62, 63, 64, 65,
+    ],
+};
+
+/// What an instruction changes.
+#[derive(Clone, Copy, Debug)]
+enum Effect {
+    A(u32),
+    X(u32),
+    /// M[6] alone.
+    Slot(u32),
+    /// The pc alone.
+    Goes(usize),
+    Ends(u32),
+}
+
+fn outcome(before: State, effect: Effect) -> Outcome
+    requires { before.place < 4096 }
+{
+    let mut after = before;
+    after.place += 1;
+    match effect {
+        Effect::A(value) => after.a = value,
+        Effect::X(value) => after.x = value,
+        Effect::Slot(value) => after.scratch[6] = value,
+        Effect::Goes(place) => after.place = place,
+        Effect::Ends(answer) => return Outcome::Done(answer),
+    }
+    Outcome::On(after)
+}
+
+/// Each field holds something, whether its code reads it or not.
+const fn full(code: u16) -> Packed {
+    word(code, 20, 40, 6)
+}
+
+const fn word(code: u16, jt: u8, jf: u8, k: u32) -> Packed {
+    Packed { code, jt, jf, k }
+}
+
+/// Whether a word can be carried out at a pc.
+fn can_step(word: Packed, place: usize) -> bool
+    requires { place < 4096 }
+    ensures { IsTrue result → CanStep word place }
+{
+    let Packed { code, jt, jf, k } = word;
+    let divides = code == 0x34 || code == 0x94;
+    let scratch = code == 0x60 || code == 0x61 || (code == 0x02 || code == 0x03);
+    let always = code == 0x05;
+    let branches = code == 0x15
+        || code == 0x1d
+        || code == 0x25
+        || code == 0x2d
+        || code == 0x35
+        || code == 0x3d
+        || code == 0x45
+        || code == 0x4d;
+    (!divides || k != 0)
+        && (!scratch || k < 16)
+        && (!always || place + 1 + (k as usize) < 4096)
+        && (!branches || (place + 1 + (jt as usize) < 4096 && place + 1 + (jf as usize) < 4096))
+}
+
+/// Carries an instruction out on the frame, by `step`.
+fn stepped<F: Family>(rt: &impl Abort, insn: F, before: State) -> Outcome {
+    assert!(rt; before.place < 4096);
+    assert!(rt; can_step(insn.pack(), before.place));
+    insn.step(before, &FrameView::new(&FRAME), WHOLE)
+}
+
+/// The same by `advance`.
+fn advanced<F: Family>(rt: &impl Abort, insn: F, before: State) -> Outcome {
+    assert!(rt; before.place < 4096);
+    assert!(rt; can_step(insn.pack(), before.place));
+    let mut state = before;
+    match insn.advance(&mut state, &FrameView::new(&FRAME), WHOLE) {
+        Some(answer) => Outcome::Done(answer),
+        None => Outcome::On(state),
+    }
+}
+
+/// A row of the table: its mnemonic, a word of it, the word's canonical form, and its effect.
+type Row = (&'static str, Packed, Packed, Effect);
+
+/// The family has these rows and no other. Each word unpacks to an instruction of the family, which
+/// packs in canonical form and has this effect.
+fn family_has<F: Family>(rt: &impl Abort, rows: &[Row]) -> Result<(), Fail> {
+    assert_eq!(rt; rows.len(), F::CODES);
+    for (mnemonic, word, plain, effect) in rows {
+        let class = word.code % 8;
+        assert!(rt; F::FIRST_CLASS <= class && class <= F::LAST_CLASS, "{mnemonic}");
+        let insn = F::unpack(*word).ok_or("not of the family")?;
+        assert_eq!(rt; insn.pack(), *plain, "{mnemonic}");
+        assert_eq!(rt; canonical(*word), *plain, "{mnemonic}");
+        let want = outcome(BEFORE, *effect);
+        assert_eq!(rt; stepped(rt, insn, BEFORE), want, "{mnemonic}");
+        assert_eq!(rt; advanced(rt, insn, BEFORE), want, "{mnemonic}");
+        let same = Insn::unpack(*plain).ok_or("not listed")?;
+        assert_eq!(rt; same.pack(), *plain, "{mnemonic}");
+        assert_eq!(rt; stepped(rt, same, BEFORE), want, "{mnemonic}");
+    }
+    Ok(())
+}
+
+/// A row whose code reads k alone.
+const fn by_k(mnemonic: &'static str, code: u16, effect: Effect) -> Row {
+    (mnemonic, full(code), word(code, 0, 0, 6), effect)
+}
+
+/// A row whose code reads no field.
+const fn bare(mnemonic: &'static str, code: u16, effect: Effect) -> Row {
+    (mnemonic, full(code), word(code, 0, 0, 0), effect)
+}
+
+#[test]
+fn loads_and_stores(rt: HostRuntime) -> Result<(), Fail> {
+    family_has::<Load>(
+        &rt,
+        &[
+            by_k("ld #k", 0x00, Effect::A(6)),
+            by_k("ld [k]", 0x20, Effect::A(0x7d87_98a9)),
+            by_k("ldh [k]", 0x28, Effect::A(0x7d87)),
+            by_k("ldb [k]", 0x30, Effect::A(0x7d)),
+            // the offset 17
+            by_k("ld [x + k]", 0x40, Effect::A(0x1223_3445)),
+            by_k("ldh [x + k]", 0x48, Effect::A(0x1223)),
+            by_k("ldb [x + k]", 0x50, Effect::A(0x12)),
+            by_k("ld M[k]", 0x60, Effect::A(56)),
+            bare("ld len", 0x80, Effect::A(1514)),
+        ],
+    )?;
+    family_has::<LoadX>(
+        &rt,
+        &[
+            by_k("ldx #k", 0x01, Effect::X(6)),
+            by_k("ldx M[k]", 0x61, Effect::X(56)),
+            bare("ldx len", 0x81, Effect::X(1514)),
+            // 4 * 13
+            by_k("ldxb 4*([k]&0xf)", 0xb1, Effect::X(52)),
+        ],
+    )?;
+    family_has::<Store>(
+        &rt,
+        &[
+            by_k("st M[k]", 0x02, Effect::Slot(74565)),
+            by_k("stx M[k]", 0x03, Effect::Slot(11)),
+        ],
+    )
+}
+
+#[test]
+fn arithmetic(rt: HostRuntime) -> Result<(), Fail> {
+    family_has::<Alu>(
+        &rt,
+        &[
+            by_k("add #k", 0x04, Effect::A(74571)),
+            bare("add x", 0x0c, Effect::A(74576)),
+            by_k("sub #k", 0x14, Effect::A(74559)),
+            bare("sub x", 0x1c, Effect::A(74554)),
+            by_k("mul #k", 0x24, Effect::A(447390)),
+            bare("mul x", 0x2c, Effect::A(820215)),
+            by_k("div #k", 0x34, Effect::A(12427)),
+            bare("div x", 0x3c, Effect::A(6778)),
+            by_k("or #k", 0x44, Effect::A(74567)),
+            bare("or x", 0x4c, Effect::A(74575)),
+            by_k("and #k", 0x54, Effect::A(4)),
+            bare("and x", 0x5c, Effect::A(1)),
+            by_k("lsh #k", 0x64, Effect::A(4772160)),
+            bare("lsh x", 0x6c, Effect::A(152709120)),
+            by_k("rsh #k", 0x74, Effect::A(1165)),
+            bare("rsh x", 0x7c, Effect::A(36)),
+            bare("neg", 0x84, Effect::A(4294892731)),
+            by_k("mod #k", 0x94, Effect::A(3)),
+            bare("mod x", 0x9c, Effect::A(7)),
+            by_k("xor #k", 0xa4, Effect::A(74563)),
+            bare("xor x", 0xac, Effect::A(74574)),
+        ],
+    )
+}
+
+/// A conditional jump by A and k: both targets are read.
+const fn by_test(mnemonic: &'static str, code: u16, pc: usize) -> Row {
+    (mnemonic, full(code), full(code), Effect::Goes(pc))
+}
+
+/// A conditional jump by A and X.
+const fn by_test_x(mnemonic: &'static str, code: u16, pc: usize) -> Row {
+    (mnemonic, full(code), word(code, 20, 40, 0), Effect::Goes(pc))
+}
+
+#[test]
+fn jumps_returns_and_moves(rt: HostRuntime) -> Result<(), Fail> {
+    family_has::<Jump>(
+        &rt,
+        &[
+            by_k("ja", 0x05, Effect::Goes(17)),
+            by_test("jeq #k", 0x15, 51),
+            by_test_x("jeq x", 0x1d, 51),
+            by_test("jgt #k", 0x25, 31),
+            by_test_x("jgt x", 0x2d, 31),
+            by_test("jge #k", 0x35, 31),
+            by_test_x("jge x", 0x3d, 31),
+            by_test("jset #k", 0x45, 31),
+            by_test_x("jset x", 0x4d, 31),
+        ],
+    )?;
+    family_has::<Return>(
+        &rt,
+        &[by_k("ret #k", 0x06, Effect::Ends(6)), bare("ret a", 0x16, Effect::Ends(74565))],
+    )?;
+    family_has::<Move>(
+        &rt,
+        &[bare("tax", 0x07, Effect::X(74565)), bare("txa", 0x87, Effect::A(11))],
+    )
+}
+
+/// Carries out a word of the table.
+fn carried_out(rt: &impl Abort, word: Packed, before: State) -> Result<Outcome, Fail> {
+    let insn = Insn::unpack(word).ok_or("not listed")?;
+    Ok(stepped(rt, insn, before))
+}
+
+#[test]
+fn tests_tell_the_four_conditions_apart(rt: HostRuntime) -> Result<(), Fail> {
+    // A is 74565, and shares no bit with 2
+    for (operand, holding) in [
+        (2, [false, true, true, false]),
+        (74564, [false, true, true, true]),
+        (74565, [true, false, true, true]),
+        (74566, [false, false, false, true]),
+        (131072, [false, false, false, false]),
+    ] {
+        let by_x = State {
+            x: operand,
+            ..BEFORE
+        };
+        // jeq, jgt, jge, jset
+        for (code, holds) in [0x15, 0x25, 0x35, 0x45].into_iter().zip(holding) {
+            let pc = if holds { 31 } else { 51 };
+            let want = outcome(BEFORE, Effect::Goes(pc));
+            let by_k = word(code, 20, 40, operand);
+            assert_eq!(rt;
+                carried_out(&rt, by_k, BEFORE)?,
+                want,
+                "{code:#x} {operand}"
+            );
+            let want = outcome(by_x, Effect::Goes(pc));
+            let from_x = word(code + 8, 20, 40, 74565);
+            assert_eq!(rt;
+                carried_out(&rt, from_x, by_x)?,
+                want,
+                "{code:#x} {operand}"
+            );
+        }
+    }
+    Ok(())
+}
+
+/// From A, X and k.
+#[test]
+fn numbers_at_their_ends(rt: HostRuntime) -> Result<(), Fail> {
+    for (mnemonic, code, a, x, k, effect) in [
+        ("add #k", 0x04, u32::MAX, 0, 1, Effect::A(0)),
+        ("sub #k", 0x14, 0, 0, 1, Effect::A(u32::MAX)),
+        ("mul #k", 0x24, 65536, 0, 65536, Effect::A(0)),
+        ("mul #k", 0x24, 65537, 0, 65537, Effect::A(131073)),
+        ("lsh x", 0x6c, 3, 31, 0, Effect::A(0x8000_0000)),
+        ("lsh x", 0x6c, 3, 32, 0, Effect::A(0)),
+        ("lsh x", 0x6c, 3, 33, 0, Effect::A(0)),
+        ("rsh x", 0x7c, 0xc000_0000, 31, 0, Effect::A(1)),
+        ("rsh x", 0x7c, 0xc000_0000, 32, 0, Effect::A(0)),
+        ("rsh x", 0x7c, 0xc000_0000, 33, 0, Effect::A(0)),
+        ("div x", 0x3c, 1, 0, 7, Effect::Ends(0)),
+        ("mod x", 0x9c, 1, 0, 7, Effect::Ends(0)),
+        ("neg", 0x84, 5, 0, 0, Effect::A(4294967291)),
+        ("neg", 0x84, 0, 0, 0, Effect::A(0)),
+    ] {
+        let before = State { a, x, ..BEFORE };
+        let want = outcome(before, effect);
+        let found = carried_out(&rt, word(code, 0, 0, k), before)?;
+        assert_eq!(rt; found, want, "{mnemonic} of {a}, {x} and {k}");
+    }
+    Ok(())
+}
+
+/// From X and k: 24 bytes are captured.
+#[test]
+fn loads_at_the_end_of_the_frame(rt: HostRuntime) -> Result<(), Fail> {
+    for (mnemonic, code, x, k, effect) in [
+        ("ld [k]", 0x20, 0, 20, Effect::A(0x4556_6778)),
+        ("ld [k]", 0x20, 0, 21, Effect::Ends(0)),
+        ("ldh [k]", 0x28, 0, 22, Effect::A(0x6778)),
+        ("ldh [k]", 0x28, 0, 23, Effect::Ends(0)),
+        ("ldb [k]", 0x30, 0, 23, Effect::A(0x78)),
+        ("ldb [k]", 0x30, 0, 24, Effect::Ends(0)),
+        ("ld [x + k]", 0x40, 20, 1, Effect::Ends(0)),
+        ("ldh [x + k]", 0x48, 20, 3, Effect::Ends(0)),
+        ("ldb [x + k]", 0x50, 20, 4, Effect::Ends(0)),
+        ("ldxb 4*([k]&0xf)", 0xb1, 0, 23, Effect::X(32)),
+        ("ldxb 4*([k]&0xf)", 0xb1, 0, 24, Effect::Ends(0)),
+        // X + k is 0, 1 and 2 modulo 2^32
+        ("ld [x + k]", 0x40, u32::MAX, 1, Effect::A(0x1021_3243)),
+        ("ldh [x + k]", 0x48, 0x8000_0000, 0x8000_0001, Effect::A(0x2132)),
+        ("ldb [x + k]", 0x50, 4, 4294967294, Effect::A(0x32)),
+    ] {
+        let before = State { x, ..BEFORE };
+        let want = outcome(before, effect);
+        let found = carried_out(&rt, word(code, 0, 0, k), before)?;
+        assert_eq!(rt; found, want, "{mnemonic} at {x} + {k}");
+    }
+    Ok(())
+}
+
+/// How many codes unpack in the family. All are of its classes, and in the table.
+fn codes_of<F: Family>(rt: &impl Abort) -> usize {
+    let mut codes = 0usize;
+    for code in 0..=u16::MAX {
+        let word = word(code, 9, 9, 7);
+        if F::unpack(word).is_some() {
+            codes = codes.saturating_add(1);
+            assert!(rt; Insn::unpack(word).is_some(), "code {code:#x}");
+            let class = code % 8;
+            assert!(rt; F::FIRST_CLASS <= class && class <= F::LAST_CLASS, "code {code:#x}");
+        }
+    }
+    codes
+}
+
+#[test]
+fn codes_by_family(rt: HostRuntime) {
+    assert_eq!(rt; codes_of::<Load>(&rt), 9);
+    assert_eq!(rt; codes_of::<LoadX>(&rt), 4);
+    assert_eq!(rt; codes_of::<Store>(&rt), 2);
+    assert_eq!(rt; codes_of::<Alu>(&rt), 21);
+    assert_eq!(rt; codes_of::<Jump>(&rt), 9);
+    assert_eq!(rt; codes_of::<Return>(&rt), 2);
+    assert_eq!(rt; codes_of::<Move>(&rt), 2);
+    assert_eq!(rt; codes_of::<Insn>(&rt), 49);
+}
+
+#[test]
+fn operands(rt: HostRuntime) {
+    assert_eq!(rt; Load::Length.operand(), None);
+    assert_eq!(rt; LoadX::HeaderLength(14).operand(), Some(14));
+    assert_eq!(rt; Store::X(6).operand(), 6);
+    assert_eq!(rt; Alu::Binary(Operator::Add, Source::X).operand(), Some(Source::X));
+    let less = Jump::If(Condition::AtLeast, Source::K(61), 0, 1);
+    assert_eq!(rt; less.operand(), (Source::K(61), 0, 1));
+    assert_eq!(rt; Return::A.operand(), None);
+    assert_eq!(rt; Insn::Jump(less).operand(), (0, 1, 61));
+}
+
+#[test]
+fn canonical_words(rt: HostRuntime) {
+    // ret #7
+    assert_eq!(rt; canonical(word(6, 9, 9, 7)), word(6, 0, 0, 7));
+    // codes that aren't listed
+    assert_eq!(rt; canonical(word(23, 9, 9, 7)), word(23, 9, 9, 7));
+    assert_eq!(rt; canonical(word(0x106, 9, 9, 7)), word(0x106, 9, 9, 7));
+}
+
+#[test]
+fn starts_at_zero(rt: HostRuntime) {
+    let zero = State {
+        place: 0,
+        a: 0,
+        x: 0,
+        scratch: [0; 16],
+    };
+    assert_eq!(rt; State::start(), zero);
+}
+
+#[test]
+fn conditions(rt: HostRuntime) {
+    assert!(rt; Condition::AtLeast.holds(u32::MAX, u32::MAX));
+    assert!(rt; !Condition::Greater.holds(1, u32::MAX));
+}
