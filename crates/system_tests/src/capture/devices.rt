@@ -1,7 +1,7 @@
 //! Devices that fail once, or stop, at every place: the fault is that device's, and what was written
 //! is a prefix of the capture.
 
-use crate::support::{EVERY, FIRST_RUN, SOUND, WIDE, loaded};
+use crate::support::{EVERY, FIRST_RUN, ROOM, SOUND, WIDE, loaded};
 use afdx_frame::Network;
 use analyser::{Output, Ran, WatchFault, capture_one, capture_over};
 use bpf_loader::Program;

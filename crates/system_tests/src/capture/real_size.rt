@@ -11,13 +11,15 @@ use std::test::Fail;
 /// A nanosecond recording of frames of these lengths, a nanosecond apart.
 fn recording(alloc: Global, lengths: &[u32]) -> Result<Vec<u8>, AllocError> {
     let mut bytes = Vec::from_slice(alloc, &HEADER)?;
-    for (i, len) in lengths.iter().enumerate() {
+    let mut nanoseconds = 0u32;
+    for len in lengths {
         bytes.extend_from_slice(&[0; 4])?;
-        bytes.extend_from_slice(&(i as u32).to_le_bytes())?;
+        bytes.extend_from_slice(&nanoseconds.to_le_bytes())?;
         bytes.extend_from_slice(&len.to_le_bytes())?;
         bytes.extend_from_slice(&len.to_le_bytes())?;
         let end = bytes.len().saturating_add(*len as usize);
-        bytes.resize(end, i as u8)?;
+        bytes.resize(end, 7)?;
+        nanoseconds = nanoseconds.wrapping_add(1);
     }
     Ok(bytes)
 }

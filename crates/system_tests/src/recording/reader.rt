@@ -225,7 +225,11 @@ fn a_source_that_stops(rt: HostRuntime) -> Result<(), Fail> {
         for _ in 0..(most - 24) / 76 {
             assert_eq!(rt; reader.advance(alloc), Ok(Found::Frame), "{most} bytes");
         }
-        assert_eq!(rt; reader.advance(alloc), Err(ReadFault::Device), "{most} bytes");
+        assert_eq!(rt;
+            reader.advance(alloc),
+            Err(ReadFault::Device),
+            "{most} bytes"
+        );
     }
     Ok(())
 }
