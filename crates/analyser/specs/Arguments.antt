@@ -1,4 +1,4 @@
--- The command line (this project's profile), as clap reads it: `afdxmon capture --code <numeric text>`.
+-- The command-line arguments (this project's profile), as clap reads it: `afdxmon capture --code <numeric text>`.
 use Rattle.std.specs.Prelude.{◌≡◌, true, false, List, Option, Some, None, codes, if◌then◌else◌}
 use Rattle.std.specs.Str.{bytes_eq}
 use Rattle.clap.specs.Words.{App, app_of, Row, Rule, Text, first_of, new_app, new_rule, subcommand_of, with_rule, with_subcommand}
@@ -32,7 +32,7 @@ abbrev pub code_in : Option (Text × List Row) → Option Text
 code_in None = None
 code_in (Some met) = if bytes_eq met.0 (codes "capture") then first_of (codes "code") met.1 else None
 
--- the text of --code in the words that follow the program's name
+-- the text of --code in the arguments, the program's name first
 abbrev pub code_asked : List Text → Option Text
 code_asked texts = code_in (subcommand_of afdxmon_app texts)
 

@@ -1,4 +1,4 @@
-//! The words of the command line.
+//! The command-line arguments.
 ghost use Rattle.std.specs.Prelude.{◌≡◌, true, map, IfOk, IfErr, option_map, string_bytes};
 ghost use Rattle.clap.specs.Words.{FailsBy, fault_of, app_of, kind_of, subcommand_rows_of, takes};
 ghost use Rattle.clap.specs.declared.error.kind.ErrorKind.TheVariants.{OutOfMemory};
@@ -7,7 +7,7 @@ ghost use Rattle.analyser.specs.Arguments.{IsCapture, afdxmon_app, program_app, 
 use clap::{Arg, ArgAction, ArgMatches, Command, Error};
 use std::alloc::{AllocError, Global};
 
-/// What the words ask for.
+/// What the arguments ask for.
 #[derive(Clone, Copy, Debug, PartialEq, Eq)]
 pub enum Invocation<'a> {
     /// Copy the frames that a filter accepts from standard input to standard output.
@@ -64,18 +64,24 @@ fn arguments_of<'a>(matches: &ArgMatches<'a>) -> Option<Invocation<'a>>
     }
 }
 
-/// Reads the program's words, the program's own name first. An `Err` has the text for the user; so has
-/// a request for help.
+/// Reads the command-line arguments, the program's own name first.
+///
+/// # Errors
+///
+/// clap's error, with the text for the user, if clap's rules for this command refuse the arguments. A
+/// request for help or for the version is one too. None: clap took the arguments and found no command.
 pub fn read_arguments<'a>(
     alloc: Global,
-    words: &'a [String],
+    arguments: &'a [String],
 ) -> Result<Option<Invocation<'a>>, Error>
-    ensures meant { IfOk result (λ found. option_map code_of found ≡ code_asked (map string_bytes words.now)) }
-    // Ok where clap's rules find no fault; else an error of the kind that they find, or for want of memory.
-    ensures kinds { FailsBy (fault_of afdxmon_app (map string_bytes words.now)) result }
-    ensures refused { IfErr result (λ e. takes afdxmon_app (map string_bytes words.now) ≡ true → kind_of e ≡ OutOfMemory) }
+    ensures meant { IfOk result (λ found.
+        option_map code_of found ≡ code_asked (map string_bytes arguments.now)) }
+    // Ok where clap's rules find no fault; else an error of the kind that they find, or out of memory.
+    ensures kinds { FailsBy (fault_of afdxmon_app (map string_bytes arguments.now)) result }
+    ensures refused { IfErr result (λ e.
+        takes afdxmon_app (map string_bytes arguments.now) ≡ true → kind_of e ≡ OutOfMemory) }
 {
     let command = program_command(alloc).subcommand(capture_command(alloc)?)?;
-    let matches = command.try_get_matches_from(words)?;
+    let matches = command.try_get_matches_from(arguments)?;
     Ok(arguments_of(&matches))
 }

@@ -1,4 +1,4 @@
-//! Why the program gave up, and the line that says so.
+//! Why a command was aborted, and the line that says so.
 ghost use Rattle.std.specs.Prelude.{◌≡◌, IfOk, string_bytes};
 ghost use Rattle.analyser.specs.Line.{line_of, header_part, network_part};
 
@@ -11,31 +11,31 @@ use std::fmt;
 use std::fmt::{Display, Formatter};
 use thiserror::Error;
 
-/// One of the two files that an analysis writes.
+/// One of the two files that an analysis writes: the capture of accepted frames, or the ledger of verdicts.
 #[derive(Clone, Copy, Debug, PartialEq, Eq)]
 pub enum Output {
     Capture,
     Ledger,
 }
 
-/// Why an analysis was given up. `Read` and `Write` come only where that device failed in the call.
+/// Why an analysis was aborted. `Read` and `Write` are returned only if that device failed in the call.
 #[derive(Clone, Copy, Debug, PartialEq, Eq, Error)]
 pub enum WatchFault {
     /// The number of workers isn't 1 to 8.
     #[error("the number of workers isn't 1 to 8")]
     Workers,
-    /// A recording has no header that is read here.
+    /// A recording doesn't begin with a pcap file header that is read here.
     #[error("a recording has no header that can be read")]
     Header {
         network: Network,
         fault: HeaderFault,
     },
-    /// A recording's device failed.
+    /// A recording's source failed.
     #[error("a recording can't be read")]
     Read {
         network: Network,
     },
-    /// An output's device failed.
+    /// An output's sink failed.
     #[error("an output can't be written")]
     Write {
         output: Output,
@@ -46,7 +46,7 @@ pub enum WatchFault {
     /// A tap's ring was left without an end.
     #[error("a ring was left without an end")]
     RingLost,
-    /// There was no memory.
+    /// The system is out of memory.
     #[error("out of memory")]
     Memory,
     /// The number of filters isn't 1 to 8.
@@ -54,8 +54,8 @@ pub enum WatchFault {
     Filters,
 }
 
-/// What a fault line speaks of. A numeric text or a program may be that of a numbered filter; that of
-/// the command line has no number.
+/// A fault that the program reports by a line. A numeric text or a program may be that of a numbered
+/// filter of the table; that of the command line has no number.
 #[derive(Clone, Copy, Debug)]
 pub enum Fault {
     Numeric {

@@ -1,5 +1,15 @@
-//! Whole runs of the analyser over sources and sinks, the lines that it prints for faults, and the
-//! words of its command line.
+//! Whole runs of the analyser over any sources and sinks, how they end, and what the program tells a
+//! person.
+//!
+//! A command is a function from the text of its arguments and its devices to a [`CaptureRun`], which
+//! gives the devices back with the recording's [`Ending`](pcap_io::Ending) or a [`Fault`]. [`Exit`] says
+//! with which status the program ends, and what it tells: a fault line (`Display` of [`Fault`]) or a
+//! [`Note`]. The program `afdxmon` adds the standard streams.
+//!
+//! ```text
+//! let run = run_capture(alloc, "1,6 0 0 64,", source, sink);
+//! let exit = Exit::of_capture(run.outcome, true);
+//! ```
 #![tactic(auto)]
 
 mod arguments;

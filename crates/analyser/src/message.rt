@@ -110,7 +110,7 @@ fn header_advice(fault: HeaderFault) -> &'static str {
     match fault {
         HeaderFault::Short => "not a pcap file: it has fewer than the 24 bytes of a file header",
         HeaderFault::Magic => {
-            "not a pcap file; a pcapng file: editcap -F nsecpcap in.pcapng out.pcap; a compressed file: gunzip"
+            "not a pcap file; if pcapng: editcap -F nsecpcap in.pcapng out.pcap; if compressed: gunzip"
         }
         HeaderFault::Version => "a pcap file of another version than 2.4",
         HeaderFault::LinkType => "a pcap file of another link type than 1, Ethernet",
