@@ -15,7 +15,12 @@ const BLOCK: usize = 65_536;
 fn recording(alloc: Global, lens: &[usize]) -> Result<Vec<u8>, AllocError> {
     let mut bytes = Vec::from_slice(alloc, &HEADER)?;
     for (stamp, len) in lens.iter().enumerate() {
-        push_record(&mut bytes, stamp, (*len).min(LONGEST), stamp.to_le_bytes()[0])?;
+        push_record(
+            &mut bytes,
+            stamp,
+            (*len).min(LONGEST),
+            stamp.to_le_bytes()[0],
+        )?;
     }
     Ok(bytes)
 }
@@ -41,7 +46,7 @@ fn copies_itself(
 #[test]
 fn a_record_across_the_end_of_the_block(rt: HostRuntime) -> Result<(), Fail> {
     let alloc = rt.alloc();
-    // The block is filled behind the first header. Its end falls on each byte of the second record.
+    // The block is filled after the first header. Its end falls on each byte of the second record.
     for short in 0..=80 {
         let bytes = recording(alloc, &[BLOCK - short, 60, 0, 60])?;
         for piece in [BLOCK, usize::MAX] {
@@ -67,7 +72,18 @@ fn reads_of_each_size(rt: HostRuntime) -> Result<(), Fail> {
 #[test]
 fn the_longest_records_between_short_ones(rt: HostRuntime) -> Result<(), Fail> {
     let alloc = rt.alloc();
-    let lens = [60, LONGEST, 0, 60, LONGEST, LONGEST, 60, 100_000, LONGEST - 1, 60];
+    let lens = [
+        60,
+        LONGEST,
+        0,
+        60,
+        LONGEST,
+        LONGEST,
+        60,
+        100_000,
+        LONGEST - 1,
+        60,
+    ];
     let bytes = recording(alloc, &lens)?;
     for piece in [16, 4096, BLOCK, usize::MAX] {
         copies_itself(&rt, &bytes, 10, piece)?;
