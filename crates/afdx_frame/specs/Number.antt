@@ -1,14 +1,14 @@
 -- Numbers in bytes, most significant byte first, as Ethernet, IP and BPF read them.
 use Rattle.std.specs.Prelude.{ℕ, ◌+◌, ◌*◌, List, [], ◌∷◌, length, take, drop, Option, Some, None, nat_le, if◌then◌else◌}
 
--- the number that the bytes write behind the digits of n, each byte a digit of base 256
-abbrev pub digits_behind : ℕ → List ℕ → ℕ
-digits_behind n [] = n
-digits_behind n (b ∷ bs) = digits_behind (n * 256 + b) bs
+-- the number that the bytes write after the digits of n, each byte a digit of base 256
+abbrev pub digits_after : ℕ → List ℕ → ℕ
+digits_after n [] = n
+digits_after n (b ∷ bs) = digits_after (n * 256 + b) bs
 
 -- the number that the bytes write, most significant first
 abbrev pub big_endian : List ℕ → ℕ
-big_endian bs = digits_behind 0 bs
+big_endian bs = digits_after 0 bs
 
 -- the number in the `size` bytes at the offset, where all of them are held
 abbrev pub number_at : ℕ → ℕ → List ℕ → Option ℕ

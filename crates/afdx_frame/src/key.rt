@@ -1,3 +1,4 @@
+//! Networks, links, stamps, and the order of both taps' frames.
 ghost use Rattle.std.specs.Prelude.{◌≡◌};
 ghost use Rattle.afdx_frame.specs.Frame.{key_cmp};
 ghost use Rattle.afdx_frame.specs.declared.key.Key.{Key};

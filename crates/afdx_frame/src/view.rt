@@ -1,10 +1,11 @@
+//! What a frame's bytes say.
 ghost use Rattle.std.specs.Prelude.{◌≡◌};
 ghost use Rattle.std.specs.Option.{option_copied};
 ghost use Rattle.afdx_frame.specs.View.{view_bytes, constant_of, link_of, sequence_of, body_of};
 
 use crate::key::VlId;
 
-/// The bytes that a recording holds of a frame, lent: nothing is copied.
+/// The bytes that were captured of a frame, borrowed: nothing is copied.
 #[derive(Clone, Copy, Debug)]
 pub struct FrameView<'a> {
     bytes: &'a [u8],
@@ -38,7 +39,7 @@ impl<'a> FrameView<'a> {
         Some(u32::from_be_bytes([*a, *b, *c, *d]))
     }
 
-    /// The virtual link's identifier: the two bytes behind the constant field, most significant
+    /// The virtual link's identifier: the two bytes after the constant field, most significant
     /// first. None below 6 bytes.
     pub fn vl(&self) -> Option<VlId>
         ensures { result ≡ link_of (view_bytes self.now) }
@@ -50,7 +51,7 @@ impl<'a> FrameView<'a> {
     }
 
     /// The sequence number: the last byte (ARINC 664 Part 7; recordings don't hold the frame check
-    /// sequence behind it). None for no bytes.
+    /// sequence after it). None for no bytes.
     pub fn sequence(&self) -> Option<u8>
         ensures { result ≡ sequence_of (view_bytes self.now) }
     {
@@ -58,7 +59,7 @@ impl<'a> FrameView<'a> {
     }
 
     /// What the frame carries: the bytes between the 14 of the Ethernet header and the sequence number,
-    /// lent. None below 15 bytes.
+    /// borrowed. None below 15 bytes.
     pub fn body(&self) -> Option<&'a [u8]>
         ensures { option_copied result ≡ body_of (view_bytes self.now) }
     {

@@ -16,10 +16,10 @@ split s n e xs le fits =
     ∙ (ap (λ (m : ℕ). take m (drop s xs) ++ take (e - (s + n)) (drop n (drop s xs))) first
     ∙ ap (λ (l : List ℕ). slice_range xs s (s + n) ++ take (e - (s + n)) l) (drop-drop n s xs)))
 
--- the front of the unread bytes is drawn
-pub consumes_front : (a : Option (List ℕ)) (old new front : List ℕ) → old ≡ front ++ new → Consumes (prepend_known old a) (prepend_known new a) front
-consumes_front None old new front e = tt
-consumes_front (Some x) old new front e = ap (λ (l : List ℕ). l ++ x) e ∙ append_assoc front new x
+-- a prefix of the unread bytes is drawn
+pub consumes_prefix : (a : Option (List ℕ)) (old new front : List ℕ) → old ≡ front ++ new → Consumes (prepend_known old a) (prepend_known new a) front
+consumes_prefix None old new front e = tt
+consumes_prefix (Some x) old new front e = ap (λ (l : List ℕ). l ++ x) e ∙ append_assoc front new x
 
 -- all unread bytes are drawn, and more came from the source
 pub consumes_across : (a b : Option (List ℕ)) (old new more all : List ℕ) → new ≡ [] → all ≡ old ++ more → Consumes a b more
@@ -50,7 +50,7 @@ none_between e xs =
 pub length-between : (s e : ℕ) (xs : List ℕ) → e ≤ length xs → length (slice_range xs s e) ≡ e - s
 length-between s e xs fits = length-take-le (e - s) (drop s xs) (omega (arith, length-drop s xs))
 
--- a buffer that has the unread bytes, and what was read behind them
+-- a buffer that has the unread bytes, and what was read after them
 pub across : (u n k : ℕ) (old copied buf got : List ℕ) → copied ≡ old → length old ≡ u → u ≤ length buf → n ≤ length got
     → take (u + n) (put_mid u k (copied ++ drop u buf) got) ≡ old ++ take n got
 across u n k old copied buf got same size within fits =
@@ -58,7 +58,7 @@ across u n k old copied buf got same size within fits =
     take-read u n k (copied ++ drop u buf) got (omega (arith, length-append copied (drop u buf), len)) fits
     ∙ ap (λ (l : List ℕ). l ++ take n got) (take_at copied (drop u buf) u len ∙ same)
 
--- what was read behind the bytes that stand there
+-- what was read after the bytes that stand there
 pub keeps_more : (a b : Option (List ℕ)) (old new bs : List ℕ) → new ≡ old ++ bs → Consumes a b bs → Keeps (prepend_known old a) (prepend_known new b)
 keeps_more None b old new bs e p = tt
 keeps_more (Some x) None old new bs e p = absurd p
@@ -75,7 +75,7 @@ pub draws : (a b : Option (List ℕ)) (start m e : ℕ) (xs : List ℕ) → star
     → Keeps a (prepend_known (slice_range xs start e) b) → Consumes a (prepend_known (slice_range xs m e) b) (slice_range xs 0 m)
 draws a b start m e xs zero le fits kept =
     let none : 0 + m ≡ m = omega arith in
-    kept_consumes a _ _ _ (rw zero at kept) (consumes_front b _ _ _ (rw none at (split 0 m e xs (omega arith) fits)))
+    kept_consumes a _ _ _ (rw zero at kept) (consumes_prefix b _ _ _ (rw none at (split 0 m e xs (omega arith) fits)))
 
 pub on_err_from : {T E Q : Type 0} (r : Result T E) → Q → OnErr r Q
 on_err_from (Ok x) q = tt

@@ -15,7 +15,7 @@ use Rattle.pcap_io.specs.declared.recording.Ending.{Ending}
 use Rattle.pcap_io.specs.declared.position.Position.{Position}
 use Rattle.pcap_io.specs.declared.item.Item.TheVariants as items
 
--- ---- one more record in front
+-- ---- one more record before the others
 
 pub parses_end : (l : Layout) (most late n high : ℕ) (bytes : List ℕ) (e : Ending) → n ≤ most → ending_at l most late n high bytes ≡ Some e
     → Parses l most late n high bytes [] bytes e
@@ -221,7 +221,7 @@ holds_end p bytes e within ends = record {
   same = refl;
 }
 
--- a frame that was read stands in front of those behind it
+-- a frame that was read comes before those that follow it
 pub holds_more : (p : Position) (bytes more : List ℕ) (f : Frame) (fs : List Frame) (e : Ending) → TakesFrame p (Some bytes) (Some more) f
     → Holds (after_item p (items.Frame f)) more fs e → Holds p bytes (f ∷ fs) e
 holds_more p bytes more f fs e t h =

@@ -1,10 +1,11 @@
--- Laws of a record's spelling: its 16 bytes of fields give the fields back, and a good record is no ending.
+-- A record's 16 bytes of header give the fields back, and a good record is no ending.
 use Rattle.std.specs.Prelude.{◌≡◌, ℕ, zero, suc, ◌+◌, ◌-◌, ◌^◌, ◌<◌, ◌≤◌, Bool, true, false, cond, List, [], ◌∷◌, ◌++◌, length, take, drop, get_or, Option, Some, None, nat_lt, nat_le, nat_eq}
 use Rattle.std.proofs.Common.{refl, sym, ap, ◌∙◌, subst, arith}
 use Rattle.std.proofs.lemmas.Bool.{le-ltb, ltb-false, lt-leb, leb-false, ne_eqb}
 use Rattle.std.proofs.lemmas.List.{take_at, take_all, drop_at, drop-drop, take-append-drop, append_assoc, append-nil, length-append, length-drop, get_or-drop}
 use Rattle.std.proofs.lemmas.Nat.{le_bytes_4, be_bytes_4}
 use Rattle.byteorder.specs.Numbers.{little_number-reads_back, big_number-reads_back, little_from-lt, big_from-lt}
+use Rattle.afdx_frame.specs.declared.bounds.TheConstants.{MAX_SNAPLEN}
 use Rattle.pcap_io.specs.Layout.{number_in, bytes_in, fractions_of}
 use Rattle.pcap_io.specs.Bytes.{IsBytes}
 use Rattle.pcap_io.specs.Recording.{Record, IsGood, header_bytes, record_bytes, stamp_at, header_fields, reason_at, ending_at}
@@ -122,10 +123,10 @@ header_bytes_read_back l head size fits =
 
 -- what is wrong with a record's fields
 
-pub reason_none : (l : Layout) (late high : ℕ) (head : RecordHeader) → head.captured_len ≤ 262144 → head.fraction < fractions_of l.precision
+pub reason_none : (l : Layout) (late high : ℕ) (head : RecordHeader) → head.captured_len ≤ MAX_SNAPLEN → head.fraction < fractions_of l.precision
     → high ≤ stamp_at l head.seconds head.fraction + late → reason_at l late high head ≡ None
 reason_none l late high head few within in_time =
-    let long : nat_lt 262144 head.captured_len ≡ false = le-ltb 262144 head.captured_len few in
+    let long : nat_lt MAX_SNAPLEN head.captured_len ≡ false = le-ltb MAX_SNAPLEN head.captured_len few in
     let whole : nat_le (fractions_of l.precision) head.fraction ≡ false = lt-leb (fractions_of l.precision) head.fraction within in
     let back : nat_lt (stamp_at l head.seconds head.fraction + late) high ≡ false = le-ltb _ high in_time in
     rw (long, whole, back) refl
@@ -136,7 +137,7 @@ none_of false x o e = (refl, e)
 
 -- nothing is wrong with the fields
 pub record IsFine (l : Layout) (late high : ℕ) (head : RecordHeader) : Type 0 where
-  pub few : head.captured_len ≤ 262144
+  pub few : head.captured_len ≤ MAX_SNAPLEN
   pub within : head.fraction < fractions_of l.precision
   pub in_time : high ≤ stamp_at l head.seconds head.fraction + late
 
@@ -145,7 +146,7 @@ fine_from_none l late high head e =
     let long = none_of _ _ _ e in
     let whole = none_of _ _ _ long.1 in
     let back = none_of _ _ _ whole.1 in
-    record { few = ltb-false 262144 head.captured_len long.0; within = leb-false (fractions_of l.precision) head.fraction whole.0; in_time = ltb-false _ high back.0 }
+    record { few = ltb-false MAX_SNAPLEN head.captured_len long.0; within = leb-false (fractions_of l.precision) head.fraction whole.0; in_time = ltb-false _ high back.0 }
 
 pub fractions_fit : (p : Precision) (n : ℕ) → n < fractions_of p → n < 2 ^ 32
 fractions_fit Nanoseconds n h = omega arith
@@ -153,7 +154,7 @@ fractions_fit Microseconds n h = omega arith
 
 -- ---- what a record is to a reader
 
--- the fields of a record at the front
+-- the fields of the first record
 pub header-record_bytes : (l : Layout) (r : Record) (more : List ℕ) → r.seconds < 2 ^ 32 → r.fraction < 2 ^ 32 → length r.bytes < 2 ^ 32 → r.original_len < 2 ^ 32
     → header_fields l (take 16 (record_bytes l r ++ more)) ≡ header_with r.seconds r.fraction (length r.bytes) r.original_len
 header-record_bytes l r more ps pf ph pw =

@@ -11,7 +11,7 @@ use Rattle.pcap_io.specs.Script.{fails, answer_of}
 use Rattle.pcap_io.specs.declared.script.ScriptState.{ScriptState}
 use Rattle.pcap_io.specs.declared.device.DeviceFault.{DeviceFault}
 
--- the front of a buffer after more was read behind its front
+-- a buffer whose prefix stands, once more was read after it
 pub take-read : (done n k : ℕ) (buf got : List ℕ) → done ≤ length buf → n ≤ length got
     → take (done + n) (put_mid done k buf got) ≡ take done buf ++ take n got
 take-read done n k buf got within fits =
@@ -25,7 +25,7 @@ pub fill_more : (a b c : Option (List ℕ)) (done n k : ℕ) (buf got : List ℕ
 fill_more a b c done n k buf got within fits first next =
     subst (Consumes a c) (sym (take-read done n k buf got within fits)) (Consumes-trans a b c _ _ first next)
 
--- a front, and a front of what is behind it
+-- a prefix, and a prefix of what follows it
 pub take-front : (done n : ℕ) (bytes : List ℕ) → done ≤ length bytes → take (done + n) bytes ≡ take done bytes ++ take n (drop done bytes)
 take-front done n bytes within =
     let front : List ℕ = take done bytes in

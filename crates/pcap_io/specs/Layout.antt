@@ -7,6 +7,7 @@ use Rattle.pcap_io.specs.declared.layout.Order.TheVariants.{Little, Big}
 use Rattle.pcap_io.specs.declared.layout.Precision.{Precision}
 use Rattle.pcap_io.specs.declared.layout.Precision.TheVariants.{Nanoseconds, Microseconds}
 use Rattle.pcap_io.specs.declared.layout.Layout.{Layout}
+use Rattle.pcap_io.specs.declared.layout.TheConstants.{FILE_HEADER_LEN}
 use Rattle.pcap_io.specs.declared.layout.HeaderFault.{HeaderFault}
 use Rattle.pcap_io.specs.declared.layout.HeaderFault.TheVariants.{Short, Magic, Version, LinkType}
 
@@ -39,7 +40,7 @@ layout_of_magic magic =
     else if magic == 0xa1b2c3d4 then Some (record { order = Big; precision = Microseconds })
     else None
 
--- the fields behind the magic number: version 2.4, and link type 1, Ethernet
+-- the fields after the magic number: version 2.4, and link type 1, Ethernet
 abbrev pub checked : List ℕ → Option Layout → Result Layout HeaderFault
 checked header None = Err Magic
 checked header (Some layout) =
@@ -50,4 +51,4 @@ checked header (Some layout) =
 -- The layout that the bytes of a recording begin with, or the first fault that fits.
 abbrev pub header_of : List ℕ → Result Layout HeaderFault
 header_of bytes =
-    if nat_lt (length bytes) 24 then Err Short else checked (take 24 bytes) (layout_of_magic (big_number 4 (take 24 bytes)))
+    if nat_lt (length bytes) FILE_HEADER_LEN then Err Short else checked (take FILE_HEADER_LEN bytes) (layout_of_magic (big_number 4 (take FILE_HEADER_LEN bytes)))

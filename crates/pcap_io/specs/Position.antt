@@ -101,21 +101,21 @@ abbrev pub LacksMemory : Position → Option (List ℕ) → Option (List ℕ) �
 LacksMemory p before after =
     (header : List ℕ) × TakesHeader p before after header × (0 < (header_fields p.layout header).captured_len)
 
--- What a fault says of a call, by how often the source had failed before and after it. Memory is missing only at a good record of
--- at least one byte, of which the header is gone.
+-- What a fault says of a call, by how often the source had failed before and after it. Memory is missing only at a good
+-- record of at least one byte, of which the header is gone.
 abbrev pub IsReadFault : Position → Option (List ℕ) → Option (List ℕ) → ℕ → ℕ → ReadFault → Type 0
 IsReadFault p before after old new faults.Device = CountsFailure old new
 IsReadFault p before after old new faults.Memory = (new ≡ old) × LacksMemory p before after
 IsReadFault p before after old new faults.Failed = (new ≡ old) × (p.stage ≡ stages.Failed)
 
--- What stands of a reader: its position, the bytes left, where its source exposes them, and how often its source has failed.
+-- What stands of a reader: its position, the bytes left, where its source exposes them, and how often its source failed.
 pub record Reading : Type 0 where
   pub position : Position
   pub remaining : Option (List ℕ)
   pub failures : ℕ
 
--- What a call says that goes on to the next item, of what stood before it and stands after it: `as_item` is the item of what it
--- returned.
+-- What a call says that goes on to the next item, of what stood before it and stands after it. `as_item` is the item of what
+-- it returned.
 pub record Advances {A : Type 0} (as_item : A → Item) (old new : Reading) (r : Result A ReadFault) : Type 0 where
   -- the next good record's frame, or the ending of what is left
   pub item : old.position.stage ≡ stages.Going → IfOk r (λ a. IsNext old.position old.remaining new.remaining (as_item a))
@@ -147,8 +147,11 @@ pub record Holds (p : Position) (bytes : List ℕ) (frames : List Frame) (ending
 
 -- 16 bytes, of which `came` are those left, begin a record, or the ending is found in them
 abbrev pub IsStartOf : Position → List ℕ → ℕ → Start → Type 0
-IsStartOf p bytes came (starts.Header header) = (came ≡ RECORD_HEADER_LEN) × (p.count ≢ p.most) × (header ≡ header_fields p.layout bytes) × (reason_at p.layout p.late p.high header ≡ None)
-IsStartOf p bytes came (starts.End e) = (more : List ℕ) → (came < RECORD_HEADER_LEN → more ≡ []) → ending_here p (take came bytes ++ more) ≡ Some e
+IsStartOf p bytes came (starts.Header header) =
+    (came ≡ RECORD_HEADER_LEN) × (p.count ≢ p.most) × (header ≡ header_fields p.layout bytes)
+    × (reason_at p.layout p.late p.high header ≡ None)
+IsStartOf p bytes came (starts.End e) =
+    (more : List ℕ) → (came < RECORD_HEADER_LEN → more ≡ []) → ending_here p (take came bytes ++ more) ≡ Some e
 
 -- the frame of a header and the bytes that follow it
 abbrev pub frame_at : Position → RecordHeader → List ℕ → Frame
@@ -156,7 +159,8 @@ frame_at p header bytes =
     frame_with p.network p.count (stamp_at p.layout header.seconds header.fraction) (max header.original_len (length bytes)) bytes
 
 abbrev pub IsStart : Position → Option (List ℕ) → Option (List ℕ) → Start → Type 0
-IsStart p before after (starts.Header header) = (bytes : List ℕ) × TakesHeader p before after bytes × (header ≡ header_fields p.layout bytes)
+IsStart p before after (starts.Header header) =
+    (bytes : List ℕ) × TakesHeader p before after bytes × (header ≡ header_fields p.layout bytes)
 IsStart p before after (starts.End e) = IfSome before (λ bytes. ending_here p bytes ≡ Some e)
 
 -- a clean and a cut ending are found where less than a header is left
@@ -174,7 +178,8 @@ StartLeaves before after (starts.End e) = EndLeaves before after e
 
 -- the bytes begin with a file header of this layout, which is gone
 abbrev pub Opens : Option (List ℕ) → Option (List ℕ) → Layout → Type 0
-Opens before after layout = IfSome before (λ bytes. (header_of bytes ≡ Ok layout) × (after ≡ Some (drop FILE_HEADER_LEN bytes)))
+Opens before after layout =
+    IfSome before (λ bytes. (header_of bytes ≡ Ok layout) × (after ≡ Some (drop FILE_HEADER_LEN bytes)))
 
 -- what a refusal says of the bytes, and of how often the source has failed
 abbrev pub IsOpenFault : Option (List ℕ) → ℕ → ℕ → OpenFault → Type 0

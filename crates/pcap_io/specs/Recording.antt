@@ -24,7 +24,8 @@ pub record Record : Type 0 where
 -- a record's header: stamp, captured length and original length
 abbrev pub header_bytes : Layout → ℕ → ℕ → ℕ → ℕ → List ℕ
 header_bytes layout seconds fraction captured original =
-    bytes_in layout.order 4 seconds ++ (bytes_in layout.order 4 fraction ++ (bytes_in layout.order 4 captured ++ bytes_in layout.order 4 original))
+    bytes_in layout.order 4 seconds
+    ++ (bytes_in layout.order 4 fraction ++ (bytes_in layout.order 4 captured ++ bytes_in layout.order 4 original))
 
 -- a record as it stands in a recording
 abbrev pub record_bytes : Layout → Record → List ℕ
@@ -95,7 +96,8 @@ ending_at layout most late n high rest =
     if length rest == 0 then Some (Clean n)
     else if n == most then Some (Bad n TooMany)
     else if nat_lt (length rest) RECORD_HEADER_LEN then Some (Cut n)
-    else ending_after n (header_fields layout (take RECORD_HEADER_LEN rest)) (length rest - RECORD_HEADER_LEN) (reason_at layout late high (header_fields layout (take RECORD_HEADER_LEN rest)))
+    else ending_after n (header_fields layout (take RECORD_HEADER_LEN rest)) (length rest - RECORD_HEADER_LEN)
+    (reason_at layout late high (header_fields layout (take RECORD_HEADER_LEN rest)))
 
 -- After n records whose greatest stamp is `high` the bytes are these good records and a rest that ends the recording so.
 pub record Parses (layout : Layout) (most late n high : ℕ) (bytes : List ℕ) (records : List Record) (rest : List ℕ) (ending : Ending) : Type 0 where

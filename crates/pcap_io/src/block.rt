@@ -43,8 +43,8 @@ fn new_block(alloc: Global, len: usize) -> Result<Vec<u8>, AllocError>
     Ok(block)
 }
 
-/// Reads behind the first `end` bytes until at least `len` stand there, or the source ends. Returns
-/// how many stand there then, after a fault too.
+/// Reads into the bytes from the index `end` on, until at least `len` stand there or the source ends.
+/// Returns how many stand there then, after a fault too.
 fn read_until<S: TapSource>(
     source: &mut S,
     bytes: &mut [u8],
@@ -72,7 +72,8 @@ fn read_until<S: TapSource>(
 }
 
 impl<S: TapSource> BlockSource<S> {
-    ghost use Rattle.pcap_io.specs.Block.{block_source, unread_bytes, drawn_bytes, block_remaining, IsDrawFault};
+    ghost use Rattle.pcap_io.specs.Block.{IsDrawFault, block_remaining, block_source};
+    ghost use Rattle.pcap_io.specs.Block.{drawn_bytes, unread_bytes};
 
     /// A source of which nothing was read ahead. Allocates nothing.
     pub fn new(source: S) -> BlockSource<S>

@@ -1,23 +1,25 @@
-//! The header of a recording: in which order and how finely it writes its numbers.
+//! The file header of a recording: its byte order, and the unit of its stamps.
 ghost use Rattle.std.specs.Prelude.{◌≡◌, ◌≤◌, length, Some};
 ghost use Rattle.pcap_io.specs.Layout.{number_in, layout_of_magic, header_of, checked};
 
 use byteorder::{BigEndian, ByteOrder, LittleEndian};
 use thiserror::Error;
 
-/// The order of a number's bytes.
+/// The byte order of a number.
 #[derive(Clone, Copy, Debug, PartialEq, Eq)]
 pub enum Order {
-    /// The least significant byte stands first.
+    /// Little-endian: the least significant byte stands first.
     Little,
-    /// The most significant byte stands first.
+    /// Big-endian: the most significant byte stands first.
     Big,
 }
 
 /// The unit of the fraction of a second in a stamp.
 #[derive(Clone, Copy, Debug, PartialEq, Eq)]
 pub enum Precision {
+    /// Nanosecond pcap.
     Nanoseconds,
+    /// The older form.
     Microseconds,
 }
 
@@ -28,7 +30,7 @@ pub struct Layout {
     pub precision: Precision,
 }
 
-/// Why the first 24 bytes are no header that is read here: the first that fits.
+/// Why the first 24 bytes are no file header that is read here: the first that fits.
 #[derive(Clone, Copy, Debug, PartialEq, Eq, Drop, Error)]
 pub enum HeaderFault {
     /// There are fewer than 24 bytes.
@@ -87,7 +89,7 @@ fn layout_of_magic(magic: u32) -> Option<Layout>
 
 /// The layout that a header names.
 pub fn layout_of(header: &[u8]) -> Result<Layout, HeaderFault>
-    requires { length header.now ≡ 24 }
+    requires { length header.now ≡ FILE_HEADER_LEN }
     ensures { result ≡ header_of header.now }
 {
     let Some(layout) = layout_of_magic(BigEndian::read_u32(header)) else {

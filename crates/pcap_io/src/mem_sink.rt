@@ -31,7 +31,9 @@ impl Model for MemSink {
 impl MemSink {
     /// An empty sink, with room for all that its script lets pass.
     pub fn new(alloc: Global, script: Script) -> Result<MemSink, AllocError>
-        ensures { IfOk result (λ s. s ≡ record { bytes = []; state = start_of script }) }
+        ensures value { IfOk result (λ s. s ≡ record { bytes = []; state = start_of script }) }
+        // Memory is missing only where some bytes may pass.
+        ensures out_of_memory { OnErr result (0 < script.most) }
     {
         Ok(MemSink {
             bytes: Vec::with_capacity(alloc, script.most)?,

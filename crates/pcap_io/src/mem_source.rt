@@ -66,8 +66,8 @@ impl TapSource for MemSource {
         ensures fault { OnErr result
             (CountsFailure self.old.state.failures self.new.state.failures) }
     {
-        let held = self.bytes.len() - self.at;
-        let passed = self.state.call(buf.len().min(held))?;
+        let left = self.bytes.len() - self.at;
+        let passed = self.state.call(buf.len().min(left))?;
         let from = self.at;
         buf[..passed].copy_from_slice(&self.bytes[from..from + passed]);
         self.at = from + passed;

@@ -98,7 +98,8 @@ impl<S: TapSource> TapReader<S> {
     ghost use Rattle.pcap_io.specs.declared.item.Found.TheVariants as founds;
     ghost use Rattle.pcap_io.specs.declared.item.ReadFault.TheVariants as faults;
     ghost use Rattle.pcap_io.specs.declared.recording.Ending.{Ending};
-    ghost use Rattle.pcap_io.specs.Reader.{position_of, source_of, unread_of, remaining_of, lent_of, reading_of};
+    ghost use Rattle.pcap_io.specs.Reader.{lent_of, position_of, reading_of, remaining_of};
+    ghost use Rattle.pcap_io.specs.Reader.{source_of, unread_of};
 
     /// Reads the file header, and stands at the first record. At most `most` records are read, and a
     /// stamp may lie `late` nanoseconds below the greatest before it. A refusal gives the source
@@ -170,7 +171,8 @@ impl<S: TapSource> TapReader<S> {
     #[inline(always)]
     fn find(&mut self, alloc: Global) -> Result<Found, ReadFault>
         ensures item { IfOk result (λ a. IsNext (position_of self.old)
-            (remaining_of S.remaining self.old) (remaining_of S.remaining self.new) (found_item (lent_of self.new) a)) }
+            (remaining_of S.remaining self.old) (remaining_of S.remaining self.new)
+            (found_item (lent_of self.new) a)) }
         ensures room { IfOk result (λ a. HasRoom (position_of self.old) (found_item (lent_of self.new) a)) }
         ensures position { position_of self.new ≡ position_of self.old }
         ensures no_failure { OnOk result

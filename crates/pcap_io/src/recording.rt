@@ -3,7 +3,7 @@
 /// Why a recording can't be read on.
 #[derive(Clone, Copy, Debug, PartialEq, Eq)]
 pub enum BadReason {
-    /// A record announces more than 262144 bytes.
+    /// A record claims more than 262144 captured bytes.
     Length,
     /// The fraction makes a second or more.
     Fraction,
@@ -13,12 +13,12 @@ pub enum BadReason {
     TooMany,
 }
 
-/// How a recording ends. The number is that of the frames read whole.
+/// How a recording ends. The number is that of the frames before the ending.
 #[derive(Clone, Copy, Debug, PartialEq, Eq)]
 pub enum Ending {
-    /// Behind a whole record.
+    /// After a complete record.
     Clean(u64),
-    /// Within a record.
+    /// Within a record: the recording is truncated.
     Cut(u64),
     /// At a record that can't be read.
     Bad(u64, BadReason),

@@ -46,7 +46,7 @@ fn copies_itself(
 #[test]
 fn a_record_across_the_end_of_the_block(rt: HostRuntime) -> Result<(), Fail> {
     let alloc = rt.alloc();
-    // The block is filled behind the first header. Its end falls on each byte of the second record.
+    // The block is filled after the first header. Its end falls on each byte of the second record.
     for short in 0..=80 {
         let bytes = recording(alloc, &[BLOCK - short, 60, 0, 60])?;
         for piece in [BLOCK, usize::MAX] {

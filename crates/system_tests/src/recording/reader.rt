@@ -49,58 +49,61 @@ fn read_lent<S: TapSource>(
     Ok(None)
 }
 
+/// Records, how many are read at most, how late a stamp may come, how many frames there are, and the
+/// ending.
+const ENDINGS: [(&[(u32, u32, usize)], u64, u64, u64, Ending); 10] = [
+    (&[], 1 << 32, 0, 0, Ending::Clean(0)),
+    (&[(1, 60, 60), (2, 60, 59)], 1 << 32, 0, 1, Ending::Cut(1)),
+    (
+        &[(1, 60, 60), (1_000_000_000, 60, 60)],
+        1 << 32,
+        0,
+        1,
+        Ending::Bad(1, BadReason::Fraction),
+    ),
+    (
+        &[(10, 60, 60), (9, 60, 60)],
+        1 << 32,
+        0,
+        1,
+        Ending::Bad(1, BadReason::StampBack),
+    ),
+    (
+        &[(1, 60, 60), (2, 60, 60), (3, 60, 60)],
+        2,
+        0,
+        2,
+        Ending::Bad(2, BadReason::TooMany),
+    ),
+    (&[(1, 60, 60), (2, 60, 60)], 2, 0, 2, Ending::Clean(2)),
+    (
+        &[(10, 60, 60), (4, 60, 60)],
+        1 << 32,
+        5,
+        1,
+        Ending::Bad(1, BadReason::StampBack),
+    ),
+    (
+        &[(10, 60, 60), (4, 60, 60)],
+        1 << 32,
+        6,
+        2,
+        Ending::Clean(2),
+    ),
+    (
+        &[(1, 60, 60), (2, 262_145, 60)],
+        1 << 32,
+        0,
+        1,
+        Ending::Bad(1, BadReason::Length),
+    ),
+    (&[(1, 60, 60), (2, 61, 60)], 1 << 32, 0, 1, Ending::Cut(1)),
+];
+
 #[test]
 fn endings(rt: HostRuntime) -> Result<(), Fail> {
     let alloc = rt.alloc();
-    let cases: [(&[(u32, u32, usize)], u64, u64, u64, Ending); 10] = [
-        (&[], 1 << 32, 0, 0, Ending::Clean(0)),
-        (&[(1, 60, 60), (2, 60, 59)], 1 << 32, 0, 1, Ending::Cut(1)),
-        (
-            &[(1, 60, 60), (1_000_000_000, 60, 60)],
-            1 << 32,
-            0,
-            1,
-            Ending::Bad(1, BadReason::Fraction),
-        ),
-        (
-            &[(10, 60, 60), (9, 60, 60)],
-            1 << 32,
-            0,
-            1,
-            Ending::Bad(1, BadReason::StampBack),
-        ),
-        (
-            &[(1, 60, 60), (2, 60, 60), (3, 60, 60)],
-            2,
-            0,
-            2,
-            Ending::Bad(2, BadReason::TooMany),
-        ),
-        (&[(1, 60, 60), (2, 60, 60)], 2, 0, 2, Ending::Clean(2)),
-        (
-            &[(10, 60, 60), (4, 60, 60)],
-            1 << 32,
-            5,
-            1,
-            Ending::Bad(1, BadReason::StampBack),
-        ),
-        (
-            &[(10, 60, 60), (4, 60, 60)],
-            1 << 32,
-            6,
-            2,
-            Ending::Clean(2),
-        ),
-        (
-            &[(1, 60, 60), (2, 262_145, 60)],
-            1 << 32,
-            0,
-            1,
-            Ending::Bad(1, BadReason::Length),
-        ),
-        (&[(1, 60, 60), (2, 61, 60)], 1 << 32, 0, 1, Ending::Cut(1)),
-    ];
-    for (records, most, late, frames, ending) in cases {
+    for (records, most, late, frames, ending) in ENDINGS {
         assert!(rt; most <= 4_294_967_296);
         for piece in [0, 1, 7, usize::MAX] {
             let source = MemSource::new(recording(alloc, records)?, Script { piece, ..SOUND });

@@ -80,8 +80,8 @@ fn spelling_of(header: &[u8]) -> Result<Spelling, End>
     Ok(spelling)
 }
 
-/// The record at the front of the bytes, behind so many whole ones of which the last has the stamp
-/// `high`, and the bytes behind it.
+/// The record that the bytes begin with, after so many complete ones of which the last has the stamp
+/// `high`, and the bytes that follow it.
 fn next_record(
     spelling: Spelling,
     rest: &[u8],

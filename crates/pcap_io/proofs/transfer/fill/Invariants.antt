@@ -1,4 +1,4 @@
--- What the buffer's front has is what the source gave.
+-- The buffer's prefix is what the source gave.
 use Rattle.std.proofs.Common.{length, ◌-◌, ◌≡◌, ◌≤◌, take}
 use Rattle.std.specs.Io.KnownBytes.{Consumes}
 use Rattle.pcap_io.proofs.transfer.fill.Given as goal
