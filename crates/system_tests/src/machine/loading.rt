@@ -46,10 +46,18 @@ fn one_fault_each(rt: HostRuntime) -> Result<(), Fail> {
         ("code 23", [23, 0, 0, 0], LoadFault::UnknownCode { at: 0 }),
         ("lsh #32", [100, 0, 0, 32], LoadFault::Shift { at: 0 }),
         ("st M[16]", [2, 0, 0, 16], LoadFault::Scratch { at: 0 }),
-        ("ld [2^31]", [32, 0, 0, 2147483648], LoadFault::Offset { at: 0 }),
+        (
+            "ld [2^31]",
+            [32, 0, 0, 2147483648],
+            LoadFault::Offset { at: 0 },
+        ),
         ("ja 1", [5, 0, 0, 1], LoadFault::Jump { at: 0 }),
     ] {
-        assert_eq!(rt; fault_of(&rt, &[first, RETURN_0])?, Some(fault), "{mnemonic}");
+        assert_eq!(rt;
+            fault_of(&rt, &[first, RETURN_0])?,
+            Some(fault),
+            "{mnemonic}"
+        );
     }
     // ret #0; ld #1
     assert_eq!(rt;

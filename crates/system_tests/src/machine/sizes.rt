@@ -35,7 +35,10 @@ fn read_write_load_and_run(rt: HostRuntime) -> Result<(), Fail> {
             k: 1,
         };
         let (last, others) = words.as_slice().split_last().ok_or("no instruction")?;
-        assert!(rt; others.iter().all(|word| *word == add), "{size} instructions");
+        assert!(rt;
+            others.iter().all(|word| *word == add),
+            "{size} instructions"
+        );
         assert_eq!(rt; last.code, 0x16);
         let written = write_numeric(alloc, &words)?;
         assert_eq!(rt; written.as_str(), text.as_str());

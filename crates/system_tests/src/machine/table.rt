@@ -115,7 +115,10 @@ fn family_has<F: Family>(rt: &impl Abort, rows: &[Row]) -> Result<(), Fail> {
     assert_eq!(rt; rows.len(), F::CODES);
     for (mnemonic, word, plain, effect) in rows {
         let class = word.code % 8;
-        assert!(rt; F::FIRST_CLASS <= class && class <= F::LAST_CLASS, "{mnemonic}");
+        assert!(rt;
+            F::FIRST_CLASS <= class && class <= F::LAST_CLASS,
+            "{mnemonic}"
+        );
         let insn = F::unpack(*word).ok_or("not of the family")?;
         assert_eq!(rt; insn.pack(), *plain, "{mnemonic}");
         assert_eq!(rt; canonical(*word), *plain, "{mnemonic}");
@@ -212,7 +215,12 @@ const fn by_test(mnemonic: &'static str, code: u16, pc: usize) -> Row {
 
 /// A conditional jump by A and X.
 const fn by_test_x(mnemonic: &'static str, code: u16, pc: usize) -> Row {
-    (mnemonic, full(code), word(code, 20, 40, 0), Effect::Goes(pc))
+    (
+        mnemonic,
+        full(code),
+        word(code, 20, 40, 0),
+        Effect::Goes(pc),
+    )
 }
 
 #[test]
@@ -233,11 +241,17 @@ fn jumps_returns_and_moves(rt: HostRuntime) -> Result<(), Fail> {
     )?;
     family_has::<Return>(
         &rt,
-        &[by_k("ret #k", 0x06, Effect::Ends(6)), bare("ret a", 0x16, Effect::Ends(74565))],
+        &[
+            by_k("ret #k", 0x06, Effect::Ends(6)),
+            bare("ret a", 0x16, Effect::Ends(74565)),
+        ],
     )?;
     family_has::<Move>(
         &rt,
-        &[bare("tax", 0x07, Effect::X(74565)), bare("txa", 0x87, Effect::A(11))],
+        &[
+            bare("tax", 0x07, Effect::X(74565)),
+            bare("txa", 0x87, Effect::A(11)),
+        ],
     )
 }
 
@@ -327,7 +341,13 @@ fn loads_at_the_end_of_the_frame(rt: HostRuntime) -> Result<(), Fail> {
         ("ldxb 4*([k]&0xf)", 0xb1, 0, 24, Effect::Ends(0)),
         // X + k is 0, 1 and 2 modulo 2^32
         ("ld [x + k]", 0x40, u32::MAX, 1, Effect::A(0x1021_3243)),
-        ("ldh [x + k]", 0x48, 0x8000_0000, 0x8000_0001, Effect::A(0x2132)),
+        (
+            "ldh [x + k]",
+            0x48,
+            0x8000_0000,
+            0x8000_0001,
+            Effect::A(0x2132),
+        ),
         ("ldb [x + k]", 0x50, 4, 4294967294, Effect::A(0x32)),
     ] {
         let before = State { x, ..BEFORE };
@@ -347,7 +367,10 @@ fn codes_of<F: Family>(rt: &impl Abort) -> usize {
             codes = codes.saturating_add(1);
             assert!(rt; Insn::unpack(word).is_some(), "code {code:#x}");
             let class = code % 8;
-            assert!(rt; F::FIRST_CLASS <= class && class <= F::LAST_CLASS, "code {code:#x}");
+            assert!(rt;
+                F::FIRST_CLASS <= class && class <= F::LAST_CLASS,
+                "code {code:#x}"
+            );
         }
     }
     codes
@@ -370,7 +393,10 @@ fn operands(rt: HostRuntime) {
     assert_eq!(rt; Load::Length.operand(), None);
     assert_eq!(rt; LoadX::HeaderLength(14).operand(), Some(14));
     assert_eq!(rt; Store::X(6).operand(), 6);
-    assert_eq!(rt; Alu::Binary(Operator::Add, Source::X).operand(), Some(Source::X));
+    assert_eq!(rt;
+        Alu::Binary(Operator::Add, Source::X).operand(),
+        Some(Source::X)
+    );
     let less = Jump::If(Condition::AtLeast, Source::K(61), 0, 1);
     assert_eq!(rt; less.operand(), (Source::K(61), 0, 1));
     assert_eq!(rt; Return::A.operand(), None);
