@@ -10,7 +10,7 @@ ghost use Rattle.bpf_loader.specs.Faults.{HasLength, HasNoWordFault, StoresBefor
 ghost use Rattle.bpf_loader.specs.Faults.{ends_in_return, IsFirstFault};
 
 use crate::fault::LoadFault;
-use bpf_isa::{Family, Insn, Jump, Load, LoadX, MAX_INSNS, Packed, Store};
+use bpf_isa::{Insn, Jump, Load, LoadX, MAX_INSNS, Packed, Store};
 
 /// The scratch memory slot that the instruction loads.
 fn loaded_slot(insn: Insn) -> Option<u32>
@@ -108,7 +108,7 @@ pub(crate) fn check_scratch(words: &[Packed]) -> Result<(), LoadFault>
 {
     let mut masks = masks_at_start();
     for (pc, word) in words.iter().enumerate() {
-        let Some(insn) = Insn::unpack(*word) else {
+        let Some(insn) = Insn::decode(word) else {
             unreachable!()
         };
         carry(&mut masks, pc, insn)?;

@@ -8,9 +8,7 @@ ghost use Rattle.bpf_loader.specs.Typed.{fault_of_load, fault_of_load_x, fault_o
 ghost use Rattle.bpf_loader.specs.Typed.{fault_of_alu, fault_of_jump, fault_of_insn};
 
 use crate::fault::LoadFault;
-use bpf_isa::{
-    Alu, Family, Insn, Jump, Load, LoadX, Operator, Packed, SCRATCH_SLOTS, Source, Store,
-};
+use bpf_isa::{Alu, Insn, Jump, Load, LoadX, Operator, Packed, SCRATCH_SLOTS, Source, Store};
 
 /// Absolute offsets are below this one (this project's profile).
 const OFFSET_END: u32 = 1 << 31;
@@ -80,7 +78,7 @@ pub(crate) fn word_fault(len: usize, pc: usize, word: Packed) -> Option<LoadFaul
     requires { pc < len }
     ensures { result ≡ fault_of_word len pc word }
 {
-    let Some(insn) = Insn::unpack(word) else {
+    let Some(insn) = Insn::decode(&word) else {
         return Some(LoadFault::UnknownCode { at: pc });
     };
     match insn {
@@ -110,7 +108,7 @@ pub(crate) fn check_words(words: &[Packed]) -> Result<(), LoadFault>
 fn is_return(word: Packed) -> bool
     ensures { result ≡ returns_answer word.code }
 {
-    match Insn::unpack(word) {
+    match Insn::decode(&word) {
         Some(insn) => matches!(insn, Insn::Return(_)),
         None => false,
     }

@@ -1,7 +1,7 @@
-//! Thousands of small programs, made by a fixed generator: where one loads, its run is that of a slow
-//! interpreter written from the table of codes.
+//! Thousands of small programs from a fixed generator. If one loads, its run is that of the reference
+//! interpreter.
 
-use crate::machine::reference::{Input, Seen, slow_run};
+use crate::machine::reference::{Input, Seen, reference_run};
 use afdx_frame::FrameView;
 use bpf_isa::{Outcome, Packed, State};
 use bpf_loader::Program;
@@ -10,7 +10,7 @@ use std::alloc::{AllocError, Global};
 use std::process::Abort;
 use std::test::Fail;
 
-/// All the codes.
+/// All codes: loads into A and X, stores, arithmetic, jumps, returns and moves.
 const CODES: [u16; 49] = [
     0x00, 0x20, 0x28, 0x30, 0x40, 0x48, 0x50, 0x60, 0x80, 0x01, 0x61, 0x81, 0xb1, 0x02, 0x03, 0x04,
     0x0c, 0x14, 0x1c, 0x24, 0x2c, 0x34, 0x3c, 0x44, 0x4c, 0x54, 0x5c, 0x64, 0x6c, 0x74, 0x7c, 0x84,
@@ -58,7 +58,7 @@ const OFFSETS: [u32; 16] = [
     0x8000_0000,
 ];
 
-/// Scratch words, the last of them none.
+/// Scratch memory slots, the last of which doesn't exist.
 const SCRATCH: [u32; 8] = [0, 1, 0, 1, 14, 15, 0, 16];
 
 /// Distances of a shift, the last of them too long.
@@ -94,7 +94,7 @@ impl Generator {
     }
 }
 
-/// The operand of an instruction that has so many behind it.
+/// The operand of an instruction that so many follow.
 fn operand(generator: &mut Generator, code: u16, room: usize) -> u32 {
     match code {
         0x20 | 0x28 | 0x30 | 0xb1 => generator.pick(&OFFSETS),
@@ -105,7 +105,7 @@ fn operand(generator: &mut Generator, code: u16, room: usize) -> u32 {
     }
 }
 
-/// A word with so many behind it: a return where there is none.
+/// An instruction that so many follow: a return if none does.
 fn word(generator: &mut Generator, room: usize) -> Packed {
     let drawn = generator.below(CODES.len());
     let code = match room {
@@ -121,10 +121,11 @@ fn word(generator: &mut Generator, room: usize) -> Packed {
     }
 }
 
-/// A program of 1 to 12 words behind stores of the first two scratch words.
+/// A program of 1 to 12 instructions, half of them after stores of M[0] and M[1].
 fn program(alloc: Global, generator: &mut Generator) -> Result<Vec<Packed>, AllocError> {
     let mut words = Vec::new(alloc);
     if generator.below(2) == 0 {
+        // ldx len; st M[0]; stx M[1]
         for code in [0x81, 0x02, 0x03] {
             words.push(Packed {
                 code,
@@ -135,8 +136,8 @@ fn program(alloc: Global, generator: &mut Generator) -> Result<Vec<Packed>, Allo
         }
     }
     let len = generator.below(12);
-    for behind in (0..=len).rev() {
-        words.push(word(generator, behind))?;
+    for following in (0..=len).rev() {
+        words.push(word(generator, following))?;
     }
     Ok(words)
 }
@@ -163,21 +164,21 @@ fn frame_bytes(generator: &mut Generator) -> [u8; 60] {
     bytes
 }
 
-/// A program's run on the three frames, and its steps, are what the slow interpreter says.
+/// A program's run on the three frames, and its steps, are those of the reference interpreter.
 fn agrees(rt: &impl Abort, program: &Program, words: &[Packed], bytes: &[u8; 60], seen: &mut Seen) {
-    for (held, whole) in [(60, 60), (15, 1514), (0, u32::MAX)] {
+    for (captured, whole) in [(60, 60), (15, 1514), (0, u32::MAX)] {
         let input = Input {
-            bytes: &bytes[..held],
+            bytes: &bytes[..captured],
             whole,
         };
         let view = FrameView::new(input.bytes);
         let ran = run(program, &view, whole);
-        assert_eq!(rt; Some(ran), slow_run(words, input, seen), "{words:?}");
+        assert_eq!(rt; Some(ran), reference_run(words, input, seen), "{words:?}");
         assert_eq!(rt; stepped(rt, program, &view, whole), ran, "{words:?}");
     }
 }
 
-/// How many of so many programs load. Each that does runs as the slow interpreter says.
+/// How many of so many programs load. Each that does runs as in the reference interpreter.
 fn loaded_of(
     rt: &(impl Abort + AllocGlobal),
     count: u32,
