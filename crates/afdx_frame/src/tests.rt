@@ -57,6 +57,13 @@ fn parts_of_a_frame(rt: HostRuntime) -> Result<(), Fail> {
     assert_eq!(rt; frame.whole(), 60);
     assert_eq!(rt; frame.key(), key(8, Network::B, 3));
     assert_eq!(rt; frame.view().vl(), Some(VlId(5)));
+    let lent = frame.lent();
+    assert_eq!(rt; lent.network(), Network::B);
+    assert_eq!(rt; lent.number(), 3);
+    assert_eq!(rt; lent.stamp(), Stamp(8));
+    assert_eq!(rt; lent.whole(), 60);
+    assert_eq!(rt; lent.key(), frame.key());
+    assert_eq!(rt; lent.view().bytes(), FRAME.as_slice());
     assert_eq!(rt; frame.into_bytes().as_slice(), FRAME.as_slice());
     Ok(())
 }
