@@ -1,0 +1,6 @@
+//! The table of virtual links.
+#![tactic(auto)]
+
+mod link;
+
+pub use link::Link;
