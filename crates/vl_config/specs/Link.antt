@@ -1,5 +1,5 @@
 -- A virtual link of the table, and the ranges of its parameters (this project's profile).
-use Rattle.std.specs.Prelude.{◌≡◌, ℕ, ◌*◌, ◌≤◌, ◌==◌, Bool, ◌&&◌, ◌||◌, IsTrue, List, [], ◌∷◌, length, nat_le}
+use Rattle.std.specs.Prelude.{ℕ, ◌*◌, ◌≤◌, ◌==◌, Bool, ◌&&◌, ◌||◌, IsTrue, List, [], ◌∷◌, length, nat_le}
 use Rattle.std.specs.List.{list_any, list_all}
 use Rattle.afdx_frame.specs.declared.key.VlId.{VlId}
 

@@ -1,5 +1,9 @@
 //! Why a table is refused.
 
+ghost use Rattle.std.specs.Prelude.{◌≡◌};
+ghost use Rattle.vl_config.specs.declared.fault.ConfigFault.TheVariants.{Memory};
+
+use std::alloc::{AllocError, AllocFailed};
 use thiserror::Error;
 
 /// Why a table is refused. `link` is the index of the link in the document, from 0; None is the top
@@ -33,4 +37,20 @@ pub enum ConfigFault {
     /// Out of memory.
     #[error("out of memory")]
     Memory,
+}
+
+impl From<AllocError> for ConfigFault {
+    ghost from_gives = { λ _ e. e ≡ Memory };
+
+    fn from(_e: AllocError) -> ConfigFault {
+        ConfigFault::Memory
+    }
+}
+
+impl<T: Drop> From<AllocFailed<T>> for ConfigFault {
+    ghost from_gives = { λ _ e. e ≡ Memory };
+
+    fn from(_e: AllocFailed<T>) -> ConfigFault {
+        ConfigFault::Memory
+    }
 }

@@ -3,7 +3,6 @@
 ghost use Rattle.std.specs.Prelude.{◌≡◌, is_some};
 ghost use Rattle.vl_config.specs.Keys.{key_name, is_required, is_kind, in_range, allows, natural_in};
 ghost use Rattle.vl_config.specs.Link.{is_name, is_name_byte};
-
 ghost use Rattle.std.specs.List.{list_all};
 ghost use Rattle.toml.specs.Data.{as_str, as_table};
 ghost use Rattle.toml.specs.View.{view};

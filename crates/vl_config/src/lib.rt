@@ -21,16 +21,15 @@
 //! ```
 #![tactic(auto)]
 
-
-
+mod class;
+mod config;
 mod fault;
 mod key;
 mod link;
+mod read;
 mod tables;
 
-
-
-
-
+pub use class::{Class, class_by};
+pub use config::Config;
 pub use fault::ConfigFault;
 pub use link::Link;

@@ -38,12 +38,24 @@ impl Model for Link {
     ghost Value = { VirtualLink };
 
     ghost view = { λ link. record {
-        id = link.id; name = string_bytes link.name; bag = link.bag; jitter = link.jitter;
-        smax = link.smax; integrity = link.integrity; redundancy = link.redundancy;
-        skew = link.skew } };
+      id = link.id;
+      name = string_bytes link.name;
+      bag = link.bag;
+      jitter = link.jitter;
+      smax = link.smax;
+      integrity = link.integrity;
+      redundancy = link.redundancy;
+      skew = link.skew;
+    } };
 
     ghost invariant = { λ link. IsLink (record {
-        id = link.id; name = string_bytes link.name; bag = link.bag; jitter = link.jitter;
-        smax = link.smax; integrity = link.integrity; redundancy = link.redundancy;
-        skew = link.skew }) };
+      id = link.id;
+      name = string_bytes link.name;
+      bag = link.bag;
+      jitter = link.jitter;
+      smax = link.smax;
+      integrity = link.integrity;
+      redundancy = link.redundancy;
+      skew = link.skew;
+    }) };
 }

@@ -1,6 +1,6 @@
 //! The first fault of the keys of a table, and the values at keys.
 
-ghost use Rattle.std.specs.Prelude.{◌≡◌, Some, None, MatchResult, map, nat_eq, string_bytes};
+ghost use Rattle.std.specs.Prelude.{◌≡◌, ◌≢◌, Some, None, IfErr, MatchResult, map, nat_eq, string_bytes};
 ghost use Rattle.std.specs.Option.{option_map};
 ghost use Rattle.std.specs.List.{list_any};
 ghost use Rattle.std.specs.Map.{keys_of};
@@ -16,9 +16,10 @@ use toml::{Table, Value};
 
 /// Finds the first fault of the keys of a table, of the top table or of the link at this index.
 pub fn check_keys(keys: &[Key], link: Option<u32>, table: &Table) -> Result<(), ConfigFault>
-    ensures { MatchResult result
+    ensures first { MatchResult result
         (λ _. keys_fault keys.now link (table_view table.now) ≡ None)
         (λ fault. keys_fault keys.now link (table_view table.now) ≡ Some fault) }
+    ensures no_memory { IfErr result (λ fault. fault ≢ ConfigFault.Memory) }
 {
     if is_any_missing(keys, table) {
         return Err(ConfigFault::Missing { link });
