@@ -118,10 +118,12 @@ pub record VlTable : Type 0 where
   pub late : ℕ
   pub filters : List (List ℕ)
 
--- what each table keeps: at most 4096 links, by rising identifier
+-- what each table keeps: at most 4096 links by rising identifier, a lateness of at most 1 s, and at most 7 filters
 pub record IsVlTable (vl_table : VlTable) : Type 0 where
   pub rising : IsNonDecreasingBy (λ link. link.id.0) vl_table.links
-  pub bounded : length vl_table.links ≤ 4096
+  pub few_links : length vl_table.links ≤ 4096
+  pub late : vl_table.late ≤ 1000000000
+  pub few_filters : length vl_table.filters ≤ 7
 
 -- the table that a document without a fault says, with its links by rising identifier
 pub record IsTableOf (members : Members) (vl_table : VlTable) : Type 0 where

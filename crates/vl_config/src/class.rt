@@ -32,8 +32,8 @@ pub enum Class {
 const LEAST_LENGTH: u32 = 60;
 /// An Ethernet frame's greatest length without its frame check sequence, in bytes (IEEE 802.3).
 const GREATEST_LENGTH: u32 = 1514;
-/// The length of the frame check sequence, in bytes.
-const CHECK_LENGTH: u32 = 4;
+/// The length of the frame check sequence, in bytes. Recordings do not hold it.
+pub const CHECK_LENGTH: u32 = 4;
 
 /// The class of a frame by the table's constant field, and by the Smax of the frame's link in bytes,
 /// None where the table does not have the link. For a caller that finds links by an index of its

@@ -1,8 +1,7 @@
 //! The table as a whole.
 
-ghost use Rattle.std.specs.Prelude.{◌≡◌, ◌≢◌, Some, None, IfOk, IfErr, OnOk, map, string_bytes};
+ghost use Rattle.std.specs.Prelude.{◌≡◌, ◌≢◌, ◌≤◌, length, Some, None, IfOk, IfErr, OnOk, map, string_bytes};
 ghost use Rattle.std.specs.Option.{option_copied, option_map};
-ghost use Rattle.afdx_frame.specs.View.{link_of};
 ghost use Rattle.toml.specs.View.{table_view};
 ghost use Rattle.vl_config.specs.Class.{class_of, link_with};
 ghost use Rattle.vl_config.specs.Keys.{keys_fault, top_keys};
@@ -36,7 +35,6 @@ pub struct Config {
 
 impl Model for Config {
     ghost use Rattle.std.specs.Prelude.{map, string_bytes};
-    ghost use Rattle.vl_config.specs.Keys.{keys_fault, top_keys};
     ghost use Rattle.vl_config.specs.Document.{VlTable, IsVlTable};
 
     ghost Value = { VlTable };
@@ -101,14 +99,16 @@ impl Config {
 
     /// How far a timestamp may lie below an earlier one of its tap, in nanoseconds: at most 1 s.
     pub fn late(&self) -> u64
-        ensures { result ≡ self.now.late }
+        ensures value { result ≡ self.now.late }
+        ensures bound { result ≤ 1000000000 }
     {
         self.late
     }
 
     /// The table's filters in the numeric form, at most 7. None of them is read here.
     pub fn filters(&self) -> &[String]
-        ensures { map string_bytes result.now ≡ self.now.filters }
+        ensures value { map string_bytes result.now ≡ self.now.filters }
+        ensures bound { length result.now ≤ 7 }
     {
         self.filters.as_slice()
     }

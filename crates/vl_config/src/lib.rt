@@ -29,7 +29,7 @@ mod link;
 mod read;
 mod tables;
 
-pub use class::{Class, class_by};
+pub use class::{CHECK_LENGTH, Class, class_by};
 pub use config::Config;
 pub use fault::ConfigFault;
 pub use link::Link;

@@ -125,6 +125,7 @@ pub fn sort_by_id(links: &mut Vec<Link>) -> Result<(), ConfigFault>
 
 /// Reads the filters, each as its text.
 pub fn read_filters(alloc: Global, values: &[Value]) -> Result<Vec<String>, ConfigFault>
+    ensures len { IfOk result (λ filters. length filters.items ≡ length values.now) }
     ensures filters { IfOk result (λ filters.
         map string_bytes filters.items ≡ map text_of (map view values.now)) }
     ensures memory { IfErr result (λ fault. fault ≡ ConfigFault.Memory) }

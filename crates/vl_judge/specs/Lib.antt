@@ -1,0 +1,3 @@
+pub mod Judgement
+pub mod Lane
+pub mod Verdicts
