@@ -38,8 +38,8 @@ abbrev pub judgement : Class → Policing → Integrity → Redundancy → Judge
 judgement class policing integrity redundancy =
     if is_regular class
     then (if is_within policing
-        then (if is_valid integrity
-            then record { class = class; policing = Some policing; integrity = Some integrity; redundancy = Some redundancy }
-            else record { class = class; policing = Some policing; integrity = Some integrity; redundancy = None })
-        else record { class = class; policing = Some policing; integrity = None; redundancy = None })
+    then (if is_valid integrity
+    then record { class = class; policing = Some policing; integrity = Some integrity; redundancy = Some redundancy }
+    else record { class = class; policing = Some policing; integrity = Some integrity; redundancy = None })
+    else record { class = class; policing = Some policing; integrity = None; redundancy = None })
     else stopped class

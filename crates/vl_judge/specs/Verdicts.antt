@@ -61,7 +61,11 @@ abbrev pub managed_entry : VlId → Judged → Option redundancy.Entry
 managed_entry id j =
     if is_of id j.frame
     then option_map (λ verdict. record {
-        network = j.frame.network; number = sequence_number j.frame; stamp = j.frame.stamp; redundancy = verdict }) j.verdict.redundancy
+      network = j.frame.network;
+      number = sequence_number j.frame;
+      stamp = j.frame.stamp;
+      redundancy = verdict;
+    }) j.verdict.redundancy
     else None
 
 -- the frames of a link on a network that policing has seen, with their verdicts

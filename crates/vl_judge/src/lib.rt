@@ -12,6 +12,8 @@
 #![tactic(auto)]
 
 mod lane;
+mod lanes;
 mod verdict;
 
+pub use lanes::Lanes;
 pub use verdict::Verdict;

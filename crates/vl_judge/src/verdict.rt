@@ -32,16 +32,25 @@ impl Model for Verdict {
     ghost Value = { Judgement };
 
     ghost view = { λ verdict. record {
-        class = verdict.class; policing = verdict.policing; integrity = verdict.integrity;
-        redundancy = verdict.redundancy } };
+      class = verdict.class;
+      policing = verdict.policing;
+      integrity = verdict.integrity;
+      redundancy = verdict.redundancy;
+    } };
 
     ghost inverse = { λ judgement. record {
-        class = judgement.class; policing = judgement.policing; integrity = judgement.integrity;
-        redundancy = judgement.redundancy } };
+      class = judgement.class;
+      policing = judgement.policing;
+      integrity = judgement.integrity;
+      redundancy = judgement.redundancy;
+    } };
 
     ghost invariant = { λ verdict. IsReached (record {
-        class = verdict.class; policing = verdict.policing; integrity = verdict.integrity;
-        redundancy = verdict.redundancy }) };
+      class = verdict.class;
+      policing = verdict.policing;
+      integrity = verdict.integrity;
+      redundancy = verdict.redundancy;
+    }) };
 }
 
 impl Verdict {
