@@ -58,48 +58,62 @@ fn fault_of(alloc: Global, text: &str) -> Option<ConfigFault> {
     Config::read(alloc, text).err()
 }
 
+/// The line that stands in place of the line of a key, or at the top, and the fault.
+const SINGLE_FAULTS: [(&str, &str, ConfigFault); 20] = [
+    ("bag_ms", "bag_ms = 3", ConfigFault::Range { link: Some(0) }),
+    ("constant", "", ConfigFault::Missing { link: None }),
+    (
+        "constant",
+        "constant = 1",
+        ConfigFault::Range { link: None },
+    ),
+    (
+        "smax",
+        "smax = \"200\"",
+        ConfigFault::Kind { link: Some(0) },
+    ),
+    ("smax", "smax = 63", ConfigFault::Range { link: Some(0) }),
+    ("smax", "smax = 1519", ConfigFault::Range { link: Some(0) }),
+    ("id", "id = 65536", ConfigFault::Range { link: Some(0) }),
+    ("id", "id = -1", ConfigFault::Range { link: Some(0) }),
+    ("name", "name = \"\"", ConfigFault::Range { link: Some(0) }),
+    (
+        "name",
+        "name = \"a b\"",
+        ConfigFault::Range { link: Some(0) },
+    ),
+    (
+        "skew_us",
+        "skew_us = 1000001",
+        ConfigFault::Range { link: Some(0) },
+    ),
+    (
+        "skew_us",
+        "skew_us = 1\nskew = 1",
+        ConfigFault::UnknownKey { link: Some(0) },
+    ),
+    ("", "late_us = 1000001", ConfigFault::Range { link: None }),
+    ("", "late_us = 1.0", ConfigFault::Kind { link: None }),
+    ("", "filters = [\"\", 1]", ConfigFault::Kind { link: None }),
+    (
+        "",
+        "filters = [\"\", \"\", \"\", \"\", \"\", \"\", \"\", \"\"]",
+        ConfigFault::TooMany,
+    ),
+    ("", "late = 5", ConfigFault::UnknownKey { link: None }),
+    ("", "[", ConfigFault::Text),
+    ("", "late_us = 9223372036854775808", ConfigFault::Text),
+    (
+        "id",
+        "id = 9223372036854775807",
+        ConfigFault::Range { link: Some(0) },
+    ),
+];
+
 #[test]
 fn one_fault_of_a_table_each(rt: HostRuntime) -> Result<(), Fail> {
     let alloc = rt.alloc();
-    let link = Some(0);
-    for (key, line, fault) in [
-        ("bag_ms", "bag_ms = 3", ConfigFault::Range { link }),
-        ("constant", "", ConfigFault::Missing { link: None }),
-        (
-            "constant",
-            "constant = 1",
-            ConfigFault::Range { link: None },
-        ),
-        ("smax", "smax = \"200\"", ConfigFault::Kind { link }),
-        ("smax", "smax = 63", ConfigFault::Range { link }),
-        ("smax", "smax = 1519", ConfigFault::Range { link }),
-        ("id", "id = 65536", ConfigFault::Range { link }),
-        ("id", "id = -1", ConfigFault::Range { link }),
-        ("name", "name = \"\"", ConfigFault::Range { link }),
-        ("name", "name = \"a b\"", ConfigFault::Range { link }),
-        ("skew_us", "skew_us = 1000001", ConfigFault::Range { link }),
-        (
-            "skew_us",
-            "skew_us = 1\nskew = 1",
-            ConfigFault::UnknownKey { link },
-        ),
-        ("", "late_us = 1000001", ConfigFault::Range { link: None }),
-        ("", "late_us = 1.0", ConfigFault::Kind { link: None }),
-        ("", "filters = [\"\", 1]", ConfigFault::Kind { link: None }),
-        (
-            "",
-            "filters = [\"\", \"\", \"\", \"\", \"\", \"\", \"\", \"\"]",
-            ConfigFault::TooMany,
-        ),
-        ("", "late = 5", ConfigFault::UnknownKey { link: None }),
-        ("", "[", ConfigFault::Text),
-        ("", "late_us = 9223372036854775808", ConfigFault::Text),
-        (
-            "id",
-            "id = 9223372036854775807",
-            ConfigFault::Range { link },
-        ),
-    ] {
+    for (key, line, fault) in SINGLE_FAULTS {
         let text = table_with(alloc, key, line)?;
         assert_eq!(rt; fault_of(alloc, text.as_str()), Some(fault), "with {line}");
     }
@@ -156,88 +170,91 @@ fn two_links(
     Ok(text)
 }
 
+/// A line at the top, the second link's identifier, name and last line, and the first fault.
+const SEVERAL_FAULTS: [(&str, &str, &str, &str, ConfigFault); 11] = [
+    (
+        "",
+        "id = 5",
+        "name = \"flaps\"",
+        "skew_us = 0",
+        ConfigFault::TwiceId { link: Some(1) },
+    ),
+    (
+        "",
+        "id = 6",
+        "name = \"brake\"",
+        "skew_us = 0",
+        ConfigFault::TwiceName { link: Some(1) },
+    ),
+    (
+        "",
+        "id = 5",
+        "name = \"brake\"",
+        "skew_us = 0",
+        ConfigFault::TwiceId { link: Some(1) },
+    ),
+    (
+        "",
+        "id = 5",
+        "name = \"brake\"",
+        "",
+        ConfigFault::Missing { link: Some(1) },
+    ),
+    (
+        "",
+        "id = \"\"",
+        "name = \"brake\"",
+        "",
+        ConfigFault::Missing { link: Some(1) },
+    ),
+    (
+        "",
+        "id = \"\"",
+        "name = \"\"",
+        "skew_us = 0",
+        ConfigFault::Kind { link: Some(1) },
+    ),
+    (
+        "",
+        "id = 5",
+        "name = \"\"",
+        "skew = 0\nskew_us = 0",
+        ConfigFault::Range { link: Some(1) },
+    ),
+    (
+        "",
+        "id = 5",
+        "name = \"brake\"",
+        "skew = 0\nskew_us = 0",
+        ConfigFault::UnknownKey { link: Some(1) },
+    ),
+    (
+        "late = 0",
+        "id = \"\"",
+        "name = \"\"",
+        "",
+        ConfigFault::UnknownKey { link: None },
+    ),
+    (
+        "late_us = -1",
+        "id = \"\"",
+        "name = \"\"",
+        "",
+        ConfigFault::Range { link: None },
+    ),
+    (
+        "late_us = true\nlate = 0",
+        "id = \"\"",
+        "name = \"\"",
+        "",
+        ConfigFault::Kind { link: None },
+    ),
+];
+
 #[test]
 fn the_first_of_several_faults(rt: HostRuntime) -> Result<(), Fail> {
     let alloc = rt.alloc();
-    for (top, id, name, last, fault) in [
-        (
-            "",
-            "id = 5",
-            "name = \"flaps\"",
-            "skew_us = 0",
-            ConfigFault::TwiceId { link: Some(1) },
-        ),
-        (
-            "",
-            "id = 6",
-            "name = \"brake\"",
-            "skew_us = 0",
-            ConfigFault::TwiceName { link: Some(1) },
-        ),
-        (
-            "",
-            "id = 5",
-            "name = \"brake\"",
-            "skew_us = 0",
-            ConfigFault::TwiceId { link: Some(1) },
-        ),
-        (
-            "",
-            "id = 5",
-            "name = \"brake\"",
-            "",
-            ConfigFault::Missing { link: Some(1) },
-        ),
-        (
-            "",
-            "id = \"\"",
-            "name = \"brake\"",
-            "",
-            ConfigFault::Missing { link: Some(1) },
-        ),
-        (
-            "",
-            "id = \"\"",
-            "name = \"\"",
-            "skew_us = 0",
-            ConfigFault::Kind { link: Some(1) },
-        ),
-        (
-            "",
-            "id = 5",
-            "name = \"\"",
-            "skew = 0\nskew_us = 0",
-            ConfigFault::Range { link: Some(1) },
-        ),
-        (
-            "",
-            "id = 5",
-            "name = \"brake\"",
-            "skew = 0\nskew_us = 0",
-            ConfigFault::UnknownKey { link: Some(1) },
-        ),
-        (
-            "late = 0",
-            "id = \"\"",
-            "name = \"\"",
-            "",
-            ConfigFault::UnknownKey { link: None },
-        ),
-        (
-            "late_us = -1",
-            "id = \"\"",
-            "name = \"\"",
-            "",
-            ConfigFault::Range { link: None },
-        ),
-        (
-            "late_us = true\nlate = 0",
-            "id = \"\"",
-            "name = \"\"",
-            "",
-            ConfigFault::Kind { link: None },
-        ),
-    ] {
+    for (top, id, name, last, fault) in SEVERAL_FAULTS {
         let text = two_links(alloc, top, id, name, last)?;
         assert_eq!(rt; fault_of(alloc, text.as_str()), Some(fault), "{text}");
     }
