@@ -80,9 +80,10 @@ pub struct Lane {
     skew: u64,
     integrity: bool,
     redundancy: bool,
-    pair: Pair,
     a: Side,
     b: Side,
+    // Last, since it is large: what each frame reads lies together before it.
+    pair: Pair,
 }
 
 impl Lane {
@@ -99,9 +100,9 @@ impl Lane {
             skew: link.skew,
             integrity: link.integrity,
             redundancy: link.redundancy,
-            pair: Pair::new(),
             a: Side::new(link),
             b: Side::new(link),
+            pair: Pair::new(),
         }
     }
 
