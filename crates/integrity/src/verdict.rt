@@ -1,0 +1,35 @@
+//! What integrity checking says of a frame.
+
+ghost use Rattle.std.specs.Prelude.{◌≡◌};
+ghost use Rattle.integrity.specs.Sequence.{is_valid};
+
+/// What integrity checking says of a frame. All but [`Integrity::Out`] are valid: redundancy
+/// management sees the frame.
+///
+/// From ARINC 664 Part 7: the next number and the one after it are accepted. The other cases are
+/// this project's profile.
+#[derive(Clone, Copy, Debug, PartialEq, Eq)]
+pub enum Integrity {
+    /// No frame of the link came on this network before.
+    First,
+    /// The number is 0, and it isn't the first: the sender has been reset.
+    Reset,
+    /// The number follows the one before.
+    Next,
+    /// The number follows the one before but one: one frame is missing.
+    Skip,
+    /// The link has integrity checking off.
+    Off,
+    /// Any other number. The frame is not valid.
+    Out,
+}
+
+impl Integrity {
+    /// Is the frame valid? Every verdict but `Out` says so.
+    #[inline(always)]
+    pub fn is_valid(self) -> bool
+        ensures { result ≡ is_valid self }
+    {
+        !matches!(self, Integrity::Out)
+    }
+}

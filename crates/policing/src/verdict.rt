@@ -1,0 +1,10 @@
+//! What policing says of a frame.
+
+/// What policing says of a frame.
+#[derive(Clone, Copy, Debug, PartialEq, Eq)]
+pub enum Policing {
+    /// The frame fits what the account holds, and is charged.
+    Within,
+    /// The frame is larger than what the account holds. It is dropped, and costs nothing.
+    Excess,
+}

@@ -1,0 +1,8 @@
+use Rattle.std.proofs.Common.{rules}
+use Rattle.std.proofs.lemmas.List.Sorted.{IsNonDecreasingBy-from_sort_by_key}
+use Rattle.vl_config.specs.Link.{VirtualLink}
+use Rattle.vl_config.proofs.read.sort_by_id.Goals as goal
+
+pub returns-clause-rising : goal.returns-clause-rising
+returns-clause-rising c =
+    IsNonDecreasingBy-from_sort_by_key (λ (link : VirtualLink). link.id.0) _ c.in_ok-sort_by_key.ensures.sorted (λ a r q k. search rules)

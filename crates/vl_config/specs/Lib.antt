@@ -1,0 +1,4 @@
+pub mod Class
+pub mod Document
+pub mod Keys
+pub mod Link

@@ -1,0 +1,71 @@
+//! The class of a frame.
+
+ghost use Rattle.std.specs.Prelude.{◌≡◌};
+ghost use Rattle.afdx_frame.specs.View.{constant_of};
+ghost use Rattle.vl_config.specs.Class.{class_by, has_constant};
+
+use afdx_frame::TapFrame;
+
+/// The class of a frame: the first that fits. Only `Regular` frames are policed.
+///
+/// The order, and the bounds of 60 and 1514 bytes, are this project's profile; the constant field,
+/// the virtual link and Smax are from ARINC 664 Part 7.
+#[derive(Clone, Copy, Debug, PartialEq, Eq)]
+pub enum Class {
+    /// The recording holds fewer bytes than were on the wire.
+    Cut,
+    /// Below 60 bytes on the wire.
+    Runt,
+    /// Above 1514 bytes on the wire.
+    Oversize,
+    /// Another constant field than the table's.
+    Foreign,
+    /// The table does not have the virtual link.
+    Unconfigured,
+    /// With its frame check sequence the frame is larger than its link's Smax.
+    TooLong,
+    /// None of these.
+    Regular,
+}
+
+/// An Ethernet frame's least length without its frame check sequence, in bytes (IEEE 802.3).
+const LEAST_LENGTH: u32 = 60;
+/// An Ethernet frame's greatest length without its frame check sequence, in bytes (IEEE 802.3).
+const GREATEST_LENGTH: u32 = 1514;
+/// The length of the frame check sequence, in bytes. Recordings do not hold it.
+pub const CHECK_LENGTH: u32 = 4;
+
+/// The class of a frame by the table's constant field, and by the Smax of the frame's link in bytes,
+/// None where the table does not have the link. For a caller that finds links by an index of its
+/// own; [`crate::Config::class`] finds the link itself.
+#[inline(always)]
+pub fn class_by(constant: u32, smax: Option<u32>, frame: &TapFrame) -> Class
+    ensures { result ≡ class_by constant smax frame.now }
+{
+    let whole = frame.whole();
+    if frame.view().bytes().len() < whole as usize {
+        Class::Cut
+    } else if whole < LEAST_LENGTH {
+        Class::Runt
+    } else if whole > GREATEST_LENGTH {
+        Class::Oversize
+    } else if !has_constant(constant, frame) {
+        Class::Foreign
+    } else {
+        match smax {
+            None => Class::Unconfigured,
+            Some(smax) if whole + CHECK_LENGTH > smax => Class::TooLong,
+            Some(_) => Class::Regular,
+        }
+    }
+}
+
+#[inline(always)]
+fn has_constant(constant: u32, frame: &TapFrame) -> bool
+    ensures { result ≡ has_constant constant (constant_of frame.now.bytes) }
+{
+    match frame.view().constant() {
+        Some(field) => field == constant,
+        None => false,
+    }
+}

@@ -1,0 +1,35 @@
+//! The table of virtual links: what the receiver is configured with, and the class of a frame under
+//! it.
+//!
+//! The table is a TOML document. [`Config::read`] reads it, or answers its first fault; `vl_judge`
+//! makes a lane for each [`Link`], and [`Config::class`] says which frames a link's judgements see.
+//!
+//! ```text
+//! constant = 50331648        # 03 00 00 00, the first four bytes of each destination address
+//! late_us = 0                # how far a timestamp may lie below an earlier one (0 if absent)
+//! filters = []               # up to 7 more filters in the numeric form (none if absent)
+//!
+//! [[link]]
+//! id = 5
+//! name = "brake"
+//! bag_ms = 1
+//! jitter_us = 0
+//! smax = 200
+//! integrity = true
+//! redundancy = true
+//! skew_us = 1000
+//! ```
+#![tactic(auto)]
+
+mod class;
+mod config;
+mod fault;
+mod key;
+mod link;
+mod read;
+mod tables;
+
+pub use class::{CHECK_LENGTH, Class, class_by};
+pub use config::Config;
+pub use fault::ConfigFault;
+pub use link::Link;

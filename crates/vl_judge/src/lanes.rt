@@ -1,0 +1,137 @@
+//! The lanes of all links, and the verdicts along a list of frames.
+
+ghost use Rattle.std.specs.Prelude.{◌≡◌, ◌<◌, ◌≤◌, ◌∷◌, ◌++◌, [], ℕ, List, Some, IfOk, length, slice_index};
+ghost use Rattle.std.specs.Option.{ForSome};
+ghost use Rattle.std.specs.declared.cmp.Ordering.TheVariants.{Less};
+ghost use Rattle.afdx_frame.specs.Frame.{Frame, key_of, key_cmp};
+ghost use Rattle.vl_config.specs.Document.{VlTable};
+ghost use Rattle.vl_judge.specs.Lanes.{AllNew, IsIndexed};
+
+use crate::lane::Lane;
+use crate::verdict::Verdict;
+use afdx_frame::{Key, TapFrame};
+use std::alloc::{AllocError, Global};
+use std::marker::Model;
+use vl_config::{Config, Link, class_by};
+
+/// The number of virtual link identifiers, which have 16 bits (ARINC 664 Part 7).
+const IDENTIFIERS: usize = 65536;
+
+/// The lanes of all links of a table. A lane keeps what the judgements of its link know.
+///
+/// A frame's lane is found by an index of all identifiers, so that a frame costs the same whatever
+/// the number of links.
+#[derive(Debug, Drop)]
+pub struct Lanes {
+    constant: u32,
+    last: Option<Key>,
+    /// For each identifier the place of its lane, or the number of lanes where there is none.
+    index: Vec<u16>,
+    lanes: Vec<Lane>,
+}
+
+impl Model for Lanes {
+    ghost use Rattle.vl_judge.specs.Lanes.{LanesState, IsIndexed, NoneAfterLast};
+
+    ghost Value = { LanesState };
+
+    ghost view = { λ lanes. record {
+      constant = lanes.constant;
+      last = lanes.last;
+      lanes = lanes.lanes.items;
+    } };
+
+    ghost invariant = { λ lanes.
+        IsIndexed lanes.index.items lanes.lanes.items × NoneAfterLast lanes.last lanes.lanes.items };
+}
+
+impl Lanes {
+    ghost use Rattle.vl_judge.specs.Lanes.{StandsAfter, place_of};
+    ghost use Rattle.vl_judge.specs.Verdicts.{verdicts};
+
+    /// The lanes of a table's links, which have seen no frame.
+    pub fn new(alloc: Global, config: &Config) -> Result<Lanes, AllocError>
+        ensures { IfOk result (λ lanes. StandsAfter lanes config.now []) }
+    {
+        let lanes = make_lanes(alloc, config.links())?;
+        let index = make_index(alloc, &lanes)?;
+        Ok(Lanes {
+            constant: config.constant(),
+            last: None,
+            index,
+            lanes,
+        })
+    }
+
+    /// The key of the last frame.
+    pub fn last(&self) -> Option<Key>
+        ensures { result ≡ self.now.last }
+    {
+        self.last
+    }
+
+    /// Judges a frame whose key is above that of the last one: the next frame in the order of both
+    /// networks.
+    pub fn judge(&mut self, frame: &TapFrame) -> Verdict
+        requires { ForSome self.old.last (λ last. key_cmp last (key_of frame.now) ≡ Less) }
+        ensures verdict { (vl_table : VlTable) (frames : List Frame) →
+            StandsAfter self.old vl_table frames →
+            verdicts vl_table (frames ++ frame.now ∷ [])
+            ≡ verdicts vl_table frames ++ result ∷ [] }
+        ensures after { (vl_table : VlTable) (frames : List Frame) →
+            StandsAfter self.old vl_table frames →
+            StandsAfter self.new vl_table (frames ++ frame.now ∷ []) }
+    {
+        let place = self.place_of(frame);
+        if place < self.lanes.len() {
+            let verdict = self.lanes[place].judge(self.constant, frame);
+            self.last = Some(frame.key());
+            verdict
+        } else {
+            let verdict = Verdict::stopped(class_by(self.constant, None, frame));
+            self.last = Some(frame.key());
+            verdict
+        }
+    }
+
+    /// The place of the frame's lane, or the number of lanes where its link has none.
+    #[inline(always)]
+    fn place_of(&self, frame: &TapFrame) -> usize
+        ensures { result ≡ place_of self.now.lanes frame.now }
+    {
+        match frame.view().vl() {
+            Some(id) => self.index[id.0 as usize] as usize,
+            None => self.lanes.len(),
+        }
+    }
+}
+
+fn make_lanes(alloc: Global, links: &[Link]) -> Result<Vec<Lane>, AllocError>
+    ensures { IfOk result (λ lanes. AllNew lanes.items links.now) }
+{
+    let mut lanes = Vec::with_capacity(alloc, links.len())?;
+    for link in links {
+        lanes.push(Lane::new(link))?;
+    }
+    Ok(lanes)
+}
+
+/// The index of the lanes. Where two lanes have one identifier, which no table has, it is the first's.
+fn make_index(alloc: Global, lanes: &[Lane]) -> Result<Vec<u16>, AllocError>
+    requires { length lanes.now ≤ 4096 }
+    ensures { IfOk result (λ index. IsIndexed index.items lanes.now) }
+{
+    let mut index = repeated(alloc, lanes.len() as u16, IDENTIFIERS)?;
+    for place in (0..lanes.len()).rev() {
+        index[lanes[place].id().0 as usize] = place as u16;
+    }
+    Ok(index)
+}
+
+fn repeated(alloc: Global, number: u16, len: usize) -> Result<Vec<u16>, AllocError>
+    ensures len { IfOk result (λ numbers. length numbers.items ≡ len) }
+    ensures each { IfOk result (λ numbers.
+        (k : ℕ) → k < len → slice_index numbers.items k ≡ number) }
+{
+    vec![in alloc; number; len]
+}

@@ -1,0 +1,70 @@
+//! The verdict of a frame.
+
+ghost use Rattle.std.specs.Prelude.{◌≡◌, ◌≢◌};
+ghost use Rattle.vl_judge.specs.Judgement.{Judgement, stopped};
+
+use integrity::Integrity;
+use policing::Policing;
+use redundancy::Redundancy;
+use std::marker::Model;
+use vl_config::Class;
+
+/// The verdict of a frame: its class, and what each judgement that it reached says of it.
+///
+/// The order is this project's profile: policing sees the frames of the class `Regular`, integrity
+/// checking those within the account, and redundancy management those that integrity checking found
+/// valid. The type keeps that: no other combination can be made.
+#[derive(Clone, Copy, Debug, PartialEq, Eq)]
+pub struct Verdict {
+    /// The class.
+    pub class: Class,
+    /// What policing says, of a regular frame.
+    pub policing: Option<Policing>,
+    /// What integrity checking says, of a frame within its account.
+    pub integrity: Option<Integrity>,
+    /// What redundancy management says, of a valid frame.
+    pub redundancy: Option<Redundancy>,
+}
+
+impl Model for Verdict {
+    ghost use Rattle.vl_judge.specs.Judgement.{Judgement, IsReached};
+
+    ghost Value = { Judgement };
+
+    ghost view = { λ verdict. record {
+      class = verdict.class;
+      policing = verdict.policing;
+      integrity = verdict.integrity;
+      redundancy = verdict.redundancy;
+    } };
+
+    ghost inverse = { λ judgement. record {
+      class = judgement.class;
+      policing = judgement.policing;
+      integrity = judgement.integrity;
+      redundancy = judgement.redundancy;
+    } };
+
+    ghost invariant = { λ verdict. IsReached (record {
+      class = verdict.class;
+      policing = verdict.policing;
+      integrity = verdict.integrity;
+      redundancy = verdict.redundancy;
+    }) };
+}
+
+impl Verdict {
+    /// The verdict of a frame that no judgement sees.
+    #[inline(always)]
+    pub(crate) fn stopped(class: Class) -> Verdict
+        requires { class ≢ Class.Regular }
+        ensures { result ≡ stopped class }
+    {
+        Verdict {
+            class,
+            policing: None,
+            integrity: None,
+            redundancy: None,
+        }
+    }
+}
