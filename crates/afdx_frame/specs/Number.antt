@@ -10,7 +10,7 @@ digits_after n (b ∷ bs) = digits_after (n * 256 + b) bs
 abbrev pub big_endian : List ℕ → ℕ
 big_endian bs = digits_after 0 bs
 
--- the number in the `size` bytes at the offset, where all of them are held
+-- the number in the `size` bytes at the offset, where all of them were captured
 abbrev pub number_at : ℕ → ℕ → List ℕ → Option ℕ
 number_at offset size bytes =
     if nat_le (offset + size) (length bytes) then Some (big_endian (take size (drop offset bytes))) else None

@@ -26,6 +26,3 @@ pub use frame::TapFrame;
 pub use key::{Key, Network, Stamp, VlId, key_order};
 pub use lent_frame::LentFrame;
 pub use view::FrameView;
-
-#[cfg(test)]
-mod tests;

@@ -5,6 +5,8 @@
 #[cfg(test)]
 mod capture;
 #[cfg(test)]
+mod frames;
+#[cfg(test)]
 mod judges;
 #[cfg(test)]
 mod machine;

@@ -91,11 +91,11 @@ fn faults_of_the_header(rt: HostRuntime) -> Result<(), Fail> {
         (24, 6, 3, "3 Version"),
         (24, 20, 0, "4 LinkType"),
     ];
-    for (held, at, byte, fault) in cases {
+    for (captured, at, byte, fault) in cases {
         let line = format!(in alloc; "afdxmon: watch 2 Header A {fault}")?;
         let mut header = HEADER;
         header[at] = byte;
-        let ran = ran(alloc, ONE_LINK, &header[..held], (SOUND, WIDE))?;
+        let ran = ran(alloc, ONE_LINK, &header[..captured], (SOUND, WIDE))?;
         fails_with(&rt, &ran, &line, &[]);
     }
     Ok(())

@@ -88,8 +88,8 @@ fn one_frame_of_each_class(rt: HostRuntime) -> Result<(), Fail> {
     let config = Config::read(rt.alloc(), TABLE)?;
     let mut lanes = Lanes::new(rt.alloc(), &config)?;
     let mut place = 0u64;
-    // first byte, link, length on the wire, bytes held
-    for (first, link, whole, held, class) in [
+    // first byte, link, length on the wire, captured bytes
+    for (first, link, whole, captured, class) in [
         (3, 5, 60, 59, Class::Cut),
         (3, 5, 59, 59, Class::Runt),
         (3, 5, 1515, 1515, Class::Oversize),
@@ -98,7 +98,7 @@ fn one_frame_of_each_class(rt: HostRuntime) -> Result<(), Fail> {
         (3, 5, 197, 197, Class::TooLong),
         (3, 5, 196, 196, Class::Regular),
     ] {
-        let bytes = bytes_of(rt.alloc(), first, link, held, 1)?;
+        let bytes = bytes_of(rt.alloc(), first, link, captured, 1)?;
         let frame = frame_at(Network::A, place, place, whole, bytes)?;
         assert_eq!(rt; config.class(&frame), class);
         let verdict = judge_next(&rt, &mut lanes, &frame);

@@ -32,12 +32,12 @@ struct Spelling {
     step: u64,
 }
 
-/// A record: its stamp in nanoseconds, the length on the wire and the bytes held.
+/// A record: its stamp in nanoseconds, the length on the wire and the captured bytes.
 #[derive(Clone, Copy)]
 struct Record<'a> {
     stamp: u64,
     whole: u32,
-    held: &'a [u8],
+    captured: &'a [u8],
 }
 
 /// The number that these bytes write.
@@ -96,9 +96,9 @@ fn next_record(
     }
     let seconds = u64::from(number(spelling, &rest[..4]));
     let fraction = u64::from(number(spelling, &rest[4..8])).wrapping_mul(spelling.step);
-    let announced = number(spelling, &rest[8..12]);
+    let claimed = number(spelling, &rest[8..12]);
     let wire = number(spelling, &rest[12..16]);
-    if announced > 262_144 {
+    if claimed > 262_144 {
         return Err(End::Length(count));
     }
     if fraction >= SECOND {
@@ -109,27 +109,27 @@ fn next_record(
         return Err(End::StampBack(count));
     }
     let body = &rest[16..];
-    let held = announced as usize;
-    if body.len() < held {
+    let captured = claimed as usize;
+    if body.len() < captured {
         return Err(End::Cut(count));
     }
     let record = Record {
         stamp,
-        whole: wire.max(announced),
-        held: &body[..held],
+        whole: wire.max(claimed),
+        captured: &body[..captured],
     };
-    Ok((record, &body[held..]))
+    Ok((record, &body[captured..]))
 }
 
 /// Writes a record with the first bytes of its frame, at most `keep`: in nanoseconds, the least
 /// significant byte first.
 fn write_record(out: &mut Vec<u8>, record: &Record<'_>, keep: u32) -> Result<(), AllocError> {
-    let kept = record.held.len().min(keep as usize);
+    let kept = record.captured.len().min(keep as usize);
     out.extend_from_slice(&(record.stamp / SECOND).to_le_bytes()[..4])?;
     out.extend_from_slice(&(record.stamp % SECOND).to_le_bytes()[..4])?;
     out.extend_from_slice(&kept.to_le_bytes()[..4])?;
     out.extend_from_slice(&record.whole.to_le_bytes())?;
-    out.extend_from_slice(&record.held[..kept])
+    out.extend_from_slice(&record.captured[..kept])
 }
 
 /// The capture of a recording by a filter that answers `keep` for each frame, and the recording's
@@ -153,12 +153,12 @@ pub(crate) fn slow_capture(
     for count in 0..u64::MAX {
         match next_record(spelling, rest, count, high) {
             Err(end) => return Ok((out, end)),
-            Ok((record, behind)) => {
+            Ok((record, following)) => {
                 if keep > 0 {
                     write_record(&mut out, &record, keep)?;
                 }
                 high = record.stamp;
-                rest = behind;
+                rest = following;
             }
         }
     }

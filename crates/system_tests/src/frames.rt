@@ -1,6 +1,6 @@
 //! Frames at their bounds, the order of keys, and views at their shortest lengths.
 
-use super::*;
+use afdx_frame::{FrameView, Key, Network, Stamp, TapFrame, VlId};
 use std::test::Fail;
 
 /// Nanoseconds.
@@ -13,8 +13,8 @@ const FRAME: [u8; 17] = [
 
 #[test]
 fn frames_at_their_bounds(rt: HostRuntime) -> Result<(), Fail> {
-    // number, stamp, length on the wire, bytes held, within all bounds
-    for (number, stamp, whole, held, fits) in [
+    // number, stamp, length on the wire, captured bytes, within all bounds
+    for (number, stamp, whole, captured, fits) in [
         (0, 0, 0, 0, true),
         ((1 << 32) - 1, 0, 64, 64, true),
         (1 << 32, 0, 64, 64, false),
@@ -25,21 +25,21 @@ fn frames_at_their_bounds(rt: HostRuntime) -> Result<(), Fail> {
         (0, 0, 64, 64, true),
         (0, 0, 63, 64, false),
     ] {
-        let bytes = vec![in rt.alloc(); 7; held]?;
+        let bytes = vec![in rt.alloc(); 7; captured]?;
         match TapFrame::new(Network::B, number, Stamp(stamp), whole, bytes) {
             Ok(frame) => {
                 assert!(rt;
                     fits,
-                    "number {number}, stamp {stamp}, {held} of {whole} bytes"
+                    "number {number}, stamp {stamp}, {captured} of {whole} bytes"
                 );
-                assert_eq!(rt; frame.view().bytes().len(), held);
+                assert_eq!(rt; frame.view().bytes().len(), captured);
             }
             Err(back) => {
                 assert!(rt;
                     !fits,
-                    "number {number}, stamp {stamp}, {held} of {whole} bytes"
+                    "number {number}, stamp {stamp}, {captured} of {whole} bytes"
                 );
-                assert_eq!(rt; back.len(), held);
+                assert_eq!(rt; back.len(), captured);
                 assert_eq!(rt; back.last(), Some(&7));
             }
         }
@@ -108,11 +108,11 @@ fn views_at_their_shortest_lengths(rt: HostRuntime) {
         (&FRAME[..], constant, link, Some(42), Some(&FRAME[14..16])),
     ] {
         let view = FrameView::new(bytes);
-        let held = bytes.len();
+        let captured = bytes.len();
         assert_eq!(rt; view.bytes(), bytes);
-        assert_eq!(rt; view.constant(), constant, "of {held} bytes");
-        assert_eq!(rt; view.vl(), link, "of {held} bytes");
-        assert_eq!(rt; view.sequence(), sequence, "of {held} bytes");
-        assert_eq!(rt; view.body(), body, "of {held} bytes");
+        assert_eq!(rt; view.constant(), constant, "of {captured} bytes");
+        assert_eq!(rt; view.vl(), link, "of {captured} bytes");
+        assert_eq!(rt; view.sequence(), sequence, "of {captured} bytes");
+        assert_eq!(rt; view.body(), body, "of {captured} bytes");
     }
 }
