@@ -1,4 +1,4 @@
-use Rattle.std.proofs.Common.{◌≡◌, None, [], ◌∙◌, drop, take, refl, arith}
+use Rattle.std.proofs.Common.{◌≡◌, None, [], arith}
 use Rattle.std.proofs.lemmas.Grind.{common_steps}
 use Rattle.vl_config.specs.Document.{twice_fault}
 use Rattle.vl_config.proofs.Distinct.{links_distinct}
