@@ -55,7 +55,7 @@ impl Model for Config {
 }
 
 impl Config {
-    /// Reads the table of a TOML document, or answers its first fault, in this order: `Text`; of the
+    /// Reads the table of a TOML document, or returns its first fault, in this order: `Text`; of the
     /// top table `Missing`, `Kind`, `Range` and `UnknownKey`; `TooMany` links or filters; of each
     /// link in turn `Missing`, `Kind`, `Range` and `UnknownKey`; and then for each link `TwiceId`
     /// and `TwiceName` against the links before it. `Memory` comes only where the text has more than
