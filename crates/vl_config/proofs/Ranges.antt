@@ -13,7 +13,7 @@ use Rattle.vl_config.specs.declared.key.Key.TheVariants.{Id, Name, BagMs, Jitter
 use Rattle.vl_config.specs.Keys.{key_name, natural_in, allows, is_missing, is_other_kind, is_out_of_range, has_unknown, link_keys, keys_fault}
 use Rattle.vl_config.specs.Document.{number_at, text_of, HasRanges}
 
-or_false : (a b : Bool) → a || b ≡ false → (a ≡ false) × (b ≡ false)
+pub or_false : (a b : Bool) → a || b ≡ false → (a ≡ false) × (b ≡ false)
 or_false true b e = cc
 or_false false b e = (refl, e)
 

@@ -1,7 +1,7 @@
 -- What a TOML document says as a table of virtual links, and its first fault (this project's profile).
 use Rattle.std.specs.Prelude.{◌≡◌, ℕ, ◌+◌, ◌*◌, ◌≤◌, ◌⊎◌, IsTrue, Bool, false, ◌||◌, List, [], ◌∷◌, ◌++◌, length, map, Option, Some, None, unwrap_or, ◌==◌, nat_eq, nat_lt, if◌then◌else◌, IsPermutation}
 use Rattle.std.specs.Option.{option_map_or, option_and_then, option_or}
-use Rattle.std.specs.List.{list_any}
+use Rattle.std.specs.List.{list_any, IsDistinct}
 use Rattle.std.specs.List.Sorted.{IsNonDecreasingBy}
 use Rattle.std.specs.Cmp.Lexicographic.{pointwise}
 use Rattle.toml.specs.Data.{Data, Items, no_items, item, Members, no_members, get_member, as_str, as_bool, as_array, as_table}
@@ -79,6 +79,9 @@ count_fault members =
 abbrev pub has_id : VlId → VirtualLink → Bool
 has_id id link = link.id.0 == id.0
 
+abbrev pub has_same_id : VirtualLink → VirtualLink → Bool
+has_same_id one other = one.id.0 == other.id.0
+
 abbrev pub has_name : List ℕ → VirtualLink → Bool
 has_name name link = pointwise nat_eq link.name name
 
@@ -118,9 +121,10 @@ pub record VlTable : Type 0 where
   pub late : ℕ
   pub filters : List (List ℕ)
 
--- what each table keeps: at most 4096 links by rising identifier, a lateness of at most 1 s, and at most 7 filters
+-- what each table keeps: at most 4096 links by rising identifier, no two of one identifier, a lateness of at most 1 s, and at most 7 filters
 pub record IsVlTable (vl_table : VlTable) : Type 0 where
   pub rising : IsNonDecreasingBy (λ link. link.id.0) vl_table.links
+  pub distinct : IsDistinct has_same_id vl_table.links
   pub few_links : length vl_table.links ≤ 4096
   pub late : vl_table.late ≤ 1000000000
   pub few_filters : length vl_table.filters ≤ 7

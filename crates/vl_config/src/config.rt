@@ -55,7 +55,7 @@ impl Model for Config {
 }
 
 impl Config {
-    /// Reads the table of a TOML document, or answers its first fault, in this order: `Text`; of the
+    /// Reads the table of a TOML document, or returns its first fault, in this order: `Text`; of the
     /// top table `Missing`, `Kind`, `Range` and `UnknownKey`; `TooMany` links or filters; of each
     /// link in turn `Missing`, `Kind`, `Range` and `UnknownKey`; and then for each link `TwiceId`
     /// and `TwiceName` against the links before it. `Memory` comes only where the text has more than
@@ -82,7 +82,7 @@ impl Config {
         self.constant
     }
 
-    /// The links by rising identifier, at most 4096.
+    /// The links by rising identifier, at most 4096, no two of one identifier.
     pub fn links(&self) -> &[Link]
         ensures value { result.now ≡ self.now.links }
         ensures table { IsVlTable self.now }
@@ -90,11 +90,14 @@ impl Config {
         self.links.as_slice()
     }
 
-    /// The link with this identifier.
+    /// The link with this identifier, found by a binary search.
     pub fn link(&self, id: VlId) -> Option<&Link>
         ensures { option_copied result ≡ link_with self.now.links id }
     {
-        self.links.iter().find(|link| link.id == id)
+        match self.links.binary_search_by_key(&id.0, |link| link.id.0) {
+            Ok(place) => Some(&self.links[place]),
+            Err(_) => None,
+        }
     }
 
     /// How far a timestamp may lie below an earlier one of its tap, in nanoseconds: at most 1 s.

@@ -1,7 +1,7 @@
 //! The table of virtual links: what the receiver is configured with, and the class of a frame under
 //! it.
 //!
-//! The table is a TOML document. [`Config::read`] reads it, or answers its first fault; `vl_judge`
+//! The table is a TOML document. [`Config::read`] reads it, or returns its first fault; `vl_judge`
 //! makes a lane for each [`Link`], and [`Config::class`] says which frames a link's judgements see.
 //!
 //! ```text

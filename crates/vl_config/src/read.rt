@@ -3,8 +3,8 @@
 ghost use Rattle.std.specs.Prelude.{◌≡◌, ◌≢◌, ◌≤◌, Some, None, IfOk, IfErr, OnOk, MatchResult, [], map, length, string_bytes, IsPermutation};
 ghost use Rattle.std.specs.List.Sorted.{IsNonDecreasingBy};
 ghost use Rattle.toml.specs.View.{view, table_view};
-ghost use Rattle.vl_config.specs.Document.{link_of, link_in, link_fault, links_fault, twice_in, twice_fault, text_of, has_id, has_name, HasRanges};
-ghost use Rattle.std.specs.List.{list_any};
+ghost use Rattle.vl_config.specs.Document.{link_of, link_in, link_fault, links_fault, twice_in, twice_fault, text_of, has_id, has_same_id, has_name, HasRanges};
+ghost use Rattle.std.specs.List.{list_any, IsDistinct};
 
 use crate::fault::ConfigFault;
 use crate::key::{Key, LINK_KEYS};
@@ -72,12 +72,13 @@ fn make_link(alloc: Global, table: &Table) -> Result<Link, ConfigFault>
 }
 
 /// Finds the first link whose identifier or name an earlier one has.
-#[tactic(auto, using(crate::proofs::Steps::twice_fault_more))]
+#[tactic(auto, using(crate::proofs::Steps::twice_fault_more, crate::proofs::Distinct::links_distinct))]
 pub fn check_twice(links: &[Link]) -> Result<(), ConfigFault>
     requires { length links.now ≤ 4096 }
-    ensures { MatchResult result
+    ensures first { MatchResult result
         (λ _. twice_fault 0 [] links.now ≡ None)
         (λ fault. twice_fault 0 [] links.now ≡ Some fault) }
+    ensures distinct { OnOk result (IsDistinct has_same_id links.now) }
 {
     for (index, link) in links.iter().enumerate() {
         check_link_twice(&links[..index], link, index as u32)?;
@@ -117,6 +118,8 @@ pub fn sort_by_id(links: &mut Vec<Link>) -> Result<(), ConfigFault>
     ensures permutation { IsPermutation links.old.items links.new.items }
     ensures len { length links.new.items ≡ length links.old.items }
     ensures rising { OnOk result (IsNonDecreasingBy (λ link. link.id.0) links.new.items) }
+    ensures distinct { IsDistinct has_same_id links.old.items →
+        IsDistinct has_same_id links.new.items }
     ensures memory { IfErr result (λ fault. fault ≡ ConfigFault.Memory) }
 {
     links.sort_by_key(|link| link.id.0)?;

@@ -13,8 +13,8 @@ use Rattle.integrity.specs.Sequence as check
 use Rattle.redundancy.specs.Deliveries as deliveries
 use Rattle.vl_judge.specs.declared.lane.Side.{Side}
 use Rattle.vl_judge.specs.declared.lane.Lane.{Lane}
-use Rattle.vl_judge.specs.Judgement.{stopped}
-use Rattle.vl_judge.specs.Verdicts.{Judged, is_of, is_same, size_of, sequence_number, policed, checked, managed, policed_entry, checked_number, managed_entry}
+use Rattle.vl_judge.specs.Judgement.{stopped_verdict}
+use Rattle.vl_judge.specs.Verdicts.{Judged, is_of, is_same, size_of, sequence_number, policed_entries, checked_numbers, managed_entries, policed_entry, checked_number, managed_entry}
 use Rattle.vl_judge.specs.Lane.{SideStandsAfter, LaneStandsAfter}
 
 cons_option-nil : {X : Type 0} (o : Option X) → cons_option o [] ≡ option_to_list o
@@ -57,9 +57,9 @@ none_either x false = refl
 -- a frame that no judgement sees
 pub lane_after_stopped : (lane : Lane) (link : VirtualLink) (earlier : List Judged) (frame : Frame) (class : Class) →
     LaneStandsAfter lane link earlier →
-    LaneStandsAfter lane link (earlier ++ record { frame = frame; verdict = stopped class } ∷ [])
+    LaneStandsAfter lane link (earlier ++ record { frame = frame; verdict = stopped_verdict class } ∷ [])
 lane_after_stopped lane link earlier frame class stands =
-    lane_unchanged lane link earlier (record { frame = frame; verdict = stopped class })
+    lane_unchanged lane link earlier (record { frame = frame; verdict = stopped_verdict class })
     (λ network. none_either _ (is_of link.id frame && is_same frame.network network))
     (λ network. none_either _ (is_of link.id frame && is_same frame.network network))
     (none_either _ (is_of link.id frame)) stands
@@ -73,9 +73,9 @@ lane_after_other lane link earlier j other stands =
 -- a frame of the link on the side's network
 side_same : (side : Side) (link : VirtualLink) (network : Network) (earlier : List Judged) (j : Judged) →
     is_of link.id j.frame ≡ true → is_same j.frame.network network ≡ true →
-    account.StandsAfter side.account link (policed link.id network earlier
+    account.StandsAfter side.account link (policed_entries link.id network earlier
     ++ option_to_list (option_map (λ verdict. record { stamp = j.frame.stamp; size = size_of j.frame; policing = verdict }) j.verdict.policing)) →
-    check.StandsAfter side.check (checked link.id network earlier
+    check.StandsAfter side.check (checked_numbers link.id network earlier
     ++ option_to_list (option_map (λ _. sequence_number j.frame) j.verdict.integrity)) →
     SideStandsAfter side link network (earlier ++ j ∷ [])
 side_same side link network earlier j of same account_stands check_stands = record {
@@ -100,11 +100,11 @@ pub lane_after_a : (old new : Lane) (link : VirtualLink) (earlier : List Judged)
     j.frame.network ≡ A → LaneStandsAfter old link earlier →
     new.id ≡ old.id → new.smax ≡ old.smax → new.skew ≡ old.skew → new.integrity ≡ old.integrity → new.redundancy ≡ old.redundancy →
     new.b ≡ old.b →
-    account.StandsAfter new.a.account link (policed link.id A earlier
+    account.StandsAfter new.a.account link (policed_entries link.id A earlier
     ++ option_to_list (option_map (λ verdict. record { stamp = j.frame.stamp; size = size_of j.frame; policing = verdict }) j.verdict.policing)) →
-    check.StandsAfter new.a.check (checked link.id A earlier
+    check.StandsAfter new.a.check (checked_numbers link.id A earlier
     ++ option_to_list (option_map (λ _. sequence_number j.frame) j.verdict.integrity)) →
-    deliveries.StandsAfter new.pair (managed link.id earlier ++ option_to_list (option_map (λ verdict. record {
+    deliveries.StandsAfter new.pair (managed_entries link.id earlier ++ option_to_list (option_map (λ verdict. record {
       network = j.frame.network;
       number = sequence_number j.frame;
       stamp = j.frame.stamp;
@@ -128,11 +128,11 @@ pub lane_after_b : (old new : Lane) (link : VirtualLink) (earlier : List Judged)
     j.frame.network ≡ B → LaneStandsAfter old link earlier →
     new.id ≡ old.id → new.smax ≡ old.smax → new.skew ≡ old.skew → new.integrity ≡ old.integrity → new.redundancy ≡ old.redundancy →
     new.a ≡ old.a →
-    account.StandsAfter new.b.account link (policed link.id B earlier
+    account.StandsAfter new.b.account link (policed_entries link.id B earlier
     ++ option_to_list (option_map (λ verdict. record { stamp = j.frame.stamp; size = size_of j.frame; policing = verdict }) j.verdict.policing)) →
-    check.StandsAfter new.b.check (checked link.id B earlier
+    check.StandsAfter new.b.check (checked_numbers link.id B earlier
     ++ option_to_list (option_map (λ _. sequence_number j.frame) j.verdict.integrity)) →
-    deliveries.StandsAfter new.pair (managed link.id earlier ++ option_to_list (option_map (λ verdict. record {
+    deliveries.StandsAfter new.pair (managed_entries link.id earlier ++ option_to_list (option_map (λ verdict. record {
       network = j.frame.network;
       number = sequence_number j.frame;
       stamp = j.frame.stamp;

@@ -15,8 +15,8 @@ use Rattle.vl_config.specs.Document.{VlTable}
 use Rattle.vl_config.specs.Class.{class_by, link_with, link_of_frame}
 use Rattle.vl_config.specs.declared.class.Class.{Class}
 use Rattle.vl_judge.specs.declared.lane.Lane.{Lane}
-use Rattle.vl_judge.specs.Judgement.{Judgement, stopped}
-use Rattle.vl_judge.specs.Verdicts.{Judged, is_of, verdict_on, verdict_by, verdict_of, judged_after, judged, verdicts}
+use Rattle.vl_judge.specs.Judgement.{Judgement, stopped_verdict}
+use Rattle.vl_judge.specs.Verdicts.{Judged, is_of, verdict_on, verdict_by, verdict_of, judged_frames_after, judged_frames, verdicts}
 use Rattle.vl_judge.specs.Lane.{LaneStandsAfter, NoneLater}
 use Rattle.vl_judge.specs.Lanes.{is_lane_of, lane_with, place_with, place_of, Knows, last_key, IsIndexed, NoneAfterLast}
 use Rattle.vl_judge.proofs.After.{lane_after_stopped, lane_after_other}
@@ -25,24 +25,24 @@ use Rattle.vl_judge.proofs.Places.{by_test, lane_at, no_lane_at, find_passes, la
 -- ---- lists of frames
 
 judged_after-append : (vl_table : VlTable) (earlier : List Judged) (frames : List Frame) (frame : Frame) →
-    judged_after vl_table earlier (frames ++ frame ∷ [])
-    ≡ judged_after vl_table earlier frames
-    ++ record { frame = frame; verdict = verdict_of vl_table (judged_after vl_table earlier frames) frame } ∷ []
+    judged_frames_after vl_table earlier (frames ++ frame ∷ [])
+    ≡ judged_frames_after vl_table earlier frames
+    ++ record { frame = frame; verdict = verdict_of vl_table (judged_frames_after vl_table earlier frames) frame } ∷ []
 judged_after-append vl_table earlier [] frame = refl
 judged_after-append vl_table earlier (f ∷ fs) frame =
     judged_after-append vl_table (earlier ++ record { frame = f; verdict = verdict_of vl_table earlier f } ∷ []) fs frame
 
 pub judged-append : (vl_table : VlTable) (frames : List Frame) (frame : Frame) (verdict : Judgement) →
-    verdict ≡ verdict_of vl_table (judged vl_table frames) frame →
-    judged vl_table (frames ++ frame ∷ []) ≡ judged vl_table frames ++ record { frame = frame; verdict = verdict } ∷ []
+    verdict ≡ verdict_of vl_table (judged_frames vl_table frames) frame →
+    judged_frames vl_table (frames ++ frame ∷ []) ≡ judged_frames vl_table frames ++ record { frame = frame; verdict = verdict } ∷ []
 judged-append vl_table frames frame verdict e = rw e (judged_after-append vl_table [] frames frame)
 
 pub verdicts-append : (vl_table : VlTable) (frames : List Frame) (frame : Frame) (verdict : Judgement) →
-    verdict ≡ verdict_of vl_table (judged vl_table frames) frame →
+    verdict ≡ verdict_of vl_table (judged_frames vl_table frames) frame →
     verdicts vl_table (frames ++ frame ∷ []) ≡ verdicts vl_table frames ++ verdict ∷ []
 verdicts-append vl_table frames frame verdict e =
     ap (λ (js : List Judged). map (λ (j : Judged). j.verdict) js) (judged-append vl_table frames frame verdict e)
-    ∙ map-append (λ (j : Judged). j.verdict) (judged vl_table frames) (record { frame = frame; verdict = verdict } ∷ [])
+    ∙ map-append (λ (j : Judged). j.verdict) (judged_frames vl_table frames) (record { frame = frame; verdict = verdict } ∷ [])
 
 pub last_key-append : (last : Option Key) (frames : List Frame) (frame : Frame) →
     last_key last (frames ++ frame ∷ []) ≡ Some (key_of frame)
@@ -100,7 +100,7 @@ verdict_in_lane lane links constant earlier frame id verdict e knows says = rw e
 -- ---- what each lane knows
 
 pub knows_stopped : (o : Option Lane) (l : Option VirtualLink) (earlier : List Judged) (frame : Frame) (class : Class) →
-    Knows o l earlier → Knows o l (earlier ++ record { frame = frame; verdict = stopped class } ∷ [])
+    Knows o l earlier → Knows o l (earlier ++ record { frame = frame; verdict = stopped_verdict class } ∷ [])
 knows_stopped None None earlier frame class k = tt
 knows_stopped (Some lane) None earlier frame class k = absurd k
 knows_stopped None (Some link) earlier frame class k = absurd k
@@ -221,48 +221,48 @@ unmoved_kept index lanes last key frame key_is order kept = (
 pub verdict_in_place : (vl_table : VlTable) (frames : List Frame) (frame : Frame) (lanes : List Lane) (constant place : ℕ) (item : Lane)
     (verdict : Judgement) → constant ≡ vl_table.constant → place ≡ place_of lanes frame → place < length lanes →
     item ≡ get_or lanes place item →
-    ((id : VlId) → Knows (lane_with lanes id) (link_with vl_table.links id) (judged vl_table frames)) →
+    ((id : VlId) → Knows (lane_with lanes id) (link_with vl_table.links id) (judged_frames vl_table frames)) →
     ((link : VirtualLink) (earlier : List Judged) → LaneStandsAfter item link earlier →
     verdict ≡ verdict_on link (class_by constant (Some link.smax) frame) earlier frame) →
-    verdict ≡ verdict_of vl_table (judged vl_table frames) frame
+    verdict ≡ verdict_of vl_table (judged_frames vl_table frames) frame
 verdict_in_place vl_table frames frame lanes constant place item verdict same at within got knows says =
     let (id, named, placed, found) = lane_found lanes frame place item at within got in
     subst (λ (n : ℕ). verdict ≡ verdict_by (link_of_frame vl_table.links frame)
-    (class_by n (option_map (λ link. link.smax) (link_of_frame vl_table.links frame)) frame) (judged vl_table frames) frame)
-    same (verdict_in_lane item vl_table.links constant (judged vl_table frames) frame id verdict named
-    (subst (λ (o : Option Lane). Knows o (link_with vl_table.links id) (judged vl_table frames)) found (knows id))
-    (λ link stands. says link (judged vl_table frames) stands))
+    (class_by n (option_map (λ link. link.smax) (link_of_frame vl_table.links frame)) frame) (judged_frames vl_table frames) frame)
+    same (verdict_in_lane item vl_table.links constant (judged_frames vl_table frames) frame id verdict named
+    (subst (λ (o : Option Lane). Knows o (link_with vl_table.links id) (judged_frames vl_table frames)) found (knows id))
+    (λ link stands. says link (judged_frames vl_table frames) stands))
 
 pub knows_in_place : (vl_table : VlTable) (frames : List Frame) (frame : Frame) (lanes : List Lane) (place : ℕ) (item new : Lane)
     (verdict : Judgement) → place ≡ place_of lanes frame → place < length lanes → item ≡ get_or lanes place item → new.id ≡ item.id →
-    ((id : VlId) → Knows (lane_with lanes id) (link_with vl_table.links id) (judged vl_table frames)) →
+    ((id : VlId) → Knows (lane_with lanes id) (link_with vl_table.links id) (judged_frames vl_table frames)) →
     ((link : VirtualLink) (earlier : List Judged) → IsTrue (is_of link.id frame) → LaneStandsAfter item link earlier →
     LaneStandsAfter new link (earlier ++ record { frame = frame; verdict = verdict } ∷ [])) →
-    verdict ≡ verdict_of vl_table (judged vl_table frames) frame →
-    (id : VlId) → Knows (lane_with (set lanes place new) id) (link_with vl_table.links id) (judged vl_table (frames ++ frame ∷ []))
+    verdict ≡ verdict_of vl_table (judged_frames vl_table frames) frame →
+    (id : VlId) → Knows (lane_with (set lanes place new) id) (link_with vl_table.links id) (judged_frames vl_table (frames ++ frame ∷ []))
 knows_in_place vl_table frames frame lanes place item new verdict at within got same knows updates said id =
     let (at_id, named, placed, found) = lane_found lanes frame place item at within got in
     rw (judged-append vl_table frames frame verdict said)
-    (knows_after lanes vl_table.links (judged vl_table frames) (record { frame = frame; verdict = verdict }) at_id place item new named
+    (knows_after lanes vl_table.links (judged_frames vl_table frames) (record { frame = frame; verdict = verdict }) at_id place item new named
     placed within found (at_place lanes place item new within got) same
-    (λ link of stands. updates link (judged vl_table frames) of stands) knows id)
+    (λ link of stands. updates link (judged_frames vl_table frames) of stands) knows id)
 
 -- ---- a frame without a lane
 
 pub verdict_without_lane : (vl_table : VlTable) (frames : List Frame) (frame : Frame) (lanes : List Lane) (constant : ℕ) →
     constant ≡ vl_table.constant → length lanes ≤ place_of lanes frame →
-    ((id : VlId) → Knows (lane_with lanes id) (link_with vl_table.links id) (judged vl_table frames)) →
-    stopped (class_by constant None frame) ≡ verdict_of vl_table (judged vl_table frames) frame
+    ((id : VlId) → Knows (lane_with lanes id) (link_with vl_table.links id) (judged_frames vl_table frames)) →
+    stopped_verdict (class_by constant None frame) ≡ verdict_of vl_table (judged_frames vl_table frames) frame
 verdict_without_lane vl_table frames frame lanes constant same past knows =
-    let none : link_of_frame vl_table.links frame ≡ None = place_of-none lanes frame vl_table.links (judged vl_table frames) past knows in
-    subst (λ (l : Option VirtualLink). stopped (class_by constant None frame)
-    ≡ verdict_by l (class_by vl_table.constant (option_map (λ link. link.smax) l) frame) (judged vl_table frames) frame)
-    (sym none) (ap (λ (n : ℕ). stopped (class_by n None frame)) same)
+    let none : link_of_frame vl_table.links frame ≡ None = place_of-none lanes frame vl_table.links (judged_frames vl_table frames) past knows in
+    subst (λ (l : Option VirtualLink). stopped_verdict (class_by constant None frame)
+    ≡ verdict_by l (class_by vl_table.constant (option_map (λ link. link.smax) l) frame) (judged_frames vl_table frames) frame)
+    (sym none) (ap (λ (n : ℕ). stopped_verdict (class_by n None frame)) same)
 
 pub knows_without_lane : (vl_table : VlTable) (frames : List Frame) (frame : Frame) (lanes : List Lane) (class : Class) →
-    stopped class ≡ verdict_of vl_table (judged vl_table frames) frame →
-    ((id : VlId) → Knows (lane_with lanes id) (link_with vl_table.links id) (judged vl_table frames)) →
-    (id : VlId) → Knows (lane_with lanes id) (link_with vl_table.links id) (judged vl_table (frames ++ frame ∷ []))
+    stopped_verdict class ≡ verdict_of vl_table (judged_frames vl_table frames) frame →
+    ((id : VlId) → Knows (lane_with lanes id) (link_with vl_table.links id) (judged_frames vl_table frames)) →
+    (id : VlId) → Knows (lane_with lanes id) (link_with vl_table.links id) (judged_frames vl_table (frames ++ frame ∷ []))
 knows_without_lane vl_table frames frame lanes class said knows id =
-    rw (judged-append vl_table frames frame (stopped class) said)
-    (knows_stopped (lane_with lanes id) (link_with vl_table.links id) (judged vl_table frames) frame class (knows id))
+    rw (judged-append vl_table frames frame (stopped_verdict class) said)
+    (knows_stopped (lane_with lanes id) (link_with vl_table.links id) (judged_frames vl_table frames) frame class (knows id))

@@ -30,8 +30,8 @@ pub record IsReached (j : Judgement) : Type 0 where
   pub redundancy : is_some j.redundancy ≡ option_map_or is_valid j.integrity false
 
 -- the verdict of a frame that no judgement sees
-abbrev pub stopped : Class → Judgement
-stopped class = record { class = class; policing = None; integrity = None; redundancy = None }
+abbrev pub stopped_verdict : Class → Judgement
+stopped_verdict class = record { class = class; policing = None; integrity = None; redundancy = None }
 
 -- the verdict by the class and by what each judgement would say: each stops what the next doesn't see
 abbrev pub judgement : Class → Policing → Integrity → Redundancy → Judgement
@@ -42,4 +42,4 @@ judgement class policing integrity redundancy =
     then record { class = class; policing = Some policing; integrity = Some integrity; redundancy = Some redundancy }
     else record { class = class; policing = Some policing; integrity = Some integrity; redundancy = None })
     else record { class = class; policing = Some policing; integrity = None; redundancy = None })
-    else stopped class
+    else stopped_verdict class

@@ -9,12 +9,12 @@ use Rattle.integrity.specs.Sequence as check
 use Rattle.redundancy.specs.Deliveries as pair
 use Rattle.vl_judge.specs.declared.lane.Side.{Side}
 use Rattle.vl_judge.specs.declared.lane.Lane.{Lane}
-use Rattle.vl_judge.specs.Verdicts.{Judged, policed, checked, managed}
+use Rattle.vl_judge.specs.Verdicts.{Judged, policed_entries, checked_numbers, managed_entries}
 
 -- of one network
 pub record SideStandsAfter (side : Side) (link : VirtualLink) (network : Network) (frames : List Judged) : Type 0 where
-  pub account : account.StandsAfter side.account link (policed link.id network frames)
-  pub check : check.StandsAfter side.check (checked link.id network frames)
+  pub account : account.StandsAfter side.account link (policed_entries link.id network frames)
+  pub check : check.StandsAfter side.check (checked_numbers link.id network frames)
 
 pub record LaneStandsAfter (lane : Lane) (link : VirtualLink) (frames : List Judged) : Type 0 where
   pub id : lane.id ≡ link.id
@@ -22,7 +22,7 @@ pub record LaneStandsAfter (lane : Lane) (link : VirtualLink) (frames : List Jud
   pub skew : lane.skew ≡ link.skew
   pub integrity : lane.integrity ≡ link.integrity
   pub redundancy : lane.redundancy ≡ link.redundancy
-  pub pair : pair.StandsAfter lane.pair (managed link.id frames)
+  pub pair : pair.StandsAfter lane.pair (managed_entries link.id frames)
   pub a : SideStandsAfter lane.a link A frames
   pub b : SideStandsAfter lane.b link B frames
 

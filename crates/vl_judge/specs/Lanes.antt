@@ -10,7 +10,7 @@ use Rattle.vl_config.specs.Link.{VirtualLink}
 use Rattle.vl_config.specs.Document.{VlTable}
 use Rattle.vl_config.specs.Class.{link_with}
 use Rattle.vl_judge.specs.declared.lane.Lane.{Lane}
-use Rattle.vl_judge.specs.Verdicts.{Judged, judged}
+use Rattle.vl_judge.specs.Verdicts.{Judged, judged_frames}
 use Rattle.vl_judge.specs.Lane.{LaneStandsAfter, NoneLater}
 
 pub record LanesState : Type 0 where
@@ -58,7 +58,7 @@ last_key last (frame ∷ frames) = last_key (Some (key_of frame)) frames
 pub record StandsAfter (state : LanesState) (vl_table : VlTable) (frames : List Frame) : Type 0 where
   pub constant : state.constant ≡ vl_table.constant
   pub last : state.last ≡ last_key None frames
-  pub lanes : (id : VlId) → Knows (lane_with state.lanes id) (link_with vl_table.links id) (judged vl_table frames)
+  pub lanes : (id : VlId) → Knows (lane_with state.lanes id) (link_with vl_table.links id) (judged_frames vl_table frames)
 
 -- each lane is its link's, and has seen no frame
 abbrev pub AllNew : List Lane → List VirtualLink → Type 0

@@ -18,7 +18,7 @@ use Rattle.integrity.specs.Sequence.{verdict_at}
 use Rattle.integrity.specs.declared.verdict.Integrity.{Integrity}
 use Rattle.redundancy.specs.Deliveries as redundancy
 use Rattle.redundancy.specs.declared.verdict.Redundancy.{Redundancy}
-use Rattle.vl_judge.specs.Judgement.{Judgement, judgement, stopped}
+use Rattle.vl_judge.specs.Judgement.{Judgement, judgement, stopped_verdict}
 
 -- a frame with its verdict
 pub record Judged : Type 0 where
@@ -69,38 +69,38 @@ managed_entry id j =
     else None
 
 -- the frames of a link on a network that policing has seen, with their verdicts
-abbrev pub policed : VlId → Network → List Judged → List policing.Entry
-policed id network frames = filter_map (policed_entry id network) frames
+abbrev pub policed_entries : VlId → Network → List Judged → List policing.Entry
+policed_entries id network frames = filter_map (policed_entry id network) frames
 
 -- the sequence numbers of a link on a network that integrity checking has seen
-abbrev pub checked : VlId → Network → List Judged → List ℕ
-checked id network frames = filter_map (checked_number id network) frames
+abbrev pub checked_numbers : VlId → Network → List Judged → List ℕ
+checked_numbers id network frames = filter_map (checked_number id network) frames
 
 -- the frames of a link that redundancy management has seen, with their verdicts
-abbrev pub managed : VlId → List Judged → List redundancy.Entry
-managed id frames = filter_map (managed_entry id) frames
+abbrev pub managed_entries : VlId → List Judged → List redundancy.Entry
+managed_entries id frames = filter_map (managed_entry id) frames
 
 -- ---- the verdict of a frame after these
 
 abbrev pub policing_of : VirtualLink → List Judged → Frame → Policing
 policing_of link earlier frame =
-    policing.verdict_of link (policed link.id frame.network earlier) frame.stamp (size_of frame)
+    policing.verdict_of link (policed_entries link.id frame.network earlier) frame.stamp (size_of frame)
 
 abbrev pub integrity_of : VirtualLink → List Judged → Frame → Integrity
 integrity_of link earlier frame =
-    let numbers = checked link.id frame.network earlier in
+    let numbers = checked_numbers link.id frame.network earlier in
     verdict_at link.integrity (numbers ++ sequence_number frame ∷ []) (length numbers)
 
 abbrev pub redundancy_of : VirtualLink → List Judged → Frame → Redundancy
 redundancy_of link earlier frame =
-    redundancy.verdict_of link.redundancy link.skew (managed link.id earlier) frame.network (sequence_number frame) frame.stamp
+    redundancy.verdict_of link.redundancy link.skew (managed_entries link.id earlier) frame.network (sequence_number frame) frame.stamp
 
 abbrev pub verdict_on : VirtualLink → Class → List Judged → Frame → Judgement
 verdict_on link class earlier frame =
     judgement class (policing_of link earlier frame) (integrity_of link earlier frame) (redundancy_of link earlier frame)
 
 abbrev pub verdict_by : Option VirtualLink → Class → List Judged → Frame → Judgement
-verdict_by None class earlier frame = stopped class
+verdict_by None class earlier frame = stopped_verdict class
 verdict_by (Some link) class earlier frame = verdict_on link class earlier frame
 
 abbrev pub verdict_of : VlTable → List Judged → Frame → Judgement
@@ -108,14 +108,14 @@ verdict_of vl_table earlier frame = verdict_by (link_of_frame vl_table.links fra
 
 -- ---- the verdicts of a list
 
-abbrev pub judged_after : VlTable → List Judged → List Frame → List Judged
-judged_after vl_table earlier [] = earlier
-judged_after vl_table earlier (frame ∷ frames) =
-    judged_after vl_table (earlier ++ record { frame = frame; verdict = verdict_of vl_table earlier frame } ∷ []) frames
+abbrev pub judged_frames_after : VlTable → List Judged → List Frame → List Judged
+judged_frames_after vl_table earlier [] = earlier
+judged_frames_after vl_table earlier (frame ∷ frames) =
+    judged_frames_after vl_table (earlier ++ record { frame = frame; verdict = verdict_of vl_table earlier frame } ∷ []) frames
 
 -- the frames, each with its verdict
-abbrev pub judged : VlTable → List Frame → List Judged
-judged vl_table frames = judged_after vl_table [] frames
+abbrev pub judged_frames : VlTable → List Frame → List Judged
+judged_frames vl_table frames = judged_frames_after vl_table [] frames
 
 abbrev pub verdicts : VlTable → List Frame → List Judgement
-verdicts vl_table frames = map (λ j. j.verdict) (judged vl_table frames)
+verdicts vl_table frames = map (λ j. j.verdict) (judged_frames vl_table frames)

@@ -1,7 +1,7 @@
 //! The verdict of a frame.
 
 ghost use Rattle.std.specs.Prelude.{◌≡◌, ◌≢◌};
-ghost use Rattle.vl_judge.specs.Judgement.{Judgement, stopped};
+ghost use Rattle.vl_judge.specs.Judgement.{Judgement, stopped_verdict};
 
 use integrity::Integrity;
 use policing::Policing;
@@ -58,7 +58,7 @@ impl Verdict {
     #[inline(always)]
     pub(crate) fn stopped(class: Class) -> Verdict
         requires { class ≢ Class.Regular }
-        ensures { result ≡ stopped class }
+        ensures { result ≡ stopped_verdict class }
     {
         Verdict {
             class,

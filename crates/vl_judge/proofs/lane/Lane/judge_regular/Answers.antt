@@ -2,7 +2,7 @@
 use Rattle.std.proofs.Common.{◌≡◌, ap, sym, refl}
 use Rattle.afdx_frame.specs.declared.key.Network.TheVariants.{A, B}
 use Rattle.vl_judge.specs.declared.lane.Lane.{Lane}
-use Rattle.vl_judge.specs.Verdicts.{checked, managed, sequence_number}
+use Rattle.vl_judge.specs.Verdicts.{checked_numbers, managed_entries, sequence_number}
 use Rattle.vl_judge.proofs.After.{lane_after_a, lane_after_b}
 use Rattle.vl_judge.proofs.lane.Lane.judge_regular.Goals as goal
 use Rattle.vl_judge.proofs.lane.Lane.judge_regular.Goals.{in-A, in-B}
@@ -16,12 +16,12 @@ returns-clause-after c = λ link earlier of stands.
           (ap (λ (l : Lane). l.id) w.self-is) (ap (λ (l : Lane). l.smax) w.self-is) (ap (λ (l : Lane). l.skew) w.self-is)
           (ap (λ (l : Lane). l.integrity) w.self-is) (ap (λ (l : Lane). l.redundancy) w.self-is) (ap (λ (l : Lane). l.b) w.self-is)
           (rw (w.self-is, w.policing-is) (w.judge.ensures.account link _ stands.a.account))
-          (rw (w.self-is, w.policing-is, ← number) (w.judge.ensures.check (checked link.id A earlier) stands.a.check))
-          (rw (← number) (c.manage-redundancy.ensures.after (managed link.id earlier) (rw w.self-is stands.pair)))
+          (rw (w.self-is, w.policing-is, ← number) (w.judge.ensures.check (checked_numbers link.id A earlier) stands.a.check))
+          (rw (← number) (c.manage-redundancy.ensures.after (managed_entries link.id earlier) (rw w.self-is stands.pair)))
       | in-B w ↦ lane_after_b c.args.self.now _ link earlier _ of (sym w.in-B.ensures) stands
           (ap (λ (l : Lane). l.id) w.self-is) (ap (λ (l : Lane). l.smax) w.self-is) (ap (λ (l : Lane). l.skew) w.self-is)
           (ap (λ (l : Lane). l.integrity) w.self-is) (ap (λ (l : Lane). l.redundancy) w.self-is) (ap (λ (l : Lane). l.a) w.self-is)
           (rw (w.self-is, w.policing-is) (w.judge-in-B.ensures.account link _ stands.b.account))
-          (rw (w.self-is, w.policing-is, ← number) (w.judge-in-B.ensures.check (checked link.id B earlier) stands.b.check))
-          (rw (← number) (c.manage-redundancy.ensures.after (managed link.id earlier) (rw w.self-is stands.pair)))
+          (rw (w.self-is, w.policing-is, ← number) (w.judge-in-B.ensures.check (checked_numbers link.id B earlier) stands.b.check))
+          (rw (← number) (c.manage-redundancy.ensures.after (managed_entries link.id earlier) (rw w.self-is stands.pair)))
     ]
