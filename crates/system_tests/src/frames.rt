@@ -1,6 +1,6 @@
 //! Frames at their bounds, the order of keys, and views at their shortest lengths.
 
-use afdx_frame::{FrameView, Key, Network, Stamp, TapFrame, VlId};
+use afdx_frame::{FrameView, Key, Network, Stamp, TapFrame, VlId, key_order};
 use std::test::Fail;
 
 /// Nanoseconds.
