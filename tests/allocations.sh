@@ -8,7 +8,7 @@ set -euo pipefail
 
 cd "$(dirname "$0")/../crates/system_tests"
 # The largest of the tests makes far fewer allocations.
-bound=60
+bound=120
 
 # The tests of one file.
 fail_each_allocation() {
@@ -37,4 +37,5 @@ fail_each_allocation() {
 
 fail_each_allocation capture::allocation::
 fail_each_allocation machine::allocation::
+fail_each_allocation judges::allocation::
 printf 'allocations: all passed\n'

@@ -1,6 +1,7 @@
 //! The table of virtual links and the judgements, by the worked examples of the rules, and the
 //! reader of the table beside a reference reader.
 
+mod allocation;
 mod cuts;
 mod lanes;
 mod reference;
