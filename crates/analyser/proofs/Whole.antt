@@ -14,7 +14,7 @@ use Rattle.pcap_io.specs.declared.layout.TheConstants.{FILE_HEADER_LEN}
 use Rattle.pcap_io.specs.declared.position.Position.{Position}
 use Rattle.pcap_io.specs.declared.recording.Ending.{Ending}
 use Rattle.pcap_io.proofs.Parse.{reads_to_end}
-use Rattle.analyser.specs.Capture.{Devices, HasRead, IsAborted, IsCaptured, IsRecording, LeavesUnread, capture_text, record_of, records_of}
+use Rattle.analyser.specs.Capture.{Devices, HasRead, IsAborted, IsCaptured, IsRecording, LeavesUnread, capture_text, record_of}
 use Rattle.analyser.specs.Copy.{Copying, IsCopied, StopsCopy}
 use Rattle.analyser.specs.declared.fault.Output.TheVariants as output
 use Rattle.analyser.specs.declared.fault.WatchFault.{WatchFault}
@@ -29,7 +29,7 @@ pub record Brackets (before after : Devices) (old new : Copying) : Type 0 where
   pub header : Appends before.contents old.contents capture_header
   pub source_before : old.reading.failures ≡ before.source_failures
   pub sink_before : old.failures ≡ before.sink_failures
-  pub unread : LeavesUnread new.reading.remaining after.remaining
+  pub unread : LeavesUnread new.unread new.reading.remaining after.remaining
   pub contents : after.contents ≡ new.contents
   pub source_after : after.source_failures ≡ new.reading.failures
   pub sink_after : after.sink_failures ≡ new.failures
@@ -67,6 +67,8 @@ captured p ending before after old new b c =
       read = read;
       complete = complete before.remaining read.opened c.left read.layout c.frames c.position ending read.opens read.reads c.ends;
       taken = c.taken;
+      gone = c.gone;
+      ahead = new.unread;
       unread = b.unread;
       written = subst (λ (x : Option (List ℕ)). Appends before.contents x (capture_text p c.frames)) (sym b.contents)
           (written_after p before.contents old.contents new.contents c.frames b.header c.copied.written);
@@ -87,8 +89,9 @@ aborted p (watch.Read networks.A) before after old new b h = inr (record {
   left = h.left;
   rest = new.reading.remaining;
   read = has_read before after old new h.frames h.position h.left b h.copied.reads;
-  taken = h.taken;
+  ahead = new.unread;
   unread = b.unread;
+  lacks = h.lacks;
   written = subst (λ (x : Option (List ℕ)). Appends before.contents x (capture_text p h.frames)) (sym b.contents)
       (written_after p before.contents old.contents new.contents h.frames b.header h.copied.written);
   source = counted _ _ _ _ b.source_before b.source_after h.source;
@@ -101,7 +104,9 @@ aborted p (watch.Write output.Capture) before after old new b h = inr (record {
   position = h.position;
   left = new.reading.remaining;
   count = h.count;
+  within = h.within;
   read = has_read before after old new (h.frames ++ h.frame ∷ []) h.position new.reading.remaining b h.reads;
+  ahead = new.unread;
   unread = b.unread;
   written = subst (λ (x : Option (List ℕ)). Appends before.contents x (capture_text p h.frames ++ take h.count (record_of p h.frame))) (sym b.contents)
       (written_within p before.contents old.contents new.contents h.frames (take h.count (record_of p h.frame)) b.header h.written);
@@ -117,8 +122,10 @@ aborted p watch.Memory before after old new b h = record {
   left = h.left;
   rest = new.reading.remaining;
   read = has_read before after old new h.frames h.position h.left b h.copied.reads;
-  lacks = h.lacks;
+  ahead = new.unread;
   unread = b.unread;
+  lacks = h.lacks;
+  out_of_memory = h.out_of_memory;
   written = subst (λ (x : Option (List ℕ)). Appends before.contents x (capture_text p h.frames)) (sym b.contents)
       (written_after p before.contents old.contents new.contents h.frames b.header h.copied.written);
   no_failure = record { source = b.source_after ∙ h.source ∙ b.source_before; sink = b.sink_after ∙ h.sink ∙ b.sink_before };

@@ -1,5 +1,5 @@
 -- What a capture is, what a whole run leaves, and why it was aborted (this project's profile; the file is pcap savefile 2.4).
-use Rattle.std.specs.Prelude.{◌≡◌, ◌⊎◌, ℕ, ◌+◌, ◌^◌, ◌≤◌, min, List, [], ◌∷◌, ◌++◌, length, take, drop, Option, Some, Ok, Err, IfSome, ◌==◌, if◌then◌else◌}
+use Rattle.std.specs.Prelude.{◌≡◌, ◌⊎◌, ℕ, ◌+◌, ◌^◌, ◌≤◌, ◌<◌, min, List, [], ◌∷◌, ◌++◌, length, take, drop, Option, Ok, Err, IfSome, ◌==◌, if◌then◌else◌}
 use Rattle.std.specs.Io.KnownBytes.{Appends, prepend_known}
 use Rattle.afdx_frame.specs.Frame.{Frame}
 use Rattle.afdx_frame.specs.declared.bounds.TheConstants.{MAX_SNAPLEN}
@@ -8,9 +8,9 @@ use Rattle.afdx_frame.specs.declared.key.Network.TheVariants as networks
 use Rattle.bpf_isa.specs.declared.packed.Packed.{Packed}
 use Rattle.bpf_machine.specs.Run.{answer_of}
 use Rattle.pcap_io.specs.Capture.{capture_header, record_text}
-use Rattle.pcap_io.specs.Device.{AppendsPrefix, CountsFailure, TakesAtMost}
+use Rattle.pcap_io.specs.Device.{AppendsPrefix, CountsFailure, TakesAtMost, TakesFewer}
 use Rattle.pcap_io.specs.Layout.{header_of}
-use Rattle.pcap_io.specs.Position.{EndLeaves, Holds, LacksMemory, Opens, Reads, start_at}
+use Rattle.pcap_io.specs.Position.{EndLeaves, Holds, LacksBytes, LacksMemory, Opens, Reads, start_at}
 use Rattle.pcap_io.specs.declared.layout.HeaderFault.{HeaderFault}
 use Rattle.pcap_io.specs.declared.layout.Layout.{Layout}
 use Rattle.pcap_io.specs.declared.layout.TheConstants.{FILE_HEADER_LEN}
@@ -76,9 +76,9 @@ pub record HasRead (bytes : Option (List ℕ)) (frames : List Frame) (position :
   pub opens : Opens bytes opened layout
   pub reads : Reads (start_at networks.A layout (2 ^ 32) 0) opened frames position left
 
--- of these bytes the source still gives all but some that were read ahead, at most a block of them
-abbrev pub LeavesUnread : Option (List ℕ) → Option (List ℕ) → Type 0
-LeavesUnread left remaining = (unread : List ℕ) × (length unread ≤ MAX_SNAPLEN) × (left ≡ prepend_known unread remaining)
+-- of these bytes the source still gives all but those that were read ahead, at most a block of them
+abbrev pub LeavesUnread : List ℕ → Option (List ℕ) → Option (List ℕ) → Type 0
+LeavesUnread unread left remaining = (length unread ≤ MAX_SNAPLEN) × (left ≡ prepend_known unread remaining)
 
 -- The recording's parse: the bytes are a file header, these frames and this ending. Every list of bytes with a good header has just
 -- one parse. 2^32 frames are read at the most.
@@ -90,7 +90,7 @@ pub record IsRecording (network : Network) (late : ℕ) (bytes : List ℕ) (fram
 -- ---- a whole capture
 
 -- The recording was read to its ending, and the sink has the capture of its frames. Of the source nothing is left after a clean or a
--- truncated recording; after a bad one no more is gone than the header of the packet that ends it.
+-- truncated recording. After a bad one no more is gone than the header of the packet that ends it, and what was read ahead.
 pub record IsCaptured (p : List Packed) (ending : Ending) (before after : Devices) : Type 0 where
   pub frames : List Frame
   pub position : Position
@@ -99,7 +99,9 @@ pub record IsCaptured (p : List Packed) (ending : Ending) (before after : Device
   pub read : HasRead before.remaining frames position left
   pub complete : IfSome before.remaining (λ bytes. IsRecording networks.A 0 bytes frames ending)
   pub taken : EndLeaves left rest ending
-  pub unread : LeavesUnread rest after.remaining
+  pub gone : TakesAtMost (RECORD_HEADER_LEN + MAX_SNAPLEN) left rest
+  pub ahead : List ℕ
+  pub unread : LeavesUnread ahead rest after.remaining
   pub written : Appends before.contents after.contents (capture_text p frames)
   pub no_failure : NoFailures before after
 
@@ -113,36 +115,39 @@ pub record IsHeaderFault (fault : HeaderFault) (before after : Devices) : Type 0
   pub unwritten : after.contents ≡ before.contents
   pub no_failure : NoFailures before after
 
--- The source failed while its file header was read, and nothing was written.
+-- The source failed before it gave a whole file header, and nothing was written.
 pub record FailsToOpen (before after : Devices) : Type 0 where
-  pub taken : TakesAtMost FILE_HEADER_LEN before.remaining after.remaining
+  pub taken : TakesFewer FILE_HEADER_LEN before.remaining after.remaining
   pub unwritten : after.contents ≡ before.contents
   pub source : CountsFailure before.source_failures after.source_failures
   pub sink : after.sink_failures ≡ before.sink_failures
 
--- The source failed after these frames, of which the sink has the whole capture. Of the packet after them some bytes may be gone.
+-- The source failed after these frames, of which the sink has the whole capture, and before it gave the next packet whole.
 pub record FailsToRead (p : List Packed) (before after : Devices) : Type 0 where
   pub frames : List Frame
   pub position : Position
   pub left : Option (List ℕ)
   pub rest : Option (List ℕ)
   pub read : HasRead before.remaining frames position left
-  pub taken : TakesAtMost (RECORD_HEADER_LEN + MAX_SNAPLEN) left rest
-  pub unread : LeavesUnread rest after.remaining
+  pub ahead : List ℕ
+  pub unread : LeavesUnread ahead rest after.remaining
+  pub lacks : LacksBytes position left rest ahead
   pub written : Appends before.contents after.contents (capture_text p frames)
   pub source : CountsFailure before.source_failures after.source_failures
   pub sink : after.sink_failures ≡ before.sink_failures
 
--- There was no memory for the packet after these frames: its header is good and claims at least 1 byte, and it alone is gone. The sink
--- has the whole capture of the frames.
+-- There was no memory for the packet after these frames. Its header is good, claims at least 1 byte and is gone, and fewer bytes than it
+-- claims were read ahead. The sink has the whole capture of the frames.
 pub record FailsToAllocate (p : List Packed) (before after : Devices) : Type 0 where
   pub frames : List Frame
   pub position : Position
   pub left : Option (List ℕ)
   pub rest : Option (List ℕ)
   pub read : HasRead before.remaining frames position left
-  pub lacks : LacksMemory position left rest
-  pub unread : LeavesUnread rest after.remaining
+  pub ahead : List ℕ
+  pub unread : LeavesUnread ahead rest after.remaining
+  pub lacks : LacksBytes position left rest ahead
+  pub out_of_memory : LacksMemory position left rest
   pub written : Appends before.contents after.contents (capture_text p frames)
   pub no_failure : NoFailures before after
 
@@ -151,7 +156,7 @@ pub record FailsToBegin (before after : Devices) : Type 0 where
   pub layout : Layout
   pub opened : Option (List ℕ)
   pub opens : Opens before.remaining opened layout
-  pub unread : LeavesUnread opened after.remaining
+  pub unread : opened ≡ after.remaining
   pub written : AppendsPrefix before.contents after.contents capture_header
   pub source : after.source_failures ≡ before.source_failures
   pub sink : CountsFailure before.sink_failures after.sink_failures
@@ -165,7 +170,9 @@ pub record FailsToWrite (p : List Packed) (before after : Devices) : Type 0 wher
   pub left : Option (List ℕ)
   pub count : ℕ
   pub read : HasRead before.remaining (frames ++ frame ∷ []) position left
-  pub unread : LeavesUnread left after.remaining
+  pub ahead : List ℕ
+  pub unread : LeavesUnread ahead left after.remaining
+  pub within : count < length (record_of p frame)
   pub written : Appends before.contents after.contents (capture_text p frames ++ take count (record_of p frame))
   pub source : after.source_failures ≡ before.source_failures
   pub sink : CountsFailure before.sink_failures after.sink_failures

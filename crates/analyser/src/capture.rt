@@ -3,7 +3,7 @@ ghost use Rattle.std.specs.Prelude.{◌≡◌, ◌≤◌, None, Some, IfOk, IfEr
 ghost use Rattle.std.specs.Io.KnownBytes.{Appends};
 ghost use Rattle.afdx_frame.specs.LentFrame.{frame_of_lent};
 ghost use Rattle.pcap_io.specs.Device.{Writes};
-ghost use Rattle.pcap_io.specs.Reader.{position_of, reading_of};
+ghost use Rattle.pcap_io.specs.Reader.{position_of, reading_of, unread_of};
 ghost use Rattle.pcap_io.specs.Writer.{sink_of, has_failed};
 ghost use Rattle.pcap_io.specs.declared.recording.Stage.TheVariants.{Going};
 ghost use Rattle.analyser.specs.Capture.{answer_for, record_of, devices_of, IsCaptured, IsAborted};
@@ -84,14 +84,14 @@ fn copy_accepted<S: TapSource, W: OutSink>(
     requires bounded { (position_of reader.old).count ≤ (position_of reader.old).most }
     requires writing { has_failed writer.old ≡ false }
     ensures copied { IfOk result (λ ending. IsCopied program.now ending
-        (copying_of (reading_of S.remaining S.failures reader.old)
+        (copying_of (reading_of S.remaining S.failures reader.old) (unread_of reader.old)
         (W.contents (sink_of writer.old)) (W.failures (sink_of writer.old)))
-        (copying_of (reading_of S.remaining S.failures reader.new)
+        (copying_of (reading_of S.remaining S.failures reader.new) (unread_of reader.new)
         (W.contents (sink_of writer.new)) (W.failures (sink_of writer.new)))) }
     ensures stopped { IfErr result (λ fault. StopsCopy program.now fault
-        (copying_of (reading_of S.remaining S.failures reader.old)
+        (copying_of (reading_of S.remaining S.failures reader.old) (unread_of reader.old)
         (W.contents (sink_of writer.old)) (W.failures (sink_of writer.old)))
-        (copying_of (reading_of S.remaining S.failures reader.new)
+        (copying_of (reading_of S.remaining S.failures reader.new) (unread_of reader.new)
         (W.contents (sink_of writer.new)) (W.failures (sink_of writer.new)))) }
 {
     loop {
@@ -148,8 +148,9 @@ fn refused<S, W>(fault: WatchFault, source: S, sink: W) -> WatchRefused<S, (), W
 ///
 /// # Errors
 ///
-/// `Header` or `Read` if the recording can't be opened, and then nothing was written; `Read`, `Write`
-/// or `Memory` after some of its frames, of which the sink has the whole capture.
+/// `Header` or `Read` if the recording can't be opened, and then nothing was written. `Read` or `Memory`
+/// after some of its frames: the sink has the whole capture of them, and no frame that the source gave
+/// whole is left out. `Write` if the sink failed: it has a prefix of the capture.
 pub fn capture_one<S: TapSource, W: OutSink>(
     alloc: Global,
     program: &Program,

@@ -3,7 +3,7 @@ use Rattle.std.proofs.Common.{◌≡◌, ℕ, ◌+◌, ◌-◌, ◌≤◌, List,
 use Rattle.std.proofs.lemmas.List.{length-drop, length-append, length-take, length-take-le, take_at}
 use borrow.Rule.Slice.PartMut.{put_mid}
 use Rattle.std.specs.Io.KnownBytes.{Keeps, Consumes, prepend_known}
-use Rattle.pcap_io.specs.Device.{TakesAtMost}
+use Rattle.pcap_io.specs.Device.{TakesAtMost, TakesFewer}
 use Rattle.pcap_io.proofs.Transfers.{take-front, take-read}
 
 -- unread bytes, of which the first n are drawn
@@ -80,3 +80,9 @@ draws a b start m e xs zero le fits kept =
 pub on_err_from : {T E Q : Type 0} (r : Result T E) → Q → OnErr r Q
 on_err_from (Ok x) q = tt
 on_err_from (Err e) q = q
+
+-- all unread bytes are gone, and fewer of the source's
+pub fewer_across : (a b : Option (List ℕ)) (old new : List ℕ) (n : ℕ) → new ≡ [] → TakesFewer n a b
+    → TakesFewer (length old + n) (prepend_known old a) (prepend_known new b)
+fewer_across a b old new n none (gone, few, p) =
+    (old ++ gone, omega (arith, few, length-append old gone), consumes_across a b old new gone (old ++ gone) none refl p)

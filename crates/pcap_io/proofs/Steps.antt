@@ -1,5 +1,5 @@
 -- What a step of a reader finds, from what its reads found.
-use Rattle.std.proofs.Common.{◌≡◌, ◌≢◌, ℕ, ◌-◌, ◌<◌, ◌≤◌, max, true, false, List, ◌++◌, length, take, drop, Option, Some, None, IfSome, nat_lt, nat_eq, refl, sym, ap, ◌∙◌, subst, arith}
+use Rattle.std.proofs.Common.{inl, inr, ◌≡◌, ◌≢◌, ℕ, ◌-◌, ◌<◌, ◌≤◌, max, true, false, List, ◌++◌, length, take, drop, Option, Some, None, IfSome, nat_lt, nat_eq, refl, sym, ap, ◌∙◌, subst, arith}
 use Rattle.std.proofs.lemmas.Bool.{le-ltb, lt-ltb, ne_eqb}
 use Rattle.std.proofs.lemmas.List.{take_at, take_all, append-nil, length-append}
 use Rattle.std.proofs.KnownBytes.{Consumes-trans, Consumes-kept}
@@ -9,7 +9,7 @@ use Rattle.pcap_io.specs.Block.{IsDrawFault}
 use Rattle.pcap_io.specs.Bytes.{IsBytes}
 use Rattle.pcap_io.specs.Device.{CountsFailure, TakesAtMost}
 use Rattle.pcap_io.specs.Recording.{header_bytes, header_fields, reason_at, stamp_at}
-use Rattle.pcap_io.specs.Position.{EndsShort, IsReadFault, IsStart, IsStartOf, LacksMemory, StartLeaves, TakesFrame, TakesHeader, ending_here, frame_at}
+use Rattle.pcap_io.specs.Position.{EndsShort, IsReadFault, IsStart, IsStartOf, LacksBytes, LacksMemory, StartLeaves, TakesFrame, TakesHeader, ending_here, frame_at}
 use Rattle.pcap_io.specs.declared.record_header.RecordHeader.{RecordHeader}
 use Rattle.pcap_io.specs.declared.recording.BadReason.{BadReason}
 use Rattle.pcap_io.specs.declared.recording.Ending.TheVariants.{Clean, Cut, Bad}
@@ -160,3 +160,12 @@ body_fault p before mid after old m new fields faults.Device start kept same fau
 body_fault p before mid after old m new fields faults.Memory start kept same fault =
     (fault.0 ∙ same, lacks_memory p before mid after fields start kept fault.1)
 body_fault p before mid after old m new fields faults.Failed start kept same fault = absurd fault
+
+pub lacks_body : (p : Position) (before mid after : Option (List ℕ)) (fields : RecordHeader) (unread : List ℕ) → IsStart p before mid (starts.Header fields) → Keeps mid after
+    → length unread < fields.captured_len → LacksBytes p before after unread
+lacks_body p before mid after fields unread (header, t, same) kept few =
+    inr (header, kept_header p before mid after header t kept, omega (arith, few, ap (λ (h : RecordHeader). h.captured_len) same))
+
+pub takes_head : (p : Position) (before mid after : Option (List ℕ)) (fields : RecordHeader) → IsStart p before mid (starts.Header fields) → Keeps mid after
+    → TakesAtMost 262160 before after
+takes_head p before mid after fields (header, t, same) kept = (header, omega (arith, t.size), (kept_header p before mid after header t kept).gone)

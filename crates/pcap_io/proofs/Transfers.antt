@@ -1,6 +1,6 @@
 -- What one more read or write adds to those before it.
 use Rattle.std.proofs.Common.{◌≡◌, ℕ, ◌+◌, ◌-◌, ◌^◌, ◌≤◌, min, max, Bool, true, false, ◌||◌, List, ◌++◌, length, take, drop, Option, Result, Ok, Err, IsErr, refl, sym, ap, ◌∙◌, subst, arith, inl, inr, ◌⊎◌}
-use Rattle.std.proofs.lemmas.List.{length-take-le, take-append-le, take_at, take-append-drop, take_min, drop-drop, length-drop}
+use Rattle.std.proofs.lemmas.List.{length-take-le, take-append-le, take_at, take-append-drop, take_min, drop-drop, length-drop, length-append}
 use Rattle.std.proofs.Math.Seq.{take-append-add}
 use Rattle.std.proofs.KnownBytes.{Consumes-trans, Appends-trans}
 use Rattle.std.specs.Io.KnownBytes.{Consumes, Appends}
@@ -72,15 +72,15 @@ answered c asked p e = elim (which (fails c)) [
 
 -- the first failed
 pub prefix_first : (a b : Option (List ℕ)) (first second : List ℕ) → AppendsPrefix a b first → AppendsPrefix a b (first ++ second)
-prefix_first a b first second (n, h) =
+prefix_first a b first second (n, lt, h) =
     let m = min n (length first) in
     let same : take n first ≡ take m (first ++ second) = sym (take_min n first) ∙ sym (take-append-le m first second (omega arith)) in
-    (m, subst (Appends a b) same h)
+    (m, omega (arith, lt, length-append first second), subst (Appends a b) same h)
 
 -- the second failed
 pub prefix_second : (a b c : Option (List ℕ)) (first second : List ℕ) → Appends a b first → AppendsPrefix b c second → AppendsPrefix a c (first ++ second)
-prefix_second a b c first second whole (n, h) =
-    (length first + n, subst (Appends a c) (sym (take-append-add first second n)) (Appends-trans a b c first (take n second) whole h))
+prefix_second a b c first second whole (n, lt, h) =
+    (length first + n, omega (arith, lt, length-append first second), subst (Appends a c) (sym (take-append-add first second n)) (Appends-trans a b c first (take n second) whole h))
 
 -- the first failed
 pub writes_first : {T U E F : Type 0} (q : Result T E) (r : Result U F) (f : F) (a b : Option (List ℕ)) (m n : ℕ) (first second all : List ℕ)

@@ -14,9 +14,13 @@ NoFailure old new = (new ≡ old) × (old < 2 ^ 64 - 1)
 abbrev pub TakesAtMost : ℕ → Option (List ℕ) → Option (List ℕ) → Type 0
 TakesAtMost n before after = (gone : List ℕ) × (length gone ≤ n) × Consumes before after gone
 
+-- fewer bytes are gone
+abbrev pub TakesFewer : ℕ → Option (List ℕ) → Option (List ℕ) → Type 0
+TakesFewer n before after = (gone : List ℕ) × (length gone < n) × Consumes before after gone
+
 -- known bytes grow by a prefix of the bytes
 abbrev pub AppendsPrefix : Option (List ℕ) → Option (List ℕ) → List ℕ → Type 0
-AppendsPrefix old new bytes = (n : ℕ) × Appends old new (take n bytes)
+AppendsPrefix old new bytes = (n : ℕ) × (n < length bytes) × Appends old new (take n bytes)
 
 -- A call of this result wrote all the bytes, or its device failed after a prefix of them.
 pub record Writes {T E : Type 0} (result : Result T E) (old new : Option (List ℕ)) (before after : ℕ) (bytes : List ℕ) : Type 0 where

@@ -1,11 +1,11 @@
 -- Where a reader stands in its recording, what it gives there, and which frames and ending the bytes from there on hold.
-use Rattle.std.specs.Prelude.{◌≡◌, ◌≢◌, ℕ, ◌+◌, ◌<◌, ◌≤◌, max, List, ◌++◌, [], ◌∷◌, length, take, drop, Option, Some, None, Result, Ok, Err, IfOk, IfErr, IfSome, OnOk, OnErr, ⊤}
+use Rattle.std.specs.Prelude.{◌≡◌, ◌≢◌, ◌⊎◌, ℕ, ◌+◌, ◌<◌, ◌≤◌, max, List, ◌++◌, [], ◌∷◌, length, take, drop, Option, Some, None, Result, Ok, Err, IfOk, IfErr, IfSome, OnOk, OnErr, ⊤}
 use Rattle.std.specs.Io.KnownBytes.{Consumes, IsAtEnd}
 use Rattle.afdx_frame.specs.Frame.{Frame, frame_with}
 use Rattle.afdx_frame.specs.declared.bounds.TheConstants.{MAX_SNAPLEN}
 use Rattle.afdx_frame.specs.declared.key.Network.{Network}
 use Rattle.pcap_io.specs.Bytes.{IsBytes}
-use Rattle.pcap_io.specs.Device.{CountsFailure, TakesAtMost}
+use Rattle.pcap_io.specs.Device.{CountsFailure, TakesAtMost, TakesFewer}
 use Rattle.pcap_io.specs.Layout.{header_of}
 use Rattle.pcap_io.specs.Recording.{Record, IsGood, Parses, record_bytes, frame_of, frames_of, header_fields, reason_at, stamp_at, ending_at}
 use Rattle.pcap_io.specs.declared.layout.Layout.{Layout}
@@ -100,6 +100,13 @@ pub record TakesHeader (p : Position) (before after : Option (List ℕ)) (header
 abbrev pub LacksMemory : Position → Option (List ℕ) → Option (List ℕ) → Type 0
 LacksMemory p before after =
     (header : List ℕ) × TakesHeader p before after header × (0 < (header_fields p.layout header).captured_len)
+
+-- More bytes are needed than came: less than a header is gone and nothing is left unread, or a header is gone and fewer bytes than it
+-- claims are left unread.
+abbrev pub LacksBytes : Position → Option (List ℕ) → Option (List ℕ) → List ℕ → Type 0
+LacksBytes p before after unread =
+    (TakesFewer RECORD_HEADER_LEN before after × (unread ≡ []))
+    ⊎ ((header : List ℕ) × TakesHeader p before after header × (length unread < (header_fields p.layout header).captured_len))
 
 -- What a fault says of a call, by how often the source had failed before and after it. Memory is missing only at a good
 -- record of at least one byte, of which the header is gone.

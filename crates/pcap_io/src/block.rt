@@ -2,7 +2,7 @@
 ghost use Rattle.std.specs.Prelude.{◌≡◌, ◌+◌, ◌-◌, ◌<◌, ◌≤◌, [], true, false, length, min, max, take, vec_len, IfOk, IfErr, OnOk, OnErr};
 ghost use Rattle.std.specs.Io.KnownBytes.{Consumes, IsAtEnd, Keeps, prepend_known};
 ghost use Rattle.afdx_frame.specs.declared.bounds.TheConstants.{MAX_SNAPLEN};
-ghost use Rattle.pcap_io.specs.Device.{CountsFailure, TakesAtMost};
+ghost use Rattle.pcap_io.specs.Device.{CountsFailure, TakesAtMost, TakesFewer};
 ghost use Rattle.pcap_io.specs.Items.{items_of};
 
 use crate::device::{DeviceFault, TapSource};
@@ -59,6 +59,7 @@ fn read_until<S: TapSource>(
     ensures end { OnOk result.1 (result.0 < len → IsAtEnd (S.remaining source.new)) }
     ensures no_failure { OnOk result.1 (S.failures source.new ≡ S.failures source.old) }
     ensures fault { OnErr result.1 (CountsFailure (S.failures source.old) (S.failures source.new)) }
+    ensures unfinished { OnErr result.1 (result.0 < len) }
 {
     let mut end = end;
     while end < len {
@@ -115,6 +116,9 @@ impl<S: TapSource> BlockSource<S> {
             (S.failures (block_source self.old)) (S.failures (block_source self.new))) }
         ensures taken { OnErr result (TakesAtMost (length buf.old)
             (block_remaining S.remaining self.old) (block_remaining S.remaining self.new)) }
+        ensures unfinished { OnErr result (TakesFewer (length buf.old)
+            (block_remaining S.remaining self.old) (block_remaining S.remaining self.new)) }
+        ensures none_unread { OnErr result (unread_bytes self.new ≡ []) }
     {
         let start = self.start;
         let len = buf.len();
@@ -142,6 +146,9 @@ impl<S: TapSource> BlockSource<S> {
             (S.failures (block_source self.old)) (S.failures (block_source self.new))) }
         ensures taken { OnErr result (TakesAtMost (length buf.old)
             (block_remaining S.remaining self.old) (block_remaining S.remaining self.new)) }
+        ensures unfinished { OnErr result (TakesFewer (length buf.old)
+            (block_remaining S.remaining self.old) (block_remaining S.remaining self.new)) }
+        ensures none_unread { OnErr result (unread_bytes self.new ≡ []) }
     {
         let (start, end) = (self.start, self.end);
         let unread = end - start;
@@ -169,6 +176,7 @@ impl<S: TapSource> BlockSource<S> {
             (S.failures (block_source self.old)) (S.failures (block_source self.new))) }
         ensures kept { OnErr result (Keeps (block_remaining S.remaining self.old)
             (block_remaining S.remaining self.new)) }
+        ensures unfinished { OnErr result (length (unread_bytes self.new) < len) }
     {
         if len <= self.end - self.start {
             self.from = self.start;
@@ -184,6 +192,7 @@ impl<S: TapSource> BlockSource<S> {
     fn draw_more(&mut self, alloc: Global, len: usize) -> Result<bool, ReadFault>
         requires room { len ≤ MAX_SNAPLEN }
         requires some { 0 < len }
+        requires short { self.old.end - self.old.start < len }
         ensures complete { IfOk result (λ all. all ≡ true
             → length (drawn_bytes self.new) ≡ len) }
         ensures bytes { OnOk result (Consumes (block_remaining S.remaining self.old)
@@ -197,6 +206,7 @@ impl<S: TapSource> BlockSource<S> {
             (S.failures (block_source self.old)) (S.failures (block_source self.new))) }
         ensures kept { OnErr result (Keeps (block_remaining S.remaining self.old)
             (block_remaining S.remaining self.new)) }
+        ensures unfinished { OnErr result (length (unread_bytes self.new) < len) }
     {
         self.move_to_front();
         self.grow(alloc, len)?;
@@ -260,6 +270,7 @@ impl<S: TapSource> BlockSource<S> {
             (S.failures (block_source self.new) ≡ S.failures (block_source self.old)) }
         ensures fault { OnErr result (CountsFailure
             (S.failures (block_source self.old)) (S.failures (block_source self.new))) }
+        ensures unfinished { OnErr result (self.new.end < len) }
     {
         let Some(block) = &mut self.block else {
             return Ok(());

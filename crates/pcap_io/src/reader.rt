@@ -2,12 +2,12 @@
 ghost use Rattle.std.specs.Prelude.{◌≡◌, ◌+◌, ◌≤◌, ◌^◌, [], length, drop, Some, Ok, Err, IfOk, IfErr, OnOk, OnErr, IfSome};
 ghost use Rattle.afdx_frame.specs.Frame.{IsFrame};
 ghost use Rattle.afdx_frame.specs.LentFrame.{frame_of_lent};
-ghost use Rattle.pcap_io.specs.Device.{CountsFailure, TakesAtMost};
+ghost use Rattle.pcap_io.specs.Device.{CountsFailure, TakesAtMost, TakesFewer};
 ghost use Rattle.pcap_io.specs.Layout.{header_of};
 ghost use Rattle.afdx_frame.specs.declared.bounds.TheConstants.{MAX_SNAPLEN};
 ghost use Rattle.pcap_io.specs.declared.layout.TheConstants.{FILE_HEADER_LEN};
 ghost use Rattle.pcap_io.specs.declared.record_header.TheConstants.{RECORD_HEADER_LEN};
-ghost use Rattle.pcap_io.specs.Position.{Advances, HasRoom, IsNext, IsOpenFault, IsReadFault, IsStart, ItemLeaves, Opens, StartLeaves, after_item, found_item, start_at};
+ghost use Rattle.pcap_io.specs.Position.{Advances, HasRoom, IsNext, IsOpenFault, IsReadFault, IsStart, ItemLeaves, LacksBytes, Opens, StartLeaves, after_item, found_item, start_at};
 
 use crate::block::BlockSource;
 use crate::device::{DeviceFault, TapSource};
@@ -67,6 +67,8 @@ fn read_layout<S: TapSource>(source: &mut S) -> Result<Layout, OpenFault>
         (S.failures source.old) (S.failures source.new)) }
     ensures taken { OnErr result
         (TakesAtMost FILE_HEADER_LEN (S.remaining source.old) (S.remaining source.new)) }
+    ensures unfinished { result ≡ Err OpenFault.Device
+        → TakesFewer FILE_HEADER_LEN (S.remaining source.old) (S.remaining source.new) }
 {
     let mut header = [0u8; FILE_HEADER_LEN];
     let came = fill(source, &mut header)?;
@@ -125,6 +127,8 @@ impl<S: TapSource> TapReader<S> {
         // No more than a file header is gone from the source that is given back.
         ensures taken { IfErr result (λ e.
             TakesAtMost FILE_HEADER_LEN (S.remaining source) (S.remaining e.source)) }
+        ensures unfinished { IfErr result (λ e. e.fault ≡ OpenFault.Device
+            → TakesFewer FILE_HEADER_LEN (S.remaining source) (S.remaining e.source)) }
     {
         let mut source = source;
         match read_layout(&mut source) {
@@ -159,6 +163,9 @@ impl<S: TapSource> TapReader<S> {
             (S.failures (source_of self.old)) (S.failures (source_of self.new))) }
         ensures taken { TakesAtMost RECORD_HEADER_LEN
             (remaining_of S.remaining self.old) (remaining_of S.remaining self.new) }
+        ensures unfinished { OnErr result (TakesFewer RECORD_HEADER_LEN
+            (remaining_of S.remaining self.old) (remaining_of S.remaining self.new)) }
+        ensures none_unread { OnErr result (unread_of self.new ≡ []) }
         ensures left { IfOk result (StartLeaves
             (remaining_of S.remaining self.old) (remaining_of S.remaining self.new)) }
     {
@@ -180,6 +187,9 @@ impl<S: TapSource> TapReader<S> {
         ensures fault { IfErr result (IsReadFault (position_of self.old)
             (remaining_of S.remaining self.old) (remaining_of S.remaining self.new)
             (S.failures (source_of self.old)) (S.failures (source_of self.new))) }
+        ensures unfinished { OnErr result (LacksBytes (position_of self.old)
+            (remaining_of S.remaining self.old) (remaining_of S.remaining self.new)
+            (unread_of self.new)) }
         ensures taken { TakesAtMost (RECORD_HEADER_LEN + MAX_SNAPLEN)
             (remaining_of S.remaining self.old) (remaining_of S.remaining self.new) }
         ensures left { IfOk result (λ a. ItemLeaves (remaining_of S.remaining self.old)
@@ -215,6 +225,9 @@ impl<S: TapSource> TapReader<S> {
             (remaining_of S.remaining self.old) (remaining_of S.remaining self.new) }
         ensures left { IfOk result (λ a. ItemLeaves (remaining_of S.remaining self.old)
             (remaining_of S.remaining self.new) a) }
+        ensures unfinished { result ≡ Err faults.Device → LacksBytes (position_of self.old)
+            (remaining_of S.remaining self.old) (remaining_of S.remaining self.new)
+            (unread_of self.new) }
     {
         let header = match self.read_header()? {
             Start::Header(header) => header,
@@ -237,6 +250,10 @@ impl<S: TapSource> TapReader<S> {
         ensures advances { Advances (found_item (lent_of self.new))
             (reading_of S.remaining S.failures self.old)
             (reading_of S.remaining S.failures self.new) result }
+        // Fewer bytes came than the next record needs: no frame that came whole is lost.
+        ensures unfinished { (position_of self.old).stage ≡ Going → OnErr result
+            (LacksBytes (position_of self.old) (remaining_of S.remaining self.old)
+            (remaining_of S.remaining self.new) (unread_of self.new)) }
         // The frame stands to be lent.
         ensures frame { result ≡ Ok founds.Frame → IsFrame (lent_of self.new) }
         ensures ended { (e : Ending) → (position_of self.old).stage ≡ Ended e
@@ -287,6 +304,10 @@ impl<S: TapSource> TapReader<S> {
     pub fn next(&mut self, alloc: Global) -> Result<Item, ReadFault>
         ensures advances { Advances (λ item. item) (reading_of S.remaining S.failures self.old)
             (reading_of S.remaining S.failures self.new) result }
+        // The source failed before it gave a whole record: no frame that came whole is lost.
+        ensures unfinished { (position_of self.old).stage ≡ Going → result ≡ Err faults.Device
+            → LacksBytes (position_of self.old) (remaining_of S.remaining self.old)
+            (remaining_of S.remaining self.new) (unread_of self.new) }
         ensures ended { (e : Ending) → (position_of self.old).stage ≡ Ended e
             → (result ≡ Ok (items.End e)) × (self.new ≡ self.old) }
         ensures failed { (position_of self.old).stage ≡ Failed

@@ -1,7 +1,7 @@
 //! Reads and writes in as many calls as the device takes.
 ghost use Rattle.std.specs.Prelude.{◌≡◌, ◌<◌, ◌≤◌, length, take, IfOk, OnOk, OnErr};
 ghost use Rattle.std.specs.Io.KnownBytes.{Consumes, IsAtEnd};
-ghost use Rattle.pcap_io.specs.Device.{CountsFailure, TakesAtMost, Writes};
+ghost use Rattle.pcap_io.specs.Device.{CountsFailure, TakesAtMost, TakesFewer, Writes};
 
 use crate::device::{DeviceFault, OutSink, TapSource};
 
@@ -15,6 +15,8 @@ pub fn fill<S: TapSource>(source: &mut S, buf: &mut [u8]) -> Result<usize, Devic
     ensures fault { OnErr result (CountsFailure (S.failures source.old) (S.failures source.new)) }
     ensures taken { OnErr result
         (TakesAtMost (length buf.old) (S.remaining source.old) (S.remaining source.new)) }
+    ensures unfinished { OnErr result
+        (TakesFewer (length buf.old) (S.remaining source.old) (S.remaining source.new)) }
 {
     let mut done = 0;
     while done < buf.len() {

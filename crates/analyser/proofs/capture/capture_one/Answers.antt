@@ -1,7 +1,4 @@
 use Rattle.std.proofs.Common.{refl}
-use Rattle.pcap_io.specs.Reader.{reading_of, unread_of}
-use Rattle.pcap_io.specs.Writer.{sink_of}
-use Rattle.analyser.specs.Copy.{copying_of}
 use Rattle.analyser.proofs.Whole.{aborted, captured}
 use Rattle.analyser.proofs.capture.capture_one.Goals as goal
 
@@ -15,7 +12,7 @@ returns-in-Ok-copied-clause-captured g c =
       header = c.in-Ok-begin.ensures.written.complete;
       source_before = opened.no_failure;
       sink_before = c.in-Ok-begin.ensures.written.no_failure;
-      unread = (unread_of c.copy_accepted-copied.new.reader, c.into_source-source.ensures.lost, refl);
+      unread = (c.into_source-source.ensures.lost, refl);
       contents = refl;
       source_after = refl;
       sink_after = refl;
@@ -31,7 +28,7 @@ returns-in-Err-copied-clause-aborted g c =
       header = c.in-Ok-begin.ensures.written.complete;
       source_before = opened.no_failure;
       sink_before = c.in-Ok-begin.ensures.written.no_failure;
-      unread = (unread_of c.copy_accepted-copied.new.reader, c.into_source-source.ensures.lost, refl);
+      unread = (c.into_source-source.ensures.lost, refl);
       contents = refl;
       source_after = refl;
       sink_after = refl;

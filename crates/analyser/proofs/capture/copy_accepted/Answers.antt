@@ -66,9 +66,10 @@ returns-in_err-write_accepted-in-Ok-Frame-clause-stopped g c =
       frame = frame;
       position = after_frame here frame.stamp;
       count = part.0;
+      within = part.1;
       reads = reads_more (position_of c.args.reader.now) here before _ after at.0 frame at.1.reads taken;
       written = Appends-trans (contents (sink_of c.args.writer.now)) start now (records_of c.args.program.now at.0)
-          (take part.0 (record_of c.args.program.now frame)) at.1.written part.1;
+          (take part.0 (record_of c.args.program.now frame)) at.1.written part.2;
       source = given.no_failure ∙ c.loop-reader.invariant.source;
       sink = subst (λ (x : ℕ). CountsFailure x (g.W.OutSink.failures (sink_of c.write_accepted.new.writer))) c.loop-reader.invariant.sink told.written.fault;
     })

@@ -1,6 +1,6 @@
 use Rattle.std.proofs.Common.{◌≡◌, ◌≤◌, ◌-◌, List, false}
 use Rattle.afdx_frame.specs.Frame.{Frame}
-use Rattle.pcap_io.specs.Reader.{position_of, reading_of, remaining_of, source_of}
+use Rattle.pcap_io.specs.Reader.{position_of, reading_of, remaining_of, source_of, unread_of}
 use Rattle.pcap_io.specs.Writer.{sink_of, has_failed}
 use Rattle.pcap_io.specs.declared.recording.Stage.TheVariants.{Going}
 use Rattle.analyser.specs.Copy.{HasCopied, copying_of}
@@ -11,8 +11,8 @@ abbrev pub invariant-loop-reader : goal.invariant-loop-reader
 invariant-loop-reader g l =
     record {
       copied : (frames : List Frame) × HasCopied l.program frames (position_of l.reader) (remaining_of g.S.TapSource.remaining l.reader)
-          (copying_of (reading_of g.S.TapSource.remaining g.S.TapSource.failures l.fn.reader) (g.W.OutSink.contents (sink_of l.fn.writer)) (g.W.OutSink.failures (sink_of l.fn.writer)))
-          (copying_of (reading_of g.S.TapSource.remaining g.S.TapSource.failures l.reader) (g.W.OutSink.contents (sink_of l.writer)) (g.W.OutSink.failures (sink_of l.writer)));
+          (copying_of (reading_of g.S.TapSource.remaining g.S.TapSource.failures l.fn.reader) (unread_of l.fn.reader) (g.W.OutSink.contents (sink_of l.fn.writer)) (g.W.OutSink.failures (sink_of l.fn.writer)))
+          (copying_of (reading_of g.S.TapSource.remaining g.S.TapSource.failures l.reader) (unread_of l.reader) (g.W.OutSink.contents (sink_of l.writer)) (g.W.OutSink.failures (sink_of l.writer)));
       reading : (position_of l.reader).stage ≡ Going;
       bounded : (position_of l.reader).count ≤ (position_of l.reader).most;
       writing : has_failed l.writer ≡ false;

@@ -1,10 +1,11 @@
-use Rattle.std.proofs.Common.{rules, ◌≡◌, ◌∙◌, ℕ, List, ◌++◌, ap, length}
+use Rattle.std.proofs.Common.{inl, rules, ◌≡◌, ◌∙◌, ℕ, List, ◌++◌, ap, length}
 use Rattle.std.proofs.lemmas.Result.{err_from_is_err_and}
 use Rattle.pcap_io.specs.Block.{drawn_bytes}
 use Rattle.pcap_io.specs.Position.{frame_at}
 use Rattle.pcap_io.specs.declared.position.Position.{Position}
 use Rattle.pcap_io.specs.Reader.{position_of}
-use Rattle.pcap_io.proofs.Steps.{body_fault, cut_found, frame_found, takes_record}
+use Rattle.pcap_io.proofs.Steps.{lacks_body, takes_head, body_fault, cut_found, frame_found, takes_record}
+use Rattle.pcap_io.proofs.Draws.{on_err_from}
 use Rattle.pcap_io.proofs.reader.TapReader.take.Goals as goal
 
 pub returns-in_err-draw-clause-fault : goal.returns-in_err-draw-clause-fault
@@ -41,3 +42,8 @@ pub returns-clause-taken : goal.returns-clause-taken
 returns-clause-taken g c =
     let start = rw c.in-Header.is at c.in_ok-header.ensures.start in
     takes_record _ _ _ _ _ start (drawn_bytes c.draw.new.self, search rules, c.in_ok-draw.ensures.bytes)
+
+pub returns-in_err-draw-clause-taken : goal.returns-in_err-draw-clause-taken
+returns-in_err-draw-clause-taken g c =
+    let start = rw c.in-Header.is at c.in_ok-header.ensures.start in
+    takes_head _ _ _ _ _ start c.in_err-draw.ensures.kept
