@@ -42,6 +42,11 @@ records_of p (f ∷ fs) = record_of p f ++ records_of p fs
 abbrev pub capture_text : List Packed → List Frame → List ℕ
 capture_text p frames = capture_header ++ records_of p frames
 
+-- the frames that the filter accepts
+abbrev pub accepted : List Packed → List Frame → List Frame
+accepted p [] = []
+accepted p (f ∷ fs) = if answer_for p f == 0 then accepted p fs else f ∷ accepted p fs
+
 -- ---- what a run saw of its devices
 
 -- what the devices of a capture show, before a call or after it

@@ -3,4 +3,5 @@ pub mod Capture
 pub mod Commands
 pub mod Copy
 pub mod Exit
+pub mod Laws
 pub mod Line

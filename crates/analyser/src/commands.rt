@@ -25,7 +25,8 @@ pub struct CaptureRun<S, W> {
 }
 
 /// What a command leaves: the program's exit status, the line for standard error, without its
-/// newline, and the sink. There is no line at status 0, and none where there was no memory for it.
+/// newline, and the sink. There is no line at status 0, and a line may be missing after a fault: it
+/// takes memory.
 #[derive(Debug, Drop)]
 pub struct Ran<W> {
     pub status: u8,

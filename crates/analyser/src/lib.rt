@@ -17,6 +17,7 @@ mod capture;
 mod commands;
 mod exit;
 mod fault;
+mod laws;
 mod message;
 
 pub use arguments::{Invocation, read_arguments};
@@ -24,4 +25,5 @@ pub use capture::{WatchRefused, capture_one};
 pub use commands::{CaptureRun, Ran, capture_over, run_capture};
 pub use exit::{Exit, USAGE};
 pub use fault::{Fault, Output, WatchFault, fault_line};
+pub use laws::capture_gives_the_accepted_frames;
 pub use message::{Note, advice};

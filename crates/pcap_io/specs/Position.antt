@@ -108,8 +108,8 @@ LacksBytes p before after unread =
     (TakesFewer RECORD_HEADER_LEN before after × (unread ≡ []))
     ⊎ ((header : List ℕ) × TakesHeader p before after header × (length unread < (header_fields p.layout header).captured_len))
 
--- What a fault says of a call, by how often the source had failed before and after it. Memory is missing only at a good
--- record of at least one byte, of which the header is gone.
+-- What a fault says of a call, by how often the source had failed before and after it. Memory is missing only after the header of a
+-- good record that claims at least one byte, which is gone.
 abbrev pub IsReadFault : Position → Option (List ℕ) → Option (List ℕ) → ℕ → ℕ → ReadFault → Type 0
 IsReadFault p before after old new faults.Device = CountsFailure old new
 IsReadFault p before after old new faults.Memory = (new ≡ old) × LacksMemory p before after

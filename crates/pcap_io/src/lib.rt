@@ -9,8 +9,8 @@
 //!
 //! ```
 //! let source = ReadSource::new(File::open(path)?);
-//! let mut reader = TapReader::open(source, Network::A, 1 << 32, 0)?;
-//! let mut writer = CaptureWriter::begin(WriteSink::new(output))?;
+//! let Ok(mut reader) = TapReader::open(source, Network::A, 1 << 32, 0) else { return };
+//! let Ok(mut writer) = CaptureWriter::begin(WriteSink::new(output)) else { return };
 //! while let Found::Frame = reader.advance(alloc)? {
 //!     let frame = reader.frame();
 //!     let captured = frame.view().bytes().len() as u32;

@@ -80,8 +80,9 @@ fn read_layout<S: TapSource>(source: &mut S) -> Result<Layout, OpenFault>
 
 /// Reads the frames of one network's recording (pcap savefile format 2.4), one after another.
 ///
-/// It reads its source a block of 64 KiB at a time. `advance` goes on to the next frame, which
-/// `frame` lends out of the block; `next` gives a frame that owns its bytes.
+/// It reads the data of its source ahead, a block of 64 KiB at a time, or more for a longer record.
+/// `advance` goes on to the next frame, which `frame` lends out of the block; `next` gives a frame
+/// that owns its bytes.
 #[derive(Debug, Drop)]
 pub struct TapReader<S> {
     input: BlockSource<S>,

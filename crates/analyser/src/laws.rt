@@ -1,0 +1,9 @@
+//! Laws of captures, which hold of the definitions alone.
+
+ghost use Rattle.analyser.specs.Laws.{CaptureGivesAccepted};
+
+/// The capture of a recording is a recording: of the frames that the filter accepts, in order, each cut
+/// to what was kept, and clean at its end.
+pub fn capture_gives_the_accepted_frames()
+    ensures { CaptureGivesAccepted }
+{}
