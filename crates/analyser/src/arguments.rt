@@ -69,7 +69,9 @@ fn arguments_of<'a>(matches: &ArgMatches<'a>) -> Option<Invocation<'a>>
 /// # Errors
 ///
 /// clap's error if clap's rules for this command refuse the arguments, or out of memory. It prints as the
-/// text for the user. A request for help or for the version is one too. None: clap took the arguments and found no command.
+/// text for the user. A request for help or for the version is one too.
+///
+/// None: clap took the arguments and found no command.
 pub fn read_arguments<'a>(
     alloc: Global,
     arguments: &'a [String],

@@ -10,4 +10,5 @@ mod tables;
 
 /// The table of the worked examples: one link.
 pub const TABLE: &str =
-    "constant = 50331648\n[[link]]\nid = 5\nname = \"brake\"\nbag_ms = 1\njitter_us = 0\nsmax = 200\nintegrity = true\nredundancy = true\nskew_us = 1000\n";
+    "constant = 50331648\n[[link]]\nid = 5\nname = \"brake\"\nbag_ms = 1\njitter_us = 0\n\
+     smax = 200\nintegrity = true\nredundancy = true\nskew_us = 1000\n";

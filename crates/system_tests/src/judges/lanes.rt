@@ -134,7 +134,8 @@ fn large_table(alloc: Global) -> Result<String, Fail> {
     for index in 0..4096u32 {
         let id = 4096 - index;
         text.push_str(format!(in alloc;
-            "[[link]]\nid = {id}\nname = \"link-{id}\"\nbag_ms = 1\njitter_us = 0\nsmax = 200\nintegrity = true\nredundancy = true\nskew_us = 1000\n"
+            "[[link]]\nid = {id}\nname = \"link-{id}\"\nbag_ms = 1\njitter_us = 0\nsmax = 200\n\
+             integrity = true\nredundancy = true\nskew_us = 1000\n"
         )?.as_str())?;
     }
     Ok(text)
