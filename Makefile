@@ -16,6 +16,8 @@ RT ?= rt
 PROGRAM := bin/afdxmon
 CRATES := $(shell sed -n 's/^\([a-z_0-9]*\)[ a-z=+_A-Z0-9]*:.*/\1/p' crates.txt)
 LIBRARIES := $(filter-out afdxmon system_tests,$(CRATES))
+# The libraries that the program stands on, by its line of crates.txt.
+NEEDED := $(filter $(LIBRARIES),$(shell sed -n 's/^afdxmon[ a-z=+_A-Z0-9]*://p' crates.txt))
 JOBS := $(shell nproc)
 
 .PHONY: demo test build check bench program allocations borrows toolchain begin $(LIBRARIES:%=proved-%)
@@ -29,7 +31,7 @@ build: toolchain begin
 	@printf 'make: the program is $(PROGRAM)\n'
 
 begin:
-	@printf 'make: proving %s crates, as many side by side as their order allows; some minutes the first time, seconds where nothing changed\n' $(words $(LIBRARIES))
+	@printf 'make: proving %s crates, as many side by side as their order allows; some minutes the first time, seconds where nothing changed\n' $(words $(NEEDED))
 
 # Each library is proved once those that it stands on are: its line of crates.txt names them.
 define library
@@ -41,7 +43,7 @@ endef
 $(foreach crate,$(LIBRARIES),$(eval $(call library,$(crate))))
 
 .PHONY: proved-all
-proved-all: $(LIBRARIES:%=proved-%)
+proved-all: $(NEEDED:%=proved-%)
 
 demo: build
 	@examples/demo
