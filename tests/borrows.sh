@@ -47,19 +47,19 @@ read_crate() {
 write_crate '&frame'
 read_crate
 if [ "$status" -ne 0 ]; then
-    printf 'lent: FAILED, a body used while its frame lives was refused:\n%s\n' "$said"
+    printf 'borrows: FAILED, a body used while its frame lives was refused:\n%s\n' "$said"
     exit 1
 fi
 
 write_crate 'frame'
 read_crate
 if [ "$status" -eq 0 ]; then
-    printf 'lent: FAILED, a body kept beyond its frame was accepted\n'
+    printf 'borrows: FAILED, a body kept beyond its frame was accepted\n'
     exit 1
 fi
 # E0597: what is borrowed does not live long enough.
 if ! refusal=$(grep -i 'error\[borrow-e0597\].*kept' <<< "$said"); then
-    printf 'lent: FAILED, a body kept beyond its frame was refused for another reason:\n%s\n' "$said"
+    printf 'borrows: FAILED, a body kept beyond its frame was refused for another reason:\n%s\n' "$said"
     exit 1
 fi
-printf 'lent: a body kept beyond its frame is refused: %s\n' "$refusal"
+printf 'borrows: a body kept beyond its frame is refused: %s\n' "$refusal"

@@ -136,7 +136,8 @@ fn large_table(alloc: Global) -> Result<String, Fail> {
         text.push_str(format!(in alloc;
             "[[link]]\nid = {id}\nname = \"link-{id}\"\nbag_ms = 1\njitter_us = 0\nsmax = 200\n\
              integrity = true\nredundancy = true\nskew_us = 1000\n"
-        )?.as_str())?;
+        )?
+        .as_str())?;
     }
     Ok(text)
 }
