@@ -1,0 +1,5 @@
+pub mod Places
+pub mod Forms
+pub mod Program
+pub mod Stepping
+pub mod Lines
