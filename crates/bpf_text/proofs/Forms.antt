@@ -8,6 +8,7 @@ use Rattle.bpf_text.specs.declared.fault.TextFault.{TextFault}
 use Rattle.bpf_text.specs.declared.fault.TextFault.TheVariants.{Form as FormAt}
 use Rattle.bpf_text.specs.declared.keyword.Keyword.TheVariants.{Mnemonic as Named, X as WordX, A as WordA, M as WordM, Len as WordLen}
 use Rattle.bpf_text.specs.Tokens.{Token, Word, Name, Num, Mark, Lexeme, Item, Lexed, Bad, End}
+use Rattle.bpf_text.proofs.Bits.{has, or_left, or_right, and_left, and_right}
 use Rattle.bpf_text.specs.Grammar.{Statement, Symbol, Sign, TheX, TheA, TheM, TheLen, Exactly, Size, Opposite, AnyName, AnyMnemonic, Said, fits, Form, Gives, Then, Either, Spells, after, whole, refusal_of, IsRefused, Leaves, Stops, token_of}
 
 -- ---- Reading
@@ -124,10 +125,6 @@ firsts (Gives s) = []
 firsts (Then s f) = key s ∷ []
 firsts (Either f g) = firsts f ++ firsts g
 
-abbrev pub has : ℕ → List ℕ → Bool
-has k [] = false
-has k (x ∷ xs) = x == k || has k xs
-
 abbrev pub apart : List ℕ → List ℕ → Bool
 apart [] ys = true
 apart (x ∷ xs) ys = not (has x ys) && apart xs ys
@@ -165,14 +162,6 @@ fits_key AnyName (Name name) said e = refl
 fits_key AnyMnemonic (Word (Named m)) said e = refl
 fits_key s token said e = absurd (cc)
 
-or_left : (a b : Bool) → a ≡ true → (a || b) ≡ true
-or_left true b e = refl
-or_left false b e = absurd (cc)
-
-or_right : (a b : Bool) → b ≡ true → (a || b) ≡ true
-or_right true b e = refl
-or_right false b e = e
-
 has-append : (k : ℕ) (xs ys : List ℕ) → has k (xs ++ ys) ≡ (has k xs || has k ys)
 has-append k [] ys = refl
 has-append k (x ∷ xs) ys = go (has-append k xs ys) (x == k)
@@ -193,14 +182,6 @@ firsts_have (Either f g) token h e = go (firsts_have f token h) (firsts_have g t
     go : (after f token ≡ Some h → has (token_key token) (firsts f) ≡ true) → (after g token ≡ Some h → has (token_key token) (firsts g) ≡ true) → (o : Option Form) → after f token ≡ o → has (token_key token) (firsts f ++ firsts g) ≡ true
     go left right None o = has-append (token_key token) (firsts f) (firsts g) ∙ or_right (has (token_key token) (firsts f)) (has (token_key token) (firsts g)) (right (ap (λ (p : Option Form). option_or p (after g token)) (sym o) ∙ e))
     go left right (Some k) o = has-append (token_key token) (firsts f) (firsts g) ∙ or_left (has (token_key token) (firsts f)) (has (token_key token) (firsts g)) (left (o ∙ (ap (λ (p : Option Form). option_or p (after g token)) (sym o) ∙ e)))
-
-and_left : (a b : Bool) → (a && b) ≡ true → a ≡ true
-and_left true b e = refl
-and_left false b e = absurd (cc)
-
-and_right : (a b : Bool) → (a && b) ≡ true → b ≡ true
-and_right true b e = e
-and_right false b e = absurd (cc)
 
 -- what the one list has the other lacks
 apart_lacks : (k : ℕ) (xs ys : List ℕ) → apart xs ys ≡ true → has k xs ≡ true → has k ys ≡ true → ⊥

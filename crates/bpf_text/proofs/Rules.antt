@@ -1,5 +1,5 @@
 -- What the parser's functions read is what the forms of the grammar give.
-use Rattle.std.proofs.Common.{◌≡◌, ℕ, Bool, true, false, cond, ◌==◌, List, [], ◌∷◌, Option, Some, None, refl, ◌∙◌, Ok, Err, nat_lt, nat_le, ◌^◌, ◌%◌, ◌-◌}
+use Rattle.std.proofs.Common.{◌≡◌, ℕ, true, false, cond, ◌==◌, List, [], ◌∷◌, Option, Some, None, refl, ◌∙◌, Ok, Err, nat_lt, nat_le, ◌^◌, ◌%◌, ◌-◌}
 use Rattle.bpf_text.specs.declared.keyword.Mnemonic.{Mnemonic}
 use Rattle.bpf_text.specs.declared.keyword.Mnemonic.TheVariants.{Ld, Ldi, Ldh, Ldb, Ldx, Ldxi, Ldxb, St, Stx, Jmp, Ja, Jeq, Jneq, Jne, Jlt, Jle, Jgt, Jge, Jset, Add, Sub, Mul, Div, Mod, Neg, And, Or, Xor, Lsh, Rsh, Tax, Txa, Ret}
 use Rattle.bpf_text.specs.declared.keyword.Keyword.TheVariants.{Mnemonic as Named, X as WordX, A as WordA, M as WordM, Len as WordLen}
@@ -8,6 +8,7 @@ use Rattle.bpf_text.specs.declared.statement.Source.TheVariants.{K, X}
 use Rattle.bpf_text.specs.Tokens.{Token, Word, Name, Num, Mark, Item, Lexed, Bad, End, next_token, after_mark, begins_with_mark}
 use Rattle.bpf_text.specs.Grammar.{Operand, Nothing, Immediate, Absolute, Indirect, Scratch, HeaderLength, Len, Value, A, Target, Branch, Statement, Size, Opposite, TheX, TheA, Exactly, Form, Gives, Then, mark, ◌or◌, number, register, packet, scratch, header_length, immediate, length_word, immediate_or_length, source, target, branch, one_way, two_way, operand, instruction, labelled, statement, form_at}
 use Rattle.bpf_text.specs.Reading.{Read, ◌>>=◌, positive, negative, is_x, is_a, mark_rule, number_after, number_rule, exact_rule, after_percent, indirect_rule, packet_rule, scratch_rule, header_rule, hash_rule, immediate_rule, source_rule, target_at, target_rule, ld_rule, ldi_rule, ldh_rule, ldx_rule, ldxb_rule, st_rule, jump_rule, branch_rule, one_way_rule, two_way_rule, alu_rule, ret_rule, operand_rule, instruction_rule, labelled_at, labelled_rule, statement_at, statement_rule}
+use Rattle.bpf_text.proofs.Bits.{bool_cases}
 use Rattle.bpf_text.proofs.Forms.{Good, read}
 
 -- ---- Every form of the grammar is good
@@ -90,10 +91,6 @@ pub good_statement : (at : ℕ) → Good (statement at)
 good_statement at = (good_labelled at, (λ m. good_operand m _), refl, refl, refl)
 
 -- ---- One token
-
-bool_cases : {P : Type 0} (b : Bool) → (b ≡ true → P) → (b ≡ false → P) → P
-bool_cases true f g = f refl
-bool_cases false f g = g refl
 
 bind_bind : {R S T : Type 0} (r : Read R) (f : R × List Item → Read S) (g : S × List Item → Read T) → ((r >>= f) >>= g) ≡ (r >>= (λ x. f x >>= g))
 bind_bind (Ok x) f g = refl

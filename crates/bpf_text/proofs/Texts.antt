@@ -14,7 +14,8 @@ use Rattle.std.specs.Prelude.{slice_index}
 use Rattle.bpf_text.specs.Grammar.{Operand, Statement, Sign, AnyName, AnyMnemonic, Form, Gives, fits, Spells, operand, instruction, labelled, statement, token_of, IsStatement, AreStatements, IsSourceOf, after, whole, IsRefused, Leaves, is_colon, form_at, Stops, AreWhole, HasFault, BeginsWithStatement}
 use Rattle.bpf_text.specs.Laws.{OneReading}
 use Rattle.bpf_text.specs.Reading.{statement_rule}
-use Rattle.bpf_text.proofs.Forms.{Good, read, refuse, finish, Stopped, run, stopped, leaves_spells, spells_leaves, only_marks, token_key, has, firsts, firsts_have, Step, step}
+use Rattle.bpf_text.proofs.Bits.{has}
+use Rattle.bpf_text.proofs.Forms.{Good, read, refuse, finish, Stopped, run, stopped, leaves_spells, spells_leaves, only_marks, token_key, firsts, firsts_have, Step, step}
 use Rattle.bpf_text.proofs.Rules.{statement_reads, good_labelled, good_statement, good_operand, made}
 use Rattle.bpf_text.proofs.Sequences.{statement_takes}
 

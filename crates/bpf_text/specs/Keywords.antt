@@ -1,5 +1,6 @@
 -- The words with a meaning of their own (bpf_asm's tools/bpf/bpf_exp.l), in either case.
-use Rattle.std.specs.Prelude.{ℕ, List, [], ◌∷◌, Option, Some, None, codes, if◌then◌else◌}
+use Rattle.std.specs.Prelude.{ℕ, List, [], ◌∷◌, Option, Some, None, codes, ◌==◌, slice_index, if◌then◌else◌}
+use Rattle.std.specs.Char.{to_ascii_lowercase}
 use Rattle.std.specs.Str.{str_eq_ignore_ascii_case}
 use Rattle.bpf_text.specs.declared.keyword.Mnemonic.TheVariants.{Ld, Ldi, Ldh, Ldb, Ldx, Ldxi, Ldxb, St, Stx, Jmp, Ja, Jeq, Jneq, Jne, Jlt, Jle, Jgt, Jge, Jset, Add, Sub, Mul, Div, Mod, Neg, And, Or, Xor, Lsh, Rsh, Tax, Txa, Ret}
 use Rattle.bpf_text.specs.declared.keyword.Keyword.{Keyword}
@@ -27,3 +28,8 @@ keyword_in (row ∷ rows) name = if str_eq_ignore_ascii_case row.0 name then Som
 
 unfoldable pub keyword_of : List ℕ → Option Keyword
 keyword_of name = keyword_in keywords name
+
+-- the rows with this first letter
+abbrev pub with_first : ℕ → List (List ℕ × Keyword) → List (List ℕ × Keyword)
+with_first letter [] = []
+with_first letter (row ∷ rows) = if to_ascii_lowercase (slice_index row.0 0) == letter then row ∷ with_first letter rows else with_first letter rows

@@ -1,7 +1,7 @@
 //! The words with a meaning of their own: mnemonics, registers, `M` and `len`.
 
 ghost use Rattle.std.specs.Prelude.{◌≡◌, map};
-ghost use Rattle.bpf_text.specs.Keywords.{keyword_in, keyword_of};
+ghost use Rattle.bpf_text.specs.Keywords.{keywords, with_first, keyword_in, keyword_of};
 
 /// What an instruction does, by its name in the source.
 #[derive(Clone, Copy, Debug, PartialEq, Eq)]
@@ -84,17 +84,16 @@ pub(crate) enum Keyword {
     Len,
 }
 
-/// The keywords in lower case. The source has them in either case.
-static KEYWORDS: [(&str, Keyword); 37] = [
-    ("ld", Keyword::Mnemonic(Mnemonic::Ld)),
-    ("ldi", Keyword::Mnemonic(Mnemonic::Ldi)),
-    ("ldh", Keyword::Mnemonic(Mnemonic::Ldh)),
-    ("ldb", Keyword::Mnemonic(Mnemonic::Ldb)),
-    ("ldx", Keyword::Mnemonic(Mnemonic::Ldx)),
-    ("ldxi", Keyword::Mnemonic(Mnemonic::Ldxi)),
-    ("ldxb", Keyword::Mnemonic(Mnemonic::Ldxb)),
-    ("st", Keyword::Mnemonic(Mnemonic::St)),
-    ("stx", Keyword::Mnemonic(Mnemonic::Stx)),
+// The keywords in lower case, by their first letter. The source has them in either case.
+static WITH_A: [(&str, Keyword); 3] = [
+    ("add", Keyword::Mnemonic(Mnemonic::Add)),
+    ("and", Keyword::Mnemonic(Mnemonic::And)),
+    ("a", Keyword::A),
+];
+
+static WITH_D: [(&str, Keyword); 1] = [("div", Keyword::Mnemonic(Mnemonic::Div))];
+
+static WITH_J: [(&str, Keyword); 10] = [
     ("jmp", Keyword::Mnemonic(Mnemonic::Jmp)),
     ("ja", Keyword::Mnemonic(Mnemonic::Ja)),
     ("jeq", Keyword::Mnemonic(Mnemonic::Jeq)),
@@ -105,25 +104,70 @@ static KEYWORDS: [(&str, Keyword); 37] = [
     ("jgt", Keyword::Mnemonic(Mnemonic::Jgt)),
     ("jge", Keyword::Mnemonic(Mnemonic::Jge)),
     ("jset", Keyword::Mnemonic(Mnemonic::Jset)),
-    ("add", Keyword::Mnemonic(Mnemonic::Add)),
-    ("sub", Keyword::Mnemonic(Mnemonic::Sub)),
-    ("mul", Keyword::Mnemonic(Mnemonic::Mul)),
-    ("div", Keyword::Mnemonic(Mnemonic::Div)),
-    ("mod", Keyword::Mnemonic(Mnemonic::Mod)),
-    ("neg", Keyword::Mnemonic(Mnemonic::Neg)),
-    ("and", Keyword::Mnemonic(Mnemonic::And)),
-    ("or", Keyword::Mnemonic(Mnemonic::Or)),
-    ("xor", Keyword::Mnemonic(Mnemonic::Xor)),
+];
+
+static WITH_L: [(&str, Keyword); 9] = [
+    ("ld", Keyword::Mnemonic(Mnemonic::Ld)),
+    ("ldi", Keyword::Mnemonic(Mnemonic::Ldi)),
+    ("ldh", Keyword::Mnemonic(Mnemonic::Ldh)),
+    ("ldb", Keyword::Mnemonic(Mnemonic::Ldb)),
+    ("ldx", Keyword::Mnemonic(Mnemonic::Ldx)),
+    ("ldxi", Keyword::Mnemonic(Mnemonic::Ldxi)),
+    ("ldxb", Keyword::Mnemonic(Mnemonic::Ldxb)),
     ("lsh", Keyword::Mnemonic(Mnemonic::Lsh)),
-    ("rsh", Keyword::Mnemonic(Mnemonic::Rsh)),
-    ("tax", Keyword::Mnemonic(Mnemonic::Tax)),
-    ("txa", Keyword::Mnemonic(Mnemonic::Txa)),
-    ("ret", Keyword::Mnemonic(Mnemonic::Ret)),
-    ("x", Keyword::X),
-    ("a", Keyword::A),
-    ("m", Keyword::M),
     ("len", Keyword::Len),
 ];
+
+static WITH_M: [(&str, Keyword); 3] = [
+    ("mul", Keyword::Mnemonic(Mnemonic::Mul)),
+    ("mod", Keyword::Mnemonic(Mnemonic::Mod)),
+    ("m", Keyword::M),
+];
+
+static WITH_N: [(&str, Keyword); 1] = [("neg", Keyword::Mnemonic(Mnemonic::Neg))];
+
+static WITH_O: [(&str, Keyword); 1] = [("or", Keyword::Mnemonic(Mnemonic::Or))];
+
+static WITH_R: [(&str, Keyword); 2] = [
+    ("rsh", Keyword::Mnemonic(Mnemonic::Rsh)),
+    ("ret", Keyword::Mnemonic(Mnemonic::Ret)),
+];
+
+static WITH_S: [(&str, Keyword); 3] = [
+    ("st", Keyword::Mnemonic(Mnemonic::St)),
+    ("stx", Keyword::Mnemonic(Mnemonic::Stx)),
+    ("sub", Keyword::Mnemonic(Mnemonic::Sub)),
+];
+
+static WITH_T: [(&str, Keyword); 2] = [
+    ("tax", Keyword::Mnemonic(Mnemonic::Tax)),
+    ("txa", Keyword::Mnemonic(Mnemonic::Txa)),
+];
+
+static WITH_X: [(&str, Keyword); 2] = [
+    ("xor", Keyword::Mnemonic(Mnemonic::Xor)),
+    ("x", Keyword::X),
+];
+
+/// The keywords with this first letter. The letter is in lower case.
+fn keywords_with(first: u8) -> &'static [(&'static str, Keyword)]
+    ensures { map (λ row. (row.0.now, row.1)) result.now ≡ with_first first keywords }
+{
+    match first {
+        b'a' => &WITH_A,
+        b'd' => &WITH_D,
+        b'j' => &WITH_J,
+        b'l' => &WITH_L,
+        b'm' => &WITH_M,
+        b'n' => &WITH_N,
+        b'o' => &WITH_O,
+        b'r' => &WITH_R,
+        b's' => &WITH_S,
+        b't' => &WITH_T,
+        b'x' => &WITH_X,
+        _ => &[],
+    }
+}
 
 /// The keyword of the first row that the name spells, in either case.
 fn keyword_in(rows: &[(&'static str, Keyword)], name: &str) -> Option<Keyword>
@@ -141,5 +185,8 @@ fn keyword_in(rows: &[(&'static str, Keyword)], name: &str) -> Option<Keyword>
 pub(crate) fn keyword_of(name: &str) -> Option<Keyword>
     ensures { result ≡ keyword_of name.now }
 {
-    keyword_in(&KEYWORDS, name)
+    match name.as_bytes() {
+        [first, ..] => keyword_in(keywords_with(first.to_ascii_lowercase()), name),
+        [] => None,
+    }
 }
