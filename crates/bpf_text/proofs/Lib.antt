@@ -6,3 +6,4 @@ pub mod Sequences
 pub mod Forms
 pub mod Rules
 pub mod Texts
+pub mod Pieces
