@@ -7,6 +7,7 @@ use Rattle.std.specs.Prelude.{option_map}
 use Rattle.bpf_text.specs.declared.fault.TextFault.{TextFault}
 use Rattle.bpf_text.specs.declared.fault.TextFault.TheVariants.{Form as FormAt}
 use Rattle.bpf_text.specs.declared.keyword.Keyword.TheVariants.{Mnemonic as Named, X as WordX, A as WordA, M as WordM, Len as WordLen}
+use Rattle.bpf_text.specs.declared.keyword.Mnemonic.TheVariants.{Neg}
 use Rattle.bpf_text.specs.Tokens.{Token, Word, Name, Num, Mark, Lexeme, Item, Lexed, Bad, End}
 use Rattle.bpf_text.proofs.Bits.{has, or_left, or_right, and_left, and_right}
 use Rattle.bpf_text.specs.Grammar.{Statement, Symbol, Sign, TheX, TheA, TheM, TheLen, Exactly, Size, Opposite, AnyName, AnyMnemonic, Said, fits, Form, Gives, Then, Either, Spells, after, whole, refusal_of, IsRefused, Leaves, Stops, token_of}
@@ -256,3 +257,62 @@ only_marks (Either f g) s token h good w e = go (whole g) refl good.4
         neither None p = let n : None ≡ Some s = sym (ap (λ (q : Option Statement). option_or q (whole g)) p ∙ o) ∙ w in absurd (cc)
         neither (Some t) p = let n : is_none (Some t) ≡ true = ap is_none (sym p) ∙ good.3 in absurd (cc)
     go (Some t) o m = has_marks (token_key token) (firsts f ++ firsts g) m (firsts_have (Either f g) token h e)
+
+-- ---- What is left of a form is what may follow
+
+good_after : (f : Form) (token : Token) (h : Form) → Good f → after f token ≡ Some h → Good h
+good_after (Gives t) token h good e = absurd (cc)
+good_after (Then symbol f) token h good e = go (fits symbol token) refl
+  where
+    go : (o : Option (Said symbol)) → fits symbol token ≡ o → Good h
+    go None o = let n : None ≡ Some h = ap (option_map f) (sym o) ∙ e in absurd (cc)
+    go (Some said) o =
+        let same : Some (f said) ≡ Some h = ap (option_map f) (sym o) ∙ e in
+        let left : f said ≡ h = cc in
+        subst Good left (good said)
+good_after (Either f g) token h good e = go (good_after f token h good.0) (good_after g token h good.1) (after f token) refl
+  where
+    go : (after f token ≡ Some h → Good h) → (after g token ≡ Some h → Good h) → (o : Option Form) → after f token ≡ o → Good h
+    go left right None o = right (ap (λ (p : Option Form). option_or p (after g token)) (sym o) ∙ e)
+    go left right (Some k) o = left (o ∙ (ap (λ (p : Option Form). option_or p (after g token)) (sym o) ∙ e))
+
+good_left : (lexemes : List Lexeme) (f g : Form) → Good f → Leaves f lexemes g → Good g
+good_left [] f g good e = subst Good e good
+good_left (lexeme ∷ lexemes) f g good e = good_left lexemes e.0 g (good_after f lexeme.token e.0 good e.1) e.2
+
+pub spelled_from_left : (lexemes : List Lexeme) (f g : Form) (tokens : List Token) (s : Statement) → Leaves f lexemes g → Spells g tokens s → Spells f (map token_of lexemes ++ tokens) s
+spelled_from_left [] f g tokens s e spells = subst (λ (h : Form). Spells h tokens s) (sym e) spells
+spelled_from_left (lexeme ∷ lexemes) f g tokens s e spells = after_spells f lexeme.token e.0 (map token_of lexemes ++ tokens) s e.1 (spelled_from_left lexemes e.0 g tokens s e.2 spells)
+
+pub left_from_spelled : (lexemes : List Lexeme) (f g : Form) (tokens : List Token) (s : Statement) → Good f → Leaves f lexemes g → Spells f (map token_of lexemes ++ tokens) s → Spells g tokens s
+left_from_spelled [] f g tokens s good e spells = subst (λ (h : Form). Spells h tokens s) e spells
+left_from_spelled (lexeme ∷ lexemes) f g tokens s good e spells =
+    let r : Step f lexeme.token (map token_of lexemes ++ tokens) s = step f lexeme.token (map token_of lexemes ++ tokens) s good spells in
+    let both : Some r.0 ≡ Some e.0 = sym r.1 ∙ e.1 in
+    let same : r.0 ≡ e.0 = cc in
+    left_from_spelled lexemes e.0 g tokens s (good_after f lexeme.token e.0 good e.1) e.2 (subst (λ (h : Form). Spells h (map token_of lexemes ++ tokens) s) same r.3)
+
+pub refused_never_spelled : (lexemes : List Lexeme) (f g : Form) (token : Token) (tokens : List Token) (s : Statement) → Good f → Leaves f lexemes g → after g token ≡ None → Spells g (token ∷ tokens) s → ⊥
+refused_never_spelled lexemes f g token tokens s good e none spells =
+    let r : Step g token tokens s = step g token tokens s (good_left lexemes f g good e) spells in
+    let both : None ≡ Some r.0 = sym none ∙ r.1 in
+    absurd (cc)
+
+-- each symbol has a token
+a_token : (symbol : Symbol) → (token : Token) × (said : Said symbol) × (fits symbol token ≡ Some said)
+a_token (Sign b) = (Mark b, tt, ap (λ (t : Bool). cond t (Some tt) None) (eq-eqb b b refl))
+a_token TheX = (Word WordX, tt, refl)
+a_token TheA = (Word WordA, tt, refl)
+a_token TheM = (Word WordM, tt, refl)
+a_token TheLen = (Word WordLen, tt, refl)
+a_token (Exactly n) = (Num n, tt, ap (λ (t : Bool). cond t (Some tt) None) (eq-eqb n n refl))
+a_token Size = (Num 0, 0, refl)
+a_token Opposite = (Num 0, 0, refl)
+a_token AnyName = (Name [], [], refl)
+a_token AnyMnemonic = (Word (Named Neg), Neg, refl)
+
+-- so each form spells something
+pub spells_some : (f : Form) → (tokens : List Token) × (s : Statement) × Spells f tokens s
+spells_some (Gives s) = ([], s, refl)
+spells_some (Then symbol f) = let t = a_token symbol in let later = spells_some (f t.1) in (t.0 ∷ later.0, later.1, (t.1, t.2, later.2))
+spells_some (Either f g) = let left = spells_some f in (left.0, left.1, inl left.2)

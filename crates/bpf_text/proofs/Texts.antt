@@ -12,10 +12,10 @@ use Rattle.bpf_text.specs.Numbers.{number_of}
 use Rattle.std.specs.Char.{is_ascii_digit}
 use Rattle.std.specs.Prelude.{slice_index}
 use Rattle.bpf_text.specs.Grammar.{Operand, Statement, Sign, AnyName, AnyMnemonic, Form, Gives, fits, Spells, operand, instruction, labelled, statement, token_of, IsStatement, AreStatements, IsSourceOf, after, whole, IsRefused, Leaves, is_colon, form_at, Stops, AreWhole, HasFault, BeginsWithStatement}
-use Rattle.bpf_text.specs.Laws.{OneReading}
+use Rattle.bpf_text.specs.Laws.{OneReading, LeavesWhatMayFollow}
 use Rattle.bpf_text.specs.Reading.{statement_rule}
 use Rattle.bpf_text.proofs.Bits.{has}
-use Rattle.bpf_text.proofs.Forms.{Good, read, refuse, finish, Stopped, run, stopped, leaves_spells, spells_leaves, only_marks, token_key, firsts, firsts_have, Step, step}
+use Rattle.bpf_text.proofs.Forms.{spelled_from_left, left_from_spelled, spells_some, refused_never_spelled, Good, read, refuse, finish, Stopped, run, stopped, leaves_spells, spells_leaves, only_marks, token_key, firsts, firsts_have, Step, step}
 use Rattle.bpf_text.proofs.Rules.{statement_reads, good_labelled, good_statement, good_operand, made}
 use Rattle.bpf_text.proofs.Sequences.{statement_takes}
 
@@ -464,4 +464,12 @@ one_reading text = (
   (λ fault other a b. one_fault (items_at text 0) fault other a b),
   (λ ss fault a b. source_no_fault (items_at text 0) ss fault a b),
   has_reading (items_at text 0) (text_items_end text),
+)
+
+pub may_follow : LeavesWhatMayFollow
+may_follow at lexemes left e = (
+  (λ tokens s spells. spelled_from_left lexemes (statement at) left tokens s e spells),
+  (λ tokens s spells. left_from_spelled lexemes (statement at) left tokens s (good_statement at) e spells),
+  spells_some left,
+  (λ token tokens s none spells. refused_never_spelled lexemes (statement at) left token tokens s (good_statement at) e none spells),
 )

@@ -27,6 +27,6 @@ mod word;
 
 pub use fault::TextFault;
 pub use keyword::Mnemonic;
-pub use laws::text_has_one_reading;
+pub use laws::{form_leaves_what_may_follow, text_has_one_reading};
 pub use parser::statements;
 pub use statement::{Operand, Source, Statement};
