@@ -1,0 +1,14 @@
+//! Laws of filter source, which hold of the definitions alone.
+
+ghost use Rattle.bpf_text.specs.Laws.{OneReading, LeavesWhatMayFollow};
+
+/// A text has one reading: it is source of one list of statements, or it has one fault.
+pub fn text_has_one_reading(text: &str)
+    ensures { OneReading text.now }
+{}
+
+/// What is left of a statement's form after some tokens is what may follow them, and a token that is
+/// refused there can't follow them. So a fault stands where no source goes on.
+pub fn form_leaves_what_may_follow()
+    ensures { LeavesWhatMayFollow }
+{}
