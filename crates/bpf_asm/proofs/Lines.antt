@@ -1,5 +1,5 @@
 -- The lines of the first instructions, as they grow by one.
-use Rattle.std.proofs.Common.{◌≡◌, ◌≢◌, ℕ, ◌+◌, ◌<◌, ◌≤◌, List, [], ◌∷◌, ◌++◌, length, map, take, slice_get, Option, Some, None, refl, sym, subst, ap, ◌∙◌, arith}
+use Rattle.std.proofs.Common.{◌≡◌, ◌≢◌, ℕ, ◌+◌, ◌<◌, List, [], ◌∷◌, ◌++◌, length, map, take, slice_get, Option, Some, None, sym, subst, ap, ◌∙◌, arith}
 use Rattle.std.proofs.Common.{cond, get_or, is_none, suc}
 use Rattle.std.proofs.Math.Seq.{take-length}
 use Rattle.std.proofs.lemmas.List.{append_assoc, append-nil, map-append, length-map}
@@ -9,7 +9,7 @@ use Rattle.bpf_isa.specs.declared.packed.Packed.{Packed}
 use Rattle.bpf_isa.specs.declared.insn.Insn.{Insn}
 use Rattle.bpf_isa.specs.Insns.{insn_word}
 use Rattle.bpf_isa.specs.Table.{Row, canonical_word, row}
-use Rattle.bpf_loader.specs.Faults.{IsLoaded, fault_at, fault_of_word, fault_of_operands}
+use Rattle.bpf_loader.specs.Faults.{IsLoaded, fault_of_word, fault_of_operands}
 use Rattle.bpf_loader.specs.declared.fault.LoadFault.{LoadFault}
 use Rattle.bpf_loader.specs.declared.fault.LoadFault.TheVariants.{UnknownCode}
 use Rattle.bpf_asm.specs.Listing.{IsListing, line_text, lines_text}

@@ -15,7 +15,7 @@ use Rattle.bpf_text.specs.Meaning.{statement_of}
 use Rattle.bpf_text.specs.declared.statement.Statement as text
 use Rattle.std.proofs.Common.{map, option_map}
 use Rattle.std.proofs.lemmas.Option.{slice_get-map, slice_get-get_or}
-use Rattle.bpf_asm.specs.Assembly.{carries, place_of, is_twice, HasDistinctLabels}
+use Rattle.bpf_asm.specs.Assembly.{carries, place_of, is_twice}
 use Rattle.bpf_asm.specs.Typed.{known_place, Knows}
 
 lookup_push : {K X : Type 0} (test : K → Bool) (es : List (K × X)) (e : K × X) →

@@ -16,8 +16,8 @@ use Rattle.bpf_text.specs.declared.keyword.Mnemonic.TheVariants.{Ld, Ldi, Ldh, L
 use Rattle.bpf_text.specs.declared.statement.Source.{Source}
 use Rattle.bpf_text.specs.declared.statement.Source.TheVariants.{K, X}
 use Rattle.bpf_text.specs.Grammar.{Statement, Operand, Nothing, Immediate, Absolute, Indirect, Scratch, HeaderLength, Len, Value, A, Target, Branch}
-use Rattle.bpf_asm.specs.Rows.{plain_word, one_way_word, two_way_word, source_word, immediate_code, absolute_code, indirect_code, scratch_code, header_length_code, len_code, alu_code, a_code, bare_code, jump_code}
-use Rattle.bpf_asm.specs.Assembly.{Assembles, IsRow, IsAtDistance, IsNear, place_of}
+use Rattle.bpf_asm.specs.Rows.{one_way_word, two_way_word, source_word, immediate_code, absolute_code, indirect_code, scratch_code, header_length_code, len_code, alu_code, a_code, bare_code, jump_code}
+use Rattle.bpf_asm.specs.Assembly.{Assembles, IsRow, IsAtDistance}
 use Rattle.bpf_asm.specs.Meaning as Meaning
 use Rattle.bpf_asm.proofs.Places.{some_is}
 

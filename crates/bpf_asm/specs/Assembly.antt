@@ -1,16 +1,15 @@
 -- Which program the statements of a text are, and the first fault of statements that are none. The forms are those of Linux's
 -- bpf_asm; the limits are BPF_MAXINSNS and the 8 bits of a conditional jump's distance. This project's profile: jumps only go
 -- forward to a label that stands once, and the order of the faults.
-use Rattle.std.specs.Prelude.{◌≡◌, ℕ, ◌+◌, ◌<◌, ◌≤◌, ◌⊎◌, Bool, true, false, List, [], ◌∷◌, length, take, Option, Some, None, is_some, bytes_eq, nat_le, nat_lt, if◌then◌else◌, slice_get}
+use Rattle.std.specs.Prelude.{◌≡◌, ℕ, ◌+◌, ◌<◌, ◌≤◌, Bool, true, false, List, length, take, Option, Some, None, is_some, bytes_eq, nat_le, nat_lt, if◌then◌else◌, slice_get}
 use Rattle.std.specs.Option.{option_map_or, option_and_then, option_or}
 use Rattle.std.specs.List.{position_from}
 use Rattle.bpf_isa.specs.declared.packed.Packed.{Packed}
 use Rattle.bpf_isa.specs.Families.{word_k}
 use Rattle.bpf_isa.specs.Machine.{max_insns}
 use Rattle.bpf_text.specs.declared.keyword.Mnemonic.{Mnemonic}
-use Rattle.bpf_text.specs.declared.fault.TextFault.{TextFault}
-use Rattle.bpf_text.specs.Grammar.{Statement, Operand, Nothing, Immediate, Absolute, Indirect, Scratch, HeaderLength, Len, Value, A, Target, Branch}
-use Rattle.bpf_text.specs.Meaning.{Sources, TextFaultFits as FaultFits}
+use Rattle.bpf_text.specs.Grammar.{Statement, Operand, Target, Branch}
+use Rattle.bpf_text.specs.Meaning.{Sources, FaultFits}
 use Rattle.bpf_asm.specs.Rows.{plain_word, one_way_word, two_way_word, jump_code}
 use Rattle.bpf_asm.specs.declared.fault.AsmFault.{AsmFault}
 use Rattle.bpf_asm.specs.declared.fault.AsmFault.TheVariants.{Text, Empty, TooMany, TwiceLabel, NoLabel, Backward, TooFar, Memory}

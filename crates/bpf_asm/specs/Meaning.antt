@@ -3,7 +3,6 @@
 use Rattle.std.specs.Prelude.{◌≡◌, ℕ, ◌+◌, ◌%◌, ◌^◌, Bool, not, List, [], ◌∷◌, Option, Some, None, nat_le, nat_lt, if◌then◌else◌, slice_get, slice_index}
 use Rattle.std.specs.Option.{option_map, option_and_then}
 use Rattle.afdx_frame.specs.Number.{number_at}
-use Rattle.bpf_isa.specs.declared.packed.Packed.{Packed}
 use Rattle.bpf_isa.specs.declared.state.State.{State}
 use Rattle.bpf_isa.specs.declared.state.Outcome.{Outcome}
 use Rattle.bpf_isa.specs.declared.state.Outcome.TheVariants.{On, Done}

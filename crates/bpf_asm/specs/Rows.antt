@@ -1,6 +1,6 @@
 -- The instruction of each statement, by its mnemonic and the form of its operand (Linux's tools/bpf/bpf_exp.y). Jumps have
 -- their distances from the labels: Assembly.
-use Rattle.std.specs.Prelude.{ℕ, ◌+◌, Bool, true, false, not, Option, Some, None, is_some}
+use Rattle.std.specs.Prelude.{ℕ, ◌+◌, Bool, Option, Some, None, is_some}
 use Rattle.std.specs.Option.{option_map, option_map_or}
 use Rattle.bpf_isa.specs.declared.packed.Packed.{Packed}
 use Rattle.bpf_isa.specs.Families.{word_k}

@@ -8,4 +8,4 @@ use Rattle.bpf_asm.proofs.assembler.assemble.Goals as goal
 pub program_of-requires : goal.program_of-requires
 program_of-requires c =
     subst (λ statements. AllTake (map statement_of statements)) (sym c.deref.ensures.value)
-    (sources_take c.args.text.now (map statement_of c.in_ok-statements.statements.items) c.in_ok-statements.ensures.reading)
+    (sources_take c.args.text.now (map statement_of c.in_ok-statements.statements.items) c.in_ok-statements.ensures)

@@ -1,8 +1,8 @@
-use Rattle.std.proofs.Common.{◌≡◌, ◌+◌, map, sym, subst, Some, None}
-use Rattle.bpf_text.specs.Meaning.{statement_of, operand_of}
+use Rattle.std.proofs.Common.{◌+◌, map, sym, subst}
+use Rattle.bpf_text.specs.Meaning.{statement_of}
 use Rattle.bpf_asm.specs.Assembly.{IsRow}
 use Rattle.bpf_asm.specs.Typed.{AreRows}
-use Rattle.bpf_asm.proofs.Program.{statement_takes, rows_more, first_fault}
+use Rattle.bpf_asm.proofs.Program.{statement_takes, rows_more}
 use Rattle.bpf_asm.proofs.assembler.words_of.Goals as goal
 
 -- src/assembler.rt:71:20

@@ -1,4 +1,4 @@
-use Rattle.std.proofs.Common.{◌≡◌, ◌+◌, ◌∙◌, sym, subst}
+use Rattle.std.proofs.Common.{◌+◌, sym, subst}
 use Rattle.std.specs.Prelude.{string_bytes}
 use Rattle.bpf_asm.proofs.Lines.{Listed, listed_next, always_listed}
 use Rattle.bpf_asm.proofs.lister.listing.Goals.{in-Some+in_ok-push_line, in_default}

@@ -1,4 +1,4 @@
-use Rattle.std.proofs.Common.{◌≡◌, ◌+◌, ◌∙◌, map, sym, subst, Some, None}
+use Rattle.std.proofs.Common.{◌≡◌, ◌+◌, ◌∙◌, map, sym, subst, None}
 use Rattle.indexmap.proofs.CallerLemmas.{insert_entry-new}
 use Rattle.bpf_text.specs.Meaning.{statement_of}
 use Rattle.bpf_asm.proofs.Places.{Progress, not_some, progress_none, progress_some}
