@@ -11,13 +11,15 @@ use crate::transfer::fill;
 use afdx_frame::MAX_SNAPLEN;
 use std::alloc::{AllocError, Global};
 
-/// The bytes of a block that holds no longer record.
+/// The bytes of a block, unless its source asks for others or a record is longer.
 const BLOCK_LEN: usize = 65_536;
 
 /// A source, and a block of the bytes that were read ahead from it.
 #[derive(Debug, Drop)]
 pub struct BlockSource<S> {
     source: S,
+    /// The length of the block, unless a record is longer.
+    block_len: usize,
     /// None until bytes are drawn that it has to hold.
     block: Option<Vec<u8>>,
     /// Where the bytes start that were drawn last. They end where the unread ones start.
@@ -29,15 +31,13 @@ pub struct BlockSource<S> {
     ghost ordered: { start ≤ end },
     ghost in_bounds: { end ≤ length (items_of block) },
     ghost bounded: { length (items_of block) ≤ MAX_SNAPLEN },
+    ghost bounded_len: { block_len ≤ MAX_SNAPLEN },
 }
 
 /// A block of at least so many bytes.
 fn new_block(alloc: Global, len: usize) -> Result<Vec<u8>, AllocError>
-    requires { len ≤ MAX_SNAPLEN }
-    ensures room { IfOk result (λ block. len ≤ vec_len block) }
-    ensures bounded { IfOk result (λ block. vec_len block ≤ MAX_SNAPLEN) }
+    ensures { IfOk result (λ block. vec_len block ≡ len) }
 {
-    let len = len.max(BLOCK_LEN);
     let mut block = Vec::with_capacity(alloc, len)?;
     block.resize(len, 0)?;
     Ok(block)
@@ -83,11 +83,24 @@ impl<S: TapSource> BlockSource<S> {
     {
         BlockSource {
             source,
+            block_len: BLOCK_LEN,
             block: None,
             from: 0,
             start: 0,
             end: 0,
         }
+    }
+
+    /// The same source, whose block will have `len` bytes, at most 262144, unless a record is longer.
+    /// A block that was made before stays.
+    pub fn with_block_len(self, len: usize) -> BlockSource<S>
+        ensures source { block_source result ≡ block_source self }
+        ensures unread { unread_bytes result ≡ unread_bytes self }
+        ensures drawn { drawn_bytes result ≡ drawn_bytes self }
+    {
+        let mut input = self;
+        input.block_len = len.min(MAX_SNAPLEN);
+        input
     }
 
     /// The bytes of the block.
@@ -244,7 +257,7 @@ impl<S: TapSource> BlockSource<S> {
         ensures room { OnOk result (len ≤ length (items_of self.new.block)) }
     {
         match &mut self.block {
-            None => self.block = Some(new_block(alloc, len)?),
+            None => self.block = Some(new_block(alloc, len.max(self.block_len))?),
             Some(block) => {
                 if block.len() < len {
                     block.resize(len, 0)?;
@@ -295,6 +308,7 @@ impl<S: TapSource> BlockSource<S> {
     {
         let BlockSource {
             source,
+            block_len: _,
             block: _,
             from: _,
             start: _,

@@ -152,6 +152,19 @@ impl<S: TapSource> TapReader<S> {
         }
     }
 
+    /// The same reader, which reads ahead in blocks of `len` bytes, at most 262144, and not of 64 KiB. A
+    /// longer record still has its room. A reader that has found frames keeps the block that it has.
+    pub fn with_block_len(self, len: usize) -> TapReader<S>
+        ensures position { position_of result ≡ position_of self }
+        ensures source { source_of result ≡ source_of self }
+        ensures unread { unread_of result ≡ unread_of self }
+        ensures lent { lent_of result ≡ lent_of self }
+    {
+        let mut reader = self;
+        reader.input = reader.input.with_block_len(len);
+        reader
+    }
+
     /// Reads the header of the next record.
     #[inline(always)]
     fn read_header(&mut self) -> Result<Start, DeviceFault>

@@ -1,15 +1,12 @@
-//! Recordings that are longer than the reader's block of 64 KiB: the copy is the reference's, whatever
-//! sizes the reads and the records have.
+//! Recordings that are longer than the reader's block: the copy is the reference's, whatever sizes the
+//! block, the reads and the records have.
 
-use crate::recording::copies::{By, LONGEST, copy, push_record, room, source};
+use crate::recording::copies::{BLOCK, LONGEST, WAYS, copy, push_record, room, source};
 use crate::recording::reference::{End, slow_capture};
 use crate::support::HEADER;
 use std::alloc::{AllocError, Global};
 use std::process::Abort;
 use std::test::Fail;
-
-/// The bytes of the reader's block.
-const BLOCK: usize = 65_536;
 
 /// A recording of records of these lengths.
 fn recording(alloc: Global, lens: &[usize]) -> Result<Vec<u8>, AllocError> {
@@ -25,7 +22,7 @@ fn recording(alloc: Global, lens: &[usize]) -> Result<Vec<u8>, AllocError> {
     Ok(bytes)
 }
 
-/// The copies of a recording by either calls, read in such pieces, are the recording itself.
+/// The copies of a recording in each way, read in such pieces, are the recording itself.
 fn copies_itself(
     rt: &(impl Abort + AllocGlobal),
     bytes: &[u8],
@@ -33,12 +30,12 @@ fn copies_itself(
     piece: usize,
 ) -> Result<(), Fail> {
     let alloc = rt.alloc();
-    for by in [By::Lent, By::Owned] {
+    for way in WAYS {
         let source = source(alloc, bytes, piece)?;
         let sink = room(alloc, bytes.len(), usize::MAX)?;
-        let (sink, end) = copy(alloc, source, sink, u32::MAX, by)?;
-        assert_eq!(rt; end, End::Clean(frames), "{by:?}, pieces of {piece}");
-        assert!(rt; sink.taken() == bytes, "{by:?}, pieces of {piece}");
+        let (sink, end) = copy(alloc, source, sink, u32::MAX, way)?;
+        assert_eq!(rt; end, End::Clean(frames), "{way:?}, pieces of {piece}");
+        assert!(rt; sink.taken() == bytes, "{way:?}, pieces of {piece}");
     }
     Ok(())
 }
@@ -91,11 +88,11 @@ fn the_longest_records_between_short_ones(rt: HostRuntime) -> Result<(), Fail> {
     // Truncated within the longest record.
     for len in [24 + 76 + 16, 24 + 76 + 17, 24 + 76 + 16 + LONGEST - 1] {
         assert!(rt; len <= bytes.len());
-        for by in [By::Lent, By::Owned] {
+        for way in WAYS {
             let (want, end) = slow_capture(alloc, &bytes[..len], u32::MAX)?;
             let source = source(alloc, &bytes[..len], usize::MAX)?;
             let sink = room(alloc, len, usize::MAX)?;
-            let (sink, found) = copy(alloc, source, sink, u32::MAX, by)?;
+            let (sink, found) = copy(alloc, source, sink, u32::MAX, way)?;
             assert_eq!(rt; end, End::Cut(1));
             assert_eq!(rt; found, end);
             assert!(rt; sink.taken() == want.as_slice());

@@ -97,6 +97,36 @@ pub enum By {
     Owned,
 }
 
+/// How a recording is copied: by which calls, and in blocks of how many bytes it is read.
+#[derive(Clone, Copy, Debug, PartialEq, Eq)]
+pub struct Way {
+    pub by: By,
+    pub block: usize,
+}
+
+/// The bytes of the reader's block, unless another length is asked for.
+pub const BLOCK: usize = 65_536;
+
+/// By either calls, in blocks of the usual length and in blocks that hold no frame whole.
+pub const WAYS: [Way; 4] = [
+    Way {
+        by: By::Lent,
+        block: BLOCK,
+    },
+    Way {
+        by: By::Owned,
+        block: BLOCK,
+    },
+    Way {
+        by: By::Lent,
+        block: 32,
+    },
+    Way {
+        by: By::Owned,
+        block: 32,
+    },
+];
+
 /// Copies a recording, each frame cut to `keep` bytes: what the capture is, and how it ended in the
 /// reference's terms.
 pub(crate) fn copy(
@@ -104,17 +134,17 @@ pub(crate) fn copy(
     source: MemSource,
     sink: MemSink,
     keep: u32,
-    by: By,
+    way: Way,
 ) -> Result<(MemSink, End), Fail> {
     let mut reader = match TapReader::open(source, Network::A, 1 << 32, 0) {
-        Ok(reader) => reader,
+        Ok(reader) => reader.with_block_len(way.block),
         Err(refused) => return Ok((sink, end_of_fault(refused.fault)?)),
     };
     let mut writer = match CaptureWriter::begin(sink) {
         Ok(writer) => writer,
         Err(_) => return Err("the sink failed".into()),
     };
-    let ending = match by {
+    let ending = match way.by {
         By::Lent => copy_lent(alloc, &mut reader, &mut writer, keep)?,
         By::Owned => copy_owned(alloc, &mut reader, &mut writer, keep)?,
     };

@@ -2,7 +2,7 @@
 //! other value, and read and written in pieces: the copy and the ending are those of the reference
 //! parser.
 
-use crate::recording::copies::{By, copy, room, source};
+use crate::recording::copies::{WAYS, Way, copy, room, source};
 use crate::recording::reference::{End, slow_capture};
 use crate::support::{FIRST_RUN, ROOM};
 use std::process::Abort;
@@ -17,13 +17,13 @@ fn agrees(
     bytes: &[u8],
     keep: u32,
     pieces: (usize, usize),
-    by: By,
+    way: Way,
 ) -> Result<(), Fail> {
     let alloc = rt.alloc();
     let (want, end) = slow_capture(alloc, bytes, keep)?;
     let source = source(alloc, bytes, pieces.0)?;
     let sink = room(alloc, ROOM, pieces.1)?;
-    let (sink, found) = copy(alloc, source, sink, keep, by)?;
+    let (sink, found) = copy(alloc, source, sink, keep, way)?;
     assert_eq!(rt; found, end);
     assert_eq!(rt; sink.taken(), want.as_slice());
     Ok(())
@@ -41,8 +41,9 @@ fn every_prefix(rt: HostRuntime) -> Result<(), Fail> {
             (0, 0),
         ] {
             for len in 0..=176 {
-                agrees(&rt, &FIRST_RUN[..len], keep, pieces, By::Lent)?;
-                agrees(&rt, &FIRST_RUN[..len], keep, pieces, By::Owned)?;
+                for way in WAYS {
+                    agrees(&rt, &FIRST_RUN[..len], keep, pieces, way)?;
+                }
             }
         }
     }
@@ -57,8 +58,9 @@ fn every_changed_byte(rt: HostRuntime) -> Result<(), Fail> {
             let before = bytes[at];
             for change in 1..=255u8 {
                 bytes[at] = before ^ change;
-                agrees(&rt, &bytes, keep, (usize::MAX, usize::MAX), By::Lent)?;
-                agrees(&rt, &bytes, keep, (usize::MAX, usize::MAX), By::Owned)?;
+                for way in WAYS {
+                    agrees(&rt, &bytes, keep, (usize::MAX, usize::MAX), way)?;
+                }
             }
             bytes[at] = before;
         }
