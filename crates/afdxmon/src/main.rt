@@ -5,8 +5,8 @@
 #![tactic(auto)]
 
 use analyser::{
-    CaptureRun, Exit, Fault, Invocation, Note, USAGE, WatchFault, advice, read_arguments,
-    run_capture,
+    AsmRun, CaptureRun, Exit, Fault, Invocation, Note, USAGE, WatchFault, advice, caret_at,
+    read_arguments, run_asm, run_capture,
 };
 use pcap_io::{ReadSource, WriteSink};
 use std::io;
@@ -32,18 +32,42 @@ fn capture(rt: &HostRuntime, code: &str) -> Exit {
     Exit::of_capture(outcome, flushed)
 }
 
+/// Assembles the filter's source on standard input, and prints its numeric form to standard output. To a
+/// person at a terminal a fault is shown in its line of the source.
+fn asm(rt: &HostRuntime) -> Exit {
+    let AsmRun {
+        outcome,
+        text,
+        source: _,
+        sink,
+    } = run_asm(
+        rt.alloc(),
+        ReadSource::new(rt.stdin()),
+        WriteSink::new(rt.stdout()),
+    );
+    let flushed = sink.into_writer().flush().is_ok();
+    let exit = Exit::of_text(outcome, flushed);
+    let _ = tell(rt, &exit, text.as_deref());
+    exit
+}
+
 /// Tells standard error how a command ended: the fault line or the note, and to a person at a terminal
-/// what a fault means.
-fn tell(rt: &HostRuntime, exit: &Exit) -> io::Result<()> {
+/// where in a filter's source a fault lies, and what it means.
+fn tell(rt: &HostRuntime, exit: &Exit, source: Option<&str>) -> io::Result<()> {
     match exit {
         Exit::Success => Ok(()),
         Exit::Note(ending) => rt.eprintln(Note(*ending)),
         Exit::Fault(fault) => {
             rt.eprintln(*fault)?;
-            if rt.stderr().is_terminal() {
-                rt.eprintln(advice(fault))?;
+            if !rt.stderr().is_terminal() {
+                return Ok(());
             }
-            Ok(())
+            if let (Fault::Asm(fault), Some(source)) = (fault, source) {
+                if let Some(caret) = caret_at(rt.alloc(), *fault, source) {
+                    rt.eprintln(caret)?;
+                }
+            }
+            rt.eprintln(advice(fault))
         }
     }
 }
@@ -73,9 +97,10 @@ fn main(rt: HostRuntime) -> ExitCode {
     match read_arguments(rt.alloc(), &arguments) {
         Ok(Some(Invocation::Capture { code })) => {
             let exit = capture(&rt, code);
-            let _ = tell(&rt, &exit);
+            let _ = tell(&rt, &exit, None);
             ExitCode::from(exit.status())
         }
+        Ok(Some(Invocation::Asm)) => ExitCode::from(asm(&rt).status()),
         // clap requires a command, so this is not met.
         Ok(None) => ExitCode::from(USAGE),
         Err(error) => {

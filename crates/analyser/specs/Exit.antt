@@ -9,6 +9,7 @@ use Rattle.analyser.specs.declared.exit.Exit.{Exit}
 use Rattle.analyser.specs.declared.exit.Exit.TheVariants as exit
 use Rattle.analyser.specs.declared.fault.Fault.{Fault}
 use Rattle.analyser.specs.declared.fault.Fault.TheVariants as fault
+use Rattle.analyser.specs.declared.fault.FileOption.TheVariants as file
 use Rattle.analyser.specs.declared.fault.Output.TheVariants as output
 use Rattle.analyser.specs.declared.fault.WatchFault.TheVariants as watch
 
@@ -23,6 +24,12 @@ abbrev pub exit_of : Result Ending Fault → Bool → Exit
 exit_of (Err f) flushed = exit.Fault f
 exit_of (Ok ending) true = exit_at ending
 exit_of (Ok ending) false = exit.Fault (fault.Watch (watch.Write output.Capture))
+
+-- the end of a command that prints a text, by what it came to and whether its output was flushed
+abbrev pub text_exit : Result (Unit {0}) Fault → Bool → Exit
+text_exit (Err f) flushed = exit.Fault f
+text_exit (Ok done) true = exit.Success
+text_exit (Ok done) false = exit.Fault (fault.File file.Standard)
 
 abbrev pub status_of : Exit → ℕ
 status_of exit.Success = 0

@@ -1,8 +1,15 @@
--- The capture of a recording is itself a recording: it gives the accepted frames back.
-use Rattle.std.specs.Prelude.{◌≡◌, ℕ, ◌≤◌, List, length, drop, Ok}
+-- What the laws say: the capture of a recording is itself a recording, and a filter's source means its program.
+use Rattle.std.specs.Prelude.{◌≡◌, ℕ, ◌≤◌, List, length, drop, map, Ok}
 use Rattle.afdx_frame.specs.Frame.{Frame}
 use Rattle.afdx_frame.specs.declared.key.Network.{Network}
 use Rattle.bpf_isa.specs.declared.packed.Packed.{Packed}
+use Rattle.bpf_asm.specs.Assembly.{Assembles}
+use Rattle.bpf_asm.specs.Meaning.{SourceRuns}
+use Rattle.bpf_isa.specs.Table.{canonical_word}
+use Rattle.bpf_isa.specs.declared.state.State.{State}
+use Rattle.bpf_loader.specs.Faults.{IsLoaded}
+use Rattle.bpf_machine.specs.Run.{HasOneRun}
+use Rattle.bpf_text.specs.Grammar.{Statement}
 use Rattle.pcap_io.specs.Capture.{capture_frames, capture_layout}
 use Rattle.pcap_io.specs.Layout.{header_of}
 use Rattle.pcap_io.specs.Position.{Holds, start_at}
@@ -19,3 +26,15 @@ CaptureGivesAccepted = (p : List Packed) (tap network : Network) (bytes : List �
     → (header_of (capture_text p frames) ≡ Ok capture_layout)
     × Holds (start_at network capture_layout most late) (drop FILE_HEADER_LEN (capture_text p frames))
     (capture_frames network 0 (kept_len p) (accepted p frames)) (Clean (length (accepted p frames)))
+
+-- On a frame the statements have just one run, which is that of their program: the same states, and the same return value.
+pub record MeansItsProgram (ss : List Statement) (q : List Packed) (frame : List ℕ) (whole : ℕ) : Type 0 where
+  pub run : HasOneRun q frame whole
+  pub same : SourceRuns ss frame whole run.states run.answer
+  pub only : (states : List State) (answer : ℕ) → SourceRuns ss frame whole states answer → (run.states ≡ states) × (run.answer ≡ answer)
+
+-- Where statements are assembled to a program that loads, the source means the loaded program.
+abbrev pub SourceMeansItsProgram : Type 0
+SourceMeansItsProgram =
+    (ss : List Statement) (p q : List Packed) → Assembles ss p → IsLoaded q → q ≡ map canonical_word p →
+    (frame : List ℕ) (whole : ℕ) → MeansItsProgram ss q frame whole

@@ -1,7 +1,9 @@
 pub mod Arguments
+pub mod Asm
 pub mod Capture
 pub mod Commands
 pub mod Copy
 pub mod Exit
 pub mod Laws
 pub mod Line
+pub mod Text

@@ -11,6 +11,12 @@ use Rattle.pcap_io.specs.declared.layout.HeaderFault.TheVariants as header
 use Rattle.analyser.specs.declared.fault.WatchFault.{WatchFault}
 use Rattle.analyser.specs.declared.fault.WatchFault.TheVariants as watch
 use Rattle.analyser.specs.declared.fault.Output.TheVariants as output
+use Rattle.bpf_text.specs.declared.fault.TextFault.{TextFault}
+use Rattle.bpf_text.specs.declared.fault.TextFault.TheVariants as text
+use Rattle.bpf_asm.specs.declared.fault.AsmFault.{AsmFault}
+use Rattle.bpf_asm.specs.declared.fault.AsmFault.TheVariants as asm
+use Rattle.analyser.specs.declared.fault.FileOption.{FileOption}
+use Rattle.analyser.specs.declared.fault.FileOption.TheVariants as file
 use Rattle.analyser.specs.declared.fault.Fault.{Fault}
 use Rattle.analyser.specs.declared.fault.Fault.TheVariants as fault
 
@@ -32,6 +38,34 @@ load_part (load.Offset at) = codes "6 Offset at " ++ decimal at
 load_part (load.Jump at) = codes "7 Jump at " ++ decimal at
 load_part load.NoReturn = codes "8 NoReturn"
 load_part (load.Unstored at word) = codes "9 Unstored at " ++ decimal at ++ codes " word " ++ decimal word
+
+abbrev pub text_part : TextFault → List ℕ
+text_part (text.Character at) = codes "1 Character at " ++ decimal at
+text_part (text.Number at) = codes "2 Number at " ++ decimal at
+text_part (text.Form at) = codes "3 Form at " ++ decimal at
+text_part (text.ReservedLabel at) = codes "4 ReservedLabel at " ++ decimal at
+text_part text.Memory = codes "5 Memory"
+
+abbrev pub asm_part : AsmFault → List ℕ
+asm_part (asm.Text f) = codes "1 Text " ++ text_part f
+asm_part asm.Empty = codes "2 Empty"
+asm_part asm.TooMany = codes "3 TooMany"
+asm_part (asm.TwiceLabel at) = codes "4 TwiceLabel at " ++ decimal at
+asm_part (asm.NoLabel at) = codes "5 NoLabel at " ++ decimal at
+asm_part (asm.Backward at) = codes "6 Backward at " ++ decimal at
+asm_part (asm.TooFar at) = codes "7 TooFar at " ++ decimal at
+asm_part asm.Memory = codes "8 Memory"
+
+-- the option that names the file
+abbrev pub file_part : FileOption → List ℕ
+file_part file.Standard = codes "-"
+file_part file.Config = codes "--config"
+file_part file.Filter = codes "--filter"
+file_part file.Tap = codes "--tap"
+file_part file.A = codes "--a"
+file_part file.B = codes "--b"
+file_part file.Capture = codes "--capture"
+file_part file.Ledger = codes "--ledger"
 
 abbrev pub header_part : HeaderFault → List ℕ
 header_part header.Short = codes "1 Short"
@@ -60,6 +94,8 @@ filter_part None = []
 filter_part (Some number) = codes " filter " ++ decimal number
 
 abbrev pub line_of : Fault → List ℕ
+line_of (fault.File f) = codes "afdxmon: file " ++ file_part f
+line_of (fault.Asm f) = codes "afdxmon: asm " ++ asm_part f
 line_of (fault.Numeric f filter) = codes "afdxmon: numeric " ++ numeric_part f ++ filter_part filter
 line_of (fault.Load f filter) = codes "afdxmon: load " ++ load_part f ++ filter_part filter
 line_of (fault.Watch f) = codes "afdxmon: watch " ++ watch_part f

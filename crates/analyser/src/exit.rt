@@ -1,8 +1,8 @@
 //! How the program ends: its exit status, and what it tells standard error.
 ghost use Rattle.std.specs.Prelude.{◌≡◌};
-ghost use Rattle.analyser.specs.Exit.{exit_of, status_of};
+ghost use Rattle.analyser.specs.Exit.{exit_of, status_of, text_exit};
 
-use crate::fault::{Fault, Output, WatchFault};
+use crate::fault::{Fault, FileOption, Output, WatchFault};
 use pcap_io::Ending;
 
 /// The exit status of invalid arguments, after clap's text.
@@ -11,7 +11,7 @@ pub const USAGE: u8 = 2;
 /// How a command ended.
 #[derive(Clone, Copy, Debug)]
 pub enum Exit {
-    /// Status 0: the whole recording was read.
+    /// Status 0: all was read and done.
     Success,
     /// Status 0: the recording ended early. What stands before the ending was read.
     Note(Ending),
@@ -32,6 +32,17 @@ impl Exit {
             })),
             Ok(Ending::Clean(_)) => Exit::Success,
             Ok(ending) => Exit::Note(ending),
+        }
+    }
+
+    /// The end of a command that prints a text, from what it came to and whether its output was flushed.
+    pub fn of_text(outcome: Result<(), Fault>, flushed: bool) -> Exit
+        ensures { result ≡ text_exit outcome flushed }
+    {
+        match outcome {
+            Err(fault) => Exit::Fault(fault),
+            Ok(()) if !flushed => Exit::Fault(Fault::File(FileOption::Standard)),
+            Ok(()) => Exit::Success,
         }
     }
 

@@ -1,10 +1,12 @@
 //! Why a command was aborted, and the line that says so.
 ghost use Rattle.std.specs.Prelude.{◌≡◌, IfOk, string_bytes};
-ghost use Rattle.analyser.specs.Line.{line_of, header_part, network_part};
+ghost use Rattle.analyser.specs.Line.{file_part, header_part, line_of, network_part};
 
 use afdx_frame::Network;
+use bpf_asm::AsmFault;
 use bpf_isa::NumericFault;
 use bpf_loader::LoadFault;
+use bpf_text::TextFault;
 use pcap_io::HeaderFault;
 use std::alloc::{AllocError, Global};
 use std::fmt;
@@ -54,10 +56,28 @@ pub enum WatchFault {
     Filters,
 }
 
+/// A file, by the option that names it.
+#[derive(Clone, Copy, Debug, PartialEq, Eq)]
+pub enum FileOption {
+    /// Standard input, and of the commands that print text standard output.
+    Standard,
+    Config,
+    Filter,
+    Tap,
+    A,
+    B,
+    Capture,
+    Ledger,
+}
+
 /// A fault that the program reports by a line. A numeric text or a program may be that of a numbered
 /// filter of the table; that of the command line has no number.
 #[derive(Clone, Copy, Debug)]
 pub enum Fault {
+    /// A file that can't be opened, read or written, or a text that is longer than 16 MiB or not UTF-8.
+    File(FileOption),
+    /// The source of a filter.
+    Asm(AsmFault),
     Numeric {
         fault: NumericFault,
         filter: Option<u8>,
@@ -113,6 +133,69 @@ impl Display for LoadPart {
             LoadFault::NoReturn => f.write_str("8 NoReturn"),
             LoadFault::Unstored { at, word } => write!(f, "9 Unstored at {at} word {word}"),
         }
+    }
+}
+
+/// The number, name and place of a fault of a filter's source text.
+#[derive(Clone, Copy)]
+struct TextPart(TextFault);
+
+impl Display for TextPart {
+    ghost use Rattle.std.specs.Prelude.{Some};
+    ghost use Rattle.analyser.specs.Line.{text_part};
+
+    ghost output = { λ part. Some (text_part part.0) };
+
+    fn fmt<W: fmt::Write>(&self, f: &mut Formatter<W>) -> fmt::Result {
+        match self.0 {
+            TextFault::Character { at } => write!(f, "1 Character at {at}"),
+            TextFault::Number { at } => write!(f, "2 Number at {at}"),
+            TextFault::Form { at } => write!(f, "3 Form at {at}"),
+            TextFault::ReservedLabel { at } => write!(f, "4 ReservedLabel at {at}"),
+            TextFault::Memory => f.write_str("5 Memory"),
+        }
+    }
+}
+
+/// The number, name and place of a fault of the assembler.
+#[derive(Clone, Copy)]
+struct AsmPart(AsmFault);
+
+impl Display for AsmPart {
+    ghost use Rattle.std.specs.Prelude.{Some};
+    ghost use Rattle.analyser.specs.Line.{asm_part};
+
+    ghost output = { λ part. Some (asm_part part.0) };
+
+    fn fmt<W: fmt::Write>(&self, f: &mut Formatter<W>) -> fmt::Result {
+        match self.0 {
+            AsmFault::Text(fault) => {
+                let fault = TextPart(fault);
+                write!(f, "1 Text {fault}")
+            }
+            AsmFault::Empty => f.write_str("2 Empty"),
+            AsmFault::TooMany => f.write_str("3 TooMany"),
+            AsmFault::TwiceLabel { at } => write!(f, "4 TwiceLabel at {at}"),
+            AsmFault::NoLabel { at } => write!(f, "5 NoLabel at {at}"),
+            AsmFault::Backward { at } => write!(f, "6 Backward at {at}"),
+            AsmFault::TooFar { at } => write!(f, "7 TooFar at {at}"),
+            AsmFault::Memory => f.write_str("8 Memory"),
+        }
+    }
+}
+
+fn file_name(file: FileOption) -> &'static str
+    ensures { result.now ≡ file_part file }
+{
+    match file {
+        FileOption::Standard => "-",
+        FileOption::Config => "--config",
+        FileOption::Filter => "--filter",
+        FileOption::Tap => "--tap",
+        FileOption::A => "--a",
+        FileOption::B => "--b",
+        FileOption::Capture => "--capture",
+        FileOption::Ledger => "--ledger",
     }
 }
 
@@ -198,6 +281,14 @@ impl Display for Fault {
 
     fn fmt<W: fmt::Write>(&self, f: &mut Formatter<W>) -> fmt::Result {
         match *self {
+            Fault::File(file) => {
+                let file = file_name(file);
+                write!(f, "afdxmon: file {file}")
+            }
+            Fault::Asm(fault) => {
+                let fault = AsmPart(fault);
+                write!(f, "afdxmon: asm {fault}")
+            }
             Fault::Numeric { fault, filter } => {
                 let (fault, filter) = (NumericPart(fault), FilterPart(filter));
                 write!(f, "afdxmon: numeric {fault}{filter}")

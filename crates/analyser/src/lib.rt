@@ -13,17 +13,22 @@
 #![tactic(auto)]
 
 mod arguments;
+mod asm;
 mod capture;
+mod caret;
 mod commands;
 mod exit;
 mod fault;
 mod laws;
 mod message;
+mod text;
 
 pub use arguments::{Invocation, read_arguments};
+pub use asm::{AsmRun, asm_over, run_asm};
 pub use capture::{WatchRefused, capture_one};
+pub use caret::{Caret, caret_at};
 pub use commands::{CaptureRun, Ran, capture_over, run_capture};
 pub use exit::{Exit, USAGE};
-pub use fault::{Fault, Output, WatchFault, fault_line};
-pub use laws::capture_gives_the_accepted_frames;
+pub use fault::{Fault, FileOption, Output, WatchFault, fault_line};
+pub use laws::{capture_gives_the_accepted_frames, source_means_its_program};
 pub use message::{Note, advice};

@@ -3,9 +3,11 @@
 ghost use Rattle.std.specs.Prelude.{◌≡◌};
 ghost use Rattle.analyser.specs.Exit.{reason_text};
 
-use crate::fault::{Fault, Output, WatchFault};
+use crate::fault::{Fault, FileOption, Output, WatchFault};
+use bpf_asm::AsmFault;
 use bpf_isa::NumericFault;
 use bpf_loader::LoadFault;
+use bpf_text::TextFault;
 use pcap_io::{BadReason, Ending, HeaderFault};
 use std::fmt;
 use std::fmt::{Display, Formatter};
@@ -137,9 +139,49 @@ fn watch_advice(fault: WatchFault) -> &'static str {
     }
 }
 
+fn file_advice(file: FileOption) -> &'static str {
+    match file {
+        FileOption::Standard => {
+            "standard input or output fails, or the text is longer than 16 MiB or not UTF-8"
+        }
+        FileOption::Config | FileOption::Filter => {
+            "the file can't be opened or read, or is longer than 16 MiB or not UTF-8"
+        }
+        FileOption::Tap | FileOption::A | FileOption::B => "the recording can't be opened",
+        FileOption::Capture | FileOption::Ledger => "the file can't be created",
+    }
+}
+
+fn text_advice(fault: TextFault) -> &'static str {
+    match fault {
+        TextFault::Character { .. } => "no token begins with this byte",
+        TextFault::Number { .. } =>
+            "not a number, or too large: 0x1f, 0b11, 017 and 31 are numbers",
+        TextFault::Form { .. } => "the statement doesn't go on like this",
+        TextFault::ReservedLabel { .. } => "a word of the language can't be a label",
+        TextFault::Memory => OUT_OF_MEMORY,
+    }
+}
+
+fn asm_advice(fault: AsmFault) -> &'static str {
+    match fault {
+        AsmFault::Text(fault) => text_advice(fault),
+        AsmFault::Empty => "there is no statement",
+        AsmFault::TooMany => "a filter has at most 4096 instructions",
+        AsmFault::TwiceLabel { .. } => "an earlier statement has the same label",
+        AsmFault::NoLabel { .. } => "no statement has the label that the jump names",
+        AsmFault::Backward { .. } => "a jump only goes forward, to a later statement",
+        AsmFault::TooFar { .. } =>
+            "a conditional jump skips at most 255 statements: use ja on the way",
+        AsmFault::Memory => OUT_OF_MEMORY,
+    }
+}
+
 /// What a fault line means and what to do, in plain words, for a person at a terminal.
 pub fn advice(fault: &Fault) -> &'static str {
     match *fault {
+        Fault::File(file) => file_advice(file),
+        Fault::Asm(fault) => asm_advice(fault),
         Fault::Numeric { fault, .. } => numeric_advice(fault),
         Fault::Load { fault, .. } => load_advice(fault),
         Fault::Watch(fault) => watch_advice(fault),

@@ -1,0 +1,27 @@
+use Rattle.std.proofs.Common.{ap, ap₂, refl, sym, ◌≡◌, ◌∙◌, Result, Ok, Err}
+use Rattle.std.specs.Result.{IfOk}
+use Rattle.clap.specs.Words.{AddsSubcommand, App, app_of, with_subcommand}
+use Rattle.clap.specs.declared.builder.command.Command.{Command}
+use Rattle.analyser.specs.Arguments.{IsAsm, IsCapture, afdxmon_app, asm_app, capture_app, program_app}
+use Rattle.analyser.proofs.arguments.whole_command.Goals as goal
+
+afdxmon_is : afdxmon_app ≡ with_subcommand (with_subcommand program_app capture_app.top) asm_app.top
+unfolding afdxmon_app
+afdxmon_is = refl
+
+-- the command that was built, from the program's own and the two that were added
+built : (own capture first asm complete : Command) → app_of own ≡ program_app → IsCapture capture → AddsSubcommand own capture first
+    → IsAsm asm → AddsSubcommand first asm complete → app_of complete ≡ afdxmon_app
+built own capture first asm complete is_own (is_capture, local) adds (is_asm, asm_local) adds_asm =
+    rw afdxmon_is (adds_asm.shape asm_local
+    ∙ ap₂ with_subcommand (adds.shape local ∙ ap₂ with_subcommand is_own (ap (λ (a : App). a.top) is_capture)) (ap (λ (a : App). a.top) is_asm))
+
+whole : {E : Type 0} (own capture first asm : Command) (r : Result Command E) → app_of own ≡ program_app → IsCapture capture → AddsSubcommand own capture first
+    → IsAsm asm → IfOk r (AddsSubcommand first asm) → IfOk r (λ complete. app_of complete ≡ afdxmon_app)
+whole own capture first asm (Ok complete) is_own is_capture adds is_asm adds_asm = built own capture first asm complete is_own is_capture adds is_asm adds_asm
+whole own capture first asm (Err e) is_own is_capture adds is_asm adds_asm = tt
+
+pub returns : goal.returns
+returns c =
+    whole c.program_command.result c.in_ok-capture_command.field-0 c.in_ok-subcommand.field-0 c.asm_command.result c.subcommand-2.result
+    c.program_command.ensures c.in_ok-capture_command.ensures c.in_ok-subcommand.ensures c.asm_command.ensures c.subcommand-2.ensures
