@@ -4,13 +4,30 @@
 //! passes by either answer, and a test `ample_..` by the right one alone.
 
 use crate::judges::TABLE;
-use crate::ledger::{ONE_FILTER, TWO_TAPS, judge_next, two_taps};
-use crate::support::SOUND;
+use crate::ledger::{Accepted, TWO_TAPS, judge_next};
+use crate::support::{SOUND, frame};
+use afdx_frame::{Network, Stamp, TapFrame};
 use pcap_io::{Ending, MemSink, Script};
+use std::alloc::Global;
 use std::process::Abort;
 use verdict_ledger::{Ledger, LedgerFault};
 use vl_config::Config;
 use vl_judge::Lanes;
+
+/// The frames of the two-tap ledger.
+fn entries_of(alloc: Global) -> Option<Vec<(TapFrame, Accepted)>> {
+    let mut entries = Vec::new(alloc);
+    for (network, place, stamp, number, accepted) in [
+        (Network::A, 0, 0, 1, (None, 0)),
+        (Network::A, 1, 100, 2, (Some(60), 1)),
+        (Network::B, 0, 200, 2, (Some(60), 1)),
+    ] {
+        let bytes = frame(alloc, 5, 60, number).ok()?;
+        let tap_frame = TapFrame::new(network, place, Stamp(stamp), 60, bytes).ok()?;
+        entries.push((tap_frame, accepted)).ok()?;
+    }
+    Some(entries)
+}
 
 /// Writes the ledger of two taps by one round. Returns whether there was the memory.
 fn writes_a_round(rt: &(impl Abort + AllocGlobal)) -> bool {
@@ -21,7 +38,7 @@ fn writes_a_round(rt: &(impl Abort + AllocGlobal)) -> bool {
     let Ok(mut lanes) = Lanes::new(alloc, &config) else {
         return false
     };
-    let Ok(entries) = two_taps(alloc, ONE_FILTER) else {
+    let Some(entries) = entries_of(alloc) else {
         return false
     };
     let script = Script {
@@ -59,7 +76,7 @@ fn writes_a_round(rt: &(impl Abort + AllocGlobal)) -> bool {
     if let Err(fault) = ledger.round(&frames, &verdicts, &keeps, &masks) {
         assert_eq!(rt; fault, LedgerFault::Memory);
         assert_eq!(rt; ledger.totals().frames, 0);
-        assert_eq!(rt; ledger.into_sink().taken(), b"afdx-ledger 2\n");
+        assert_eq!(rt; ledger.into_sink().taken(), b"afdx-ledger 2\n".as_slice());
         return false;
     }
     match ledger.finish(Ending::Clean(2), Ending::Clean(1)) {

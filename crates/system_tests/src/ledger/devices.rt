@@ -20,19 +20,18 @@ fn written(rt: &(impl Abort + AllocGlobal), config: &Config, most: usize) -> Res
             return Ok(refused.sink);
         }
     };
-    let mut lines = 0;
     let mut failed = false;
     for (frame, accepted) in two_taps(rt.alloc(), ONE_FILTER)? {
         let verdict = judge_next(rt, &mut lanes, &frame);
+        let before = ledger.totals().frames;
         match add_line(rt, &mut ledger, &frame, &verdict, accepted) {
-            Ok(()) => lines += 1,
+            Ok(()) => assert_eq!(rt; ledger.totals().frames, before.saturating_add(1)),
             Err(fault) if failed => assert_eq!(rt; fault, LedgerFault::Failed),
             Err(fault) => {
                 assert_eq!(rt; fault, LedgerFault::Device);
                 failed = true;
             }
         }
-        assert_eq!(rt; ledger.totals().frames, lines);
     }
     match ledger.finish(Ending::Clean(2), Ending::Clean(1)) {
         Ok((sink, _)) => Ok(sink),

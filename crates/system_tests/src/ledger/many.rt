@@ -13,6 +13,7 @@ use vl_config::Config;
 use vl_judge::{Lanes, Verdict};
 
 /// The lists that a round of the ledger takes.
+#[derive(Drop)]
 struct Round {
     frames: Vec<TapFrame>,
     verdicts: Vec<Verdict>,
@@ -103,9 +104,9 @@ fn a_round_of_all_links_is_its_lines(rt: HostRuntime) -> Result<(), Fail> {
     let config = Config::read(rt.alloc(), &table_of(rt.alloc())?)?;
     let round = round_of(&rt, &config, 100_000)?;
     let mut by_round = begun(rt.alloc(), &config)?;
-    let start = Instant::now();
+    let start = Instant::now(&rt)?;
     add_round(&rt, &mut by_round, &round)?;
-    let took = start.elapsed();
+    let took = start.elapsed(&rt)?;
     println!(rt;
         "a round of 100000 lines: {} ns a line",
         took.as_nanos() / 100_000

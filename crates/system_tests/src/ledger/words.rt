@@ -20,12 +20,12 @@ fn on_a(
     place: u64,
     stamp: u64,
     link: u8,
-    len: usize,
+    len: u32,
     number: u8,
 ) -> Result<(TapFrame, Accepted), Fail> {
-    let bytes = frame(alloc, link, len, number)?;
+    let bytes = frame(alloc, link, len as usize, number)?;
     Ok((
-        frame_with(Network::A, place, stamp, len as u32, bytes)?,
+        frame_with(Network::A, place, stamp, len, bytes)?,
         (None, 0),
     ))
 }
