@@ -1,0 +1,4 @@
+pub mod Buffers
+pub mod Following
+pub mod Merging
+pub mod Rising

@@ -1,0 +1,4 @@
+pub mod Buffer
+pub mod Laws
+pub mod Merge
+pub mod Order
