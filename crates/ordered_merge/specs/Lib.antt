@@ -1,4 +1,7 @@
 pub mod Buffer
+pub mod Core
 pub mod Laws
 pub mod Merge
 pub mod Order
+pub mod Round
+pub mod Side

@@ -19,9 +19,14 @@
 #![tactic(auto)]
 
 mod buffer;
+mod event;
 mod laws;
 mod merger;
 mod order;
+mod parts;
+mod round;
+mod side;
 
+pub use event::{Answered, Event, Work};
 pub use laws::{one_order, rounds_are_one_list, runs_end_in_order, runs_follow};
 pub use merger::Merger;

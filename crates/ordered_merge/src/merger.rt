@@ -133,7 +133,7 @@ impl Merger {
     }
 
     /// How many frames a cut takes out.
-    fn count_safe(&self, most: usize) -> usize
+    pub(crate) fn count_safe(&self, most: usize) -> usize
         ensures count { result ≡ length (cut_frames self.now most) }
         ensures first { take result self.now.pending ≡ cut_frames self.now most }
     {
