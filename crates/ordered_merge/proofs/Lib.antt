@@ -2,3 +2,4 @@ pub mod Buffers
 pub mod Following
 pub mod Merging
 pub mod Rising
+pub mod Soundness

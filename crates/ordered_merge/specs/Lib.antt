@@ -5,3 +5,4 @@ pub mod Merge
 pub mod Order
 pub mod Round
 pub mod Side
+pub mod Sound

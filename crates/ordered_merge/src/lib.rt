@@ -19,6 +19,7 @@
 #![tactic(auto)]
 
 mod buffer;
+mod engine;
 mod event;
 mod laws;
 mod merger;
@@ -27,6 +28,7 @@ mod parts;
 mod round;
 mod side;
 
+pub use engine::{Core, every_run_is_in_order};
 pub use event::{Answered, Event, Work};
 pub use laws::{one_order, rounds_are_one_list, runs_end_in_order, runs_follow};
 pub use merger::Merger;

@@ -176,11 +176,7 @@ impl Parts {
     }
 }
 
-fn fetch(
-    side: &mut TapSide,
-    merger: &mut Merger,
-    network: Network,
-) -> Result<bool, AllocError>
+fn fetch(side: &mut TapSide, merger: &mut Merger, network: Network) -> Result<bool, AllocError>
     requires { (f : Frame) (ring : List RingItem) →
         side.old.ring ≡ RingItem.Frame f ∷ ring → CanFetch merger.old f }
     ensures step { IfOk result (λ happened.

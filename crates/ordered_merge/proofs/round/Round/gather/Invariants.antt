@@ -11,5 +11,5 @@ invariant-loop-answer l = record {
   size : length l.frames.rest.items + l.answer-index ≡ length l.answer-items;
   some : list_all is_some (drop l.answer-index l.answer-items) ≡ true;
   all : l.output.items ++ answered l.frames.rest.items (drop l.answer-index l.answer-items)
-    ≡ l.fn.output.items ++ answered l.fn.self.frames l.fn.self.answers;
+      ≡ l.fn.output.items ++ answered l.fn.self.frames l.fn.self.answers;
 }
