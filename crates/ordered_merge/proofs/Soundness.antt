@@ -1,11 +1,11 @@
 -- Each event keeps what holds of the core.
-use Rattle.std.proofs.Common.{◌≡◌, ℕ, zero, suc, ◌+◌, ◌<◌, ◌≤◌, Bool, true, false, cond, ◌&&◌, nat_lt, List, [], ◌∷◌, ◌++◌, map, Option, Some, None, Result, Ok, Err, length, take, drop, get_or, set, replicate, slice_get, refl, sym, ap, ◌∙◌, subst, arith, append_assoc}
+use Rattle.std.proofs.Common.{◌≡◌, ℕ, zero, suc, ◌+◌, Bool, true, false, ◌&&◌, nat_lt, List, [], ◌∷◌, ◌++◌, Option, Some, None, Result, Ok, Err, length, set, replicate, slice_get, refl, sym, ap, ◌∙◌, subst, arith, append_assoc}
 use Rattle.std.proofs.lemmas.Bool.{and_parts, cond_both, false≢true}
 use Rattle.std.proofs.lemmas.List.{append-nil, map-append, length-set, length-replicate}
 use Rattle.std.proofs.lemmas.List.Sorted.{IsPermutation-refl, IsPermutation-sym, IsPermutation-trans, IsPermutation-append_comm, IsPermutation-append_left, IsPermutation-append_right}
 use Rattle.std.specs.List.{AllByRecursion, list_all}
 use Rattle.std.specs.List.Sorted.{IsPermutation}
-use Rattle.std.specs.Option.{IfSome, MatchOption, is_some, option_map, unwrap_or}
+use Rattle.std.specs.Option.{IfSome, is_some, option_map, unwrap_or}
 use Rattle.std.specs.Result.{IfOk, OnErr}
 use Rattle.afdx_frame.specs.Frame.{Frame}
 use Rattle.afdx_frame.specs.declared.key.Network.{Network}
@@ -19,11 +19,11 @@ use Rattle.ordered_merge.specs.declared.round.TheConstants.{ROUND}
 use Rattle.ordered_merge.specs.declared.side.RingItem.{RingItem}
 use Rattle.ordered_merge.specs.declared.side.RingItem.TheVariants as items
 use Rattle.ordered_merge.specs.Order.{IsOrder, IsRising}
-use Rattle.ordered_merge.specs.Merge.{Tap, MergerState, new_tap, new_state, tap_of, change_tap, tap_after, IsInTime, CanFetch, AreOfTap, Follows, fetched, ended, cut_frames, after_cut}
+use Rattle.ordered_merge.specs.Merge.{Tap, MergerState, new_tap, tap_of, change_tap, tap_after, IsInTime, CanFetch, AreOfTap, Follows, fetched, cut_frames, after_cut}
 use Rattle.ordered_merge.specs.Side.{SideState, has_room, put_of, put_step, end_of, end_step, Steps}
-use Rattle.ordered_merge.specs.Round.{RoundState, new_round, claimed, after_claim, posted, is_answered, is_through, answered}
-use Rattle.ordered_merge.specs.Core.{CoreState, FirstsCanFetch, new_core, side_of, with_side, fetch_of, fetch_step, core_fetch_step, cut_of, cut_step, claim_of, claim_step, post_of, post_step, gather_of, gather_step, core_step}
-use Rattle.ordered_merge.specs.Sound.{IsRecording, ring_frames, coming, round_frames, output_frames, given, held, OutputIsPrefix, IsComplete, OutputIsAll, HasNoMark, EndsInMark, MarkStands, RoundAnswers, AnswersAre, IsOf, IsSound, core_run}
+use Rattle.ordered_merge.specs.Round.{RoundState, claimed, after_claim, posted, is_answered, is_through, answered}
+use Rattle.ordered_merge.specs.Core.{CoreState, FirstsCanFetch, new_core, side_of, with_side, fetch_of, fetch_step, core_fetch_step, cut_of, claim_of, post_of, gather_of, core_step}
+use Rattle.ordered_merge.specs.Sound.{IsRecording, ring_frames, coming, round_frames, output_frames, given, held, OutputIsPrefix, OutputIsAll, HasNoMark, EndsInMark, MarkStands, RoundAnswers, AnswersAre, IsOf, core_run}
 use Rattle.ordered_merge.proofs.Rising.{each_append}
 use Rattle.ordered_merge.proofs.Following.{follows_new, follows_fetch_a, follows_fetch_b, follows_end, follows_cut, follows_order, one_order}
 
@@ -83,7 +83,7 @@ mark_none false true left ring h e = absurd h
 
 -- ---- a recording's next frame
 
-next_of : (network : Network) (late : ℕ) (tap : Tap) (l : List Frame) (f : Frame) (rest : List Frame) (last mid : Tap)
+pub next_of : (network : Network) (late : ℕ) (tap : Tap) (l : List Frame) (f : Frame) (rest : List Frame) (last mid : Tap)
     → AreOfTap network late tap (l ++ f ∷ rest) last → AreOfTap network late tap l mid → (f.network ≡ network) × (f.number ≡ mid.next) × IsInTime late mid f
 next_of network late tap [] f rest last mid h k = (h.0, h.1 ∙ k.0, λ high e. h.2 high (k.1 ∙ e))
 next_of network late tap (g ∷ l) f rest last mid h k = next_of network late (tap_after g.stamp tap) l f rest last mid h.3 k.3

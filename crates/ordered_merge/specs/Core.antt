@@ -1,7 +1,7 @@
 -- The core's state, and what each event does to it.
-use Rattle.std.specs.Prelude.{◌≡◌, ℕ, Bool, true, false, ◌&&◌, List, [], ◌∷◌, ◌++◌, length, replicate, Option, Some, None, if◌then◌else◌, slice_get, slice_set}
+use Rattle.std.specs.Prelude.{◌≡◌, ℕ, ◌&&◌, List, [], ◌∷◌, ◌++◌, length, replicate, Option, Some, None, if◌then◌else◌, slice_get, slice_set}
 use Rattle.std.specs.List.{list_all}
-use Rattle.std.specs.Option.{option_and_then, option_map}
+use Rattle.std.specs.Option.{option_map}
 use Rattle.afdx_frame.specs.Frame.{Frame}
 use Rattle.afdx_frame.specs.declared.key.Network.{Network}
 use Rattle.afdx_frame.specs.declared.key.Network.TheVariants.{A, B}

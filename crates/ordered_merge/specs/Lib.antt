@@ -3,6 +3,7 @@ pub mod Core
 pub mod Laws
 pub mod Merge
 pub mod Order
+pub mod Recording
 pub mod Round
 pub mod Side
 pub mod Sound

@@ -44,11 +44,14 @@ change_tap change B s = record s { b = change s.b }
 abbrev pub IsInTime : ℕ → Tap → Frame → Type 0
 IsInTime late tap f = ForSome tap.high (λ high. high ≤ f.stamp + late)
 
--- The frame may come next of its tap.
-pub record CanFetch (s : MergerState) (f : Frame) : Type 0 where
-  pub going : (tap_of s f.network).ended ≡ false
-  pub number : f.number ≡ (tap_of s f.network).next
-  pub in_time : IsInTime s.late (tap_of s f.network) f
+-- The frame may come next of the tap, which is its own.
+pub record IsNextOf (late : ℕ) (tap : Tap) (f : Frame) : Type 0 where
+  pub going : tap.ended ≡ false
+  pub number : f.number ≡ tap.next
+  pub in_time : IsInTime late tap f
+
+abbrev pub CanFetch : MergerState → Frame → Type 0
+CanFetch s f = IsNextOf s.late (tap_of s f.network) f
 
 -- The frame may come now or later.
 pub record MayCome (s : MergerState) (f : Frame) : Type 0 where

@@ -1,5 +1,5 @@
 -- One tap's side of the core: the frames that it didn't put yet, and its ring.
-use Rattle.std.specs.Prelude.{◌≡◌, ℕ, Bool, true, false, nat_lt, List, [], ◌∷◌, ◌++◌, length, Option, Some, None, if◌then◌else◌}
+use Rattle.std.specs.Prelude.{◌≡◌, Bool, true, false, nat_lt, List, [], ◌∷◌, ◌++◌, length, Option, Some, None, if◌then◌else◌}
 use Rattle.std.specs.Option.{MatchOption}
 use Rattle.afdx_frame.specs.Frame.{Frame}
 use Rattle.ordered_merge.specs.declared.side.RingItem.{RingItem}

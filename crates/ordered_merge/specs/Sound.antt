@@ -11,7 +11,7 @@ use Rattle.ordered_merge.specs.declared.event.Answered.{Answered}
 use Rattle.ordered_merge.specs.declared.round.Worker.{Worker}
 use Rattle.ordered_merge.specs.declared.side.RingItem.{RingItem}
 use Rattle.ordered_merge.specs.declared.side.RingItem.TheVariants as items
-use Rattle.ordered_merge.specs.Order.{IsOrder, IsRising}
+use Rattle.ordered_merge.specs.Order.{IsRising}
 use Rattle.ordered_merge.specs.Merge.{Tap, new_tap, AreOfTap, Follows}
 use Rattle.ordered_merge.specs.Side.{SideState}
 use Rattle.ordered_merge.specs.Round.{RoundState}

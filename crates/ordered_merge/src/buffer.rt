@@ -1,13 +1,14 @@
 //! The pending frames of one tap.
-ghost use Rattle.std.specs.Prelude.{◌≡◌, ◌+◌, ◌++◌, ◌^◌, ◌<◌, IfErr, OnErr, OnOk, [], count_by, drop, min, nat_lt, slice_get, take, true, ℕ};
+ghost use Rattle.std.specs.Prelude.{◌≡◌, ◌+◌, ◌++◌, ◌^◌, ◌<◌, IfErr, IsTrue, ◌↔◌, OnErr, OnOk, [], count_by, drop, min, nat_lt, slice_get, take, true, ℕ};
 ghost use Rattle.std.specs.List.{AllByRecursion, prefix_len};
 ghost use Rattle.std.specs.Map.{values_of};
 ghost use Rattle.std.specs.Option.{option_copied, option_to_list};
 ghost use Rattle.ordered_merge.specs.Buffer.{IsBuffer, buffered, is_below, is_late, pushed};
-ghost use Rattle.ordered_merge.specs.Merge.{highest, new_tap, passes, reaches};
+ghost use Rattle.ordered_merge.specs.Merge.{IsNextOf, highest, new_tap, passes, reaches};
 ghost use Rattle.ordered_merge.specs.Order.{IsRising, insert_frame, leads};
 
 use crate::order::comes_before;
+use crate::recording::is_in_time;
 use afdx_frame::{Key, TapFrame, key_order};
 use std::alloc::Global;
 use std::collections::{BTreeMap, VecDeque};
@@ -75,6 +76,13 @@ impl TapBuffer {
         ensures { result ≡ self.now.tap.high }
     {
         self.high
+    }
+
+    /// Whether the frame may be the tap's next.
+    pub(crate) fn can_push(&self, late: u64, frame: &TapFrame) -> bool
+        ensures { IsTrue result ↔ IsNextOf late self.now.tap frame.now }
+    {
+        !self.ended && frame.number() == self.next && is_in_time(late, self.high, frame.stamp().0)
     }
 
     /// Adds the tap's next frame. An `Err` gives it back: there is no memory.
@@ -195,7 +203,7 @@ fn is_late(queue: &VecDeque<TapFrame>, frame: &TapFrame) -> bool
     }
 }
 
-fn highest(high: Option<u64>, stamp: u64) -> u64
+pub(crate) fn highest(high: Option<u64>, stamp: u64) -> u64
     ensures { result ≡ highest high stamp }
 {
     match high {

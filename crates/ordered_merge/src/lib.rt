@@ -25,6 +25,7 @@ mod laws;
 mod merger;
 mod order;
 mod parts;
+mod recording;
 mod round;
 mod side;
 
@@ -32,3 +33,4 @@ pub use engine::{Core, every_run_is_in_order};
 pub use event::{Answered, Event, Work};
 pub use laws::{one_order, rounds_are_one_list, runs_end_in_order, runs_follow};
 pub use merger::Merger;
+pub use recording::is_recording;

@@ -1,5 +1,5 @@
 //! The merger of both taps.
-ghost use Rattle.std.specs.Prelude.{◌≡◌, ◌+◌, ◌++◌, ◌^◌, ◌<◌, if◌then◌else◌, IfErr, IfOk, OnErr, OnOk, length, nat_lt, slice_get, take, ℕ};
+ghost use Rattle.std.specs.Prelude.{◌≡◌, ◌+◌, ◌++◌, ◌^◌, ◌<◌, if◌then◌else◌, IfErr, IfOk, IsTrue, ◌↔◌, OnErr, OnOk, length, nat_lt, slice_get, take, ℕ};
 ghost use Rattle.std.specs.List.{AllByRecursion};
 ghost use Rattle.ordered_merge.specs.Merge.{CanFetch, Wants, after_cut, cut_frames, ended, fetched, is_no_later, is_safe_of, new_state, without_first};
 ghost use Rattle.ordered_merge.specs.Order.{IsRising, leads};
@@ -55,6 +55,17 @@ impl Merger {
             late,
             a: TapBuffer::new(alloc),
             b: TapBuffer::new(alloc),
+        }
+    }
+
+    /// Whether the frame may come next: its network hasn't ended, its number is the next, and its stamp is
+    /// within the window.
+    pub fn can_fetch(&self, frame: &TapFrame) -> bool
+        ensures { IsTrue result ↔ CanFetch self.now frame.now }
+    {
+        match frame.network() {
+            Network::A => self.a.can_push(self.late, frame),
+            Network::B => self.b.can_push(self.late, frame),
         }
     }
 

@@ -1,5 +1,5 @@
 use Rattle.std.proofs.Common.{subst}
-use Rattle.ordered_merge.specs.Sound.{IsSound, OutputIsAll, OutputIsPrefix}
+use Rattle.ordered_merge.specs.Sound.{OutputIsAll, OutputIsPrefix}
 use Rattle.ordered_merge.proofs.Soundness.{output_is_all, output_is_prefix}
 use Rattle.ordered_merge.proofs.engine.Core.output.Goals as goal
 

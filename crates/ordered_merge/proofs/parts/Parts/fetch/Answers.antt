@@ -1,6 +1,6 @@
-use Rattle.std.proofs.Common.{◌≡◌, ◌∷◌, sym, subst}
+use Rattle.std.proofs.Common.{sym, subst}
 use Rattle.afdx_frame.specs.declared.key.Network.TheVariants.{A, B}
-use Rattle.ordered_merge.specs.Core.{CoreState, FirstsCanFetch}
+use Rattle.ordered_merge.specs.Core.{FirstsCanFetch}
 use Rattle.ordered_merge.proofs.parts.Parts.fetch.Goals as goal
 
 pub fetch-requires : goal.fetch-requires
