@@ -1,0 +1,6 @@
+pub mod Buffers
+pub mod Following
+pub mod Merging
+pub mod Recordings
+pub mod Rising
+pub mod Soundness
