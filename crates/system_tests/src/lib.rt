@@ -11,6 +11,8 @@ mod judges;
 #[cfg(test)]
 mod machine;
 #[cfg(test)]
+mod merge;
+#[cfg(test)]
 mod recording;
 #[cfg(test)]
 mod support;
