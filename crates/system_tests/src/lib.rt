@@ -13,6 +13,8 @@ mod ledger;
 #[cfg(test)]
 mod machine;
 #[cfg(test)]
+mod merge;
+#[cfg(test)]
 mod recording;
 #[cfg(test)]
 mod support;
