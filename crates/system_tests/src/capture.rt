@@ -1,7 +1,8 @@
-//! The command `capture`: its lines, its arguments, failing devices and refused allocations.
+//! The commands `capture` and `asm`: their lines, their arguments, failing devices and refused allocations.
 
 mod allocation;
 mod arguments;
+mod asm;
 mod devices;
 mod lines;
 mod real_size;

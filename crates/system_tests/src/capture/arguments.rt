@@ -31,15 +31,23 @@ fn filters_are_taken(rt: HostRuntime) -> Result<(), Fail> {
         let read = read_arguments(rt.alloc(), &words)?;
         match read {
             Some(Invocation::Capture { code: found }) => assert_eq!(rt; found, code),
-            None => assert!(rt; false, "{texts:?}"),
+            _ => assert!(rt; false, "{texts:?}"),
         }
     }
     Ok(())
 }
 
 #[test]
+fn asm_is_taken(rt: HostRuntime) -> Result<(), Fail> {
+    let words = words(rt.alloc(), &["afdxmon", "asm"])?;
+    let read = read_arguments(rt.alloc(), &words)?;
+    assert_eq!(rt; read, Some(Invocation::Asm));
+    Ok(())
+}
+
+#[test]
 fn other_words_are_refused(rt: HostRuntime) -> Result<(), Fail> {
-    let cases: [&[&str]; 15] = [
+    let cases: [&[&str]; 17] = [
         &[],
         &["afdxmon"],
         &["afdxmon", "help"],
@@ -55,6 +63,8 @@ fn other_words_are_refused(rt: HostRuntime) -> Result<(), Fail> {
         &["afdxmon", "capture", "--code", "0,", "--code", "0,"],
         &["afdxmon", "capture", "--code", "0,", "more"],
         &["afdxmon", "capture", "--filter", "0,"],
+        &["afdxmon", "asm", "source"],
+        &["afdxmon", "asm", "--code", "0,"],
     ];
     for texts in cases {
         let words = words(rt.alloc(), texts)?;

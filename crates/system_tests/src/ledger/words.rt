@@ -24,10 +24,7 @@ fn on_a(
     number: u8,
 ) -> Result<(TapFrame, Accepted), Fail> {
     let bytes = frame(alloc, link, len as usize, number)?;
-    Ok((
-        frame_with(Network::A, place, stamp, len, bytes)?,
-        (None, 0),
-    ))
+    Ok((frame_with(Network::A, place, stamp, len, bytes)?, (None, 0)))
 }
 
 /// One frame of each class, and frames that meet each judgement, 1 ms apart.
