@@ -14,3 +14,5 @@ mod machine;
 mod recording;
 #[cfg(test)]
 mod support;
+#[cfg(test)]
+mod text;
