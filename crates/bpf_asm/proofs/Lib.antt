@@ -3,3 +3,6 @@ pub mod Forms
 pub mod Program
 pub mod Stepping
 pub mod Lines
+pub mod Parts
+pub mod Listed
+pub mod Relisted
