@@ -6,3 +6,4 @@ pub mod Lines
 pub mod Parts
 pub mod Listed
 pub mod Relisted
+pub mod OneProgram

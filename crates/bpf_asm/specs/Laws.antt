@@ -1,4 +1,4 @@
--- What the law says of a text's statements and of their program.
+-- What the laws say of a text's statements and of their program.
 use Rattle.std.specs.Prelude.{◌≡◌, ℕ, List, map, Some, slice_get}
 use Rattle.std.specs.Option.{option_and_then}
 use Rattle.bpf_isa.specs.declared.packed.Packed.{Packed}
@@ -25,3 +25,7 @@ ArePacked p = (at : ℕ) (w : Packed) → slice_get p at ≡ Some w → IsPacked
 -- The listing of a loaded program is source of that program.
 abbrev pub ListingsAssembleAgain : Type 0
 ListingsAssembleAgain = (p : List Packed) (text : List ℕ) → IsLoaded p → ArePacked p → IsListing p text → IsSourceOf text p
+
+-- A text is source of one program at most.
+abbrev pub OneProgram : Type 0
+OneProgram = (text : List ℕ) (p q : List Packed) → IsSourceOf text p → IsSourceOf text q → p ≡ q

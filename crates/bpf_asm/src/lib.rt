@@ -19,5 +19,7 @@ mod row;
 
 pub use assembler::assemble;
 pub use fault::AsmFault;
-pub use laws::{listing_is_source_of_its_program, statements_mean_their_instructions};
+pub use laws::{
+    listing_is_source_of_its_program, statements_mean_their_instructions, text_has_one_program,
+};
 pub use lister::listing;
