@@ -38,4 +38,7 @@ fail_each_allocation() {
 fail_each_allocation capture::allocation::
 fail_each_allocation machine::allocation::
 fail_each_allocation judges::allocation::
+fail_each_allocation text::allocation::
+fail_each_allocation merge::allocation::
+fail_each_allocation ledger::allocation::
 printf 'allocations: all passed\n'
