@@ -1,5 +1,4 @@
 pub mod Accepted
-pub mod Printed
 pub mod SourceRuns
 pub mod Copying
 mod Whole

@@ -1,5 +1,5 @@
 -- The runs of a filter's source and those of its program are the same.
-use Rattle.std.proofs.Common.{◌≡◌, ℕ, List, [], ◌∷◌, map, Option, Some, slice_get, refl, sym, subst, ap, ◌∙◌}
+use Rattle.std.proofs.Common.{◌≡◌, ℕ, List, [], ◌∷◌, map, slice_get, sym, ap, ◌∙◌}
 use Rattle.std.specs.Option.{option_and_then}
 use Rattle.bpf_asm.specs.Assembly.{Assembles}
 use Rattle.bpf_asm.specs.Meaning.{SourceRunsFrom, source_step}
@@ -8,11 +8,10 @@ use Rattle.bpf_isa.specs.Machine.{start}
 use Rattle.bpf_isa.specs.Table.{canonical_word, step_of}
 use Rattle.bpf_isa.specs.declared.packed.Packed.{Packed}
 use Rattle.bpf_isa.specs.declared.state.State.{State}
-use Rattle.bpf_loader.specs.Faults.{IsLoaded}
 use Rattle.bpf_machine.specs.Run.{HasOneRun, RunsFrom, program_step}
 use Rattle.bpf_machine.proofs.OneRun.{has_one_run}
 use Rattle.bpf_text.specs.Grammar.{Statement}
-use Rattle.analyser.specs.Laws.{MeansItsProgram, SourceMeansItsProgram}
+use Rattle.analyser.specs.Laws.{SourceMeansItsProgram}
 
 module _ (ss : List Statement) (p q : List Packed) (assembled : Assembles ss p) (is : q ≡ map canonical_word p) (frame : List ℕ) (whole : ℕ) where
   same_step : (s : State) → source_step ss frame whole s ≡ program_step q frame whole s

@@ -1,13 +1,12 @@
 -- What the command `asm` leaves, by what its devices show (this project's profile).
-use Rattle.std.specs.Prelude.{◌≡◌, ◌⊎◌, ℕ, List, ◌++◌, Option, None, Result, Ok, Err, IfSome, codes}
+use Rattle.std.specs.Prelude.{◌≡◌, ℕ, List, ◌++◌, Option, Some, None, Result, Ok, Err, IfSome, codes}
 use Rattle.std.specs.Io.KnownBytes.{Appends}
 use Rattle.bpf_isa.specs.Numeric.{numeric_text}
 use Rattle.bpf_isa.specs.declared.packed.Packed.{Packed}
 use Rattle.bpf_asm.specs.Assembly.{IsSourceOf, IsTextFault}
-use Rattle.bpf_asm.specs.declared.fault.AsmFault.{AsmFault}
 use Rattle.bpf_asm.specs.declared.fault.AsmFault.TheVariants as asm
 use Rattle.pcap_io.specs.Device.{AppendsPrefix, CountsFailure}
-use Rattle.analyser.specs.Capture.{Devices, NoFailures}
+use Rattle.analyser.specs.Capture.{Devices}
 use Rattle.analyser.specs.Line.{line_of}
 use Rattle.analyser.specs.Text.{IsTextRefusal, IsWholeText}
 use Rattle.analyser.specs.declared.text.TextRefusal.{TextRefusal}
@@ -31,42 +30,6 @@ text_fault refusals.TooLong = fault.File file.Standard
 text_fault refusals.NotUtf8 = fault.File file.Standard
 text_fault refusals.Memory = fault.Asm asm.Memory
 
--- nothing was written
-abbrev pub Unwritten : Devices → Devices → Type 0
-Unwritten before after = (after.contents ≡ before.contents) × (after.sink_failures ≡ before.sink_failures)
-
--- The source's text was read whole, and is source of a program, whose numeric form was printed.
-pub record IsPrinted (before after : Devices) : Type 0 where
-  pub text : List ℕ
-  pub program : List Packed
-  pub read : IsWholeText before.remaining after.remaining text
-  pub assembled : IsSourceOf text program
-  pub written : Appends before.contents after.contents (printed program)
-  pub no_failure : NoFailures before after
-
--- The text is source of no program, and this is its first fault. Nothing was written.
-pub record IsRefused (f : AsmFault) (before after : Devices) : Type 0 where
-  pub text : List ℕ
-  pub read : IsWholeText before.remaining after.remaining text
-  pub refused : IsTextFault text f
-  pub unwritten : Unwritten before after
-  pub source : after.source_failures ≡ before.source_failures
-
--- the text wasn't read, for this reason, and nothing was written
-abbrev pub IsUnread : TextRefusal → Devices → Devices → Type 0
-IsUnread refusal before after =
-    IsTextRefusal before.remaining after.remaining before.source_failures after.source_failures refusal × Unwritten before after
-
--- The program of the text couldn't be printed: the sink failed after a prefix of it.
-pub record IsPrintedInPart (before after : Devices) : Type 0 where
-  pub text : List ℕ
-  pub program : List Packed
-  pub read : IsWholeText before.remaining after.remaining text
-  pub assembled : IsSourceOf text program
-  pub written : AppendsPrefix before.contents after.contents (printed program)
-  pub source : after.source_failures ≡ before.source_failures
-  pub sink : CountsFailure before.sink_failures after.sink_failures
-
 -- what became of printing a text's program, by what the sink took and how often it had failed
 abbrev pub Prints : List ℕ → Option (List ℕ) → Option (List ℕ) → ℕ → ℕ → Result (Unit {0}) Fault → Type 0
 Prints text before after old new (Ok done) = (p : List Packed) × IsSourceOf text p × Appends before after (printed p) × (new ≡ old)
@@ -75,19 +38,22 @@ Prints text before after old new (Err (fault.File file.Standard)) =
 Prints text before after old new (Err (fault.Asm f)) = IsTextFault text f × (after ≡ before) × (new ≡ old)
 Prints text before after old new (Err f) = ⊥
 
--- What the command leaves after a fault. Memory may be missing for the text, the program or its numeric form.
-abbrev pub LeavesOf : Fault → Devices → Devices → Type 0
-LeavesOf (fault.File file.Standard) before after =
-    IsUnread refusals.Device before after ⊎ IsUnread refusals.TooLong before after ⊎ IsUnread refusals.NotUtf8 before after
-    ⊎ IsPrintedInPart before after
-LeavesOf (fault.Asm asm.Memory) before after = Unwritten before after × (after.source_failures ≡ before.source_failures)
-LeavesOf (fault.Asm f) before after = IsRefused f before after
-LeavesOf _ before after = ⊥
+-- The text wasn't read, for this reason, and nothing was written.
+abbrev pub IsUnread : TextRefusal → Devices → Devices → Type 0
+IsUnread refusal before after =
+    IsTextRefusal before.remaining after.remaining before.source_failures after.source_failures refusal
+    × (after.contents ≡ before.contents) × (after.sink_failures ≡ before.sink_failures)
 
--- what the command came to, and what it leaves
-abbrev pub IsAsmRun : Result (Unit {0}) Fault → Devices → Devices → Type 0
-IsAsmRun (Ok done) before after = IsPrinted before after
-IsAsmRun (Err f) before after = LeavesOf f before after
+-- The source's text was read whole, and this became of printing its program.
+pub record IsRead (text : List ℕ) (outcome : Result (Unit {0}) Fault) (before after : Devices) : Type 0 where
+  pub read : IsWholeText before.remaining after.remaining text
+  pub source : after.source_failures ≡ before.source_failures
+  pub printed : Prints text before.contents after.contents before.sink_failures after.sink_failures outcome
+
+-- what the command came to, and what it leaves, by the text that it read
+abbrev pub IsAsmRun : Option (List ℕ) → Result (Unit {0}) Fault → Devices → Devices → Type 0
+IsAsmRun (Some text) outcome before after = IsRead text outcome before after
+IsAsmRun None outcome before after = (refusal : TextRefusal) × (outcome ≡ Err (text_fault refusal)) × IsUnread refusal before after
 
 -- The status and the fault line of what a command came to that prints a text. The line is missing where there was no memory for it.
 abbrev pub IsTextRan : Result (Unit {0}) Fault → ℕ → Option (List ℕ) → Type 0

@@ -1,5 +1,5 @@
 //! The command `asm`: a filter's source is assembled and printed in the numeric form.
-ghost use Rattle.std.specs.Prelude.{◌≡◌, IfErr, IfOk, Result, option_map, string_bytes};
+ghost use Rattle.std.specs.Prelude.{◌≡◌, ℕ, IfErr, IfOk, List, Option, Result, option_map, string_bytes};
 ghost use Rattle.bpf_asm.specs.Assembly.{IsTextFault};
 ghost use Rattle.analyser.specs.declared.fault.Fault.{Fault};
 ghost use Rattle.analyser.specs.Asm.{IsAsmRun, IsAssembledAs, IsTextRan, Prints, text_fault};
@@ -65,11 +65,10 @@ fn print_numeric<W: OutSink>(alloc: Global, text: &str, sink: &mut W) -> Result<
     }
 }
 
-#[tactic(auto, using(crate::proofs::Printed::came_to))]
 /// The command `asm`: reads the source of a filter, at most 16777216 bytes, assembles it and writes its
 /// numeric form and a newline.
 pub fn run_asm<S: TapSource, W: OutSink>(alloc: Global, source: S, sink: W) -> AsmRun<S, W>
-    ensures { IsAsmRun result.outcome
+    ensures { IsAsmRun (option_map string_bytes result.text) result.outcome
         (devices_of S.remaining S.failures W.contents W.failures source sink)
         (devices_of S.remaining S.failures W.contents W.failures result.source result.sink) }
 {
@@ -96,8 +95,8 @@ pub fn run_asm<S: TapSource, W: OutSink>(alloc: Global, source: S, sink: W) -> A
 
 /// The command `asm` with its status and its fault line. The source is dropped.
 pub fn asm_over<S: TapSource + Drop, W: OutSink>(alloc: Global, source: S, sink: W) -> Ran<W>
-    ensures { (outcome : Result (Unit {0}) Fault) × (rest : S)
-        × IsAsmRun outcome
+    ensures { (text : Option (List ℕ)) × (outcome : Result (Unit {0}) Fault) × (rest : S)
+        × IsAsmRun text outcome
         (devices_of S.remaining S.failures W.contents W.failures source sink)
         (devices_of S.remaining S.failures W.contents W.failures rest result.sink)
         × IsTextRan outcome result.status (option_map string_bytes result.line) }

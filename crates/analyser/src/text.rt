@@ -1,6 +1,6 @@
 //! Texts that are read whole from a source.
 ghost use Rattle.std.specs.Prelude.{◌≡◌, IfErr, IfOk, OnOk, length, string_bytes};
-ghost use Rattle.analyser.specs.Text.{IsTextRefusal, IsWholeText};
+ghost use Rattle.analyser.specs.Text.{IsTextRefusal, IsWhole, IsWholeText};
 ghost use Rattle.analyser.specs.declared.text.TextRefusal.TheVariants as refusals;
 
 use pcap_io::{DeviceFault, TapSource, fill};
@@ -44,7 +44,7 @@ impl From<AllocError> for TextRefusal {
 /// Reads all that is left of the source, up to one byte more than a text may have.
 fn read_bytes<S: TapSource>(alloc: Global, source: &mut S) -> Result<Vec<u8>, TextRefusal>
     ensures whole { IfOk result (λ bytes.
-        IsWholeText (S.remaining source.old) (S.remaining source.new) bytes.items) }
+        IsWhole (S.remaining source.old) (S.remaining source.new) bytes.items) }
     ensures no_failure { OnOk result (S.failures source.new ≡ S.failures source.old) }
     ensures refused { IfErr result (IsTextRefusal
         (S.remaining source.old) (S.remaining source.new)
@@ -75,5 +75,8 @@ pub fn read_text<S: TapSource>(alloc: Global, source: &mut S) -> Result<String, 
         (S.failures source.old) (S.failures source.new)) }
 {
     let bytes = read_bytes(alloc, source)?;
-    String::from_utf8(bytes).map_err(|_| TextRefusal::NotUtf8)
+    match String::from_utf8(bytes) {
+        Ok(text) => Ok(text),
+        Err(_) => Err(TextRefusal::NotUtf8),
+    }
 }

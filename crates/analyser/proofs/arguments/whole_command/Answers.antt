@@ -1,4 +1,4 @@
-use Rattle.std.proofs.Common.{ap, ap₂, refl, sym, ◌≡◌, ◌∙◌, Result, Ok, Err}
+use Rattle.std.proofs.Common.{ap, ap₂, refl, ◌≡◌, ◌∙◌, Result, Ok, Err}
 use Rattle.std.specs.Result.{IfOk}
 use Rattle.clap.specs.Words.{AddsSubcommand, App, app_of, with_subcommand}
 use Rattle.clap.specs.declared.builder.command.Command.{Command}

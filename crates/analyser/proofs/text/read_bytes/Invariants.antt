@@ -1,5 +1,5 @@
 -- The bytes so far are all that is gone.
-use Rattle.std.proofs.Common.{◌≡◌, ◌+◌, ◌-◌, ◌≤◌, length, take}
+use Rattle.std.proofs.Common.{◌≡◌, ◌+◌, ◌-◌, ◌≤◌, length}
 use Rattle.std.specs.Io.KnownBytes.{Consumes}
 use Rattle.analyser.specs.Text.{max_text}
 use Rattle.analyser.proofs.text.read_bytes.Given as goal
