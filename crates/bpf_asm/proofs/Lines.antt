@@ -3,7 +3,13 @@ use Rattle.std.proofs.Common.{◌≡◌, ◌≢◌, ℕ, ◌+◌, ◌<◌, List,
 use Rattle.std.proofs.Common.{cond, get_or, is_none, suc}
 use Rattle.std.proofs.Math.Seq.{take-length}
 use Rattle.std.proofs.lemmas.List.{append_assoc, append-nil, map-append, length-map}
-use Rattle.std.proofs.lemmas.Option.{slice_get-get_or, slice_get-map}
+use Rattle.std.proofs.lemmas.Option.{slice_get-get_or, slice_get-map, slice_get_within, get_or_from_slice_get}
+use Rattle.std.proofs.lemmas.List.Elements.{All-more}
+use Rattle.std.specs.List.{All}
+use Rattle.bpf_isa.specs.Numeric.{IsPacked}
+use Rattle.bpf_asm.specs.Assembly.{IsSourceOf}
+use Rattle.bpf_asm.specs.Laws.{ArePacked}
+use Rattle.bpf_asm.proofs.Relisted.{assembles_again}
 use Rattle.std.specs.Option.{option_map, option_and_then}
 use Rattle.bpf_isa.specs.declared.packed.Packed.{Packed}
 use Rattle.bpf_isa.specs.declared.insn.Insn.{Insn}
@@ -33,16 +39,18 @@ pub record Listed (p : List Packed) (at : ℕ) (text : List ℕ) : Type 0 where
   pub insns : List Insn
   pub words : map insn_word insns ≡ take at p
   pub lines : text ≡ lines_text 0 insns
+  pub packed : All IsPacked (take at p)
 
 length_words : (is : List Insn) (ws : List Packed) → map insn_word is ≡ ws → length is ≡ length ws
 length_words is ws e = sym (length-map is insn_word) ∙ ap length e
 
-pub listed_more : (p : List Packed) (at : ℕ) (w : Packed) (i : Insn) (text : List ℕ) → slice_get p at ≡ Some w → insn_word i ≡ w →
+pub listed_more : (p : List Packed) (at : ℕ) (w : Packed) (i : Insn) (text : List ℕ) → slice_get p at ≡ Some w → insn_word i ≡ w → IsPacked w →
     Listed p at text → Listed p (at + 1) (text ++ line_text at i)
-listed_more p at w i text there word listed = record {
+listed_more p at w i text there word fits listed = record {
   insns = listed.insns ++ i ∷ [];
   words = map-append insn_word listed.insns (i ∷ []) ∙ ap (λ ws. ws ++ insn_word i ∷ []) listed.words ∙ ap (λ v. take at p ++ v ∷ []) word ∙ sym (take_push p at w there);
   lines = ap (λ t. t ++ line_text at i) listed.lines ∙ ap (λ n. lines_text 0 listed.insns ++ line_text n i) (sym (index listed)) ∙ sym (lines_push 0 listed.insns i);
+  packed = All-more IsPacked p at w (slice_get_within p at w there) listed.packed (subst IsPacked (sym (get_or_from_slice_get p at w w there)) fits);
 }
   where
     zero_plus : (n : ℕ) → 0 + n ≡ n
@@ -69,15 +77,21 @@ loaded_row p at w loaded there none = by (row w.code) none (sym (ap (option_and_
 pub all_listed : (p : List Packed) (text : List ℕ) → Listed p (length p) text → IsListing p text
 all_listed p text listed = (listed.insns, listed.words ∙ take-length p, listed.lines)
 
+pub all_source : (p : List Packed) (text : List ℕ) → IsLoaded p → Listed p (length p) text → IsSourceOf text p
+all_source p text loaded listed = assembles_again p text loaded fits (all_listed p text listed)
+  where
+    fits : ArePacked p
+    fits at w there = subst IsPacked (get_or_from_slice_get p at w w there) (subst (All IsPacked) (take-length p) listed.packed at w (slice_get_within p at w there))
+
 -- ---- the same at an index of the words as the program gives them
 
 there_in : (p ws : List Packed) (at : ℕ) (d : Packed) → ws ≡ p → at < length ws → slice_get p at ≡ Some (get_or ws at d)
 there_in p ws at d same less = subst (λ l. slice_get l at ≡ Some (get_or ws at d)) same (slice_get-get_or ws at d less)
 
 pub listed_next : (p ws : List Packed) (at : ℕ) (d : Packed) (i : Insn) (text : List ℕ) → ws ≡ p → IsLoaded p → at < length ws →
-    insn_word i ≡ canonical_word (get_or ws at d) → Listed p at text → Listed p (at + 1) (text ++ line_text at i)
-listed_next p ws at d i text same loaded less is listed =
-    listed_more p at (get_or ws at d) i text (there_in p ws at d same less) (is ∙ loaded_word p at (get_or ws at d) loaded (there_in p ws at d same less)) listed
+    insn_word i ≡ canonical_word (get_or ws at d) → IsPacked (get_or ws at d) → Listed p at text → Listed p (at + 1) (text ++ line_text at i)
+listed_next p ws at d i text same loaded less is fits listed =
+    listed_more p at (get_or ws at d) i text (there_in p ws at d same less) (is ∙ loaded_word p at (get_or ws at d) loaded (there_in p ws at d same less)) fits listed
 
 pub always_listed : (p ws : List Packed) (at : ℕ) (d : Packed) → ws ≡ p → IsLoaded p → at < length ws → row (get_or ws at d).code ≢ None
 always_listed p ws at d same loaded less = loaded_row p at (get_or ws at d) loaded (there_in p ws at d same less)

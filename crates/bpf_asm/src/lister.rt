@@ -1,11 +1,17 @@
 //! The listing of a program.
 
-ghost use Rattle.std.specs.Prelude.{◌≡◌, ◌++◌, ◌<◌, IfOk, OnOk, slice_get, string_bytes};
+ghost use Rattle.std.specs.Prelude.{◌≡◌, ◌++◌, ◌<◌, IfNone, IfOk, IfSome, None, OnOk, slice_get};
+ghost use Rattle.std.specs.Prelude.{string_bytes};
+ghost use Rattle.bpf_isa.specs.Insns.{insn_word};
+ghost use Rattle.bpf_isa.specs.Numeric.{IsPacked};
+ghost use Rattle.bpf_isa.specs.Table.{canonical_word, row};
+ghost use Rattle.bpf_asm.specs.Assembly.{IsSourceOf};
 ghost use Rattle.bpf_isa.specs.Machine.{max_insns};
 ghost use Rattle.bpf_asm.specs.Listing.{IsListing, condition_name, line_text, operator_name};
 
 use bpf_isa::{
-    Alu, Condition, Family, Insn, Jump, Load, LoadX, Move, Operator, Return, Size, Source, Store,
+    Alu, Condition, Family, Insn, Jump, Load, LoadX, Move, Operator, Packed, Return, Size, Source,
+    Store,
 };
 use bpf_loader::Program;
 use std::alloc::{AllocError, Global};
@@ -191,6 +197,15 @@ fn push_line(text: &mut String, at: usize, insn: Insn) -> Result<(), AllocError>
     write!(text, "L{at}: {insn}\n")
 }
 
+/// The instruction of a word.
+fn insn_of(word: Packed) -> Option<Insn>
+    ensures found { IfSome result (λ insn. insn_word insn ≡ canonical_word word) }
+    ensures unlisted { IfNone result (row word.code ≡ None) }
+    ensures fits { IsPacked word }
+{
+    Insn::decode(&word)
+}
+
 #[tactic(auto, using(crate::proofs::Lines::all_listed))]
 /// The program as source, a line for each instruction, which ends with a newline: its label, and the
 /// instruction as `bpf_asm` takes it. The label is `L` and the index of the instruction, numbers are
@@ -200,12 +215,13 @@ fn push_line(text: &mut String, at: usize, insn: Insn) -> Result<(), AllocError>
 ///
 /// `AllocError` if there is no memory for the text.
 pub fn listing(alloc: Global, program: &Program) -> Result<String, AllocError>
-    ensures { IfOk result (λ text. IsListing program.now (string_bytes text)) }
+    ensures listing { IfOk result (λ text. IsListing program.now (string_bytes text)) }
+    ensures source { IfOk result (λ text. IsSourceOf (string_bytes text) program.now) }
 {
     let mut text = String::new(alloc);
     for (at, word) in program.words().iter().enumerate() {
         // Each word of a loaded program is an instruction.
-        if let Some(insn) = Insn::decode(word) {
+        if let Some(insn) = insn_of(*word) {
             push_line(&mut text, at, insn)?;
         }
     }

@@ -1,0 +1,93 @@
+//! A text with one fault of each kind, and how far a conditional jump goes.
+
+use bpf_asm::{AsmFault, assemble};
+use bpf_isa::Packed;
+use bpf_text::TextFault;
+use std::alloc::Global;
+use std::test::Fail;
+
+#[test]
+fn faults_of_a_text(rt: HostRuntime) {
+    let rows = [
+        ("ldq [1]", TextFault::Form { at: 4 }),
+        ("x: ret #0", TextFault::ReservedLabel { at: 0 }),
+        ("X: ret #0", TextFault::ReservedLabel { at: 0 }),
+        ("ld #4294967296", TextFault::Number { at: 4 }),
+        ("ld @", TextFault::Character { at: 3 }),
+        ("l:", TextFault::Form { at: 2 }),
+        // The text's fault comes before those of its labels.
+        ("jmp l ldq [1]", TextFault::Form { at: 10 }),
+    ];
+    for (text, fault) in &rows {
+        let found = assemble(rt.alloc(), text).err();
+        assert_eq!(rt; found, Some(AsmFault::Text(*fault)), "{text}");
+    }
+}
+
+#[test]
+fn faults_of_statements(rt: HostRuntime) {
+    let rows = [
+        ("", AsmFault::Empty),
+        ("; nothing\n/* at all */", AsmFault::Empty),
+        ("jmp l", AsmFault::NoLabel { at: 0 }),
+        ("jmp l\nL: ret #0", AsmFault::NoLabel { at: 0 }),
+        ("l: ret #0 jmp l", AsmFault::Backward { at: 1 }),
+        ("l: jmp l ret #0", AsmFault::Backward { at: 0 }),
+        ("l: ret #0 l: ret #0", AsmFault::TwiceLabel { at: 1 }),
+        // A label that stands twice comes before any target, and targets go from left to right.
+        ("jmp n l: ret #0 l: ret #0", AsmFault::TwiceLabel { at: 2 }),
+        ("l: jeq #0, l, n ret #0", AsmFault::Backward { at: 0 }),
+        ("l: jeq #0, n, l ret #0", AsmFault::NoLabel { at: 0 }),
+    ];
+    for (text, fault) in &rows {
+        let found = assemble(rt.alloc(), text).err();
+        assert_eq!(rt; found, Some(*fault), "{text}");
+    }
+}
+
+/// What a conditional jump over so many returns gives.
+fn jump_over(
+    alloc: Global,
+    jump: &str,
+    count: usize,
+) -> Result<Result<Vec<Packed>, AsmFault>, Fail> {
+    let mut text = String::new(alloc);
+    text.push_str(jump)?;
+    for _ in 0..count {
+        text.push_str("\nret #0")?;
+    }
+    text.push_str("\nl: ret #0\n")?;
+    Ok(assemble(alloc, &text))
+}
+
+#[test]
+fn farthest_jumps(rt: HostRuntime) -> Result<(), Fail> {
+    let words = jump_over(rt.alloc(), "jeq #0, l", 255)??;
+    assert_eq!(rt; words.len(), 257);
+    assert_eq!(rt;
+        words[0],
+        Packed {
+            code: 0x15,
+            jt: 255,
+            jf: 0,
+            k: 0
+        }
+    );
+    let far = jump_over(rt.alloc(), "jeq #0, l", 256)?.err();
+    assert_eq!(rt; far, Some(AsmFault::TooFar { at: 0 }));
+    let far = jump_over(rt.alloc(), "jne #0, l", 256)?.err();
+    assert_eq!(rt; far, Some(AsmFault::TooFar { at: 0 }));
+    // A jump that always goes has 32 bits for its distance.
+    let words = jump_over(rt.alloc(), "jmp l", 256)??;
+    assert_eq!(rt; words.len(), 258);
+    assert_eq!(rt;
+        words[0],
+        Packed {
+            code: 0x05,
+            jt: 0,
+            jf: 0,
+            k: 256
+        }
+    );
+    Ok(())
+}
