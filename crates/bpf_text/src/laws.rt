@@ -8,7 +8,7 @@ pub fn text_has_one_reading(text: &str)
 {}
 
 /// What is left of a statement's form after some tokens is what may follow them, and a token that is
-/// refused there can't follow them. So a fault stands where no source goes on.
+/// refused there can't follow them.
 pub fn form_leaves_what_may_follow()
     ensures { LeavesWhatMayFollow }
 {}
