@@ -112,6 +112,9 @@ fn a_round_of_all_links_is_its_lines(rt: HostRuntime) -> Result<(), Fail> {
         took.as_nanos() / 100_000
     )?;
     let mut by_lines = begun(rt.alloc(), &config)?;
+    assert!(rt; round.verdicts.len() == round.frames.len());
+    assert!(rt; round.keeps.len() == round.frames.len());
+    assert!(rt; round.masks.len() == round.frames.len());
     for place in 0..round.frames.len() {
         let accepted = (round.keeps[place], round.masks[place]);
         add_line(
