@@ -55,5 +55,6 @@ pub use read_source::ReadSource;
 pub use reader::{OpenFault, OpenRefused, TapReader};
 pub use recording::{BadReason, Ending};
 pub use script::Script;
+pub use transfer::write_all;
 pub use write_sink::WriteSink;
 pub use writer::{CaptureWriter, WriteFault};

@@ -1,0 +1,5 @@
+pub mod Counting
+pub mod Tallying
+pub mod Joining
+pub mod Spooling
+pub mod Rounds

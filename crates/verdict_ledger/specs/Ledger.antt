@@ -1,0 +1,48 @@
+-- What contracts see of a ledger.
+use Rattle.std.specs.Prelude.{◌≡◌, ℕ, ◌<◌, Bool, List, slice_index_or, Result, Ok, Err}
+use Rattle.vl_config.specs.Document.{VlTable}
+use Rattle.verdict_ledger.specs.Entry.{Entry, IsEntry}
+use Rattle.verdict_ledger.specs.Tally.{totals_of, link_counts}
+use Rattle.verdict_ledger.specs.declared.fault.LedgerRefused.{LedgerRefused}
+use Rattle.verdict_ledger.specs.declared.ledger.Ledger.{Ledger}
+use Rattle.verdict_ledger.specs.declared.tally.Tally.{Tally}
+use Rattle.verdict_ledger.specs.declared.totals.Totals.{Totals}
+use Rattle.verdict_ledger.specs.declared.link_counts.LinkCounts.{LinkCounts}
+
+-- what it writes to
+abbrev pub sink_of : {W : Type 0} → Ledger W → W
+sink_of ledger = ledger.spool.sink
+
+-- a call has met a fault
+abbrev pub has_failed : {W : Type 0} → Ledger W → Bool
+has_failed ledger = ledger.failed
+
+-- the counts of all frames
+abbrev pub totals_in : {W : Type 0} → Ledger W → Totals
+totals_in ledger = ledger.tally.totals
+
+-- what it wrote to, whether it stands or gave its sink back
+abbrev pub begun_sink : {W : Type 0} → Result (Ledger W) (LedgerRefused W) → W
+begun_sink (Ok ledger) = sink_of ledger
+begun_sink (Err refused) = refused.sink
+
+-- what a ledger that is finished wrote to
+abbrev pub finished_sink : {W : Type 0} → Result (W × Totals) (LedgerRefused W) → W
+finished_sink (Ok finished) = finished.0
+finished_sink (Err refused) = refused.sink
+
+-- an entry under the ledger's table and filters
+abbrev pub IsEntryIn : {W : Type 0} → Ledger W → Entry → Type 0
+IsEntryIn ledger e = IsEntry ledger.constant ledger.links.items ledger.filters e
+
+-- The tally of these entries. It has counts for each identifier of 16 bits.
+pub record IsTallyOf (entries : List Entry) (tally : Tally) : Type 0 where
+  pub totals : tally.totals ≡ totals_of entries
+  pub links : (id : ℕ) (none : LinkCounts) → id < 65536 → slice_index_or tally.counts.items id none ≡ link_counts entries (record { 0 = id })
+
+-- The ledger has the lines of these entries, under this table and this number of filters.
+pub record StandsAfter {W : Type 0} (ledger : Ledger W) (vl_table : VlTable) (number : ℕ) (entries : List Entry) : Type 0 where
+  pub constant : ledger.constant ≡ vl_table.constant
+  pub links : ledger.links.items ≡ vl_table.links
+  pub filters : ledger.filters ≡ number
+  pub tally : IsTallyOf entries ledger.tally

@@ -1,0 +1,5 @@
+pub mod Entry
+pub mod Ledger
+pub mod Tally
+pub mod Text
+pub mod Writing

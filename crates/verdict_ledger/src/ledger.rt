@@ -1,0 +1,260 @@
+//! The ledger: lines of frames, and then the counts.
+ghost use Rattle.std.specs.Prelude.{◌≡◌, ◌+◌, ◌<◌, ◌≤◌, ◌∷◌, ◌++◌, ◌^◌, ℕ, List, [], true, false, length, All, Ok, Err, IfOk, IfErr, OnOk, OnErr};
+ghost use Rattle.vl_config.specs.Document.{VlTable};
+ghost use Rattle.verdict_ledger.specs.Entry.{Entry, entry_with, entries_of};
+ghost use Rattle.verdict_ledger.specs.Tally.{totals_of};
+ghost use Rattle.verdict_ledger.specs.Text.{ledger_head, line_text, lines_text, rest_text};
+ghost use Rattle.verdict_ledger.specs.Writing.{IsAppended, fault_of, refusal_of};
+
+use crate::fault::{LedgerFault, LedgerRefused};
+use crate::kept::kept_of;
+use crate::spool::Spool;
+use crate::tally::Tally;
+use crate::totals::Totals;
+use afdx_frame::TapFrame;
+use pcap_io::{DeviceFault, Ending, OutSink, write_all};
+use std::alloc::{AllocError, Global};
+use vl_config::{Config, Link};
+use vl_judge::Verdict;
+
+/// The first line: the format, and its version.
+const HEAD: &str = "afdx-ledger 2\n";
+
+/// A ledger that is being written to a sink, which it holds.
+///
+/// Its memory is flat: it holds the table's links, the counts, and at most one block of 65536 bytes of
+/// text and a line, however many frames there are.
+#[derive(Debug, Drop)]
+pub struct Ledger<W> {
+    spool: Spool<W>,
+    failed: bool,
+    constant: u32,
+    links: Vec<Link>,
+    filters: u32,
+    tally: Tally,
+    ghost few_filters: { filters ≤ 8 },
+}
+
+impl<W: OutSink> Ledger<W> {
+    ghost use Rattle.verdict_ledger.specs.declared.fault.LedgerFault.TheVariants.{Memory, Failed};
+    ghost use Rattle.verdict_ledger.specs.Ledger.{IsEntryIn, StandsAfter, begun_sink, finished_sink, has_failed, sink_of, totals_in};
+
+    #[tactic(auto, unfolding(crate::specs::Text::ledger_head))]
+    /// Writes the first line of the ledger of a table, for 1 to 8 filters.
+    ///
+    /// # Errors
+    ///
+    /// `Device` if the sink failed, after a prefix of the line, and `Memory` before anything was
+    /// written. Either gives the sink back.
+    pub fn begin(
+        alloc: Global,
+        config: &Config,
+        filters: u32,
+        sink: W,
+    ) -> Result<Ledger<W>, LedgerRefused<W>>
+        requires some_filters { 1 ≤ filters }
+        requires few_filters { filters ≤ 8 }
+        ensures written { IsAppended (refusal_of result)
+            (W.contents sink) (W.contents (begun_sink result))
+            (W.failures sink) (W.failures (begun_sink result)) ledger_head }
+        ensures memory { IfErr result (λ r. r.fault ≡ Memory → r.sink ≡ sink) }
+        ensures going { IfOk result (λ ledger. has_failed ledger ≡ false) }
+        ensures after { IfOk result (λ ledger. StandsAfter ledger config.now filters []) }
+    {
+        let (links, tally) = match kept_of(alloc, config) {
+            Ok(kept) => kept,
+            Err(AllocError) => {
+                return Err(LedgerRefused {
+                    sink,
+                    fault: LedgerFault::Memory,
+                });
+            }
+        };
+        let mut sink = sink;
+        match write_all(&mut sink, HEAD.as_bytes()) {
+            Ok(()) => Ok(Ledger {
+                spool: Spool::new(sink, Vec::new(alloc)),
+                failed: false,
+                constant: config.constant(),
+                links,
+                filters,
+                tally,
+            }),
+            Err(DeviceFault) => Err(LedgerRefused {
+                sink,
+                fault: LedgerFault::Device,
+            }),
+        }
+    }
+
+    /// Writes the line of a frame, and counts it. The caller says how many bytes are kept of a frame
+    /// that a filter accepts, and by a mask which filters do.
+    ///
+    /// # Errors
+    ///
+    /// `Device` if the sink failed, after a prefix of the line, and `Memory` before anything was
+    /// written; the frame isn't counted. Each later call returns `Failed`, and writes nothing.
+    pub fn line(
+        &mut self,
+        frame: &TapFrame,
+        verdict: &Verdict,
+        keep: Option<u32>,
+        mask: u8,
+    ) -> Result<(), LedgerFault>
+        requires entry { IsEntryIn self.old (entry_with frame.now verdict.now keep mask) }
+        requires room { (totals_in self.old).frames < 2 ^ 34 }
+        ensures written { has_failed self.old ≡ false → IsAppended (fault_of result)
+            (W.contents (sink_of self.old)) (W.contents (sink_of self.new))
+            (W.failures (sink_of self.old)) (W.failures (sink_of self.new))
+            (line_text (entry_with frame.now verdict.now keep mask)) }
+        ensures memory { result ≡ Err Memory → sink_of self.new ≡ sink_of self.old }
+        ensures failed { has_failed self.old ≡ true
+            → (result ≡ Err Failed) × (self.new ≡ self.old) }
+        ensures going { OnOk result
+            ((has_failed self.old ≡ false) × (has_failed self.new ≡ false)) }
+        ensures after_fault { OnErr result (has_failed self.new ≡ true) }
+        ensures counted { OnOk result
+            ((vl_table : VlTable) (filters : ℕ) (entries : List Entry)
+            → StandsAfter self.old vl_table filters entries
+            → StandsAfter self.new vl_table filters
+            (entries ++ entry_with frame.now verdict.now keep mask ∷ [])) }
+        ensures not_counted { OnErr result
+            ((vl_table : VlTable) (filters : ℕ) (entries : List Entry)
+            → StandsAfter self.old vl_table filters entries
+            → StandsAfter self.new vl_table filters entries) }
+    {
+        if self.failed {
+            return Err(LedgerFault::Failed);
+        }
+        match self.spool.write_line(frame, verdict, keep, mask) {
+            Ok(()) => {
+                self.tally.count(frame, verdict, keep, mask);
+                Ok(())
+            }
+            Err(fault) => {
+                self.failed = true;
+                Err(fault)
+            }
+        }
+    }
+
+    /// Writes the lines of a round's frames, each with what stands at its place in the other lists, and
+    /// counts them: what as many calls of `line` do, with one write for each block of text.
+    ///
+    /// # Errors
+    ///
+    /// `Device` if the sink failed and `Memory`, each after a prefix of the lines; none of the frames
+    /// is counted. Each later call returns `Failed`, and writes nothing.
+    pub fn round(
+        &mut self,
+        frames: &[TapFrame],
+        verdicts: &[Verdict],
+        keeps: &[Option<u32>],
+        masks: &[u8],
+    ) -> Result<(), LedgerFault>
+        requires verdicts { length verdicts.now ≡ length frames.now }
+        requires keeps { length keeps.now ≡ length frames.now }
+        requires masks { length masks.now ≡ length frames.now }
+        requires entries { All (IsEntryIn self.old)
+            (entries_of frames.now verdicts.now keeps.now masks.now) }
+        requires room { (totals_in self.old).frames + length frames.now ≤ 2 ^ 34 }
+        ensures written { has_failed self.old ≡ false → IsAppended (fault_of result)
+            (W.contents (sink_of self.old)) (W.contents (sink_of self.new))
+            (W.failures (sink_of self.old)) (W.failures (sink_of self.new))
+            (lines_text (entries_of frames.now verdicts.now keeps.now masks.now)) }
+        ensures failed { has_failed self.old ≡ true
+            → (result ≡ Err Failed) × (self.new ≡ self.old) }
+        ensures going { OnOk result
+            ((has_failed self.old ≡ false) × (has_failed self.new ≡ false)) }
+        ensures after_fault { OnErr result (has_failed self.new ≡ true) }
+        ensures counted { OnOk result
+            ((vl_table : VlTable) (filters : ℕ) (entries : List Entry)
+            → StandsAfter self.old vl_table filters entries
+            → StandsAfter self.new vl_table filters
+            (entries ++ entries_of frames.now verdicts.now keeps.now masks.now)) }
+        ensures not_counted { OnErr result
+            ((vl_table : VlTable) (filters : ℕ) (entries : List Entry)
+            → StandsAfter self.old vl_table filters entries
+            → StandsAfter self.new vl_table filters entries) }
+    {
+        if self.failed {
+            return Err(LedgerFault::Failed);
+        }
+        match self.spool.write_lines(frames, verdicts, keeps, masks) {
+            Ok(()) => {
+                self.tally.count_round(frames, verdicts, keeps, masks);
+                Ok(())
+            }
+            Err(fault) => {
+                self.failed = true;
+                Err(fault)
+            }
+        }
+    }
+
+    /// The counts of the frames so far.
+    pub fn totals(&self) -> &Totals
+        ensures value { result.now ≡ totals_in self.now }
+        ensures counts { (vl_table : VlTable) (filters : ℕ) (entries : List Entry)
+            → StandsAfter self.now vl_table filters entries → result.now ≡ totals_of entries }
+    {
+        self.tally.totals()
+    }
+
+    /// Writes the lines of the links, by rising identifier, of the filters, of how the recordings of
+    /// networks A and B ended, and of all frames. Gives the sink and the counts.
+    ///
+    /// # Errors
+    ///
+    /// `Device` if the sink failed and `Memory`, each after a prefix of the lines; `Failed` if a call
+    /// has met a fault before, and then nothing is written. Each gives the sink back.
+    pub fn finish(self, a: Ending, b: Ending) -> Result<(W, Totals), LedgerRefused<W>>
+        ensures written { has_failed self ≡ false
+            → (vl_table : VlTable) (filters : ℕ) (entries : List Entry)
+            → StandsAfter self vl_table filters entries → IsAppended (refusal_of result)
+            (W.contents (sink_of self)) (W.contents (finished_sink result))
+            (W.failures (sink_of self)) (W.failures (finished_sink result))
+            (rest_text vl_table filters entries a b) }
+        ensures failed { has_failed self ≡ true
+            → result ≡ Err (record { sink = sink_of self; fault = Failed }) }
+        ensures going { OnOk result (has_failed self ≡ false) }
+        ensures totals { IfOk result (λ finished. finished.1 ≡ totals_in self) }
+    {
+        let Ledger {
+            mut spool,
+            failed,
+            constant: _,
+            links,
+            filters,
+            tally,
+        } = self;
+        if failed {
+            return Err(LedgerRefused {
+                sink: spool.into_sink(),
+                fault: LedgerFault::Failed,
+            });
+        }
+        match spool.write_summary(&links, &tally, filters, a, b) {
+            Ok(()) => Ok((spool.into_sink(), *tally.totals())),
+            Err(fault) => Err(LedgerRefused {
+                sink: spool.into_sink(),
+                fault,
+            }),
+        }
+    }
+
+    /// The sink. Nothing more is written.
+    pub fn into_sink(self) -> W
+        ensures { result ≡ sink_of self }
+    {
+        let Ledger {
+            spool,
+            failed: _,
+            constant: _,
+            links: _,
+            filters: _,
+            tally: _,
+        } = self;
+        spool.into_sink()
+    }
+}

@@ -1,0 +1,43 @@
+//! The ledger of an analysis: a line of text for each frame of both networks with its verdict, and the
+//! counts of each virtual link, of each filter and of all frames.
+//!
+//! A [`Ledger`] is begun for a table of virtual links. It gets each frame with its verdict, in the
+//! order of the frames' keys, and writes its lines to an [`OutSink`](pcap_io::OutSink), one by one or
+//! a round at a time. When both recordings have ended it writes the counts.
+//!
+//! ```text
+//! let mut ledger = Ledger::begin(alloc, &config, 1, sink)?;
+//! ledger.round(&frames, &verdicts, &keeps, &masks)?;
+//! let (sink, totals) = ledger.finish(Ending::Clean(2), Ending::Clean(1))?;
+//! ```
+//!
+//! ```text
+//! afdx-ledger 2
+//! 0 A 0 5 1 regular within first deliver - 00
+//! 100 A 1 5 2 regular within next deliver 60 01
+//! 200 B 0 5 2 regular within first copy 60 01
+//! link 5 brake frames 3 toolong 0 excess 0 out 0 copy 1 delivered 2
+//! filter 0 accepted 2
+//! tap A clean 2
+//! tap B clean 1
+//! total frames 3 accepted 2 cut 0 runt 0 oversize 0 foreign 0 unconfigured 0 toolong 0 excess 0 ..
+//! ```
+//!
+//! - [`Ledger`], with its faults [`LedgerFault`] and [`LedgerRefused`].
+//! - [`Totals`], the counts of all frames.
+#![tactic(auto)]
+
+mod fault;
+mod kept;
+mod ledger;
+mod line;
+mod link_counts;
+mod spool;
+mod summary;
+mod tally;
+mod totals;
+mod words;
+
+pub use fault::{LedgerFault, LedgerRefused};
+pub use ledger::Ledger;
+pub use totals::Totals;

@@ -1,0 +1,107 @@
+//! The counts of one link.
+ghost use Rattle.std.specs.Prelude.{◌≡◌, ◌+◌, ◌<◌, ◌^◌, List, [], ◌∷◌, ◌++◌, length, cond};
+ghost use Rattle.verdict_ledger.specs.Entry.{Entry};
+ghost use Rattle.verdict_ledger.specs.Tally.{counts_of, is_class, is_excess, is_out, is_copy, is_delivered};
+
+use integrity::Integrity;
+use policing::Policing;
+use redundancy::Redundancy;
+use vl_config::Class;
+use vl_judge::Verdict;
+
+/// The counts of the frames of a link that are too long or regular. `frames` is the sum of the others.
+#[derive(Clone, Copy, Debug, PartialEq, Eq)]
+pub struct LinkCounts {
+    pub frames: u64,
+    pub toolong: u64,
+    pub excess: u64,
+    pub out: u64,
+    pub copy: u64,
+    pub delivered: u64,
+}
+
+impl LinkCounts {
+    #[tactic(auto, unfolding(crate::specs::Tally::counts_of))]
+    /// The counts of no frame.
+    pub fn new() -> LinkCounts
+        ensures { result ≡ counts_of [] }
+    {
+        LinkCounts {
+            frames: 0,
+            toolong: 0,
+            excess: 0,
+            out: 0,
+            copy: 0,
+            delivered: 0,
+        }
+    }
+
+    /// The counts with one more frame, which has this verdict.
+    #[inline]
+    pub fn with(&self, verdict: &Verdict) -> LinkCounts
+        ensures { (entries : List Entry) (e : Entry) → length entries < 2 ^ 34
+            → verdict.now ≡ e.verdict → self.now ≡ counts_of entries
+            → result ≡ counts_of (entries ++ e ∷ []) }
+    {
+        LinkCounts {
+            frames: plus(self.frames, true),
+            toolong: plus(self.toolong, is_class(Class::TooLong, verdict.class)),
+            excess: plus(self.excess, is_excess(verdict)),
+            out: plus(self.out, is_out(verdict)),
+            copy: plus(self.copy, is_copy(verdict)),
+            delivered: plus(self.delivered, is_delivered(verdict)),
+        }
+    }
+}
+
+/// The count, and one more where a frame counts. It never comes near 2^64: a ledger has at most 2^34
+/// lines.
+#[inline(always)]
+pub fn plus(count: u64, counts: bool) -> u64
+    ensures { count < 2 ^ 34 → result ≡ count + cond counts 1 0 }
+{
+    count.saturating_add(u64::from(counts))
+}
+
+/// Is it this class?
+#[inline(always)]
+pub fn is_class(class: Class, other: Class) -> bool
+    ensures { result ≡ is_class class other }
+{
+    class == other
+}
+
+/// Does policing drop the frame?
+#[inline(always)]
+pub fn is_excess(verdict: &Verdict) -> bool
+    ensures { result ≡ is_excess verdict.now }
+{
+    matches!(verdict.policing, Some(Policing::Excess))
+}
+
+/// Does integrity checking drop the frame?
+#[inline(always)]
+pub fn is_out(verdict: &Verdict) -> bool
+    ensures { result ≡ is_out verdict.now }
+{
+    matches!(verdict.integrity, Some(Integrity::Out))
+}
+
+/// Is the frame the second of a pair?
+#[inline(always)]
+pub fn is_copy(verdict: &Verdict) -> bool
+    ensures { result ≡ is_copy verdict.now }
+{
+    matches!(verdict.redundancy, Some(Redundancy::Copy))
+}
+
+/// Is the frame delivered?
+#[inline(always)]
+pub fn is_delivered(verdict: &Verdict) -> bool
+    ensures { result ≡ is_delivered verdict.now }
+{
+    matches!(
+        verdict.redundancy,
+        Some(Redundancy::Deliver | Redundancy::Both)
+    )
+}

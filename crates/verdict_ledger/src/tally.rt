@@ -1,0 +1,98 @@
+//! The counts that a ledger keeps.
+ghost use Rattle.std.specs.Prelude.{◌≡◌, ◌<◌, ◌≤◌, ◌+◌, ◌^◌, List, [], ◌∷◌, ◌++◌, length, None, IfOk, vec_len, if◌then◌else◌};
+ghost use Rattle.afdx_frame.specs.View.{link_of};
+ghost use Rattle.verdict_ledger.specs.Tally.{is_on_a_link, link_counts};
+
+use crate::link_counts::LinkCounts;
+use crate::totals::Totals;
+use afdx_frame::{TapFrame, VlId};
+use std::alloc::{AllocError, Global};
+use vl_config::Class;
+use vl_judge::Verdict;
+
+/// The number of virtual link identifiers, which have 16 bits (ARINC 664 Part 7).
+const IDENTIFIERS: usize = 65536;
+
+/// The counts of all frames, and those of each identifier, so that a frame costs the same whatever the
+/// number of links.
+#[derive(Debug, Drop)]
+pub struct Tally {
+    totals: Totals,
+    /// The counts of the frames of configured links, by their identifiers.
+    counts: Vec<LinkCounts>,
+    ghost complete: { vec_len counts ≡ 65536 },
+}
+
+impl Tally {
+    ghost use Rattle.verdict_ledger.specs.Entry.{Entry, entry_with, entries_of};
+    ghost use Rattle.verdict_ledger.specs.Ledger.{IsTallyOf};
+
+    /// The counts of no frame.
+    pub fn new(alloc: Global) -> Result<Tally, AllocError>
+        ensures { IfOk result (IsTallyOf []) }
+    {
+        Ok(Tally {
+            totals: Totals::new(),
+            counts: vec![in alloc; LinkCounts::new(); IDENTIFIERS]?,
+        })
+    }
+
+    /// The counts of all frames.
+    pub fn totals(&self) -> &Totals
+        ensures { result.now ≡ self.now.totals }
+    {
+        &self.totals
+    }
+
+    /// The counts of a link.
+    pub fn link(&self, id: VlId) -> &LinkCounts
+        ensures { (entries : List Entry) → IsTallyOf entries self.now
+            → result.now ≡ link_counts entries id }
+    {
+        &self.counts[usize::from(id.0)]
+    }
+
+    /// Counts a frame.
+    #[inline]
+    pub fn count(&mut self, frame: &TapFrame, verdict: &Verdict, keep: Option<u32>, mask: u8)
+        ensures { (entries : List Entry) → length entries < 2 ^ 34 → IsTallyOf entries self.old
+            → IsTallyOf (entries ++ entry_with frame.now verdict.now keep mask ∷ []) self.new }
+    {
+        self.totals = self.totals.with(verdict, keep, mask);
+        if let Some(id) = counted_link(frame, verdict) {
+            let place = usize::from(id.0);
+            self.counts[place] = self.counts[place].with(verdict);
+        }
+    }
+
+    /// Counts the frames of a round.
+    pub fn count_round(
+        &mut self,
+        frames: &[TapFrame],
+        verdicts: &[Verdict],
+        keeps: &[Option<u32>],
+        masks: &[u8],
+    )
+        requires verdicts { length verdicts.now ≡ length frames.now }
+        requires keeps { length keeps.now ≡ length frames.now }
+        requires masks { length masks.now ≡ length frames.now }
+        ensures { (entries : List Entry) → length entries + length frames.now ≤ 2 ^ 34
+            → IsTallyOf entries self.old → IsTallyOf
+            (entries ++ entries_of frames.now verdicts.now keeps.now masks.now) self.new }
+    {
+        for place in 0..frames.len() {
+            self.count(&frames[place], &verdicts[place], keeps[place], masks[place]);
+        }
+    }
+}
+
+/// The identifier of a frame of a configured link.
+#[inline]
+fn counted_link(frame: &TapFrame, verdict: &Verdict) -> Option<VlId>
+    ensures { result ≡ (if is_on_a_link verdict.now.class then link_of frame.now.bytes else None) }
+{
+    match verdict.class {
+        Class::TooLong | Class::Regular => frame.view().vl(),
+        _ => None,
+    }
+}

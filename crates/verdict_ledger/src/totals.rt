@@ -1,0 +1,117 @@
+//! The counts of all frames.
+ghost use Rattle.std.specs.Prelude.{◌≡◌, ◌<◌, ◌^◌, List, [], ◌∷◌, ◌++◌, length};
+ghost use Rattle.verdict_ledger.specs.Entry.{Entry};
+ghost use Rattle.verdict_ledger.specs.Tally.{totals_of, has_bit, filter_count};
+
+use crate::link_counts::{is_class, is_copy, is_delivered, is_excess, is_out, plus};
+use vl_config::Class;
+use vl_judge::Verdict;
+
+/// The counts of all frames of a ledger. `frames` is the sum of all from `cut` to `delivered`.
+#[derive(Clone, Copy, Debug, PartialEq, Eq)]
+pub struct Totals {
+    /// All frames.
+    pub frames: u64,
+    /// Those that a filter accepts.
+    pub accepted: u64,
+    /// Those of the class `Cut`.
+    pub cut: u64,
+    /// Those of the class `Runt`.
+    pub runt: u64,
+    /// Those of the class `Oversize`.
+    pub oversize: u64,
+    /// Those of the class `Foreign`.
+    pub foreign: u64,
+    /// Those of the class `Unconfigured`.
+    pub unconfigured: u64,
+    /// Those of the class `TooLong`.
+    pub toolong: u64,
+    /// Those that policing drops.
+    pub excess: u64,
+    /// Those that integrity checking drops.
+    pub out: u64,
+    /// The second ones of pairs, which redundancy management drops.
+    pub copy: u64,
+    /// Those that are delivered.
+    pub delivered: u64,
+    /// Those that each filter accepts, by the filter's number; 0 from the number of filters on.
+    pub filters: [u64; 8],
+}
+
+impl Totals {
+    #[tactic(auto, unfolding(crate::specs::Tally::totals_of))]
+    /// The counts of no frame.
+    pub(crate) fn new() -> Totals
+        ensures { result ≡ totals_of [] }
+    {
+        Totals {
+            frames: 0,
+            accepted: 0,
+            cut: 0,
+            runt: 0,
+            oversize: 0,
+            foreign: 0,
+            unconfigured: 0,
+            toolong: 0,
+            excess: 0,
+            out: 0,
+            copy: 0,
+            delivered: 0,
+            filters: [0; 8],
+        }
+    }
+
+    /// The counts with one more frame.
+    #[inline]
+    pub(crate) fn with(&self, verdict: &Verdict, keep: Option<u32>, mask: u8) -> Totals
+        ensures { (entries : List Entry) (e : Entry) → length entries < 2 ^ 34
+            → verdict.now ≡ e.verdict → keep ≡ e.keep → mask ≡ e.mask
+            → self.now ≡ totals_of entries
+            → result ≡ totals_of (entries ++ e ∷ []) }
+    {
+        let class = verdict.class;
+        Totals {
+            frames: plus(self.frames, true),
+            accepted: plus(self.accepted, keep.is_some()),
+            cut: plus(self.cut, is_class(Class::Cut, class)),
+            runt: plus(self.runt, is_class(Class::Runt, class)),
+            oversize: plus(self.oversize, is_class(Class::Oversize, class)),
+            foreign: plus(self.foreign, is_class(Class::Foreign, class)),
+            unconfigured: plus(self.unconfigured, is_class(Class::Unconfigured, class)),
+            toolong: plus(self.toolong, is_class(Class::TooLong, class)),
+            excess: plus(self.excess, is_excess(verdict)),
+            out: plus(self.out, is_out(verdict)),
+            copy: plus(self.copy, is_copy(verdict)),
+            delivered: plus(self.delivered, is_delivered(verdict)),
+            filters: filters_with(&self.filters, mask),
+        }
+    }
+}
+
+/// Is bit `filter` of the mask set?
+#[inline(always)]
+fn has_bit(filter: u32, mask: u8) -> bool
+    requires { filter < 8 }
+    ensures { result ≡ has_bit filter mask }
+{
+    (mask >> filter) & 1 == 1
+}
+
+/// The counts of filters with one more frame.
+#[inline]
+fn filters_with(counts: &[u64; 8], mask: u8) -> [u64; 8]
+    ensures { (entries : List Entry) (e : Entry) → length entries < 2 ^ 34
+        → mask ≡ e.mask → counts.now ≡ (totals_of entries).filters
+        → result ≡ (totals_of (entries ++ e ∷ [])).filters }
+{
+    [
+        plus(counts[0], has_bit(0, mask)),
+        plus(counts[1], has_bit(1, mask)),
+        plus(counts[2], has_bit(2, mask)),
+        plus(counts[3], has_bit(3, mask)),
+        plus(counts[4], has_bit(4, mask)),
+        plus(counts[5], has_bit(5, mask)),
+        plus(counts[6], has_bit(6, mask)),
+        plus(counts[7], has_bit(7, mask)),
+    ]
+}
