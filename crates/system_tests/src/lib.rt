@@ -9,6 +9,8 @@ mod frames;
 #[cfg(test)]
 mod judges;
 #[cfg(test)]
+mod ledger;
+#[cfg(test)]
 mod machine;
 #[cfg(test)]
 mod recording;

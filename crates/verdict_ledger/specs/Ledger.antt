@@ -1,7 +1,7 @@
 -- What contracts see of a ledger.
 use Rattle.std.specs.Prelude.{◌≡◌, ℕ, ◌<◌, Bool, List, slice_index_or, Result, Ok, Err}
 use Rattle.vl_config.specs.Document.{VlTable}
-use Rattle.verdict_ledger.specs.Entry.{Entry, IsEntry}
+use Rattle.verdict_ledger.specs.Entry.{Entry}
 use Rattle.verdict_ledger.specs.Tally.{totals_of, link_counts}
 use Rattle.verdict_ledger.specs.declared.fault.LedgerRefused.{LedgerRefused}
 use Rattle.verdict_ledger.specs.declared.ledger.Ledger.{Ledger}
@@ -31,10 +31,6 @@ abbrev pub finished_sink : {W : Type 0} → Result (W × Totals) (LedgerRefused 
 finished_sink (Ok finished) = finished.0
 finished_sink (Err refused) = refused.sink
 
--- an entry under the ledger's table and filters
-abbrev pub IsEntryIn : {W : Type 0} → Ledger W → Entry → Type 0
-IsEntryIn ledger e = IsEntry ledger.constant ledger.links.items ledger.filters e
-
 -- The tally of these entries. It has counts for each identifier of 16 bits.
 pub record IsTallyOf (entries : List Entry) (tally : Tally) : Type 0 where
   pub totals : tally.totals ≡ totals_of entries
@@ -42,7 +38,6 @@ pub record IsTallyOf (entries : List Entry) (tally : Tally) : Type 0 where
 
 -- The ledger has the lines of these entries, under this table and this number of filters.
 pub record StandsAfter {W : Type 0} (ledger : Ledger W) (vl_table : VlTable) (number : ℕ) (entries : List Entry) : Type 0 where
-  pub constant : ledger.constant ≡ vl_table.constant
   pub links : ledger.links.items ≡ vl_table.links
   pub filters : ledger.filters ≡ number
   pub tally : IsTallyOf entries ledger.tally

@@ -1,5 +1,5 @@
 //! The ledger: lines of frames, and then the counts.
-ghost use Rattle.std.specs.Prelude.{◌≡◌, ◌+◌, ◌<◌, ◌≤◌, ◌∷◌, ◌++◌, ◌^◌, ℕ, List, [], true, false, length, All, Ok, Err, IfOk, IfErr, OnOk, OnErr};
+ghost use Rattle.std.specs.Prelude.{◌≡◌, ◌+◌, ◌<◌, ◌≤◌, ◌∷◌, ◌++◌, ◌^◌, ℕ, List, [], true, false, length, Ok, Err, IfOk, IfErr, OnOk, OnErr};
 ghost use Rattle.vl_config.specs.Document.{VlTable};
 ghost use Rattle.verdict_ledger.specs.Entry.{Entry, entry_with, entries_of};
 ghost use Rattle.verdict_ledger.specs.Tally.{totals_of};
@@ -28,7 +28,6 @@ const HEAD: &str = "afdx-ledger 2\n";
 pub struct Ledger<W> {
     spool: Spool<W>,
     failed: bool,
-    constant: u32,
     links: Vec<Link>,
     filters: u32,
     tally: Tally,
@@ -37,7 +36,7 @@ pub struct Ledger<W> {
 
 impl<W: OutSink> Ledger<W> {
     ghost use Rattle.verdict_ledger.specs.declared.fault.LedgerFault.TheVariants.{Memory, Failed};
-    ghost use Rattle.verdict_ledger.specs.Ledger.{IsEntryIn, StandsAfter, begun_sink, finished_sink, has_failed, sink_of, totals_in};
+    ghost use Rattle.verdict_ledger.specs.Ledger.{StandsAfter, begun_sink, finished_sink, has_failed, sink_of, totals_in};
 
     #[tactic(auto, unfolding(crate::specs::Text::ledger_head))]
     /// Writes the first line of the ledger of a table, for 1 to 8 filters.
@@ -75,7 +74,6 @@ impl<W: OutSink> Ledger<W> {
             Ok(()) => Ok(Ledger {
                 spool: Spool::new(sink, Vec::new(alloc)),
                 failed: false,
-                constant: config.constant(),
                 links,
                 filters,
                 tally,
@@ -87,8 +85,9 @@ impl<W: OutSink> Ledger<W> {
         }
     }
 
-    /// Writes the line of a frame, and counts it. The caller says how many bytes are kept of a frame
-    /// that a filter accepts, and by a mask which filters do.
+    /// Writes the line of a frame, and counts it. `verdict` is its verdict under the ledger's table,
+    /// `keep` how many of its captured bytes are kept, where a filter accepts it, and bit i of `mask` is
+    /// set where filter i does. A ledger has at most 2^34 lines.
     ///
     /// # Errors
     ///
@@ -101,8 +100,7 @@ impl<W: OutSink> Ledger<W> {
         keep: Option<u32>,
         mask: u8,
     ) -> Result<(), LedgerFault>
-        requires entry { IsEntryIn self.old (entry_with frame.now verdict.now keep mask) }
-        requires room { (totals_in self.old).frames < 2 ^ 34 }
+        requires { (totals_in self.old).frames < 2 ^ 34 }
         ensures written { has_failed self.old ≡ false → IsAppended (fault_of result)
             (W.contents (sink_of self.old)) (W.contents (sink_of self.new))
             (W.failures (sink_of self.old)) (W.failures (sink_of self.new))
@@ -155,8 +153,6 @@ impl<W: OutSink> Ledger<W> {
         requires verdicts { length verdicts.now ≡ length frames.now }
         requires keeps { length keeps.now ≡ length frames.now }
         requires masks { length masks.now ≡ length frames.now }
-        requires entries { All (IsEntryIn self.old)
-            (entries_of frames.now verdicts.now keeps.now masks.now) }
         requires room { (totals_in self.old).frames + length frames.now ≤ 2 ^ 34 }
         ensures written { has_failed self.old ≡ false → IsAppended (fault_of result)
             (W.contents (sink_of self.old)) (W.contents (sink_of self.new))
@@ -223,7 +219,6 @@ impl<W: OutSink> Ledger<W> {
         let Ledger {
             mut spool,
             failed,
-            constant: _,
             links,
             filters,
             tally,
@@ -250,7 +245,6 @@ impl<W: OutSink> Ledger<W> {
         let Ledger {
             spool,
             failed: _,
-            constant: _,
             links: _,
             filters: _,
             tally: _,

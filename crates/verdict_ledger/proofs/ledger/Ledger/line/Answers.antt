@@ -4,8 +4,7 @@ use Rattle.verdict_ledger.proofs.ledger.Ledger.line.Goals as goal
 
 pub returns-in-Ok-clause-counted : goal.returns-in-Ok-clause-counted
 returns-in-Ok-clause-counted g c = λ vl_table filters entries stands. record {
-  constant = stands.constant;
   links = stands.links;
   filters = stands.filters;
-  tally = c.count.ensures entries (omega (arith, c.requires.room, frames_of entries c.args.self.now.tally.totals stands.tally.totals)) stands.tally;
+  tally = c.count.ensures entries (omega (arith, c.requires, frames_of entries c.args.self.now.tally.totals stands.tally.totals)) stands.tally;
 }

@@ -4,7 +4,6 @@ use Rattle.verdict_ledger.proofs.ledger.Ledger.round.Goals as goal
 
 pub returns-in-Ok-clause-counted : goal.returns-in-Ok-clause-counted
 returns-in-Ok-clause-counted g c = λ vl_table filters entries stands. record {
-  constant = stands.constant;
   links = stands.links;
   filters = stands.filters;
   tally = c.count_round.ensures entries (omega (arith, c.requires.room, frames_of entries c.args.self.now.tally.totals stands.tally.totals)) stands.tally;

@@ -1,0 +1,86 @@
+//! Sinks that fail: the ledger has a prefix of its text, and every later call writes nothing.
+
+use crate::ledger::{ONE_FILTER, ONE_LINK, TWO_TAPS, add_line, judge_next, two_taps};
+use crate::support::SOUND;
+use pcap_io::{Ending, MemSink, Script};
+use std::process::Abort;
+use std::test::Fail;
+use verdict_ledger::{Ledger, LedgerFault};
+use vl_config::Config;
+use vl_judge::Lanes;
+
+/// Writes the ledger of two taps to a sink that fails after `most` bytes, and gives what it took.
+fn written(rt: &(impl Abort + AllocGlobal), config: &Config, most: usize) -> Result<MemSink, Fail> {
+    let script = Script { most, ..SOUND };
+    let mut lanes = Lanes::new(rt.alloc(), config)?;
+    let mut ledger = match Ledger::begin(rt.alloc(), config, 1, MemSink::new(rt.alloc(), script)?) {
+        Ok(ledger) => ledger,
+        Err(refused) => {
+            assert_eq!(rt; refused.fault, LedgerFault::Device);
+            return Ok(refused.sink);
+        }
+    };
+    let mut failed = false;
+    for (frame, accepted) in two_taps(rt.alloc(), ONE_FILTER)? {
+        let verdict = judge_next(rt, &mut lanes, &frame);
+        let before = ledger.totals().frames;
+        match add_line(rt, &mut ledger, &frame, &verdict, accepted) {
+            Ok(()) => assert_eq!(rt; ledger.totals().frames, before.saturating_add(1)),
+            Err(fault) if failed => assert_eq!(rt; fault, LedgerFault::Failed),
+            Err(fault) => {
+                assert_eq!(rt; fault, LedgerFault::Device);
+                failed = true;
+            }
+        }
+    }
+    match ledger.finish(Ending::Clean(2), Ending::Clean(1)) {
+        Ok((sink, _)) => Ok(sink),
+        Err(refused) if failed => {
+            assert_eq!(rt; refused.fault, LedgerFault::Failed);
+            Ok(refused.sink)
+        }
+        Err(refused) => {
+            assert_eq!(rt; refused.fault, LedgerFault::Device);
+            Ok(refused.sink)
+        }
+    }
+}
+
+#[test]
+fn a_sink_that_fails_after_each_byte(rt: HostRuntime) -> Result<(), Fail> {
+    let config = Config::read(rt.alloc(), ONE_LINK)?;
+    for most in 0..=TWO_TAPS.len() {
+        let sink = written(&rt, &config, most)?;
+        assert_eq!(rt; sink.taken(), &TWO_TAPS.as_bytes()[..most]);
+    }
+    Ok(())
+}
+
+#[test]
+fn a_sink_of_single_bytes_that_misses_one(rt: HostRuntime) -> Result<(), Fail> {
+    let config = Config::read(rt.alloc(), ONE_LINK)?;
+    let script = Script {
+        piece: 1,
+        most: 4096,
+        miss: Some(20),
+    };
+    let mut lanes = Lanes::new(rt.alloc(), &config)?;
+    let Ok(mut ledger) = Ledger::begin(rt.alloc(), &config, 1, MemSink::new(rt.alloc(), script)?)
+    else {
+        return Err("the ledger wasn't begun".into());
+    };
+    let mut first = true;
+    for (frame, accepted) in two_taps(rt.alloc(), ONE_FILTER)? {
+        let verdict = judge_next(&rt, &mut lanes, &frame);
+        let answer = add_line(&rt, &mut ledger, &frame, &verdict, accepted);
+        let fault = if first {
+            LedgerFault::Device
+        } else {
+            LedgerFault::Failed
+        };
+        assert_eq!(rt; answer, Err(fault));
+        first = false;
+    }
+    assert_eq!(rt; ledger.into_sink().taken(), &TWO_TAPS.as_bytes()[..20]);
+    Ok(())
+}

@@ -1,0 +1,132 @@
+//! The most links, many lines, and rounds beside single lines.
+
+use crate::ledger::{add_line, frame_with, judge_next};
+use afdx_frame::{Network, TapFrame};
+use pcap_io::{Ending, WriteSink};
+use std::alloc::Global;
+use std::fmt::Write;
+use std::process::Abort;
+use std::test::Fail;
+use std::time::Instant;
+use verdict_ledger::Ledger;
+use vl_config::Config;
+use vl_judge::{Lanes, Verdict};
+
+/// The lists that a round of the ledger takes.
+#[derive(Drop)]
+struct Round {
+    frames: Vec<TapFrame>,
+    verdicts: Vec<Verdict>,
+    keeps: Vec<Option<u32>>,
+    masks: Vec<u8>,
+}
+
+/// A table of 4096 links, whose identifiers are 16 apart.
+fn table_of(alloc: Global) -> Result<String, Fail> {
+    let mut table = String::new(alloc);
+    table.push_str("constant = 50331648\n")?;
+    for link in 0..4096u32 {
+        let id = link * 16;
+        write!(
+            table,
+            "[[link]]\nid = {id}\nname = \"link-{id}\"\nbag_ms = 1\njitter_us = 0\nsmax = 200\n\
+             integrity = true\nredundancy = true\nskew_us = 0\n"
+        )?;
+    }
+    Ok(table)
+}
+
+/// Frames of all links in turn, 1 us apart, with their verdicts; each third is accepted.
+fn round_of(rt: &(impl Abort + AllocGlobal), config: &Config, len: u32) -> Result<Round, Fail> {
+    let mut lanes = Lanes::new(rt.alloc(), config)?;
+    let mut round = Round {
+        frames: Vec::with_capacity(rt.alloc(), len as usize)?,
+        verdicts: Vec::with_capacity(rt.alloc(), len as usize)?,
+        keeps: Vec::with_capacity(rt.alloc(), len as usize)?,
+        masks: Vec::with_capacity(rt.alloc(), len as usize)?,
+    };
+    for place in 0..len {
+        let [_, _, high, low] = (place % 4096 * 16).to_be_bytes();
+        let mut bytes = Vec::with_capacity(rt.alloc(), 60)?;
+        bytes.extend_from_slice(&[3, 0, 0, 0, high, low])?;
+        bytes.resize(60, 0)?;
+        let network = if place % 2 == 0 {
+            Network::A
+        } else {
+            Network::B
+        };
+        let frame = frame_with(
+            network,
+            u64::from(place),
+            u64::from(place) * 1000,
+            60,
+            bytes,
+        )?;
+        round.verdicts.push(judge_next(rt, &mut lanes, &frame))?;
+        round.frames.push(frame)?;
+        round
+            .keeps
+            .push(if place % 3 == 0 { Some(60) } else { None })?;
+        round.masks.push(u8::from(place % 3 == 0))?;
+    }
+    Ok(round)
+}
+
+/// Writes the round to a ledger that isn't full.
+fn add_round(
+    rt: &impl Abort,
+    ledger: &mut Ledger<WriteSink<Vec<u8>>>,
+    round: &Round,
+) -> Result<(), Fail> {
+    assert!(rt; round.verdicts.len() == round.frames.len());
+    assert!(rt; round.keeps.len() == round.frames.len());
+    assert!(rt; round.masks.len() == round.frames.len());
+    assert!(rt; ledger.totals().frames < 1 << 33 && round.frames.len() < 1 << 33);
+    Ok(ledger.round(&round.frames, &round.verdicts, &round.keeps, &round.masks)?)
+}
+
+fn begun(alloc: Global, config: &Config) -> Result<Ledger<WriteSink<Vec<u8>>>, Fail> {
+    match Ledger::begin(alloc, config, 1, WriteSink::new(Vec::new(alloc))) {
+        Ok(ledger) => Ok(ledger),
+        Err(refused) => Err(refused.fault.into()),
+    }
+}
+
+fn finished(ledger: Ledger<WriteSink<Vec<u8>>>) -> Result<Vec<u8>, Fail> {
+    match ledger.finish(Ending::Clean(50_000), Ending::Clean(50_000)) {
+        Ok((sink, _)) => Ok(sink.into_writer()),
+        Err(refused) => Err(refused.fault.into()),
+    }
+}
+
+#[test]
+fn a_round_of_all_links_is_its_lines(rt: HostRuntime) -> Result<(), Fail> {
+    let config = Config::read(rt.alloc(), &table_of(rt.alloc())?)?;
+    let round = round_of(&rt, &config, 100_000)?;
+    let mut by_round = begun(rt.alloc(), &config)?;
+    let start = Instant::now(&rt)?;
+    add_round(&rt, &mut by_round, &round)?;
+    let took = start.elapsed(&rt)?;
+    println!(rt;
+        "a round of 100000 lines: {} ns a line",
+        took.as_nanos() / 100_000
+    )?;
+    let mut by_lines = begun(rt.alloc(), &config)?;
+    for place in 0..round.frames.len() {
+        let accepted = (round.keeps[place], round.masks[place]);
+        add_line(
+            &rt,
+            &mut by_lines,
+            &round.frames[place],
+            &round.verdicts[place],
+            accepted,
+        )?;
+    }
+    assert_eq!(rt; by_lines.totals(), by_round.totals());
+    assert_eq!(rt; by_round.totals().frames, 100_000);
+    assert_eq!(rt; by_round.totals().filters, [33_334, 0, 0, 0, 0, 0, 0, 0]);
+    let (round_text, line_text) = (finished(by_round)?, finished(by_lines)?);
+    assert!(rt; round_text == line_text);
+    assert!(rt; round_text.len() > 4_000_000);
+    Ok(())
+}
