@@ -1,0 +1,296 @@
+-- The queue and the map of one tap's pending frames.
+use Rattle.std.proofs.Common.{◌≡◌, ℕ, zero, suc, ◌+◌, ◌-◌, ◌^◌, ◌<◌, ◌≤◌, min, Bool, true, false, cond, List, [], ◌∷◌, ◌++◌, Option, Some, None, length, drop, take, get_or, count_by, slice_get, refl, sym, ap, ◌∙◌, subst, arith, Bor}
+use Rattle.std.proofs.lemmas.Bool.{cond_both, false≢true, ltb-false, le-ltb}
+use Rattle.std.proofs.lemmas.Cmp.{ranked}
+use Rattle.std.proofs.lemmas.List.Sums.{sum_by-cons}
+use Rattle.std.proofs.lemmas.Option.{same_Some, slice_get-get_or, slice_get_past, slice_get_read}
+use Rattle.std.specs.List.{AllByRecursion, prefix_len}
+use Rattle.std.specs.Slice.{IsItemAt}
+use Rattle.std.specs.Option.{option_copied, option_map_or, option_to_list}
+use Rattle.std.specs.Map.{values_of}
+use Rattle.std.specs.BTreeMap.{insert_entry}
+use Rattle.std.specs.Ordering.{MatchOrdering, match_ordering, nat_cmp, ordering_then, is_lt}
+use Rattle.std.specs.declared.cmp.Ordering.{Ordering}
+use Rattle.std.specs.declared.cmp.Ordering.TheVariants.{Less, Equal, Greater}
+use Rattle.afdx_frame.specs.Frame.{Frame, key_of, key_cmp, network_cmp}
+use Rattle.afdx_frame.specs.declared.key.Key.{Key}
+use Rattle.ordered_merge.specs.Order.{is_before, IsBefore, IsRising, insert_frame, insert_frames, leads}
+use Rattle.ordered_merge.specs.Buffer.{IsBuffer, buffered, IsKept, is_below, is_late}
+use Rattle.ordered_merge.proofs.Rising.{each_append, each_weaker, Differs, same_number, before_trans, before_from_not, insert_last, insert_into_first, insert_into_second, rising_insert, each_insert, each_insert_frames, leading_rest, other_rest}
+
+-- ---- what a reference lends
+
+pub item_get : {X : Type 0} (xs : List X) (i : ℕ) (r : Option (Bor X)) → IsItemAt xs i r → option_copied r ≡ slice_get xs i
+item_get xs i None h = sym (slice_get_past xs i h.3)
+item_get xs i (Some x) h = sym (slice_get_read xs (length xs) i x.now refl h.3.0 (h.3.1 x.now))
+
+-- ---- numbers that differ
+
+pub number_differs : (f g : Frame) → g.number < f.number → Differs f g
+number_differs f g lt = λ e. (let same : f.number ≡ g.number = same_number f g e in absurd (omega arith))
+
+numbers_differ : (f : Frame) (l : List Frame) → AllByRecursion (IsKept f.number) l → AllByRecursion (Differs f) l
+numbers_differ f l h = each_weaker (IsKept f.number) (Differs f) (λ g k. number_differs f g k.0) l h
+
+numbers_more : (n : ℕ) (l : List Frame) → AllByRecursion (IsKept n) l → AllByRecursion (IsKept (n + 1)) l
+numbers_more n l h = each_weaker (IsKept n) (IsKept (n + 1)) (λ g k. (omega arith, k.1)) l h
+
+-- ---- a frame that comes late
+
+abbrev Keyed : Key × Frame → Type 0
+Keyed e = e.0 ≡ key_of e.1
+
+values_chosen : (o : Ordering) (x y z : List (Key × Frame)) → (o ≡ Equal → ⊥) → values_of (match_ordering o x y z) ≡ cond (is_lt o) (values_of x) (values_of z)
+values_chosen Less x y z d = refl
+values_chosen Equal x y z d = absurd (d refl)
+values_chosen Greater x y z d = refl
+
+keyed_chosen : (o : Ordering) (x y z : List (Key × Frame)) → (o ≡ Equal → ⊥) → AllByRecursion Keyed x → AllByRecursion Keyed z → AllByRecursion Keyed (match_ordering o x y z)
+keyed_chosen Less x y z d h k = h
+keyed_chosen Equal x y z d h k = absurd (d refl)
+keyed_chosen Greater x y z d h k = k
+
+values_insert : (cmp : Key → Key → Ordering) (same : (k l : Key) → cmp k l ≡ key_cmp k l) (f : Frame) (es : List (Key × Frame)) → AllByRecursion Keyed es
+    → AllByRecursion (Differs f) (values_of es) → values_of (insert_entry cmp es (key_of f) f) ≡ insert_frame f (values_of es)
+values_insert cmp same f [] keyed d = refl
+values_insert cmp same f (e ∷ es) keyed d =
+    let is : cmp (key_of f) e.0 ≡ key_cmp (key_of f) (key_of e.1) = same (key_of f) e.0 ∙ ap (key_cmp (key_of f)) keyed.0 in
+    ap (λ (o : Ordering). values_of (match_ordering o ((key_of f, f) ∷ e ∷ es) ((e.0, f) ∷ es) (e ∷ insert_entry cmp es (key_of f) f))) is
+    ∙ values_chosen (key_cmp (key_of f) (key_of e.1)) ((key_of f, f) ∷ e ∷ es) ((e.0, f) ∷ es) (e ∷ insert_entry cmp es (key_of f) f) d.0
+    ∙ ap (λ (l : List Frame). cond (is_before f e.1) (f ∷ e.1 ∷ values_of es) (e.1 ∷ l)) (values_insert cmp same f es keyed.1 d.1)
+
+keyed_insert : (cmp : Key → Key → Ordering) (same : (k l : Key) → cmp k l ≡ key_cmp k l) (f : Frame) (es : List (Key × Frame)) → AllByRecursion Keyed es
+    → AllByRecursion (Differs f) (values_of es) → AllByRecursion Keyed (insert_entry cmp es (key_of f) f)
+keyed_insert cmp same f [] keyed d = (refl, tt)
+keyed_insert cmp same f (e ∷ es) keyed d =
+    let is : key_cmp (key_of f) (key_of e.1) ≡ cmp (key_of f) e.0 = sym (same (key_of f) e.0 ∙ ap (key_cmp (key_of f)) keyed.0) in
+    let P : Ordering → Type 0 = λ o. AllByRecursion Keyed (match_ordering o ((key_of f, f) ∷ e ∷ es) ((e.0, f) ∷ es) (e ∷ insert_entry cmp es (key_of f) f)) in
+    subst P is
+    (keyed_chosen (key_cmp (key_of f) (key_of e.1)) ((key_of f, f) ∷ e ∷ es) ((e.0, f) ∷ es) (e ∷ insert_entry cmp es (key_of f) f) d.0
+    (refl, keyed) (keyed.0, keyed_insert cmp same f es keyed.1 d.1))
+
+pub late_frames : (cmp : Key → Key → Ordering) (same : (k l : Key) → cmp k l ≡ key_cmp k l) (queue : List Frame) (late : List (Key × Frame)) (f : Frame)
+    → IsBuffer queue late f.number → buffered queue (insert_entry cmp late (key_of f) f) ≡ insert_frame f (buffered queue late)
+late_frames cmp same queue late f b =
+    let d = numbers_differ f (values_of late) b.late_kept in
+    ap (λ (l : List Frame). insert_frames l queue) (values_insert cmp same f late b.keyed d)
+    ∙ insert_into_first f (values_of late) queue d
+
+pub late_buffer : (cmp : Key → Key → Ordering) (same : (k l : Key) → cmp k l ≡ key_cmp k l) (queue : List Frame) (late : List (Key × Frame)) (f : Frame)
+    → f.stamp < 2 ^ 63 → IsBuffer queue late f.number → IsBuffer queue (insert_entry cmp late (key_of f) f) (f.number + 1)
+late_buffer cmp same queue late f fits b =
+    let d = numbers_differ f (values_of late) b.late_kept in
+    let all = each_insert_frames (Differs f) (values_of late) queue d (numbers_differ f queue b.queue_kept) in
+    let values = values_insert cmp same f late b.keyed d in
+    record {
+      queue_rises = b.queue_rises;
+      late_rises = subst IsRising (sym values) (rising_insert f (values_of late) b.late_rises d);
+      rises = subst IsRising (sym (late_frames cmp same queue late f b)) (rising_insert f (buffered queue late) b.rises all);
+      keyed = keyed_insert cmp same f late b.keyed d;
+      queue_kept = numbers_more f.number queue b.queue_kept;
+      late_kept = subst (AllByRecursion (IsKept (f.number + 1))) (sym values)
+          (each_insert (IsKept (f.number + 1)) f (values_of late) (omega arith, fits) (numbers_more f.number (values_of late) b.late_kept));
+    }
+
+-- ---- a frame that comes in order
+
+rising_append : (l : List Frame) (f : Frame) → IsRising l → AllByRecursion (λ g. IsBefore g f) l → IsRising (l ++ f ∷ [])
+rising_append [] f r h = (tt, tt)
+rising_append (g ∷ l) f r h = (each_append (IsBefore g) l (f ∷ []) r.0 (h.0, tt), rising_append l f r.1 h.1)
+
+below_last : (g : Frame) (l : List Frame) (f last : Frame) → IsRising (g ∷ l) → last ≡ get_or (g ∷ l) (length l) last → IsBefore last f
+    → AllByRecursion (λ h. IsBefore h f) (g ∷ l)
+below_last g [] f last r e b = (subst (λ (h : Frame). IsBefore h f) e b, tt)
+below_last g (h ∷ l) f last r e b =
+    let rest = below_last h l f last r.1 e b in
+    (before_trans g h f r.0.0 rest.0, rest)
+
+number_of_last : (g : Frame) (l : List Frame) (f last : Frame) → AllByRecursion (IsKept f.number) (g ∷ l) → last ≡ get_or (g ∷ l) (length l) last → last.number < f.number
+number_of_last g [] f last h e = subst (λ (x : Frame). x.number < f.number) (sym e) h.0.0
+number_of_last g (k ∷ l) f last h e = number_of_last k l f last h.1 e
+
+get_or_same : {X : Type 0} (xs : List X) (i : ℕ) (d e : X) → i < length xs → get_or xs i d ≡ get_or xs i e
+get_or_same xs i d e h = same_Some (get_or xs i d) (get_or xs i e) (sym (slice_get-get_or xs i d h) ∙ slice_get-get_or xs i e h)
+
+pub in_order : (queue : List Frame) (f : Frame) → IsRising queue → AllByRecursion (IsKept f.number) queue → is_late queue f ≡ false
+    → AllByRecursion (λ g. IsBefore g f) queue
+in_order [] f r numbers t = tt
+in_order (g ∷ l) f r numbers t =
+    let at : length (g ∷ l) - 1 ≡ length l = omega arith in
+    let last = get_or (g ∷ l) (length l) g in
+    let within : length l < length (g ∷ l) = omega arith in
+    let e : last ≡ get_or (g ∷ l) (length l) last = get_or_same (g ∷ l) (length l) g last within in
+    let read : slice_get (g ∷ l) (length (g ∷ l) - 1) ≡ Some last = ap (slice_get (g ∷ l)) at ∙ slice_get-get_or (g ∷ l) (length l) g within in
+    let among : AllByRecursion (IsKept f.number) (g ∷ l) = numbers in
+    let later : is_before f last ≡ false = sym (ap (λ (o : Option Frame). option_map_or (is_before f) o false) read) ∙ t in
+    below_last g l f last r e (before_from_not f last later (number_differs f last (number_of_last g l f last among e)))
+
+pub queued_frames : (queue : List Frame) (late : List (Key × Frame)) (f : Frame) → IsBuffer queue late f.number → AllByRecursion (λ g. IsBefore g f) queue
+    → buffered (queue ++ f ∷ []) late ≡ insert_frame f (buffered queue late)
+queued_frames queue late f b h =
+    ap (insert_frames (values_of late)) (sym (insert_last f queue h))
+    ∙ insert_into_second f (values_of late) queue (numbers_differ f (values_of late) b.late_kept)
+
+pub queued_buffer : (queue : List Frame) (late : List (Key × Frame)) (f : Frame) → f.stamp < 2 ^ 63 → IsBuffer queue late f.number → AllByRecursion (λ g. IsBefore g f) queue
+    → IsBuffer (queue ++ f ∷ []) late (f.number + 1)
+queued_buffer queue late f fits b h =
+    let all = each_insert_frames (Differs f) (values_of late) queue (numbers_differ f (values_of late) b.late_kept) (numbers_differ f queue b.queue_kept) in
+    record {
+      queue_rises = rising_append queue f b.queue_rises h;
+      late_rises = b.late_rises;
+      rises = subst IsRising (sym (queued_frames queue late f b h)) (rising_insert f (buffered queue late) b.rises all);
+      keyed = b.keyed;
+      queue_kept = each_append (IsKept (f.number + 1)) queue (f ∷ []) (numbers_more f.number queue b.queue_kept) ((omega arith, fits), tt);
+      late_kept = numbers_more f.number (values_of late) b.late_kept;
+    }
+
+-- ---- how many
+
+prefix_step : (b : Bool) (n m k : ℕ) → m ≡ min n k → cond b (1 + m) 0 ≡ min (suc n) (cond b (1 + k) 0)
+prefix_step true n m k e = omega arith
+prefix_step false n m k e = omega arith
+
+pub prefix_take : {X : Type 0} (p : X → Bool) (n : ℕ) (xs : List X) → prefix_len p (take n xs) ≡ min n (prefix_len p xs)
+prefix_take p zero xs = omega arith
+prefix_take p (suc n) [] = omega arith
+prefix_take p (suc n) (x ∷ xs) = prefix_step (p x) n (prefix_len p (take n xs)) (prefix_len p xs) (prefix_take p n xs)
+
+then_less : (o p : Ordering) → ordering_then o p ≡ Less → (o ≡ Greater → ⊥)
+then_less Less p e = λ g. cc
+then_less Equal p e = λ g. cc
+then_less Greater p e = cc
+
+stamp_order : (o : Ordering) (m n : ℕ) → MatchOrdering o (m < n) (m ≡ n) (n < m) → (o ≡ Greater → ⊥) → m ≤ n
+stamp_order Less m n h d = omega arith
+stamp_order Equal m n h d = omega arith
+stamp_order Greater m n h d = absurd (d refl)
+
+pub before_stamp : (f g : Frame) → IsBefore f g → f.stamp ≤ g.stamp
+before_stamp f g e =
+    stamp_order (nat_cmp f.stamp g.stamp) f.stamp g.stamp (ranked f.stamp g.stamp (nat_cmp f.stamp g.stamp) refl)
+    (then_less (nat_cmp f.stamp g.stamp) (ordering_then (network_cmp f.network g.network) (nat_cmp f.number g.number)) e)
+
+pub count_cons : {X : Type 0} (p : X → Bool) (x : X) (xs : List X) → count_by p (x ∷ xs) ≡ cond (p x) 1 0 + count_by p xs
+count_cons p x xs = sum_by-cons (λ y. cond (p y) 1 0) x xs
+
+none_pass : {X : Type 0} (p : X → Bool) (xs : List X) → AllByRecursion (λ x. p x ≡ false) xs → count_by p xs ≡ 0
+none_pass p [] h = refl
+none_pass p (x ∷ xs) h = count_cons p x xs ∙ ap (λ (b : Bool). cond b 1 0 + count_by p xs) h.0 ∙ (let rest = none_pass p xs h.1 in omega arith)
+
+above_bound : (bound : ℕ) (f : Frame) (l : List Frame) → AllByRecursion (IsBefore f) l → is_below bound f ≡ false → AllByRecursion (λ g. is_below bound g ≡ false) l
+above_bound bound f l h t =
+    each_weaker (IsBefore f) (λ g. is_below bound g ≡ false)
+    (λ g e. (let s = before_stamp f g e in le-ltb g.stamp bound (omega (arith, ltb-false f.stamp bound t)))) l h
+
+prefix_count_step : (b : Bool) (m n : ℕ) → m ≡ n → (b ≡ false → n ≡ 0) → cond b (1 + m) 0 ≡ cond b 1 0 + n
+prefix_count_step true m n e z = omega arith
+prefix_count_step false m n e z = (let none = z refl in omega arith)
+
+pub prefix_is_count : (bound : ℕ) (l : List Frame) → IsRising l → prefix_len (is_below bound) l ≡ count_by (is_below bound) l
+prefix_is_count bound [] r = refl
+prefix_is_count bound (f ∷ l) r =
+    prefix_count_step (is_below bound f) (prefix_len (is_below bound) l) (count_by (is_below bound) l) (prefix_is_count bound l r.1)
+    (λ t. none_pass (is_below bound) l (above_bound bound f l r.0 t))
+    ∙ sym (count_cons (is_below bound) f l)
+
+pub count_insert : (p : Frame → Bool) (f : Frame) (l : List Frame) → count_by p (insert_frame f l) ≡ count_by p (f ∷ l)
+count_insert p f [] = refl
+count_insert p f (g ∷ l) =
+    cond_both (is_before f g) (f ∷ g ∷ l) (g ∷ insert_frame f l) (λ xs. count_by p xs ≡ count_by p (f ∷ g ∷ l))
+    (λ _. refl)
+    (λ _. (let a = count_cons p g (insert_frame f l) in
+    let b = count_insert p f l in
+    let d = count_cons p f l in
+    let e = count_cons p f (g ∷ l) in
+    let h = count_cons p g l in
+    omega arith))
+
+pub count_insert_frames : (p : Frame → Bool) (fs l : List Frame) → count_by p (insert_frames fs l) ≡ count_by p fs + count_by p l
+count_insert_frames p [] l = omega arith
+count_insert_frames p (f ∷ fs) l =
+    let a = count_insert p f (insert_frames fs l) in
+    let b = count_cons p f (insert_frames fs l) in
+    let d = count_insert_frames p fs l in
+    let e = count_cons p f fs in
+    omega arith
+
+pub count_both : (bound most : ℕ) (queue late : List Frame) (m n : ℕ) → IsRising queue → IsRising late → m ≡ prefix_len (is_below bound) (take most queue)
+    → n ≡ prefix_len (is_below bound) (take (most - m) late) → m + n ≡ min most (count_by (is_below bound) (insert_frames late queue))
+count_both bound most queue late m n r s e f =
+    let a = prefix_take (is_below bound) most queue in
+    let b = prefix_take (is_below bound) (most - m) late in
+    let d = prefix_is_count bound queue r in
+    let g = prefix_is_count bound late s in
+    let h = count_insert_frames (is_below bound) late queue in
+    omega arith
+
+-- ---- without the first frame
+
+first_is : {X : Type 0} (x : X) (xs : List X) (r : Option X) → x ∷ xs ≡ option_to_list r ++ xs → r ≡ Some x
+first_is x xs None e = (let sizes : length (x ∷ xs) ≡ length xs = ap length e in absurd (omega arith))
+first_is x xs (Some y) e = cc
+
+-- after one that came late is taken out
+pub late_popped : (late : List (Key × Frame)) (queue : List Frame) (r : Option Frame) → leads (values_of late) queue ≡ true
+    → values_of late ≡ option_to_list r ++ values_of (drop 1 late) → r ≡ slice_get (values_of late) 0
+late_popped [] queue r t e = absurd (false≢true t)
+late_popped (x ∷ late) queue r t e = first_is x.1 (values_of late) r e
+
+values_drop : (late : List (Key × Frame)) → values_of (drop 1 late) ≡ drop 1 (values_of late)
+values_drop [] = refl
+values_drop (x ∷ late) = refl
+
+pub late_rest : (queue : List Frame) (late : List (Key × Frame)) (n : ℕ) → IsBuffer queue late n → leads (values_of late) queue ≡ true
+    → buffered queue (drop 1 late) ≡ drop 1 (buffered queue late)
+late_rest queue late n b t =
+    ap (λ (l : List Frame). insert_frames l queue) (values_drop late) ∙ leading_rest (values_of late) queue b.late_rises b.queue_rises t
+
+each_drop : {X : Type 0} (P : X → Type 0) (xs : List X) → AllByRecursion P xs → AllByRecursion P (drop 1 xs)
+each_drop P [] h = tt
+each_drop P (x ∷ xs) h = h.1
+
+rising_drop : (l : List Frame) → IsRising l → IsRising (drop 1 l)
+rising_drop [] r = tt
+rising_drop (f ∷ l) r = r.1
+
+pub late_buffer_popped : (queue : List Frame) (late : List (Key × Frame)) (n : ℕ) → IsBuffer queue late n → leads (values_of late) queue ≡ true
+    → IsBuffer queue (drop 1 late) n
+late_buffer_popped queue late n b t = record {
+  queue_rises = b.queue_rises;
+  late_rises = subst IsRising (sym (values_drop late)) (rising_drop (values_of late) b.late_rises);
+  rises = subst IsRising (sym (late_rest queue late n b t)) (rising_drop (buffered queue late) b.rises);
+  keyed = each_drop (λ e. e.0 ≡ key_of e.1) late b.keyed;
+  queue_kept = b.queue_kept;
+  late_kept = subst (AllByRecursion (IsKept n)) (sym (values_drop late)) (each_drop (IsKept n) (values_of late) b.late_kept);
+}
+
+-- after the queue's first is taken out, if there is one
+pub queue_popped : (queue : List Frame) (r : Option Frame) → queue ≡ option_to_list r ++ drop 1 queue → r ≡ slice_get queue 0
+queue_popped [] None e = refl
+queue_popped [] (Some f) e = cc
+queue_popped (g ∷ queue) r e = first_is g queue r e
+
+pub queue_buffer_popped : (queue : List Frame) (late : List (Key × Frame)) (n : ℕ) → IsBuffer queue late n → leads (values_of late) queue ≡ false
+    → IsBuffer (drop 1 queue) late n
+queue_buffer_popped queue late n b t = record {
+  queue_rises = rising_drop queue b.queue_rises;
+  late_rises = b.late_rises;
+  rises = subst IsRising (sym (other_rest (values_of late) queue b.late_rises t)) (rising_drop (buffered queue late) b.rises);
+  keyed = b.keyed;
+  queue_kept = each_drop (IsKept n) queue b.queue_kept;
+  late_kept = b.late_kept;
+}
+
+-- ---- what is kept of each
+
+pub buffered_fit : (queue : List Frame) (late : List (Key × Frame)) (n : ℕ) → IsBuffer queue late n → AllByRecursion (λ f. f.stamp < 2 ^ 63) (buffered queue late)
+buffered_fit queue late n b =
+    each_insert_frames (λ f. f.stamp < 2 ^ 63) (values_of late) queue
+    (each_weaker (IsKept n) (λ f. f.stamp < 2 ^ 63) (λ f k. k.1) (values_of late) b.late_kept)
+    (each_weaker (IsKept n) (λ f. f.stamp < 2 ^ 63) (λ f k. k.1) queue b.queue_kept)
+
+pub buffered_numbers : (queue : List Frame) (late : List (Key × Frame)) (n : ℕ) → IsBuffer queue late n → AllByRecursion (λ f. f.number < n) (buffered queue late)
+buffered_numbers queue late n b =
+    each_insert_frames (λ f. f.number < n) (values_of late) queue
+    (each_weaker (IsKept n) (λ f. f.number < n) (λ f k. k.0) (values_of late) b.late_kept)
+    (each_weaker (IsKept n) (λ f. f.number < n) (λ f k. k.0) queue b.queue_kept)

@@ -1,0 +1,5 @@
+pub mod Buffers
+pub mod Following
+pub mod Merging
+pub mod Rising
+pub mod Soundness

@@ -1,0 +1,42 @@
+-- The pending frames of one tap: a queue of those that came in order, and a map of those that came late.
+use Rattle.std.specs.Prelude.{◌≡◌, ℕ, ◌^◌, ◌<◌, Bool, false, List, nat_lt, ◌-◌, length, slice_get}
+use Rattle.std.specs.List.{AllByRecursion}
+use Rattle.std.specs.Option.{option_map_or}
+use Rattle.std.specs.Map.{values_of}
+use Rattle.afdx_frame.specs.Frame.{Frame, key_of}
+use Rattle.afdx_frame.specs.declared.key.Key.{Key}
+use Rattle.ordered_merge.specs.Order.{is_before, IsRising, insert_frame, insert_frames}
+use Rattle.ordered_merge.specs.Merge.{Tap, tap_after}
+
+pub record BufferState : Type 0 where
+  pub tap : Tap
+  -- in order
+  pub frames : List Frame
+
+-- the frames of the queue and of the map, in order
+abbrev pub buffered : List Frame → List (Key × Frame) → List Frame
+buffered queue late = insert_frames (values_of late) queue
+
+abbrev pub pushed : BufferState → Frame → BufferState
+pushed s f = record { tap = tap_after f.stamp s.tap; frames = insert_frame f s.frames }
+
+-- The number is below the next one, and the stamp fits 63 bits, as each frame's does.
+abbrev pub IsKept : ℕ → Frame → Type 0
+IsKept next f = (f.number < next) × (f.stamp < 2 ^ 63)
+
+-- The queue and the map are in order, and each frame is under its key.
+pub record IsBuffer (queue : List Frame) (late : List (Key × Frame)) (next : ℕ) : Type 0 where
+  pub queue_rises : IsRising queue
+  pub late_rises : IsRising (values_of late)
+  pub rises : IsRising (buffered queue late)
+  pub keyed : AllByRecursion (λ e. e.0 ≡ key_of e.1) late
+  pub queue_kept : AllByRecursion (IsKept next) queue
+  pub late_kept : AllByRecursion (IsKept next) (values_of late)
+
+-- the frame's key is below that of the queue's last
+abbrev pub is_late : List Frame → Frame → Bool
+is_late queue f = option_map_or (is_before f) (slice_get queue (length queue - 1)) false
+
+-- the stamp is below the bound
+abbrev pub is_below : ℕ → Frame → Bool
+is_below bound f = nat_lt f.stamp bound
