@@ -1,3 +1,7 @@
 pub mod Accepted
 pub mod Copying
 mod Whole
+pub mod Masks
+pub mod Rounds
+pub mod Written
+pub mod TwoTaps

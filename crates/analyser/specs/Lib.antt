@@ -3,5 +3,9 @@ pub mod Capture
 pub mod Commands
 pub mod Copy
 pub mod Exit
+pub mod Filters
 pub mod Laws
 pub mod Line
+pub mod Round
+pub mod Taps
+pub mod Watch

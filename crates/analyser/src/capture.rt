@@ -69,7 +69,7 @@ fn write_accepted<W: OutSink>(
 }
 
 /// The capture's device failed.
-const CAPTURE_FAILED: WatchFault = WatchFault::Write {
+pub const CAPTURE_FAILED: WatchFault = WatchFault::Write {
     output: Output::Capture,
 };
 

@@ -17,8 +17,11 @@ mod capture;
 mod commands;
 mod exit;
 mod fault;
+mod filters;
 mod laws;
 mod message;
+mod outputs;
+mod taps;
 
 pub use arguments::{Invocation, read_arguments};
 pub use capture::{WatchRefused, capture_one};
