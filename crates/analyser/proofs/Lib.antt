@@ -5,3 +5,4 @@ pub mod Masks
 pub mod Rounds
 pub mod Written
 pub mod TwoTaps
+pub mod Writing

@@ -9,3 +9,4 @@ pub mod Line
 pub mod Round
 pub mod Taps
 pub mod Watch
+pub mod Outputs

@@ -54,6 +54,16 @@ pub enum WatchFault {
     Filters,
 }
 
+impl From<AllocError> for WatchFault {
+    ghost use Rattle.analyser.specs.declared.fault.WatchFault.TheVariants.{Memory};
+
+    ghost from_gives = { λ _ e. e ≡ Memory };
+
+    fn from(_fault: AllocError) -> WatchFault {
+        WatchFault::Memory
+    }
+}
+
 /// A fault that the program reports by a line. A numeric text or a program may be that of a numbered
 /// filter of the table; that of the command line has no number.
 #[derive(Clone, Copy, Debug)]

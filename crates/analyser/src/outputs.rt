@@ -8,13 +8,17 @@ ghost use Rattle.vl_judge.specs.Lanes.{StandsAfter};
 ghost use Rattle.vl_judge.specs.Verdicts.{verdicts};
 ghost use Rattle.std.specs.Option.{ForSome};
 ghost use Rattle.analyser.specs.Filters.{keep_by, kept_record};
+ghost use Rattle.analyser.specs.Outputs.{ledger_fault};
 ghost use Rattle.analyser.specs.Round.{AreKept, FollowsOn, packets_kept};
 
 use crate::capture::CAPTURE_FAILED;
 use crate::fault::{Output, WatchFault};
+use crate::filters::filter_round;
 use afdx_frame::TapFrame;
+use bpf_loader::Program;
 use pcap_io::{CaptureWriter, OutSink};
 use std::alloc::{AllocError, Global};
+use verdict_ledger::{Ledger, LedgerFault};
 use vl_judge::{Lanes, Verdict};
 
 /// The verdicts of a round, which follows on all that the lanes have judged.
@@ -30,6 +34,7 @@ fn judge_round(
     ensures after { OnOk result ((vl_table : VlTable) (frames : List Frame) →
         StandsAfter lanes.old vl_table frames →
         StandsAfter lanes.new vl_table (frames ++ round.now)) }
+    ensures complete { IfOk result (λ said. length said.items ≡ length round.now) }
 {
     let mut said = Vec::with_capacity(alloc, round.len())?;
     for frame in round {
@@ -80,4 +85,72 @@ fn write_packets<W: OutSink>(
         write_kept(capture, &round[place], keeps[place])?;
     }
     Ok(())
+}
+
+/// The lanes, the capture and the ledger of a run.
+#[derive(Drop)]
+pub struct Outputs<W, L> {
+    pub lanes: Lanes,
+    pub capture: CaptureWriter<W>,
+    pub ledger: Ledger<L>,
+}
+
+/// The ledger's device failed.
+pub const LEDGER_FAILED: WatchFault = WatchFault::Write {
+    output: Output::Ledger,
+};
+
+/// What a fault of the ledger is to a run.
+fn fault_of_ledger(fault: LedgerFault) -> WatchFault
+    ensures { result ≡ ledger_fault fault }
+{
+    match fault {
+        LedgerFault::Device | LedgerFault::Failed => LEDGER_FAILED,
+        LedgerFault::Memory => WatchFault::Memory,
+    }
+}
+
+impl<W: OutSink, L: OutSink> Outputs<W, L> {
+    ghost use Rattle.std.specs.Prelude.{◌+◌, ◌^◌};
+    ghost use Rattle.bpf_isa.specs.declared.packed.Packed.{Packed};
+    ghost use Rattle.verdict_ledger.specs.Ledger.{has_failed as ledger_has_failed, totals_in};
+    ghost use Rattle.analyser.specs.Outputs.{HasWritten, StopsWriting};
+    ghost use Rattle.analyser.specs.Watch.{SinkView};
+
+    /// Judges and filters a round's frames, which follow on all before, and writes their packets and
+    /// their lines.
+    pub fn write_round(
+        &mut self,
+        alloc: Global,
+        programs: &[Program],
+        round: &[TapFrame],
+    ) -> Result<(), WatchFault>
+        requires few { length programs.now ≤ 8 }
+        requires follows { FollowsOn self.old.lanes.last round.now }
+        requires room { (totals_in self.old.ledger).frames + length round.now ≤ 2 ^ 34 }
+        requires capture_going { has_failed self.old.capture ≡ false }
+        requires ledger_going { ledger_has_failed self.old.ledger ≡ false }
+        ensures written { OnOk result ((vl_table : VlTable) (capture ledger : SinkView)
+            (frames : List Frame)
+            → HasWritten W.contents W.failures L.contents L.failures
+            programs.now vl_table capture ledger frames self.old
+            → HasWritten W.contents W.failures L.contents L.failures
+            programs.now vl_table capture ledger (frames ++ round.now) self.new) }
+        ensures capture_going { OnOk result (has_failed self.new.capture ≡ false) }
+        ensures ledger_going { OnOk result (ledger_has_failed self.new.ledger ≡ false) }
+        ensures stopped { IfErr result (λ fault. (vl_table : VlTable) (capture ledger : SinkView)
+            (frames : List Frame)
+            → HasWritten W.contents W.failures L.contents L.failures
+            programs.now vl_table capture ledger frames self.old
+            → StopsWriting W.contents W.failures L.contents L.failures
+            fault programs.now vl_table capture ledger (frames ++ round.now) self.new) }
+    {
+        let verdicts = judge_round(alloc, &mut self.lanes, round)?;
+        let (keeps, masks) = filter_round(alloc, programs, round)?;
+        write_packets(&mut self.capture, round, &keeps)?;
+        match self.ledger.round(round, &verdicts, &keeps, &masks) {
+            Ok(()) => Ok(()),
+            Err(fault) => Err(fault_of_ledger(fault)),
+        }
+    }
 }

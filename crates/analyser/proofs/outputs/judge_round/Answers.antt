@@ -1,4 +1,4 @@
-use Rattle.std.proofs.Common.{◌+◌, ◌∙◌, ◌++◌, ◌∷◌, [], List, drop, sym, subst, ap, append_assoc}
+use Rattle.std.proofs.Common.{length, length-append, ◌+◌, ◌∙◌, ◌++◌, ◌∷◌, [], List, drop, sym, subst, ap, append_assoc}
 use Rattle.vl_judge.specs.Lanes.{StandsAfter}
 use Rattle.vl_judge.specs.Verdicts.{verdicts}
 use Rattle.analyser.specs.Round.{FollowsOn}
@@ -17,6 +17,7 @@ loop-frame-preserved c =
           ∙ ap (λ (said : List _). said ++ c.judge.result ∷ []) (c.loop-frame.invariant.verdicts_are vl_table frames stands)
           ∙ append_assoc (verdicts vl_table frames) c.loop-frame.said.items (c.judge.result ∷ [])
           ∙ ap (λ (said : List _). verdicts vl_table frames ++ said) (sym c.in_ok-push.ensures.items);
+      count = ap length c.in_ok-push.ensures.items ∙ length-append c.loop-frame.said.items (c.judge.result ∷ []) ∙ ap (λ n. n + 1) c.loop-frame.invariant.count;
       after = λ vl_table frames stands.
           subst (StandsAfter c.judge.new.self vl_table) (longer frames round c.loop-frame.frame-index c.frame-item.result c.loop-frame-test.true c.frame-item.is)
           (c.judge.ensures.after vl_table _ (c.loop-frame.invariant.after vl_table frames stands));
