@@ -63,7 +63,7 @@ const ROUND: usize = 256;
 impl<S: TapSource, T: TapSource> Taps<S, T> {
     ghost use Rattle.analyser.specs.Taps.{Agree, HasEnded, HasMerged, StopsMerging, work_left};
 
-    /// Merges the next item of the network that the merger wants. False: both have ended.
+    /// Merges the next item of the network whose turn it is. False: both have ended.
     fn merge_one(&mut self, alloc: Global) -> Result<bool, WatchFault>
         requires { Agree self.old }
         ensures agree { OnOk result (Agree self.new) }
