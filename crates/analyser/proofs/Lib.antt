@@ -7,3 +7,5 @@ pub mod Rounds
 pub mod Written
 pub mod TwoTaps
 pub mod Writing
+pub mod Watching
+pub mod Returned

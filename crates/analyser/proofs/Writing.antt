@@ -1,5 +1,5 @@
 -- What a round adds to the capture and to the ledger.
-use Rattle.std.proofs.Common.{◌≡◌, ℕ, suc, ◌+◌, ◌≤◌, min, Bool, true, false, List, [], ◌∷◌, ◌++◌, length, map, take, Option, Some, None, refl, sym, subst, ap, ◌∙◌, append_assoc, arith}
+use Rattle.std.proofs.Common.{◌≡◌, ℕ, suc, zero, ◌+◌, ◌≤◌, min, Bool, true, false, List, [], ◌∷◌, ◌++◌, length, map, take, Option, Some, None, refl, sym, subst, ap, ◌∙◌, append_assoc, arith}
 use Rattle.std.proofs.lemmas.List.{map-append, length-map, length-append, append-nil}
 use Rattle.std.proofs.lemmas.List.Concat.{flat_map-append}
 use Rattle.std.proofs.KnownBytes.{Appends-trans}
@@ -127,6 +127,43 @@ lines_some ps vl_table fs gs a b appended =
     let more : List Entry = entries_of gs s.0 (map (keep_by ps) gs) (map (mask_by ps) gs) in
     some_of a b (lines_by ps vl_table fs) (lines_text more) (lines_by ps vl_table (fs ++ gs)) appended
     (lines_more ps vl_table fs gs more (entries_more ps vl_table fs gs s.0 s.1))
+
+pub capture_all : (ps : List (List Packed)) (fs : List Frame) (a b : Option (List ℕ)) → Appends a b (capture_by ps fs) → AppendsSome a b (capture_by ps fs)
+capture_all ps fs a b appended = some_of a b (capture_by ps fs) [] (capture_by ps fs) appended (sym (append-nil (capture_by ps fs)))
+
+-- a prefix of a list is one of a longer list
+prefix_of_longer : (n : ℕ) (xs ys : List ℕ) → (m : ℕ) × (take m (xs ++ ys) ≡ take n xs)
+prefix_of_longer zero xs ys = (0, refl)
+prefix_of_longer (suc n) [] ys = (0, refl)
+prefix_of_longer (suc n) (x ∷ xs) ys = let p = prefix_of_longer n xs ys in (suc p.0, ap (λ (l : List ℕ). x ∷ l) p.1)
+
+some_longer : (a b : Option (List ℕ)) (bytes rest all : List ℕ) → AppendsSome a b bytes → all ≡ bytes ++ rest → AppendsSome a b all
+some_longer a b bytes rest all (n, appended) e =
+    let p = prefix_of_longer n bytes rest in (p.0, subst (Appends a b) (sym (ap (take p.0) e ∙ p.1)) appended)
+
+pub capture_longer : (ps : List (List Packed)) (fs gs : List Frame) (a b : Option (List ℕ)) → AppendsSome a b (capture_by ps fs) → AppendsSome a b (capture_by ps (fs ++ gs))
+capture_longer ps fs gs a b some = some_longer a b (capture_by ps fs) (packets_by ps gs) (capture_by ps (fs ++ gs)) some (capture_more ps fs gs)
+
+pub lines_longer : (ps : List (List Packed)) (vl_table : VlTable) (fs gs : List Frame) (a b : Option (List ℕ)) → AppendsSome a b (lines_by ps vl_table fs) →
+    AppendsSome a b (lines_by ps vl_table (fs ++ gs))
+lines_longer ps vl_table fs gs a b some =
+    let s = verdicts_some vl_table fs gs in
+    let more : List Entry = entries_of gs s.0 (map (keep_by ps) gs) (map (mask_by ps) gs) in
+    some_longer a b (lines_by ps vl_table fs) (lines_text more) (lines_by ps vl_table (fs ++ gs)) some
+    (lines_more ps vl_table fs gs more (entries_more ps vl_table fs gs s.0 s.1))
+
+-- there is an entry for each frame
+zipped_length : (fs : List Frame) (vs : List Judgement) (ks : List (Option ℕ)) (ms : List ℕ) →
+    length vs ≡ length fs → length ks ≡ length fs → length ms ≡ length fs → length (entries_of fs vs ks ms) ≡ length fs
+zipped_length [] vs ks ms v k m = refl
+zipped_length (f ∷ fs) [] ks ms v k m = absurd (omega (arith, v))
+zipped_length (f ∷ fs) (x ∷ vs) [] ms v k m = absurd (omega (arith, k))
+zipped_length (f ∷ fs) (x ∷ vs) (y ∷ ks) [] v k m = absurd (omega (arith, m))
+zipped_length (f ∷ fs) (x ∷ vs) (y ∷ ks) (z ∷ ms) v k m = ap suc (zipped_length fs vs ks ms (omega (arith, v)) (omega (arith, k)) (omega (arith, m)))
+
+pub entries_length : (ps : List (List Packed)) (vl_table : VlTable) (fs : List Frame) → length (entries_by ps vl_table fs) ≡ length fs
+entries_length ps vl_table fs =
+    zipped_length fs (verdicts vl_table fs) (map (keep_by ps) fs) (map (mask_by ps) fs) (verdicts_length vl_table fs) (length-map fs (keep_by ps)) (length-map fs (mask_by ps))
 
 -- the entries of a round, by what was said of it
 pub entries_told : (ps : List (List Packed)) (vl_table : VlTable) (fs gs : List Frame) (said vs : List Judgement) (ks : List (Option ℕ)) (ms : List ℕ) →
