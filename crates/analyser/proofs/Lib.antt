@@ -2,3 +2,10 @@ pub mod Accepted
 pub mod SourceRuns
 pub mod Copying
 mod Whole
+pub mod Masks
+pub mod Rounds
+pub mod Written
+pub mod TwoTaps
+pub mod Writing
+pub mod Watching
+pub mod Returned

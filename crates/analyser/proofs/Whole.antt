@@ -3,6 +3,7 @@ use Rattle.std.proofs.Common.{◌≡◌, ◌∙◌, ℕ, ◌^◌, List, [], ◌�
 use Rattle.std.specs.Prelude.{IfSome}
 use Rattle.std.specs.Io.KnownBytes.{Appends}
 use Rattle.afdx_frame.specs.Frame.{Frame}
+use Rattle.afdx_frame.specs.declared.key.Network.{Network}
 use Rattle.afdx_frame.specs.declared.key.Network.TheVariants as networks
 use Rattle.bpf_isa.specs.declared.packed.Packed.{Packed}
 use Rattle.pcap_io.specs.Capture.{capture_header}
@@ -44,15 +45,15 @@ has_read before after old new frames position left b reads = record {
 }
 
 -- the frames that were read up to the ending are the recording's
-complete : (before opened left : Option (List ℕ)) (layout : Layout) (frames : List Frame) (position : Position) (ending : Ending) → Opens before opened layout
-    → Reads (start_at networks.A layout (2 ^ 32) 0) opened frames position left → IsNext position left None (items.End ending)
-    → IfSome before (λ bytes. IsRecording networks.A 0 bytes frames ending)
-complete None opened left layout frames position ending opens reads ends = tt
-complete (Some bytes) opened left layout frames position ending opens reads ends = record {
+pub complete : (network : Network) (late : ℕ) (before opened left : Option (List ℕ)) (layout : Layout) (frames : List Frame) (position : Position) (ending : Ending) → Opens before opened layout
+    → Reads (start_at network layout (2 ^ 32) late) opened frames position left → IsNext position left None (items.End ending)
+    → IfSome before (λ bytes. IsRecording network late bytes frames ending)
+complete network late None opened left layout frames position ending opens reads ends = tt
+complete network late (Some bytes) opened left layout frames position ending opens reads ends = record {
   layout = layout;
   header = opens.0;
-  holds = reads_to_end (start_at networks.A layout (2 ^ 32) 0) position (drop FILE_HEADER_LEN bytes) left None frames ending (omega arith)
-      (subst (λ (x : Option (List ℕ)). Reads (start_at networks.A layout (2 ^ 32) 0) x frames position left) opens.1 reads) ends;
+  holds = reads_to_end (start_at network layout (2 ^ 32) late) position (drop FILE_HEADER_LEN bytes) left None frames ending (omega arith)
+      (subst (λ (x : Option (List ℕ)). Reads (start_at network layout (2 ^ 32) late) x frames position left) opens.1 reads) ends;
 }
 
 pub captured : (p : List Packed) (ending : Ending) (before after : Devices) (old new : Copying) → Brackets before after old new → IsCopied p ending old new
@@ -65,7 +66,7 @@ captured p ending before after old new b c =
       left = c.left;
       rest = new.reading.remaining;
       read = read;
-      complete = complete before.remaining read.opened c.left read.layout c.frames c.position ending read.opens read.reads c.ends;
+      complete = complete networks.A 0 before.remaining read.opened c.left read.layout c.frames c.position ending read.opens read.reads c.ends;
       taken = c.taken;
       gone = c.gone;
       ahead = new.unread;

@@ -3,6 +3,7 @@ use Rattle.std.specs.Prelude.{◌≡◌, ℕ, ◌+◌, ◌≤◌, ◌<◌, List,
 use Rattle.std.specs.Io.KnownBytes.{Appends}
 use Rattle.afdx_frame.specs.Frame.{Frame}
 use Rattle.afdx_frame.specs.declared.bounds.TheConstants.{MAX_SNAPLEN}
+use Rattle.afdx_frame.specs.declared.key.Network.{Network}
 use Rattle.afdx_frame.specs.declared.key.Network.TheVariants as networks
 use Rattle.bpf_isa.specs.declared.packed.Packed.{Packed}
 use Rattle.pcap_io.specs.Device.{CountsFailure, TakesAtMost}
@@ -86,7 +87,7 @@ StopsCopy p (watch.Write output.Capture) old new = StopsAtWrite p old new
 StopsCopy p watch.Memory old new = StopsAtMemory p old new
 StopsCopy p _ old new = ⊥
 
--- what it means that tap A wasn't opened
-abbrev pub open_fault : OpenFault → WatchFault
-open_fault (opening.Header fault) = watch.Header networks.A fault
-open_fault opening.Device = watch.Read networks.A
+-- what it means that a network's recording wasn't opened
+abbrev pub open_fault : Network → OpenFault → WatchFault
+open_fault network (opening.Header fault) = watch.Header network fault
+open_fault network opening.Device = watch.Read network

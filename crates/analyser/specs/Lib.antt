@@ -4,6 +4,12 @@ pub mod Capture
 pub mod Commands
 pub mod Copy
 pub mod Exit
+pub mod Filters
 pub mod Laws
 pub mod Line
 pub mod Text
+pub mod Round
+pub mod Run
+pub mod Taps
+pub mod Watch
+pub mod Outputs

@@ -19,6 +19,9 @@ use pcap_io::{
 };
 use std::alloc::Global;
 
+/// The most frames of a recording that are read.
+pub const MOST_FRAMES: u64 = 1 << 32;
+
 /// An analysis that was aborted, with the devices that it was given: its sources, where they could
 /// be had back, and its sinks.
 #[derive(Debug, Drop)]
@@ -33,6 +36,21 @@ pub struct WatchRefused<S, T, W, L> {
     pub capture: W,
     /// The sink of the ledger.
     pub ledger: L,
+}
+
+impl<S, T, W, L> WatchRefused<S, T, W, L> {
+    /// With both sources.
+    pub(crate) fn new(fault: WatchFault, a: S, b: T, capture: W, ledger: L) -> WatchRefused<S, T, W, L>
+        ensures { result ≡ record { fault = fault; a = Some a; b = Some b; capture = capture; ledger = ledger } }
+    {
+        WatchRefused {
+            fault,
+            a: Some(a),
+            b: Some(b),
+            capture,
+            ledger,
+        }
+    }
 }
 
 /// The filter's return value for a frame. It stands apart, so that the loop over its instructions has
@@ -69,7 +87,7 @@ fn write_accepted<W: OutSink>(
 }
 
 /// The capture's device failed.
-const CAPTURE_FAILED: WatchFault = WatchFault::Write {
+pub const CAPTURE_FAILED: WatchFault = WatchFault::Write {
     output: Output::Capture,
 };
 
@@ -112,18 +130,13 @@ fn copy_accepted<S: TapSource, W: OutSink>(
     }
 }
 
-/// What it means that tap A wasn't opened.
-fn fault_of_open(fault: OpenFault) -> WatchFault
-    ensures { result ≡ open_fault fault }
+/// What it means that a network's recording wasn't opened.
+pub fn fault_of_open(network: Network, fault: OpenFault) -> WatchFault
+    ensures { result ≡ open_fault network fault }
 {
     match fault {
-        OpenFault::Header(fault) => WatchFault::Header {
-            network: Network::A,
-            fault,
-        },
-        OpenFault::Device => WatchFault::Read {
-            network: Network::A,
-        },
+        OpenFault::Header(fault) => WatchFault::Header { network, fault },
+        OpenFault::Device => WatchFault::Read { network },
     }
 }
 
@@ -165,10 +178,10 @@ pub fn capture_one<S: TapSource, W: OutSink>(
         (devices_of S.remaining S.failures W.contents W.failures a refused.capture))) }
     ensures back { IfErr result (λ refused. IsSome refused.a × (refused.b ≡ None)) }
 {
-    let mut reader = match TapReader::open(source, Network::A, 1 << 32, 0) {
+    let mut reader = match TapReader::open(source, Network::A, MOST_FRAMES, 0) {
         Ok(reader) => reader,
         Err(OpenRefused { source, fault }) => {
-            return Err(refused(fault_of_open(fault), source, sink));
+            return Err(refused(fault_of_open(Network::A, fault), source, sink));
         }
     };
     let mut writer = match CaptureWriter::begin(sink) {

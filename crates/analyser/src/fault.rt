@@ -56,6 +56,16 @@ pub enum WatchFault {
     Filters,
 }
 
+impl From<AllocError> for WatchFault {
+    ghost use Rattle.analyser.specs.declared.fault.WatchFault.TheVariants.{Memory};
+
+    ghost from_gives = { λ _ e. e ≡ Memory };
+
+    fn from(_fault: AllocError) -> WatchFault {
+        WatchFault::Memory
+    }
+}
+
 /// A file, by the option that names it.
 #[derive(Clone, Copy, Debug, PartialEq, Eq)]
 pub enum FileOption {

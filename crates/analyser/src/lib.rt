@@ -19,9 +19,13 @@ mod caret;
 mod commands;
 mod exit;
 mod fault;
+mod filters;
 mod laws;
 mod message;
+mod outputs;
+mod taps;
 mod text;
+mod watch;
 
 pub use arguments::{Invocation, read_arguments};
 pub use asm::{AsmRun, asm_over, run_asm};
@@ -32,3 +36,4 @@ pub use exit::{Exit, USAGE};
 pub use fault::{Fault, FileOption, Output, WatchFault, fault_line};
 pub use laws::{capture_gives_the_accepted_frames, source_means_its_program};
 pub use message::{Note, advice};
+pub use watch::{Watched, watch_whole};

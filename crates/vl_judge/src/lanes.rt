@@ -81,6 +81,7 @@ impl Lanes {
         ensures after { (vl_table : VlTable) (frames : List Frame) →
             StandsAfter self.old vl_table frames →
             StandsAfter self.new vl_table (frames ++ frame.now ∷ []) }
+        ensures last { self.new.last ≡ Some (key_of frame.now) }
     {
         let place = self.place_of(frame);
         if place < self.lanes.len() {

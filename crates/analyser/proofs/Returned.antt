@@ -1,0 +1,212 @@
+-- What a run over two recordings leaves, once its devices are given back.
+use Rattle.std.proofs.Common.{◌≡◌, inl, inr, ℕ, List, [], ◌∷◌, Option, None, Some, refl, subst, sym, ◌∙◌}
+use Rattle.std.specs.Prelude.{IfSome}
+use Rattle.afdx_frame.specs.Frame.{Frame}
+use Rattle.afdx_frame.specs.declared.key.Network.{Network}
+use Rattle.afdx_frame.specs.declared.key.Network.TheVariants as networks
+use Rattle.bpf_isa.specs.declared.packed.Packed.{Packed}
+use Rattle.ordered_merge.specs.Merge.{Follows, MergerState}
+use Rattle.ordered_merge.proofs.Following.{follows_order}
+use Rattle.pcap_io.specs.Device.{CountsFailure}
+use Rattle.pcap_io.specs.Position.{Reading}
+use Rattle.pcap_io.specs.declared.recording.Ending.{Ending}
+use Rattle.verdict_ledger.specs.declared.totals.Totals.{Totals}
+use Rattle.vl_config.specs.Document.{VlTable}
+use Rattle.analyser.specs.Capture.{IsRecording, LeavesUnread}
+use Rattle.analyser.specs.Outputs.{IsFinished, SinkFails, StopsFinishing}
+use Rattle.analyser.specs.Run.{StopsWatching, reading_view}
+use Rattle.analyser.specs.Taps.{HasRead, ReadsPart}
+use Rattle.analyser.specs.Filters.{capture_by}
+use Rattle.analyser.specs.Watch.{AbortsRun, AppendsSome, FailsOnly, HasLines, HaveEnded, IsReadPart, IsReadWhole, IsWatched, SourceView, WatchDevices, watch_devices}
+use Rattle.analyser.specs.declared.fault.Output.TheVariants as output
+use Rattle.analyser.specs.declared.fault.WatchFault.{WatchFault}
+use Rattle.analyser.specs.declared.fault.WatchFault.TheVariants as watch
+use Rattle.analyser.proofs.TwoTaps.{part_of}
+use Rattle.analyser.proofs.Writing.{capture_all}
+use Rattle.analyser.proofs.Whole.{complete}
+
+-- ---- the sources
+
+part_given : (network : Network) (late : ℕ) (before after : SourceView) (frames : List Frame) (reading : Reading) (unread : List ℕ) →
+    ReadsPart network late before frames reading → LeavesUnread unread reading.remaining after.remaining → IsReadPart network late before after frames
+part_given network late before after frames reading unread part leaves = record {
+  position = part.position;
+  left = part.left;
+  rest = reading.remaining;
+  ahead = unread;
+  read = part.read;
+  gone = part.gone;
+  unread = leaves;
+}
+
+ended_so : (network : Network) (late : ℕ) (before : SourceView) (frames : List Frame) (ending : Ending) (reading : Reading) →
+    HasRead network late before frames (Some ending) reading → IfSome before.remaining (λ bytes. IsRecording network late bytes frames ending)
+ended_so network late before frames ending reading read =
+    complete network late before.remaining read.read.opened read.left read.read.layout frames read.position ending read.read.opens read.read.reads read.stands.here
+
+whole_given : (network : Network) (late : ℕ) (before after : SourceView) (frames : List Frame) (ending : Ending) (reading : Reading) (unread : List ℕ) →
+    HasRead network late before frames (Some ending) reading → LeavesUnread unread reading.remaining after.remaining → after.failures ≡ reading.failures →
+    IsReadWhole network late before after frames ending
+whole_given network late before after frames ending reading unread read leaves same = record {
+  part = record {
+    position = read.position;
+    left = read.left;
+    rest = reading.remaining;
+    ahead = unread;
+    read = read.read;
+    gone = read.stands.gone;
+    unread = leaves;
+  };
+  complete = ended_so network late before frames ending reading read;
+  taken = read.stands.left;
+  no_failure = same ∙ read.failures;
+}
+
+-- ---- only one device failed
+
+fails_given : (fault : WatchFault) (before mid after : WatchDevices) → FailsOnly fault before mid →
+    after.a.failures ≡ mid.a.failures → after.b.failures ≡ mid.b.failures → after.capture.failures ≡ mid.capture.failures → after.ledger.failures ≡ mid.ledger.failures →
+    FailsOnly fault before after
+fails_given (watch.Read networks.A) before mid after (a, b, c, l) sa sb sc sl = (subst (CountsFailure before.a.failures) (sym sa) a, sb ∙ b, sc ∙ c, sl ∙ l)
+fails_given (watch.Read networks.B) before mid after (a, b, c, l) sa sb sc sl = (sa ∙ a, subst (CountsFailure before.b.failures) (sym sb) b, sc ∙ c, sl ∙ l)
+fails_given (watch.Write output.Capture) before mid after (a, b, c, l) sa sb sc sl = (sa ∙ a, sb ∙ b, subst (CountsFailure before.capture.failures) (sym sc) c, sl ∙ l)
+fails_given (watch.Write output.Ledger) before mid after (a, b, c, l) sa sb sc sl = (sa ∙ a, sb ∙ b, sc ∙ c, subst (CountsFailure before.ledger.failures) (sym sl) l)
+fails_given watch.Memory before mid after (a, b, c, l) sa sb sc sl = (sa ∙ a, sb ∙ b, sc ∙ c, sl ∙ l)
+fails_given watch.Workers before mid after (a, b, c, l) sa sb sc sl = (sa ∙ a, sb ∙ b, sc ∙ c, sl ∙ l)
+fails_given (watch.Header network fault) before mid after (a, b, c, l) sa sb sc sl = (sa ∙ a, sb ∙ b, sc ∙ c, sl ∙ l)
+fails_given watch.Spawn before mid after (a, b, c, l) sa sb sc sl = (sa ∙ a, sb ∙ b, sc ∙ c, sl ∙ l)
+fails_given watch.RingLost before mid after (a, b, c, l) sa sb sc sl = (sa ∙ a, sb ∙ b, sc ∙ c, sl ∙ l)
+fails_given watch.Filters before mid after (a, b, c, l) sa sb sc sl = (sa ∙ a, sb ∙ b, sc ∙ c, sl ∙ l)
+
+-- ---- both sources came back
+
+pub with_both : {X Y : Type 0} (a : Option X) (b : Option Y) (P Q : X → Y → Type 0) → ((x : X) (y : Y) → P x y → Q x y) → IfSome a (λ x. IfSome b (λ y. P x y)) →
+    IfSome a (λ x. IfSome b (λ y. Q x y))
+with_both None b P Q f h = tt
+with_both (Some x) None P Q f h = tt
+with_both (Some x) (Some y) P Q f h = f x y h
+
+-- ---- the whole run
+
+-- the devices were given back after readers and sinks stood so
+pub record Returned (a b : Reading) (unread_a unread_b : List ℕ) (after : WatchDevices) : Type 0 where
+  pub a_left : LeavesUnread unread_a a.remaining after.a.remaining
+  pub b_left : LeavesUnread unread_b b.remaining after.b.remaining
+  pub a_failures : after.a.failures ≡ a.failures
+  pub b_failures : after.b.failures ≡ b.failures
+
+pub aborted : (fault : WatchFault) (ps : List (List Packed)) (vl_table : VlTable) (before after : WatchDevices) (a b : Reading) (unread_a unread_b : List ℕ) →
+    Returned a b unread_a unread_b after → StopsWatching fault ps vl_table before a b after.capture after.ledger → AbortsRun fault ps vl_table before after
+aborted fault ps vl_table before after a b unread_a unread_b r s = (
+  fails_given fault before (watch_devices (reading_view a) (reading_view b) after.capture after.ledger) after s.fails r.a_failures r.b_failures refl refl,
+  s.run,
+  record {
+    frames_a = s.frames_a;
+    frames_b = s.frames_b;
+    frames = s.frames;
+    read_a = part_given networks.A vl_table.late before.a after.a s.frames_a a unread_a s.read_a r.a_left;
+    read_b = part_given networks.B vl_table.late before.b after.b s.frames_b b unread_b s.read_b r.b_left;
+    order = s.order;
+    capture = s.packets;
+    ledger = s.lines;
+    wholes = s.wholes;
+  },
+)
+
+pub watched : (ps : List (List Packed)) (vl_table : VlTable) (before after : WatchDevices) (fa fb cut : List Frame) (end_a end_b : Ending) (totals : Totals)
+    (m : MergerState) (a b : Reading) (unread_a unread_b : List ℕ) → Returned a b unread_a unread_b after →
+    HasRead networks.A vl_table.late before.a fa (Some end_a) a → HasRead networks.B vl_table.late before.b fb (Some end_b) b → Follows m fa fb cut → m.pending ≡ [] →
+    IsFinished ps vl_table before.capture before.ledger after.capture after.ledger cut end_a end_b totals →
+    IsWatched ps vl_table (end_a ∷ end_b ∷ []) totals before after
+watched ps vl_table before after fa fb cut end_a end_b totals m a b unread_a unread_b r read_a read_b follows none f = record {
+  a = end_a;
+  b = end_b;
+  endings_are = refl;
+  frames_a = fa;
+  frames_b = fb;
+  frames = cut;
+  read_a = whole_given networks.A vl_table.late before.a after.a fa end_a a unread_a read_a r.a_left r.a_failures;
+  read_b = whole_given networks.B vl_table.late before.b after.b fb end_b b unread_b read_b r.b_left r.b_failures;
+  order = follows_order m fa fb cut follows none;
+  capture = f.packets;
+  ledger = f.text;
+  totals_are = f.totals_are;
+  capture_failures = f.capture_failures;
+  ledger_failures = f.ledger_failures;
+}
+
+pub stopped_at_the_end : (fault : WatchFault) (ps : List (List Packed)) (vl_table : VlTable) (before after : WatchDevices) (fa fb cut : List Frame) (end_a end_b : Ending)
+    (m : MergerState) (a b : Reading) (unread_a unread_b : List ℕ) → Returned a b unread_a unread_b after →
+    HasRead networks.A vl_table.late before.a fa (Some end_a) a → HasRead networks.B vl_table.late before.b fb (Some end_b) b → Follows m fa fb cut → m.pending ≡ [] →
+    StopsFinishing fault ps vl_table before.capture before.ledger after.capture after.ledger cut end_a end_b →
+    AbortsRun fault ps vl_table before after
+stopped_at_the_end fault ps vl_table before after fa fb cut end_a end_b m a b unread_a unread_b r read_a read_b follows none s = by fault s.fails
+  where
+    sound_a : after.a.failures ≡ before.a.failures
+    sound_a = r.a_failures ∙ read_a.failures
+    sound_b : after.b.failures ≡ before.b.failures
+    sound_b = r.b_failures ∙ read_b.failures
+    some : AppendsSome before.capture.contents after.capture.contents (capture_by ps cut)
+    some = capture_all ps cut before.capture.contents after.capture.contents s.packets
+    lines : HasLines ps vl_table before fa fb cut after.ledger.contents
+    lines = inr (
+      end_a,
+      end_b,
+      record {
+        a_complete = ended_so networks.A vl_table.late before.a fa end_a a read_a;
+        b_complete = ended_so networks.B vl_table.late before.b fb end_b b read_b;
+      },
+      s.text,
+    )
+    by : (f : WatchFault) → SinkFails f before.capture.failures after.capture.failures before.ledger.failures after.ledger.failures → AbortsRun f ps vl_table before after
+    by (watch.Write output.Capture) fails = (
+      (sound_a, sound_b, fails.0, fails.1),
+      tt,
+      record {
+        frames_a = fa;
+        frames_b = fb;
+        frames = cut;
+        read_a = part_given networks.A vl_table.late before.a after.a fa a unread_a (part_of networks.A vl_table.late before.a fa (Some end_a) a read_a) r.a_left;
+        read_b = part_given networks.B vl_table.late before.b after.b fb b unread_b (part_of networks.B vl_table.late before.b fb (Some end_b) b read_b) r.b_left;
+        order = follows_order m fa fb cut follows none;
+        capture = some;
+        ledger = lines;
+        wholes = tt;
+      },
+    )
+    by (watch.Write output.Ledger) fails = (
+      (sound_a, sound_b, fails.0, fails.1),
+      tt,
+      record {
+        frames_a = fa;
+        frames_b = fb;
+        frames = cut;
+        read_a = part_given networks.A vl_table.late before.a after.a fa a unread_a (part_of networks.A vl_table.late before.a fa (Some end_a) a read_a) r.a_left;
+        read_b = part_given networks.B vl_table.late before.b after.b fb b unread_b (part_of networks.B vl_table.late before.b fb (Some end_b) b read_b) r.b_left;
+        order = follows_order m fa fb cut follows none;
+        capture = some;
+        ledger = lines;
+        wholes = tt;
+      },
+    )
+    by watch.Memory fails = (
+      (sound_a, sound_b, fails.0, fails.1),
+      tt,
+      record {
+        frames_a = fa;
+        frames_b = fb;
+        frames = cut;
+        read_a = part_given networks.A vl_table.late before.a after.a fa a unread_a (part_of networks.A vl_table.late before.a fa (Some end_a) a read_a) r.a_left;
+        read_b = part_given networks.B vl_table.late before.b after.b fb b unread_b (part_of networks.B vl_table.late before.b fb (Some end_b) b read_b) r.b_left;
+        order = follows_order m fa fb cut follows none;
+        capture = some;
+        ledger = lines;
+        wholes = tt;
+      },
+    )
+    by (watch.Read network) fails = absurd fails
+    by watch.Workers fails = absurd fails
+    by (watch.Header network fault) fails = absurd fails
+    by watch.Spawn fails = absurd fails
+    by watch.RingLost fails = absurd fails
+    by watch.Filters fails = absurd fails

@@ -1,0 +1,19 @@
+-- Rounds were read and written.
+use Rattle.std.proofs.Common.{ℕ}
+use Rattle.vl_config.specs.Document.{VlTable}
+use Rattle.analyser.specs.Run.{IsWatching}
+use Rattle.analyser.specs.Taps.{work_left}
+use Rattle.analyser.specs.Watch.{WatchDevices}
+use Rattle.analyser.proofs.watch.write_rounds.Given as goal
+
+abbrev pub invariant-loop-round : goal.invariant-loop-round
+invariant-loop-round g l = record {
+  watching : (vl_table : VlTable) (before : WatchDevices) →
+      IsWatching g.S.TapSource.remaining g.S.TapSource.failures g.T.TapSource.remaining g.T.TapSource.failures
+          g.W.OutSink.contents g.W.OutSink.failures g.L.OutSink.contents g.L.OutSink.failures l.programs vl_table before l.fn.taps l.fn.outputs →
+      IsWatching g.S.TapSource.remaining g.S.TapSource.failures g.T.TapSource.remaining g.T.TapSource.failures
+          g.W.OutSink.contents g.W.OutSink.failures g.L.OutSink.contents g.L.OutSink.failures l.programs vl_table before l.taps l.outputs;
+}
+
+abbrev pub decreases-loop-round : goal.decreases-loop-round
+decreases-loop-round g l = work_left l.taps

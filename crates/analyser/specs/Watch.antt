@@ -1,0 +1,217 @@
+-- What a whole run over two recordings leaves, and why it was aborted (this project's profile).
+use Rattle.std.specs.Prelude.{◌≡◌, ◌⊎◌, ℕ, ◌+◌, ◌^◌, ◌≤◌, ◌<◌, List, [], ◌∷◌, ◌++◌, length, take, Option, Err, IfSome, ⊤}
+use Rattle.std.specs.Io.KnownBytes.{Appends}
+use Rattle.afdx_frame.specs.Frame.{Frame}
+use Rattle.afdx_frame.specs.declared.bounds.TheConstants.{MAX_SNAPLEN}
+use Rattle.afdx_frame.specs.declared.key.Network.{Network}
+use Rattle.afdx_frame.specs.declared.key.Network.TheVariants.{A, B}
+use Rattle.bpf_isa.specs.declared.packed.Packed.{Packed}
+use Rattle.ordered_merge.specs.Order.{IsOrder}
+use Rattle.pcap_io.specs.Device.{CountsFailure, TakesAtMost, TakesFewer}
+use Rattle.pcap_io.specs.Layout.{header_of}
+use Rattle.pcap_io.specs.Position.{EndLeaves, Opens, Reads, start_at}
+use Rattle.pcap_io.specs.declared.layout.HeaderFault.{HeaderFault}
+use Rattle.pcap_io.specs.declared.layout.Layout.{Layout}
+use Rattle.pcap_io.specs.declared.layout.TheConstants.{FILE_HEADER_LEN}
+use Rattle.pcap_io.specs.declared.position.Position.{Position}
+use Rattle.pcap_io.specs.declared.record_header.TheConstants.{RECORD_HEADER_LEN}
+use Rattle.pcap_io.specs.declared.recording.Ending.{Ending}
+use Rattle.verdict_ledger.specs.Tally.{totals_of}
+use Rattle.verdict_ledger.specs.Text.{ledger_head, ledger_text, lines_text}
+use Rattle.verdict_ledger.specs.declared.totals.Totals.{Totals}
+use Rattle.vl_config.specs.Document.{VlTable}
+use Rattle.analyser.specs.Capture.{IsRecording, LeavesUnread}
+use Rattle.analyser.specs.Filters.{capture_by, entries_by}
+use Rattle.analyser.specs.declared.fault.Output.TheVariants as output
+use Rattle.analyser.specs.declared.fault.WatchFault.{WatchFault}
+use Rattle.analyser.specs.declared.fault.WatchFault.TheVariants as watch
+
+-- ---- what a run sees of its devices
+
+-- a recording's source: the bytes that it still gives, where they are known, and its count of failures
+pub record SourceView : Type 0 where
+  pub remaining : Option (List ℕ)
+  pub failures : ℕ
+
+-- an output's sink: the bytes that it took, where they are known, and its count of failures
+pub record SinkView : Type 0 where
+  pub contents : Option (List ℕ)
+  pub failures : ℕ
+
+pub record WatchDevices : Type 0 where
+  pub a : SourceView
+  pub b : SourceView
+  pub capture : SinkView
+  pub ledger : SinkView
+
+abbrev pub source_view : {S : Type 0} → (S → Option (List ℕ)) → (S → ℕ) → S → SourceView
+source_view remaining failures s = record { remaining = remaining s; failures = failures s }
+
+abbrev pub sink_view : {W : Type 0} → (W → Option (List ℕ)) → (W → ℕ) → W → SinkView
+sink_view contents failures w = record { contents = contents w; failures = failures w }
+
+abbrev pub watch_devices : SourceView → SourceView → SinkView → SinkView → WatchDevices
+watch_devices a b capture ledger = record { a = a; b = b; capture = capture; ledger = ledger }
+
+-- ---- how far a recording was read
+
+-- 2^32 frames are read at the most
+abbrev pub most_frames : ℕ
+most_frames = 2 ^ 32
+
+-- The bytes are a file header and then the packets of these frames, read as those of the network from number 0 on. A reader stands
+-- at `position` after them, and `left` follows.
+pub record HasReadTap (network : Network) (late : ℕ) (bytes : Option (List ℕ)) (frames : List Frame) (position : Position) (left : Option (List ℕ)) : Type 0 where
+  pub layout : Layout
+  pub opened : Option (List ℕ)
+  pub opens : Opens bytes opened layout
+  pub reads : Reads (start_at network layout most_frames late) opened frames position left
+  pub bounded : position.count ≤ most_frames
+
+-- These frames were read. No more is gone than a packet after them, and what was read ahead.
+pub record IsReadPart (network : Network) (late : ℕ) (before after : SourceView) (frames : List Frame) : Type 0 where
+  pub position : Position
+  pub left : Option (List ℕ)
+  pub rest : Option (List ℕ)
+  pub ahead : List ℕ
+  pub read : HasReadTap network late before.remaining frames position left
+  pub gone : TakesAtMost (RECORD_HEADER_LEN + MAX_SNAPLEN) left rest
+  pub unread : LeavesUnread ahead rest after.remaining
+
+-- The recording was read to its ending: these are all its frames. Of the source nothing is left after a clean or a truncated
+-- recording; after a bad one no more is gone than the header of the packet that ends it, and what was read ahead.
+pub record IsReadWhole (network : Network) (late : ℕ) (before after : SourceView) (frames : List Frame) (ending : Ending) : Type 0 where
+  pub part : IsReadPart network late before after frames
+  pub complete : IfSome before.remaining (λ bytes. IsRecording network late bytes frames ending)
+  pub taken : EndLeaves part.left part.rest ending
+  pub no_failure : after.failures ≡ before.failures
+
+-- ---- a whole run
+
+-- of frames the ledger's first line and their lines
+abbrev pub lines_by : List (List Packed) → VlTable → List Frame → List ℕ
+lines_by ps vl_table frames = ledger_head ++ lines_text (entries_by ps vl_table frames)
+
+-- the whole ledger of frames
+abbrev pub ledger_by : List (List Packed) → VlTable → List Frame → Ending → Ending → List ℕ
+ledger_by ps vl_table frames a b = ledger_text vl_table (length ps) (entries_by ps vl_table frames) a b
+
+-- Both recordings were read to their endings. The capture is that of all their frames in the one order, the ledger has a line for
+-- each, with the verdicts along that order, and the totals count them.
+pub record IsWatched (ps : List (List Packed)) (vl_table : VlTable) (endings : List Ending) (totals : Totals) (before after : WatchDevices) : Type 0 where
+  pub a : Ending
+  pub b : Ending
+  pub endings_are : endings ≡ a ∷ b ∷ []
+  pub frames_a : List Frame
+  pub frames_b : List Frame
+  pub frames : List Frame
+  pub read_a : IsReadWhole A vl_table.late before.a after.a frames_a a
+  pub read_b : IsReadWhole B vl_table.late before.b after.b frames_b b
+  pub order : IsOrder frames_a frames_b frames
+  pub capture : Appends before.capture.contents after.capture.contents (capture_by ps frames)
+  pub ledger : Appends before.ledger.contents after.ledger.contents (ledger_by ps vl_table frames a b)
+  pub totals_are : totals ≡ totals_of (entries_by ps vl_table frames)
+  pub capture_failures : after.capture.failures ≡ before.capture.failures
+  pub ledger_failures : after.ledger.failures ≡ before.ledger.failures
+
+-- ---- an aborted run
+
+-- known bytes grow by the bytes, or by a prefix of them
+abbrev pub AppendsSome : Option (List ℕ) → Option (List ℕ) → List ℕ → Type 0
+AppendsSome old new bytes = (n : ℕ) × Appends old new (take n bytes)
+
+-- Only the device that the fault names failed, if it names one, and just once.
+abbrev pub FailsOnly : WatchFault → WatchDevices → WatchDevices → Type 0
+FailsOnly (watch.Read A) before after =
+    CountsFailure before.a.failures after.a.failures × (after.b.failures ≡ before.b.failures)
+    × (after.capture.failures ≡ before.capture.failures) × (after.ledger.failures ≡ before.ledger.failures)
+FailsOnly (watch.Read B) before after =
+    (after.a.failures ≡ before.a.failures) × CountsFailure before.b.failures after.b.failures
+    × (after.capture.failures ≡ before.capture.failures) × (after.ledger.failures ≡ before.ledger.failures)
+FailsOnly (watch.Write output.Capture) before after =
+    (after.a.failures ≡ before.a.failures) × (after.b.failures ≡ before.b.failures)
+    × CountsFailure before.capture.failures after.capture.failures × (after.ledger.failures ≡ before.ledger.failures)
+FailsOnly (watch.Write output.Ledger) before after =
+    (after.a.failures ≡ before.a.failures) × (after.b.failures ≡ before.b.failures)
+    × (after.capture.failures ≡ before.capture.failures) × CountsFailure before.ledger.failures after.ledger.failures
+FailsOnly _ before after =
+    (after.a.failures ≡ before.a.failures) × (after.b.failures ≡ before.b.failures)
+    × (after.capture.failures ≡ before.capture.failures) × (after.ledger.failures ≡ before.ledger.failures)
+
+-- the bytes begin with no file header of this project, and this is the first reason; no more than a file header is gone
+abbrev pub HasHeaderFault : HeaderFault → SourceView → SourceView → Type 0
+HasHeaderFault f before after =
+    IfSome before.remaining (λ bytes. header_of bytes ≡ Err f) × TakesAtMost FILE_HEADER_LEN before.remaining after.remaining
+
+-- the source failed before it gave a whole file header
+abbrev pub FailsAtHeader : SourceView → SourceView → Type 0
+FailsAtHeader before after = TakesFewer FILE_HEADER_LEN before.remaining after.remaining
+
+-- the file header was read, and no more
+abbrev pub WasOpened : SourceView → SourceView → Type 0
+WasOpened before after = (layout : Layout) × Opens before.remaining after.remaining layout
+
+abbrev pub OutputsUntouched : WatchDevices → WatchDevices → Type 0
+OutputsUntouched before after = (after.capture ≡ before.capture) × (after.ledger ≡ before.ledger)
+
+-- The run didn't begin: there are no filters or too many, or a recording wasn't opened, that of A first. Nothing was written.
+abbrev pub StopsAtOpening : ℕ → WatchFault → WatchDevices → WatchDevices → Type 0
+StopsAtOpening filters watch.Filters before after = ((filters ≡ 0) ⊎ (8 < filters)) × (after ≡ before)
+StopsAtOpening filters (watch.Header A f) before after =
+    HasHeaderFault f before.a after.a × (after.b ≡ before.b) × OutputsUntouched before after
+StopsAtOpening filters (watch.Header B f) before after =
+    WasOpened before.a after.a × HasHeaderFault f before.b after.b × OutputsUntouched before after
+StopsAtOpening filters (watch.Read A) before after =
+    FailsAtHeader before.a after.a × (after.b ≡ before.b) × OutputsUntouched before after
+StopsAtOpening filters (watch.Read B) before after =
+    WasOpened before.a after.a × FailsAtHeader before.b after.b × OutputsUntouched before after
+StopsAtOpening filters fault before after = ⊥
+
+-- The run didn't begin: only the device that the fault names failed, if it names one.
+abbrev pub AbortsAtOpening : ℕ → WatchFault → WatchDevices → WatchDevices → Type 0
+AbortsAtOpening filters fault before after = FailsOnly fault before after × StopsAtOpening filters fault before after
+
+-- both recordings have ended so
+pub record HaveEnded (late : ℕ) (before : WatchDevices) (frames_a frames_b : List Frame) (a b : Ending) : Type 0 where
+  pub a_complete : IfSome before.a.remaining (λ bytes. IsRecording A late bytes frames_a a)
+  pub b_complete : IfSome before.b.remaining (λ bytes. IsRecording B late bytes frames_b b)
+
+-- The ledger has a prefix of the frames' lines, or of its whole text where both recordings had ended.
+abbrev pub HasLines : List (List Packed) → VlTable → WatchDevices → List Frame → List Frame → List Frame → Option (List ℕ) → Type 0
+HasLines ps vl_table before frames_a frames_b frames contents =
+    AppendsSome before.ledger.contents contents (lines_by ps vl_table frames)
+    ⊎ ((a b : Ending) × HaveEnded vl_table.late before frames_a frames_b a b × AppendsSome before.ledger.contents contents (ledger_by ps vl_table frames a b))
+
+-- Where a recording's source failed, the outputs have all that belongs to the first so many frames, and no part of a packet or a line.
+abbrev pub HasWholes : WatchFault → List (List Packed) → VlTable → List Frame → SinkView → SinkView → SinkView → SinkView → Type 0
+HasWholes (watch.Read network) ps vl_table frames capture ledger capture' ledger' =
+    (n : ℕ) × Appends capture.contents capture'.contents (capture_by ps (take n frames))
+    × Appends ledger.contents ledger'.contents (lines_by ps vl_table (take n frames))
+HasWholes fault ps vl_table frames capture ledger capture' ledger' = ⊤
+
+-- The run stopped after these frames. Each output has a prefix of what belongs to them.
+pub record StopsRun (fault : WatchFault) (ps : List (List Packed)) (vl_table : VlTable) (before after : WatchDevices) : Type 0 where
+  pub frames_a : List Frame
+  pub frames_b : List Frame
+  pub frames : List Frame
+  pub read_a : IsReadPart A vl_table.late before.a after.a frames_a
+  pub read_b : IsReadPart B vl_table.late before.b after.b frames_b
+  pub order : IsOrder frames_a frames_b frames
+  pub capture : AppendsSome before.capture.contents after.capture.contents (capture_by ps frames)
+  pub ledger : HasLines ps vl_table before frames_a frames_b frames after.ledger.contents
+  pub wholes : HasWholes fault ps vl_table frames before.capture before.ledger after.capture after.ledger
+
+-- the faults of a run that has begun
+abbrev pub IsRunFault : WatchFault → Type 0
+IsRunFault (watch.Read network) = Unit {0}
+IsRunFault (watch.Write out) = Unit {0}
+IsRunFault watch.Memory = Unit {0}
+IsRunFault fault = ⊥
+
+-- why a run that had begun was aborted, and what it leaves
+abbrev pub AbortsRun : WatchFault → List (List Packed) → VlTable → WatchDevices → WatchDevices → Type 0
+AbortsRun fault ps vl_table before after = FailsOnly fault before after × IsRunFault fault × StopsRun fault ps vl_table before after
+
+-- why a run was aborted, and what it leaves
+abbrev pub IsWatchAborted : List (List Packed) → VlTable → WatchFault → WatchDevices → WatchDevices → Type 0
+IsWatchAborted ps vl_table fault before after = AbortsAtOpening (length ps) fault before after ⊎ AbortsRun fault ps vl_table before after

@@ -1,0 +1,274 @@
+//! The outputs of a run: the capture and the ledger of rounds of frames.
+ghost use Rattle.std.specs.Prelude.{◌≡◌, ◌≤◌, ◌++◌, ℕ, List, length, map, IfErr, IfOk, OnOk, false};
+ghost use Rattle.afdx_frame.specs.Frame.{Frame};
+ghost use Rattle.pcap_io.specs.Device.{Writes};
+ghost use Rattle.pcap_io.specs.Writer.{has_failed, sink_of};
+ghost use Rattle.vl_config.specs.Document.{VlTable};
+ghost use Rattle.vl_judge.specs.Lanes.{StandsAfter};
+ghost use Rattle.vl_judge.specs.Verdicts.{verdicts};
+ghost use Rattle.std.specs.Option.{ForSome};
+ghost use Rattle.analyser.specs.Filters.{keep_by, kept_record};
+ghost use Rattle.analyser.specs.Outputs.{ledger_fault};
+ghost use Rattle.analyser.specs.Round.{AreKept, FollowsOn, packets_kept};
+
+use crate::capture::CAPTURE_FAILED;
+use crate::fault::{Output, WatchFault};
+use crate::filters::filter_round;
+use afdx_frame::TapFrame;
+use bpf_loader::Program;
+use pcap_io::{CaptureWriter, Ending, OutSink};
+use std::alloc::{AllocError, Global};
+use verdict_ledger::{Ledger, LedgerFault, LedgerRefused, Totals};
+use vl_config::Config;
+use vl_judge::{Lanes, Verdict};
+
+/// The verdicts of a round, which follows on all that the lanes have judged.
+fn judge_round(
+    alloc: Global,
+    lanes: &mut Lanes,
+    round: &[TapFrame],
+) -> Result<Vec<Verdict>, AllocError>
+    requires { FollowsOn lanes.old.last round.now }
+    ensures verdicts { IfOk result (λ said. (vl_table : VlTable) (frames : List Frame) →
+        StandsAfter lanes.old vl_table frames →
+        verdicts vl_table (frames ++ round.now) ≡ verdicts vl_table frames ++ said.items) }
+    ensures after { OnOk result ((vl_table : VlTable) (frames : List Frame) →
+        StandsAfter lanes.old vl_table frames →
+        StandsAfter lanes.new vl_table (frames ++ round.now)) }
+    ensures complete { IfOk result (λ said. length said.items ≡ length round.now) }
+{
+    let mut said = Vec::with_capacity(alloc, round.len())?;
+    for frame in round {
+        said.push(lanes.judge(frame))?;
+    }
+    Ok(said)
+}
+
+/// Writes the packet of a frame of which some bytes are kept.
+#[inline]
+fn write_kept<W: OutSink>(
+    capture: &mut CaptureWriter<W>,
+    frame: &TapFrame,
+    keep: Option<u32>,
+) -> Result<(), WatchFault>
+    requires going { has_failed capture.old ≡ false }
+    requires within { ForSome keep (λ keep. keep ≤ length frame.now.bytes) }
+    ensures written { Writes result
+        (W.contents (sink_of capture.old)) (W.contents (sink_of capture.new))
+        (W.failures (sink_of capture.old)) (W.failures (sink_of capture.new))
+        (kept_record frame.now keep) }
+    ensures going { OnOk result (has_failed capture.new ≡ false) }
+    ensures fault { IfErr result (λ fault. fault ≡ WatchFault.Write Output.Capture) }
+{
+    match keep {
+        Some(keep) => capture.put(frame, keep).map_err(|_| CAPTURE_FAILED),
+        None => Ok(()),
+    }
+}
+
+/// Writes the packets of a round's accepted frames.
+fn write_packets<W: OutSink>(
+    capture: &mut CaptureWriter<W>,
+    round: &[TapFrame],
+    keeps: &[Option<u32>],
+) -> Result<(), WatchFault>
+    requires going { has_failed capture.old ≡ false }
+    requires len { length keeps.now ≡ length round.now }
+    requires within { AreKept round.now keeps.now }
+    ensures written { Writes result
+        (W.contents (sink_of capture.old)) (W.contents (sink_of capture.new))
+        (W.failures (sink_of capture.old)) (W.failures (sink_of capture.new))
+        (packets_kept round.now keeps.now) }
+    ensures going { OnOk result (has_failed capture.new ≡ false) }
+    ensures fault { IfErr result (λ fault. fault ≡ WatchFault.Write Output.Capture) }
+{
+    for place in 0..round.len() {
+        write_kept(capture, &round[place], keeps[place])?;
+    }
+    Ok(())
+}
+
+/// The lanes, the capture and the ledger of a run.
+#[derive(Drop)]
+pub struct Outputs<W, L> {
+    pub lanes: Lanes,
+    pub capture: CaptureWriter<W>,
+    pub ledger: Ledger<L>,
+}
+
+/// The ledger's device failed.
+pub const LEDGER_FAILED: WatchFault = WatchFault::Write {
+    output: Output::Ledger,
+};
+
+/// What a fault of the ledger is to a run.
+fn fault_of_ledger(fault: LedgerFault) -> WatchFault
+    ensures { result ≡ ledger_fault fault }
+{
+    match fault {
+        LedgerFault::Device | LedgerFault::Failed => LEDGER_FAILED,
+        LedgerFault::Memory => WatchFault::Memory,
+    }
+}
+
+/// Outputs that weren't written, and why.
+#[derive(Drop)]
+pub struct Unwritten<W, L> {
+    pub fault: WatchFault,
+    pub capture: W,
+    pub ledger: L,
+}
+
+impl<W: OutSink, L: OutSink> Outputs<W, L> {
+    ghost use Rattle.std.specs.Prelude.{◌+◌, ◌^◌, []};
+    ghost use Rattle.analyser.specs.Outputs.{IsFinished, StopsFinishing};
+    ghost use Rattle.bpf_isa.specs.declared.packed.Packed.{Packed};
+    ghost use Rattle.verdict_ledger.specs.Ledger.{has_failed as ledger_has_failed, sink_of as ledger_sink, totals_in};
+    ghost use Rattle.analyser.specs.Outputs.{HasWritten, StopsWriting};
+    ghost use Rattle.analyser.specs.Watch.{SinkView, sink_view};
+
+    /// Begins the capture, and then the ledger of a table, for 1 to 8 filters. A refusal gives both
+    /// sinks back.
+    pub fn begin(
+        alloc: Global,
+        config: &Config,
+        filters: u32,
+        capture: W,
+        ledger: L,
+    ) -> Result<Outputs<W, L>, Unwritten<W, L>>
+        requires some { 1 ≤ filters }
+        requires few { filters ≤ 8 }
+        ensures written { IfOk result (λ outputs. (ps : List (List Packed)) → length ps ≡ filters
+            → HasWritten W.contents W.failures L.contents L.failures ps config.now
+            (sink_view W.contents W.failures capture) (sink_view L.contents L.failures ledger)
+            [] outputs) }
+        ensures capture_going { IfOk result (λ outputs. has_failed outputs.capture ≡ false) }
+        ensures ledger_going { IfOk result (λ outputs. ledger_has_failed outputs.ledger ≡ false) }
+        ensures stopped { IfErr result (λ e. (ps : List (List Packed))
+            → StopsWriting e.fault ps config.now
+            (sink_view W.contents W.failures capture) (sink_view L.contents L.failures ledger)
+            (sink_view W.contents W.failures e.capture)
+            (sink_view L.contents L.failures e.ledger) []) }
+    {
+        let lanes = match Lanes::new(alloc, config) {
+            Ok(lanes) => lanes,
+            Err(AllocError) => {
+                return Err(Unwritten {
+                    fault: WatchFault::Memory,
+                    capture,
+                    ledger,
+                });
+            }
+        };
+        let capture = match CaptureWriter::begin(capture) {
+            Ok(writer) => writer,
+            Err(capture) => {
+                return Err(Unwritten {
+                    fault: CAPTURE_FAILED,
+                    capture,
+                    ledger,
+                });
+            }
+        };
+        match Ledger::begin(alloc, config, filters, ledger) {
+            Ok(ledger) => Ok(Outputs {
+                lanes,
+                capture,
+                ledger,
+            }),
+            Err(LedgerRefused { sink, fault }) => Err(Unwritten {
+                fault: fault_of_ledger(fault),
+                capture: capture.finish(),
+                ledger: sink,
+            }),
+        }
+    }
+
+    /// Writes the rest of the ledger, by how both recordings ended, and gives the sinks and the counts.
+    pub fn finish(
+        self,
+        a: Ending,
+        b: Ending,
+    ) -> Result<(W, L, Totals), Unwritten<W, L>>
+        requires going { ledger_has_failed self.ledger ≡ false }
+        ensures finished { IfOk result (λ done. (ps : List (List Packed)) (vl_table : VlTable)
+            (capture ledger : SinkView) (frames : List Frame)
+            → HasWritten W.contents W.failures L.contents L.failures
+            ps vl_table capture ledger frames self
+            → IsFinished ps vl_table capture ledger (sink_view W.contents W.failures done.0)
+            (sink_view L.contents L.failures done.1) frames a b done.2) }
+        ensures stopped { IfErr result (λ e. (ps : List (List Packed)) (vl_table : VlTable)
+            (capture ledger : SinkView) (frames : List Frame)
+            → HasWritten W.contents W.failures L.contents L.failures
+            ps vl_table capture ledger frames self
+            → StopsFinishing e.fault ps vl_table capture ledger
+            (sink_view W.contents W.failures e.capture)
+            (sink_view L.contents L.failures e.ledger) frames a b) }
+    {
+        let Outputs {
+            lanes: _,
+            capture,
+            ledger,
+        } = self;
+        let capture = capture.finish();
+        match ledger.finish(a, b) {
+            Ok((ledger, totals)) => Ok((capture, ledger, totals)),
+            Err(LedgerRefused { sink, fault }) => Err(Unwritten {
+                fault: fault_of_ledger(fault),
+                capture,
+                ledger: sink,
+            }),
+        }
+    }
+
+    /// The sinks. Nothing more is written.
+    pub fn into_sinks(self) -> (W, L)
+        ensures { result ≡ (sink_of self.capture, ledger_sink self.ledger) }
+    {
+        let Outputs {
+            lanes: _,
+            capture,
+            ledger,
+        } = self;
+        (capture.finish(), ledger.into_sink())
+    }
+
+    /// Judges and filters a round's frames, which follow on all before, and writes their packets and
+    /// their lines.
+    pub fn write_round(
+        &mut self,
+        alloc: Global,
+        programs: &[Program],
+        round: &[TapFrame],
+    ) -> Result<(), WatchFault>
+        requires few { length programs.now ≤ 8 }
+        requires follows { FollowsOn self.old.lanes.last round.now }
+        requires room { (totals_in self.old.ledger).frames + length round.now ≤ 2 ^ 34 }
+        requires capture_going { has_failed self.old.capture ≡ false }
+        requires ledger_going { ledger_has_failed self.old.ledger ≡ false }
+        ensures written { OnOk result ((vl_table : VlTable) (capture ledger : SinkView)
+            (frames : List Frame)
+            → HasWritten W.contents W.failures L.contents L.failures
+            programs.now vl_table capture ledger frames self.old
+            → HasWritten W.contents W.failures L.contents L.failures
+            programs.now vl_table capture ledger (frames ++ round.now) self.new) }
+        ensures capture_going { OnOk result (has_failed self.new.capture ≡ false) }
+        ensures ledger_going { OnOk result (ledger_has_failed self.new.ledger ≡ false) }
+        ensures stopped { IfErr result (λ fault. (vl_table : VlTable) (capture ledger : SinkView)
+            (frames : List Frame)
+            → HasWritten W.contents W.failures L.contents L.failures
+            programs.now vl_table capture ledger frames self.old
+            → StopsWriting fault programs.now vl_table capture ledger
+            (sink_view W.contents W.failures (sink_of self.new.capture))
+            (sink_view L.contents L.failures (ledger_sink self.new.ledger))
+            (frames ++ round.now)) }
+    {
+        let verdicts = judge_round(alloc, &mut self.lanes, round)?;
+        let (keeps, masks) = filter_round(alloc, programs, round)?;
+        write_packets(&mut self.capture, round, &keeps)?;
+        match self.ledger.round(round, &verdicts, &keeps, &masks) {
+            Ok(()) => Ok(()),
+            Err(fault) => Err(fault_of_ledger(fault)),
+        }
+    }
+}
