@@ -358,20 +358,27 @@ def through_pipes(desk, given):
     watched(desk, "taps through pipes", TABLE, EVERY, given, given, pipes)
 
 
-def recipes(directory):
-    """The commands of docs/RECIPES.md print what stands there."""
-    os.mkdir(os.path.join(directory, "bin"))
-    os.symlink(PROGRAM, os.path.join(directory, "bin", "afdxmon"))
-    os.symlink(os.path.join(TOP, "examples"), os.path.join(directory, "examples"))
-    text = read(os.path.join(TOP, "docs", "RECIPES.md")).decode()
-    for block in text.split("```console\n$ ")[1:]:
+def commands_of(page):
+    """Each command of a page that stands with what it prints, and that."""
+    for block in read(os.path.join(TOP, page)).decode().split("```console\n$ ")[1:]:
         lines = block.split("```")[0].splitlines(keepends=True)
         count = 1
         while "".join(lines[:count]).count("'") % 2 or lines[count - 1].endswith("\\\n"):
             count += 1
-        command, printed = "".join(lines[:count]), "".join(lines[count:])
-        ran = subprocess.run(["bash", "-c", command], cwd=directory, env={**os.environ, "LC_ALL": "C"}, capture_output=True, timeout=60)
-        say(f"recipe: {lines[0].strip()}", difference(ran, SUCCESS, "", printed.encode()))
+        yield "".join(lines[:count]), "".join(lines[count:])
+
+
+def pages(directory):
+    """The commands of the docs print what stands there."""
+    os.mkdir(os.path.join(directory, "bin"))
+    os.symlink(PROGRAM, os.path.join(directory, "bin", "afdxmon"))
+    os.symlink(os.path.join(TOP, "examples"), os.path.join(directory, "examples"))
+    for page in (os.path.join("docs", "RECIPES.md"), "README.md"):
+        for command, printed in commands_of(page):
+            how = {"cwd": directory, "env": {**os.environ, "LC_ALL": "C"}, "timeout": 60}
+            ran = subprocess.run(["bash", "-c", command], stdout=subprocess.PIPE, stderr=subprocess.STDOUT, **how)
+            same = ran.stdout == printed.encode()
+            say(f"{page}: {' '.join(command.split())[:100]}", "" if same else f"printed {ran.stdout[:300]!r}")
 
 
 def cases():
@@ -385,4 +392,4 @@ def cases():
         generated(desk)
         long_pairs(desk)
         devices(desk)
-        recipes(top)
+        pages(top)
