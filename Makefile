@@ -1,11 +1,12 @@
 # afdxmon: everything that is done in this repository.
 #
-#   make demo      builds the program and runs it on the recording in examples/
+#   make demo      builds the program and runs it on the recordings of a flight in examples/
 #   make test      the gate: proves every crate from nothing, tries the must-fail edits, runs the tests, and the program
 #                  as a program
 #   make build     leaves the program at bin/afdxmon
 #   make check     every check there is: test, and with it allocations, devices' failures and borrows
-#   make bench     beside tcpdump and libpcap (needs tcpdump, libpcap-dev, gcc and python3; not part of the gate)
+#   make bench     beside tcpdump, mergecap and libpcap (needs tcpdump, wireshark-common, libpcap-dev, gcc and python3; not
+#                  part of the gate)
 #
 # The parts of make check:
 #   make program      the built program's status, lines and files, on bin/afdxmon (needs python3)

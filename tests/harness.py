@@ -1,0 +1,70 @@
+"""What the tests of the program share: running it, comparing what it leaves, and building recordings.
+
+The program is the first argument, bin/afdxmon by default.
+"""
+import os
+import random
+import struct
+import subprocess
+import sys
+
+HERE = os.path.dirname(os.path.abspath(__file__))
+TOP = os.path.dirname(HERE)
+PROGRAM = os.path.abspath(sys.argv[1] if len(sys.argv) > 1 else os.path.join(TOP, "bin", "afdxmon"))
+EVERY = "1,6 0 0 4294967295,"
+LINK5 = "4,40 0 0 4,21 0 1 5,6 0 0 4294967295,6 0 0 0,"
+FIRST_64 = "1,6 0 0 64,"
+# ld len, sub #1, tax, ldb [x + 0], jset #1, ret #-1, ret #0: an odd sequence number, the last byte of each frame
+ODD = "7,128 0 0 0,20 0 0 1,7 0 0 0,80 0 0 0,69 0 1 1,6 0 0 4294967295,6 0 0 0,"
+USAGE, FAULT, SUCCESS = 2, 1, 0
+results = {"passed": 0, "failed": 0}
+
+
+def record(stamp, data, layout="<", unit=1, original=None):
+    fields = (stamp // 10**9, stamp % 10**9 // unit, len(data), len(data) if original is None else original)
+    return struct.pack(layout + "IIII", *fields) + data
+
+
+def frame(link, size, sequence):
+    return b"\x03\0\0\0" + struct.pack(">H", link) + bytes(size - 7) + bytes([sequence])
+
+
+def header(layout="<", magic=0xA1B23C4D, version=(2, 4), link_type=1):
+    return struct.pack(layout + "IHHIIII", magic, *version, 0, 0, 262144, link_type)
+
+
+def recording(frames, layout="<", unit=1, sizes=(60, 1514)):
+    """Frames of many links, of random sizes and bytes."""
+    chance, out, stamp = random.Random(7), [header(layout, 0xA1B23C4D if unit == 1 else 0xA1B2C3D4)], 10**18
+    for i in range(frames):
+        stamp += chance.randrange(0, 5) * 1000
+        size = chance.randint(*sizes)
+        data = b"\x03\0\0\0" + struct.pack(">H", chance.randrange(8)) + chance.randbytes(size - 7) + bytes([i % 255 + 1])
+        out.append(record(stamp, data, layout, unit, size + chance.choice((0, 0, 4))))
+    return b"".join(out)
+
+
+def say(name, fault):
+    results["failed" if fault else "passed"] += 1
+    print(f"program: {name}: {'FAILED: ' + fault if fault else 'ok'}", flush=True)
+
+
+def difference(ran, status, line, out=None):
+    """How a run differs from the status, the whole of standard error and, where it is given, standard output."""
+    told = ran.stderr.decode("utf-8", "replace")
+    if ran.returncode != status:
+        return f"status {ran.returncode}, not {status}; {told!r}"
+    fits = line(told) if callable(line) else told == (line + "\n" if line else "")
+    if not fits:
+        return f"standard error is {told!r}"
+    if out is not None and ran.stdout != out:
+        return f"{len(ran.stdout or b'')} bytes on standard output, not the {len(out)} expected"
+    return ""
+
+
+def judge(name, ran, status, line, out=None):
+    say(name, difference(ran, status, line, out))
+
+
+def run(arguments, **how):
+    return subprocess.run([PROGRAM, *arguments], stderr=subprocess.PIPE, timeout=60, **how)
