@@ -118,9 +118,10 @@ fn all_links_on_both_networks(rt: HostRuntime) -> Result<(), Fail> {
     };
     let ran = run(alloc, given, scripts)?;
     match ran.outcome {
-        Ok((endings, totals)) => {
-            assert_eq!(rt; endings, [Ending::Clean(50_000), Ending::Clean(50_000)]);
-            assert_eq!(rt; totals.copy, 50_000);
+        Ok(counts) => {
+            let all = Ending::Clean(u64::from(FRAMES));
+            assert_eq!(rt; (counts.a, counts.b), (all, all));
+            assert_eq!(rt; counts.copies, u64::from(FRAMES));
         }
         Err(_) => panic!(rt; "a fault"),
     }
