@@ -5,13 +5,17 @@
 #![tactic(auto)]
 
 use analyser::{
-    AsmRun, CaptureRun, Exit, Fault, Invocation, Note, USAGE, WatchFault, advice, caret_at,
-    read_arguments, run_asm, run_capture,
+    AsmRun, CaptureRun, Exit, Fault, FileOption, Invocation, Note, USAGE, WatchArguments,
+    WatchFault, advice, caret_at, load_filters, read_arguments, read_config, read_file, run_asm,
+    run_capture, run_watch,
 };
+use bpf_loader::Program;
 use pcap_io::{ReadSource, WriteSink};
+use std::fs::File;
 use std::io;
 use std::io::{BufWriter, ErrorKind, IsTerminal, Write};
 use std::process::ExitCode;
+use vl_config::Config;
 
 /// How many bytes are handed to the system at once.
 const BLOCK: usize = 65536;
@@ -49,6 +53,78 @@ fn asm(rt: &HostRuntime) -> Exit {
     let exit = Exit::of_text(outcome, flushed);
     let _ = tell(rt, &exit, text.as_deref());
     exit
+}
+
+/// Opens a file that is read.
+fn open(rt: &HostRuntime, path: &str, file: FileOption) -> Result<ReadSource<File>, Fault> {
+    match File::open(rt, path) {
+        Ok(opened) => Ok(ReadSource::new(opened)),
+        Err(_) => Err(Fault::File(file)),
+    }
+}
+
+/// Creates a file that is written, or empties it.
+fn create(
+    rt: &HostRuntime,
+    path: &str,
+    file: FileOption,
+) -> Result<WriteSink<BufWriter<File>>, Fault> {
+    let Ok(created) = File::create(rt, path) else {
+        return Err(Fault::File(file));
+    };
+    match BufWriter::with_capacity(rt.alloc(), BLOCK, created) {
+        Ok(writer) => Ok(WriteSink::new(writer)),
+        Err(_) => Err(Fault::Watch(WatchFault::Memory)),
+    }
+}
+
+/// The text of a file.
+fn text_of(rt: &HostRuntime, path: &str, file: FileOption) -> Result<String, Fault> {
+    let mut source = open(rt, path, file)?;
+    read_file(rt.alloc(), file, &mut source)
+}
+
+/// The table, and the filters of the command line and of the table.
+fn set_up(
+    rt: &HostRuntime,
+    given: &WatchArguments<'_>,
+) -> Result<(Config, Vec<Program>), Fault> {
+    let table = text_of(rt, given.config, FileOption::Config)?;
+    let config = read_config(rt.alloc(), &table)?;
+    let code = text_of(rt, given.filter, FileOption::Filter)?;
+    let programs = load_filters(rt.alloc(), &code, &config)?;
+    Ok((config, programs))
+}
+
+/// Judges and filters the frames of two recordings. What was written before a fault is handed to the
+/// system too. An error is a fault that was met before the run.
+fn watch(rt: &HostRuntime, given: &WatchArguments<'_>) -> Result<Exit, Fault> {
+    let (config, programs) = set_up(rt, given)?;
+    let a = open(rt, given.a, FileOption::A)?;
+    let b = open(rt, given.b, FileOption::B)?;
+    let capture = create(rt, given.capture, FileOption::Capture)?;
+    let ledger = create(rt, given.ledger, FileOption::Ledger)?;
+    let run = run_watch(
+        rt.alloc(),
+        &config,
+        &programs,
+        given.workers,
+        a,
+        b,
+        capture,
+        ledger,
+    );
+    let (outcome, capture, ledger) = match run {
+        Ok(done) => (Ok(()), done.capture, done.ledger),
+        Err(refused) => (
+            Err(Fault::Watch(refused.fault)),
+            refused.capture,
+            refused.ledger,
+        ),
+    };
+    let capture_flushed = capture.into_writer().flush().is_ok();
+    let ledger_flushed = ledger.into_writer().flush().is_ok();
+    Ok(Exit::of_watch(outcome, capture_flushed, ledger_flushed))
 }
 
 /// Tells standard error how a command ended: the fault line or the note, and to a person at a terminal
@@ -101,6 +177,14 @@ fn main(rt: HostRuntime) -> ExitCode {
             ExitCode::from(exit.status())
         }
         Ok(Some(Invocation::Asm)) => ExitCode::from(asm(&rt).status()),
+        Ok(Some(Invocation::Watch(given))) => {
+            let exit = match watch(&rt, &given) {
+                Ok(exit) => exit,
+                Err(fault) => Exit::Fault(fault),
+            };
+            let _ = tell(&rt, &exit, None);
+            ExitCode::from(exit.status())
+        }
         // clap requires a command, so this is not met.
         Ok(None) => ExitCode::from(USAGE),
         Err(error) => {

@@ -9,3 +9,5 @@ pub mod TwoTaps
 pub mod Writing
 pub mod Watching
 pub mod Returned
+pub mod Loading
+pub mod Given

@@ -1,12 +1,16 @@
--- The command-line arguments (this project's profile), as clap reads it: `afdxmon capture --code <numeric text>`
--- and `afdxmon asm`.
-use Rattle.std.specs.Prelude.{◌≡◌, true, false, List, Option, Some, None, codes, if◌then◌else◌}
+-- The command-line arguments (this project's profile), as clap reads them: `afdxmon capture --code <numeric text>`, `afdxmon asm`, and
+-- `afdxmon watch` with its files and its number of workers.
+use Rattle.std.specs.Prelude.{◌≡◌, ℕ, pos, nat_lt, Bool, true, false, ◌&&◌, List, [], ◌∷◌, length, Option, Some, None, codes, option_and_then, if◌then◌else◌}
+use Rattle.std.specs.Char.{digit_value}
+use Rattle.std.specs.Str.Parse.{digits_value, without_leading_plus}
 use Rattle.std.specs.Option.{option_map}
 use Rattle.std.specs.Str.{bytes_eq}
-use Rattle.clap.specs.Words.{App, app_of, Row, Rule, Text, first_of, new_app, new_rule, subcommand_of, with_rule, with_subcommand}
+use Rattle.clap.specs.Words.{App, app_of, Row, Rule, Text, first_of, new_app, one_of, new_rule, subcommand_of, with_rule, with_subcommand}
+use Rattle.clap.specs.declared.builder.value_parser.ValueParser.TheVariants.{Signed}
 use Rattle.clap.specs.declared.builder.command.Command.{Command}
 use Rattle.clap.specs.declared.builder.command.Command.TheViews.{out-Command}
 use Rattle.clap.specs.declared.builder.action.ArgAction.TheVariants.{Set}
+use Rattle.analyser.specs.declared.arguments.WatchArguments.{WatchArguments}
 use Rattle.analyser.specs.declared.arguments.Invocation.{Invocation}
 use Rattle.analyser.specs.declared.arguments.Invocation.TheVariants as words
 
@@ -25,8 +29,32 @@ program_app =
 abbrev pub asm_app : App
 asm_app = new_app (codes "asm")
 
+-- a required option that names a file
+abbrev pub file_rule : Text → Rule
+file_rule name = record (new_rule name) { long = Some name; value_names = 1; action = Some Set; required = true }
+
+-- a number of 8 bits, 2 where it isn't given
+abbrev pub workers_rule : Rule
+workers_rule = record (new_rule (codes "workers")) {
+  long = Some (codes "workers");
+  value_names = 1;
+  action = Some Set;
+  defaults = codes "2" ∷ [];
+  parser = Some (Signed (pos 0) (pos 255));
+}
+
+abbrev pub with_file : Text → App → App
+with_file name app = with_rule app (file_rule name)
+
+abbrev pub watch_files : App → App
+watch_files app =
+    with_file (codes "ledger") (with_file (codes "capture") (with_file (codes "b") (with_file (codes "a") (with_file (codes "filter") (with_file (codes "config") app)))))
+
+unfoldable pub watch_app : App
+watch_app = with_rule (watch_files (new_app (codes "watch"))) workers_rule
+
 unfoldable pub afdxmon_app : App
-afdxmon_app = with_subcommand (with_subcommand program_app capture_app.top) asm_app.top
+afdxmon_app = with_subcommand (with_subcommand (with_subcommand program_app capture_app.top) asm_app.top) watch_app.top
 
 -- the command is that of capture
 abbrev pub IsCapture : Command → Type 0
@@ -36,22 +64,74 @@ IsCapture c = (app_of c ≡ capture_app) × ((out-Command c).has_globals ≡ fal
 abbrev pub IsAsm : Command → Type 0
 IsAsm c = (app_of c ≡ asm_app) × ((out-Command c).has_globals ≡ false)
 
+-- the command is that of watch
+abbrev pub IsWatch : Command → Type 0
+IsWatch c = (app_of c ≡ watch_app) × ((out-Command c).has_globals ≡ false)
+
+-- the files of a run over two recordings, and its number of workers
+pub record WatchWords : Type 0 where
+  pub config : Text
+  pub filter : Text
+  pub a : Text
+  pub b : Text
+  pub capture : Text
+  pub ledger : Text
+  pub workers : ℕ
+
 -- what arguments ask for
 pub data Meant : Type 0 where
   Captures : Text → Meant  -- to capture by the filter of this text
   Assembles : Meant
+  Watches : WatchWords → Meant
+
+abbrev pub are_digits : Text → Bool
+are_digits [] = true
+are_digits (c ∷ cs) = nat_lt (digit_value c) 10 && are_digits cs
+
+-- decimal digits, at least one, of a number below 256
+abbrev pub is_byte_numeral : Text → Bool
+is_byte_numeral digits = nat_lt 0 (length digits) && (are_digits digits && nat_lt (digits_value 10 digits) 256)
+
+-- the number of 8 bits that a text holds; a plus may stand first
+abbrev pub number_in : Text → Option ℕ
+number_in text =
+    if is_byte_numeral (without_leading_plus text) then Some (digits_value 10 (without_leading_plus text)) else None
+
+abbrev pub watch_with : Option Text → Option Text → Option Text → Option Text → Option Text → Option Text → Option ℕ → Option WatchWords
+watch_with (Some config) (Some filter) (Some a) (Some b) (Some capture) (Some ledger) (Some workers) =
+    Some (record { config = config; filter = filter; a = a; b = b; capture = capture; ledger = ledger; workers = workers })
+watch_with _ _ _ _ _ _ _ = None
+
+-- what the options of watch give
+abbrev pub watch_in : List Row → Option WatchWords
+watch_in rows =
+    watch_with (first_of (codes "config") rows) (first_of (codes "filter") rows) (first_of (codes "a") rows) (first_of (codes "b") rows)
+    (first_of (codes "capture") rows) (first_of (codes "ledger") rows) (option_and_then number_in (one_of (codes "workers") rows))
 
 -- by the subcommand that was met and what it was given
 abbrev pub meant_in : Option (Text × List Row) → Option Meant
 meant_in None = None
 meant_in (Some met) =
     if bytes_eq met.0 (codes "capture") then option_map Captures (first_of (codes "code") met.1)
-    else if bytes_eq met.0 (codes "asm") then Some Assembles else None
+    else if bytes_eq met.0 (codes "asm") then Some Assembles
+    else if bytes_eq met.0 (codes "watch") then option_map Watches (watch_in met.1) else None
 
 -- by the arguments, the program's name first
 abbrev pub meant_asked : List Text → Option Meant
 meant_asked texts = meant_in (subcommand_of afdxmon_app texts)
 
+abbrev pub watch_words : WatchArguments → WatchWords
+watch_words given = record {
+  config = given.config.now;
+  filter = given.filter.now;
+  a = given.a.now;
+  b = given.b.now;
+  capture = given.capture.now;
+  ledger = given.ledger.now;
+  workers = given.workers;
+}
+
 abbrev pub meant_by : Invocation → Meant
 meant_by (words.Capture code) = Captures code.now
 meant_by words.Asm = Assembles
+meant_by (words.Watch given) = Watches (watch_words given)

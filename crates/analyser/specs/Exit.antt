@@ -25,6 +25,13 @@ exit_of (Err f) flushed = exit.Fault f
 exit_of (Ok ending) true = exit_at ending
 exit_of (Ok ending) false = exit.Fault (fault.Watch (watch.Write output.Capture))
 
+-- the end of a run over two recordings, by what it came to and whether its capture and its ledger were flushed
+abbrev pub watch_exit : Result (Unit {0}) Fault → Bool → Bool → Exit
+watch_exit (Err f) capture ledger = exit.Fault f
+watch_exit (Ok done) false ledger = exit.Fault (fault.Watch (watch.Write output.Capture))
+watch_exit (Ok done) true false = exit.Fault (fault.Watch (watch.Write output.Ledger))
+watch_exit (Ok done) true true = exit.Success
+
 -- the end of a command that prints a text, by what it came to and whether its output was flushed
 abbrev pub text_exit : Result (Unit {0}) Fault → Bool → Exit
 text_exit (Err f) flushed = exit.Fault f

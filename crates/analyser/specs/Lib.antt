@@ -5,6 +5,7 @@ pub mod Commands
 pub mod Copy
 pub mod Exit
 pub mod Filters
+pub mod Inputs
 pub mod Laws
 pub mod Line
 pub mod Text

@@ -6,6 +6,8 @@ use Rattle.bpf_isa.specs.declared.numeric.fault.NumericFault.{NumericFault}
 use Rattle.bpf_isa.specs.declared.numeric.fault.NumericFault.TheVariants as numeric
 use Rattle.bpf_loader.specs.declared.fault.LoadFault.{LoadFault}
 use Rattle.bpf_loader.specs.declared.fault.LoadFault.TheVariants as load
+use Rattle.vl_config.specs.declared.fault.ConfigFault.{ConfigFault}
+use Rattle.vl_config.specs.declared.fault.ConfigFault.TheVariants as config
 use Rattle.pcap_io.specs.declared.layout.HeaderFault.{HeaderFault}
 use Rattle.pcap_io.specs.declared.layout.HeaderFault.TheVariants as header
 use Rattle.analyser.specs.declared.fault.WatchFault.{WatchFault}
@@ -19,6 +21,22 @@ use Rattle.analyser.specs.declared.fault.FileOption.{FileOption}
 use Rattle.analyser.specs.declared.fault.FileOption.TheVariants as file
 use Rattle.analyser.specs.declared.fault.Fault.{Fault}
 use Rattle.analyser.specs.declared.fault.Fault.TheVariants as fault
+
+-- where a fault of the table is: a link, or the top table
+abbrev pub place_part : Option ℕ → List ℕ
+place_part None = codes " top"
+place_part (Some link) = codes " link " ++ decimal link
+
+abbrev pub config_part : ConfigFault → List ℕ
+config_part config.Text = codes "1 Text"
+config_part (config.Missing link) = codes "2 Missing" ++ place_part link
+config_part (config.Kind link) = codes "3 Kind" ++ place_part link
+config_part (config.Range link) = codes "4 Range" ++ place_part link
+config_part (config.UnknownKey link) = codes "5 UnknownKey" ++ place_part link
+config_part (config.TwiceId link) = codes "6 TwiceId" ++ place_part link
+config_part (config.TwiceName link) = codes "7 TwiceName" ++ place_part link
+config_part config.TooMany = codes "8 TooMany"
+config_part config.Memory = codes "9 Memory"
 
 abbrev pub numeric_part : NumericFault → List ℕ
 numeric_part (numeric.Character at) = codes "1 Character at " ++ decimal at
@@ -95,6 +113,7 @@ filter_part (Some number) = codes " filter " ++ decimal number
 
 abbrev pub line_of : Fault → List ℕ
 line_of (fault.File f) = codes "afdxmon: file " ++ file_part f
+line_of (fault.Config f) = codes "afdxmon: config " ++ config_part f
 line_of (fault.Asm f) = codes "afdxmon: asm " ++ asm_part f
 line_of (fault.Numeric f filter) = codes "afdxmon: numeric " ++ numeric_part f ++ filter_part filter
 line_of (fault.Load f filter) = codes "afdxmon: load " ++ load_part f ++ filter_part filter

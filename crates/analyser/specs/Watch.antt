@@ -215,3 +215,12 @@ AbortsRun fault ps vl_table before after = FailsOnly fault before after × IsRun
 -- why a run was aborted, and what it leaves
 abbrev pub IsWatchAborted : List (List Packed) → VlTable → WatchFault → WatchDevices → WatchDevices → Type 0
 IsWatchAborted ps vl_table fault before after = AbortsAtOpening (length ps) fault before after ⊎ AbortsRun fault ps vl_table before after
+
+-- a run may have so many workers
+abbrev pub AreWorkers : ℕ → Type 0
+AreWorkers workers = (1 ≤ workers) × (workers ≤ 8)
+
+-- why a run of so many workers was aborted, and what it leaves: the number of workers is the first thing that is looked at
+abbrev pub IsRunAborted : ℕ → List (List Packed) → VlTable → WatchFault → WatchDevices → WatchDevices → Type 0
+IsRunAborted workers ps vl_table watch.Workers before after = ((workers ≡ 0) ⊎ (8 < workers)) × (after ≡ before)
+IsRunAborted workers ps vl_table fault before after = AreWorkers workers × IsWatchAborted ps vl_table fault before after

@@ -1,8 +1,8 @@
 //! The command-line arguments.
-ghost use Rattle.std.specs.Prelude.{◌≡◌, true, map, IfOk, IfErr, option_map, string_bytes};
-ghost use Rattle.clap.specs.Words.{FailsBy, fault_of, app_of, kind_of, subcommand_rows_of, takes};
+ghost use Rattle.std.specs.Prelude.{◌≡◌, false, true, map, IfOk, IfErr, option_map, string_bytes};
+ghost use Rattle.clap.specs.Words.{FailsBy, app_of, fault_of, found_of, kind_of, rows_of, rule_of, subcommand_rows_of, takes};
 ghost use Rattle.clap.specs.declared.error.kind.ErrorKind.TheVariants.{OutOfMemory};
-ghost use Rattle.analyser.specs.Arguments.{IsAsm, IsCapture, afdxmon_app, meant_asked, meant_by, meant_in, program_app};
+ghost use Rattle.analyser.specs.Arguments.{IsAsm, IsCapture, IsWatch, afdxmon_app, file_rule, meant_asked, meant_by, meant_in, program_app, watch_in, watch_words, workers_rule};
 
 use clap::{Arg, ArgAction, ArgMatches, Command, Error};
 use std::alloc::{AllocError, Global};
@@ -17,6 +17,27 @@ pub enum Invocation<'a> {
     },
     /// Assemble a filter's source from standard input, and print its numeric form.
     Asm,
+    /// Judge the frames of two recordings, and write those that a filter accepts.
+    Watch(WatchArguments<'a>),
+}
+
+/// The files of a run over two recordings, and its number of workers.
+#[derive(Clone, Copy, Debug, PartialEq, Eq)]
+pub struct WatchArguments<'a> {
+    /// The table of virtual links, a TOML document.
+    pub config: &'a str,
+    /// The filter, in the numeric form.
+    pub filter: &'a str,
+    /// The recording of network A.
+    pub a: &'a str,
+    /// The recording of network B.
+    pub b: &'a str,
+    /// The capture that is written.
+    pub capture: &'a str,
+    /// The ledger that is written.
+    pub ledger: &'a str,
+    /// How many workers there are to be.
+    pub workers: u8,
 }
 
 /// The version that `--version` prints.
@@ -57,6 +78,55 @@ fn asm_command<'a>(alloc: Global) -> Command<'a>
         .after_help(ASM_EXAMPLE)
 }
 
+/// What stands after the options in the help of `watch`.
+const WATCH_EXAMPLE: &str = "\
+Example: keep the frames that examples/flight.filter accepts, and judge them all
+  afdxmon watch --config flight.toml --filter flight.filter --a a.pcap --b b.pcap \\
+    --capture kept.pcap --ledger verdicts.ledger";
+
+/// A required option that names a file.
+fn file_option<'a>(alloc: Global, name: &'a str, help: &'a str) -> Arg<'a>
+    ensures rule { rule_of result ≡ file_rule name.now }
+    ensures local { result.global ≡ false }
+{
+    Arg::new(alloc, name)
+        .long(name)
+        .value_name("FILE")
+        .help(help)
+        .required(true)
+        .action(ArgAction::Set)
+}
+
+/// The option that names the number of workers.
+fn workers_option<'a>(alloc: Global) -> Arg<'a>
+    ensures rule { rule_of result ≡ workers_rule }
+    ensures local { result.global ≡ false }
+{
+    Arg::new(alloc, "workers")
+        .long("workers")
+        .value_name("N")
+        .help("The number of workers, 1 to 8")
+        .value_parser(clap::value_parser!(u8))
+        .default_value("2")
+        .action(ArgAction::Set)
+}
+
+/// The command `watch`.
+fn watch_command<'a>(alloc: Global) -> Result<Command<'a>, AllocError>
+    ensures { IfOk result IsWatch }
+{
+    Command::new(alloc, "watch")
+        .about("Judges the frames of two recordings, and writes those that a filter accepts")
+        .after_help(WATCH_EXAMPLE)
+        .arg(file_option(alloc, "config", "The table of virtual links, a TOML document"))?
+        .arg(file_option(alloc, "filter", "The filter in the numeric form, as `afdxmon asm` prints it"))?
+        .arg(file_option(alloc, "a", "The recording of network A, a pcap file"))?
+        .arg(file_option(alloc, "b", "The recording of network B, a pcap file"))?
+        .arg(file_option(alloc, "capture", "The capture to write, a nanosecond pcap file"))?
+        .arg(file_option(alloc, "ledger", "The ledger of verdicts to write"))?
+        .arg(workers_option(alloc))
+}
+
 /// The program's own command, before its subcommands.
 fn program_command<'a>(alloc: Global) -> Command<'a>
     ensures { app_of result ≡ program_app }
@@ -73,7 +143,23 @@ fn whole_command<'a>(alloc: Global) -> Result<Command<'a>, AllocError>
 {
     program_command(alloc)
         .subcommand(capture_command(alloc)?)?
-        .subcommand(asm_command(alloc))
+        .subcommand(asm_command(alloc))?
+        .subcommand(watch_command(alloc)?)
+}
+
+/// What the options of `watch` give.
+fn watch_arguments<'a>(given: &ArgMatches<'a>) -> Option<WatchArguments<'a>>
+    ensures { option_map watch_words result ≡ watch_in (rows_of (found_of given.now)) }
+{
+    Some(WatchArguments {
+        config: given.get_str("config")?,
+        filter: given.get_str("filter")?,
+        a: given.get_str("a")?,
+        b: given.get_str("b")?,
+        capture: given.get_str("capture")?,
+        ledger: given.get_str("ledger")?,
+        workers: given.get_one::<u8>("workers")?,
+    })
 }
 
 /// What the matches of a command line ask for.
@@ -87,6 +173,9 @@ fn arguments_of<'a>(matches: &ArgMatches<'a>) -> Option<Invocation<'a>>
     }
     if name == "asm" {
         return Some(Invocation::Asm);
+    }
+    if name == "watch" {
+        return Some(Invocation::Watch(watch_arguments(given)?));
     }
     None
 }

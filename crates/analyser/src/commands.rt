@@ -1,15 +1,14 @@
 //! The commands, over sources and sinks: from the text of the arguments to how the command ended.
-ghost use Rattle.std.specs.Prelude.{IfErr, IfOk, Result, option_map, string_bytes};
+ghost use Rattle.std.specs.Prelude.{Result, option_map, string_bytes};
 ghost use Rattle.pcap_io.specs.declared.recording.Ending.{Ending};
 ghost use Rattle.analyser.specs.declared.fault.Fault.{Fault};
 ghost use Rattle.analyser.specs.Capture.{devices_of};
-ghost use Rattle.analyser.specs.Commands.{IsCaptureRun, IsFilter, IsFilterFault, IsRan};
+ghost use Rattle.analyser.specs.Commands.{IsCaptureRun, IsRan};
 
 use crate::capture::{WatchRefused, capture_one};
 use crate::exit::Exit;
 use crate::fault::{Fault, fault_line};
-use bpf_isa::read_numeric;
-use bpf_loader::Program;
+use crate::inputs::filter_of;
 use pcap_io::{Ending, OutSink, TapSource};
 use std::alloc::Global;
 
@@ -34,21 +33,6 @@ pub struct Ran<W> {
     pub sink: W,
 }
 
-/// The filter that a text in the numeric form holds.
-fn filter_of(alloc: Global, code: &str) -> Result<Program, Fault>
-    ensures filter { IfOk result (λ program. IsFilter code.now program) }
-    ensures fault { IfErr result (λ fault. IsFilterFault code.now fault) }
-{
-    let words = read_numeric(alloc, code).map_err(|fault| Fault::Numeric {
-        fault,
-        filter: None,
-    })?;
-    Program::load(words).map_err(|refused| Fault::Load {
-        fault: refused.fault,
-        filter: None,
-    })
-}
-
 /// The command `capture`: reads the filter from its numeric form, and copies the frames of the
 /// recording that it accepts. A filter that doesn't load leaves both devices as they are.
 pub fn run_capture<S: TapSource, W: OutSink>(
@@ -61,7 +45,7 @@ pub fn run_capture<S: TapSource, W: OutSink>(
         (devices_of S.remaining S.failures W.contents W.failures source sink)
         (devices_of S.remaining S.failures W.contents W.failures result.source result.sink) }
 {
-    let program = match filter_of(alloc, code) {
+    let program = match filter_of(alloc, code, None) {
         Ok(program) => program,
         Err(fault) => {
             return CaptureRun {

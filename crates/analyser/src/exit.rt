@@ -1,6 +1,6 @@
 //! How the program ends: its exit status, and what it tells standard error.
 ghost use Rattle.std.specs.Prelude.{◌≡◌};
-ghost use Rattle.analyser.specs.Exit.{exit_of, status_of, text_exit};
+ghost use Rattle.analyser.specs.Exit.{exit_of, status_of, text_exit, watch_exit};
 
 use crate::fault::{Fault, FileOption, Output, WatchFault};
 use pcap_io::Ending;
@@ -33,6 +33,20 @@ impl Exit {
             Ok(Ending::Clean(_)) => Exit::Success,
             Ok(ending) => Exit::Note(ending),
         }
+    }
+
+    /// The end of a run over two recordings, from what it came to and whether its capture and its
+    /// ledger were flushed. How the recordings ended stands in the ledger.
+    pub fn of_watch(outcome: Result<(), Fault>, capture_flushed: bool, ledger_flushed: bool) -> Exit
+        ensures { result ≡ watch_exit outcome capture_flushed ledger_flushed }
+    {
+        let output = match outcome {
+            Err(fault) => return Exit::Fault(fault),
+            Ok(()) if !capture_flushed => Output::Capture,
+            Ok(()) if !ledger_flushed => Output::Ledger,
+            Ok(()) => return Exit::Success,
+        };
+        Exit::Fault(Fault::Watch(WatchFault::Write { output }))
     }
 
     /// The end of a command that prints a text, from what it came to and whether its output was flushed.

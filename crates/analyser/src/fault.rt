@@ -12,6 +12,7 @@ use std::alloc::{AllocError, Global};
 use std::fmt;
 use std::fmt::{Display, Formatter};
 use thiserror::Error;
+use vl_config::ConfigFault;
 
 /// One of the two files that an analysis writes: the capture of accepted frames, or the ledger of verdicts.
 #[derive(Clone, Copy, Debug, PartialEq, Eq)]
@@ -86,6 +87,8 @@ pub enum FileOption {
 pub enum Fault {
     /// A file that can't be opened, read or written, or a text that is longer than 16 MiB or not UTF-8.
     File(FileOption),
+    /// The table of virtual links.
+    Config(ConfigFault),
     /// The source of a filter.
     Asm(AsmFault),
     Numeric {
@@ -97,6 +100,51 @@ pub enum Fault {
         filter: Option<u8>,
     },
     Watch(WatchFault),
+}
+
+/// Where a fault of the table is: a link, or the top table.
+#[derive(Clone, Copy)]
+struct PlacePart(Option<u32>);
+
+impl Display for PlacePart {
+    ghost use Rattle.std.specs.Prelude.{Some};
+    ghost use Rattle.analyser.specs.Line.{place_part};
+
+    ghost output = { λ part. Some (place_part part.0) };
+
+    fn fmt<W: fmt::Write>(&self, f: &mut Formatter<W>) -> fmt::Result {
+        match self.0 {
+            Some(link) => write!(f, " link {link}"),
+            None => f.write_str(" top"),
+        }
+    }
+}
+
+/// The number, name and place of a fault of the table.
+#[derive(Clone, Copy)]
+struct ConfigPart(ConfigFault);
+
+impl Display for ConfigPart {
+    ghost use Rattle.std.specs.Prelude.{Some};
+    ghost use Rattle.analyser.specs.Line.{config_part};
+
+    ghost output = { λ part. Some (config_part part.0) };
+
+    fn fmt<W: fmt::Write>(&self, f: &mut Formatter<W>) -> fmt::Result {
+        let (name, link) = match self.0 {
+            ConfigFault::Text => return f.write_str("1 Text"),
+            ConfigFault::Missing { link } => ("2 Missing", link),
+            ConfigFault::Kind { link } => ("3 Kind", link),
+            ConfigFault::Range { link } => ("4 Range", link),
+            ConfigFault::UnknownKey { link } => ("5 UnknownKey", link),
+            ConfigFault::TwiceId { link } => ("6 TwiceId", link),
+            ConfigFault::TwiceName { link } => ("7 TwiceName", link),
+            ConfigFault::TooMany => return f.write_str("8 TooMany"),
+            ConfigFault::Memory => return f.write_str("9 Memory"),
+        };
+        let place = PlacePart(link);
+        write!(f, "{name}{place}")
+    }
 }
 
 /// The number, name and place of a fault of the numeric form.
@@ -294,6 +342,10 @@ impl Display for Fault {
             Fault::File(file) => {
                 let file = file_name(file);
                 write!(f, "afdxmon: file {file}")
+            }
+            Fault::Config(fault) => {
+                let fault = ConfigPart(fault);
+                write!(f, "afdxmon: config {fault}")
             }
             Fault::Asm(fault) => {
                 let fault = AsmPart(fault);

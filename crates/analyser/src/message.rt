@@ -11,6 +11,7 @@ use bpf_text::TextFault;
 use pcap_io::{BadReason, Ending, HeaderFault};
 use std::fmt;
 use std::fmt::{Display, Formatter};
+use vl_config::ConfigFault;
 
 /// A number of frames, with its unit.
 #[derive(Clone, Copy)]
@@ -152,6 +153,20 @@ fn file_advice(file: FileOption) -> &'static str {
     }
 }
 
+fn config_advice(fault: ConfigFault) -> &'static str {
+    match fault {
+        ConfigFault::Text => "not a TOML document",
+        ConfigFault::Missing { .. } => "a key is missing: docs/TABLE.md lists them",
+        ConfigFault::Kind { .. } => "a value has another type than its key's",
+        ConfigFault::Range { .. } => "a value is out of its key's range: docs/TABLE.md has the ranges",
+        ConfigFault::UnknownKey { .. } => "a key that the table doesn't have",
+        ConfigFault::TwiceId { .. } => "an earlier link has the identifier",
+        ConfigFault::TwiceName { .. } => "an earlier link has the name",
+        ConfigFault::TooMany => "there are at most 4096 links, and at most 7 filters in a table",
+        ConfigFault::Memory => OUT_OF_MEMORY,
+    }
+}
+
 fn text_advice(fault: TextFault) -> &'static str {
     match fault {
         TextFault::Character { .. } => "no token begins with this byte",
@@ -181,6 +196,7 @@ fn asm_advice(fault: AsmFault) -> &'static str {
 pub fn advice(fault: &Fault) -> &'static str {
     match *fault {
         Fault::File(file) => file_advice(file),
+        Fault::Config(fault) => config_advice(fault),
         Fault::Asm(fault) => asm_advice(fault),
         Fault::Numeric { fault, .. } => numeric_advice(fault),
         Fault::Load { fault, .. } => load_advice(fault),

@@ -8,7 +8,7 @@ ghost use Rattle.pcap_io.specs.Writer.{sink_of};
 ghost use Rattle.verdict_ledger.specs.Ledger.{has_failed as ledger_has_failed, sink_of as ledger_sink};
 ghost use Rattle.analyser.specs.Run.{IsWatching, StopsWatching};
 ghost use Rattle.analyser.specs.Taps.{HasEnded};
-ghost use Rattle.analyser.specs.Watch.{AbortsRun, IsWatchAborted, IsWatched, WatchDevices, sink_view, source_view, watch_devices};
+ghost use Rattle.analyser.specs.Watch.{AbortsRun, AreWorkers, IsRunAborted, IsWatchAborted, IsWatched, WatchDevices, sink_view, source_view, watch_devices};
 
 use crate::capture::WatchRefused;
 use crate::fault::WatchFault;
@@ -20,6 +20,9 @@ use pcap_io::{Ending, OutSink, TapSource};
 use std::alloc::Global;
 use verdict_ledger::Totals;
 use vl_config::Config;
+
+/// The most workers of a run.
+const MAX_WORKERS: u8 = 8;
 
 /// A whole analysis of two recordings, with the devices that it was given.
 #[derive(Debug, Drop)]
@@ -219,4 +222,48 @@ pub fn watch_whole<S: TapSource, T: TapSource, W: OutSink, L: OutSink>(
         Ok(()) => finish(taps, outputs),
         Err(fault) => Err(stopped(fault, taps, outputs)),
     }
+}
+
+/// The command `watch` once its files are open: [`watch_whole`] for 1 to 8 workers.
+///
+/// # Errors
+///
+/// `Workers` if there are not 1 to 8 workers, and then nothing was read or written; otherwise those of
+/// [`watch_whole`].
+pub fn run_watch<S: TapSource, T: TapSource, W: OutSink, L: OutSink>(
+    alloc: Global,
+    config: &Config,
+    programs: &[Program],
+    workers: u8,
+    a: S,
+    b: T,
+    capture: W,
+    ledger: L,
+) -> Result<Watched<S, T, W, L>, WatchRefused<S, T, W, L>>
+    ensures watched { IfOk result (λ done. AreWorkers workers × IsWatched programs.now config.now
+        done.endings done.totals
+        (watch_devices (source_view S.remaining S.failures a)
+        (source_view T.remaining T.failures b)
+        (sink_view W.contents W.failures capture)
+        (sink_view L.contents L.failures ledger))
+        (watch_devices (source_view S.remaining S.failures done.a)
+        (source_view T.remaining T.failures done.b)
+        (sink_view W.contents W.failures done.capture)
+        (sink_view L.contents L.failures done.ledger))) }
+    ensures aborted { IfErr result (λ refused. IfSome refused.a (λ a'. IfSome refused.b (λ b'.
+        IsRunAborted workers programs.now config.now refused.fault
+        (watch_devices (source_view S.remaining S.failures a)
+        (source_view T.remaining T.failures b)
+        (sink_view W.contents W.failures capture)
+        (sink_view L.contents L.failures ledger))
+        (watch_devices (source_view S.remaining S.failures a')
+        (source_view T.remaining T.failures b')
+        (sink_view W.contents W.failures refused.capture)
+        (sink_view L.contents L.failures refused.ledger))))) }
+    ensures back { IfErr result (λ refused. IsSome refused.a × IsSome refused.b) }
+{
+    if workers == 0 || workers > MAX_WORKERS {
+        return Err(WatchRefused::new(WatchFault::Workers, a, b, capture, ledger));
+    }
+    watch_whole(alloc, config, programs, a, b, capture, ledger)
 }
