@@ -240,6 +240,7 @@ fn sources_that_miss(rt: HostRuntime) -> Result<(), Fail> {
 #[test]
 fn sinks_that_miss(rt: HostRuntime) -> Result<(), Fail> {
     let whole = capture(rt.alloc())?;
+    assert_eq!(rt; whole.len(), LEN);
     for call in 0..TWO_TAPS.len() + 2 {
         let of_capture = Scripts {
             capture: misses(1, call as u64),
