@@ -10,6 +10,7 @@ use std::test::Fail;
 
 /// The frames of a recording, and the links of the table.
 const FRAMES: u32 = 50_000;
+
 const LINKS: u32 = 4096;
 
 /// A table of links whose identifiers are 16 apart.
@@ -125,7 +126,10 @@ fn all_links_on_both_networks(rt: HostRuntime) -> Result<(), Fail> {
         }
         Err(_) => panic!(rt; "a fault"),
     }
-    assert!(rt; ran.capture.taken() == capture.as_slice(), "another capture");
+    assert!(rt;
+        ran.capture.taken() == capture.as_slice(),
+        "another capture"
+    );
     assert!(rt; ran.ledger.taken() == ledger.as_bytes(), "another ledger");
     Ok(())
 }

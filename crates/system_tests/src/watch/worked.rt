@@ -3,7 +3,7 @@
 use crate::judges::TABLE;
 use crate::ledger::TWO_TAPS;
 use crate::support::{EVERY, HEADER};
-use crate::watch::{Given, NOT_FIRST, NO_FAILURE, Scripts, WIDE, push_packet, recording, run};
+use crate::watch::{Given, NO_FAILURE, NOT_FIRST, Scripts, WIDE, push_packet, recording, run};
 use afdx_frame::Network;
 use analyser::WatchFault;
 use pcap_io::{BadReason, Ending, HeaderFault, Script};
@@ -30,7 +30,11 @@ fn leaves(
         let ran = run(rt.alloc(), given, scripts)?;
         assert_eq!(rt; ran.ledger.taken(), ledger.as_bytes());
         assert_eq!(rt; ran.capture.taken(), capture);
-        let newlines = ledger.as_bytes().iter().filter(|byte| **byte == b'\n').count();
+        let newlines = ledger
+            .as_bytes()
+            .iter()
+            .filter(|byte| **byte == b'\n')
+            .count();
         // The first line, and those of one link, of the filters, of both taps and of the total.
         let others = given.filters.len().saturating_add(5);
         match ran.outcome {
