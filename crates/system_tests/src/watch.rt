@@ -6,11 +6,10 @@ mod many;
 mod worked;
 
 use crate::support::{HEADER, SOUND, loaded};
-use analyser::{WatchFault, Watched, watch_whole};
+use analyser::{WatchFault, watch_whole};
 use pcap_io::{Ending, MemSink, MemSource, Script};
 use std::alloc::{AllocError, Global};
 use std::test::Fail;
-use verdict_ledger::Totals;
 use vl_config::Config;
 
 /// A filter that rejects the sequence number 1 and keeps 64 bytes of any other frame.
@@ -48,10 +47,19 @@ pub const NO_FAILURE: Scripts = Scripts {
     ledger: WIDE,
 };
 
+/// How the recordings of a run ended, and some of its counts.
+#[derive(Clone, Copy, Debug, PartialEq, Eq)]
+pub struct Counts {
+    pub a: Ending,
+    pub b: Ending,
+    pub frames: u64,
+    pub copies: u64,
+}
+
 /// What a run has left.
 #[derive(Drop)]
 pub struct Ran {
-    pub outcome: Result<([Ending; 2], Totals), WatchFault>,
+    pub outcome: Result<Counts, WatchFault>,
     pub capture: MemSink,
     pub ledger: MemSink,
 }
@@ -68,18 +76,19 @@ pub fn run(alloc: Global, given: Given<'_>, scripts: Scripts) -> Result<Ran, Fai
     let capture = MemSink::new(alloc, scripts.capture)?;
     let ledger = MemSink::new(alloc, scripts.ledger)?;
     match watch_whole(alloc, &config, &programs, a, b, capture, ledger) {
-        Ok(Watched {
-            endings,
-            totals,
-            a: _,
-            b: _,
-            capture,
-            ledger,
-        }) => Ok(Ran {
-            outcome: Ok((endings, totals)),
-            capture,
-            ledger,
-        }),
+        Ok(watched) => {
+            let counts = Counts {
+                a: watched.endings[0],
+                b: watched.endings[1],
+                frames: watched.totals.frames,
+                copies: watched.totals.copy,
+            };
+            Ok(Ran {
+                outcome: Ok(counts),
+                capture: watched.capture,
+                ledger: watched.ledger,
+            })
+        }
         Err(refused) => Ok(Ran {
             outcome: Err(refused.fault),
             capture: refused.capture,

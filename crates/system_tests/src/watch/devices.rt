@@ -4,7 +4,7 @@
 use crate::judges::TABLE;
 use crate::ledger::TWO_TAPS;
 use crate::support::HEADER;
-use crate::watch::{Given, NOT_FIRST, NO_FAILURE, Ran, Scripts, WIDE, recording, run};
+use crate::watch::{Given, NO_FAILURE, NOT_FIRST, Ran, Scripts, WIDE, recording, run};
 use afdx_frame::Network;
 use analyser::{Output, WatchFault};
 use pcap_io::Script;
@@ -14,18 +14,23 @@ use std::test::Fail;
 
 /// The bytes of both recordings, and of the capture.
 const LEN_A: usize = 176;
+
 const LEN_B: usize = 100;
+
 const LEN: usize = 176;
 
 const READ_A: WatchFault = WatchFault::Read {
     network: Network::A,
 };
+
 const READ_B: WatchFault = WatchFault::Read {
     network: Network::B,
 };
+
 const WRITE_CAPTURE: WatchFault = WatchFault::Write {
     output: Output::Capture,
 };
+
 const WRITE_LEDGER: WatchFault = WatchFault::Write {
     output: Output::Ledger,
 };
@@ -92,10 +97,17 @@ fn a_capture_sink_that_stops(rt: HostRuntime) -> Result<(), Fail> {
                 ..NO_FAILURE
             };
             let ran = ran(rt.alloc(), scripts)?;
-            assert_eq!(rt; failed(&rt, &ran, WRITE_CAPTURE)?, most < LEN, "after {most} bytes");
+            assert_eq!(rt;
+                failed(&rt, &ran, WRITE_CAPTURE)?,
+                most < LEN,
+                "after {most} bytes"
+            );
             assert!(rt; ran.capture.taken() == &whole[..most], "after {most} bytes");
             assert!(rt; TWO_TAPS.as_bytes().starts_with(ran.ledger.taken()));
-            assert!(rt; most >= 24 || ran.ledger.taken().is_empty(), "after {most} bytes");
+            assert!(rt;
+                most >= 24 || ran.ledger.taken().is_empty(),
+                "after {most} bytes"
+            );
         }
     }
     Ok(())
@@ -113,7 +125,10 @@ fn a_ledger_sink_that_stops(rt: HostRuntime) -> Result<(), Fail> {
             let ran = ran(rt.alloc(), scripts)?;
             let refused = failed(&rt, &ran, WRITE_LEDGER)?;
             assert_eq!(rt; refused, most < TWO_TAPS.len(), "after {most} bytes");
-            assert!(rt; ran.ledger.taken() == &TWO_TAPS.as_bytes()[..most], "after {most} bytes");
+            assert!(rt;
+                ran.ledger.taken() == &TWO_TAPS.as_bytes()[..most],
+                "after {most} bytes"
+            );
             assert!(rt; whole.starts_with(ran.capture.taken()));
         }
     }
@@ -185,7 +200,11 @@ fn a_source_a_that_stops(rt: HostRuntime) -> Result<(), Fail> {
             };
             let ran = ran(rt.alloc(), scripts)?;
             // The read after the last byte, which finds the end, fails too.
-            assert_eq!(rt; failed(&rt, &ran, READ_A)?, most <= LEN_A, "after {most} bytes");
+            assert_eq!(rt;
+                failed(&rt, &ran, READ_A)?,
+                most <= LEN_A,
+                "after {most} bytes"
+            );
             if most <= LEN_A {
                 has_wholes(&rt, &ran, lines_with_a(most), accepted_with_a(most))?;
             }
@@ -203,7 +222,11 @@ fn a_source_b_that_stops(rt: HostRuntime) -> Result<(), Fail> {
                 ..NO_FAILURE
             };
             let ran = ran(rt.alloc(), scripts)?;
-            assert_eq!(rt; failed(&rt, &ran, READ_B)?, most <= LEN_B, "after {most} bytes");
+            assert_eq!(rt;
+                failed(&rt, &ran, READ_B)?,
+                most <= LEN_B,
+                "after {most} bytes"
+            );
             if most <= LEN_B {
                 has_wholes(&rt, &ran, lines_with_b(most), &[(100, 2), (200, 2)])?;
             }
@@ -240,14 +263,22 @@ fn sources_that_miss(rt: HostRuntime) -> Result<(), Fail> {
 #[test]
 fn sinks_that_miss(rt: HostRuntime) -> Result<(), Fail> {
     let whole = capture(rt.alloc())?;
+    assert_eq!(rt; whole.len(), LEN);
     for call in 0..TWO_TAPS.len() + 2 {
         let of_capture = Scripts {
             capture: misses(1, call as u64),
             ..NO_FAILURE
         };
         let one = ran(rt.alloc(), of_capture)?;
-        assert_eq!(rt; failed(&rt, &one, WRITE_CAPTURE)?, call < LEN, "call {call}");
-        assert!(rt; one.capture.taken() == &whole[..call.min(LEN)], "call {call}");
+        assert_eq!(rt;
+            failed(&rt, &one, WRITE_CAPTURE)?,
+            call < LEN,
+            "call {call}"
+        );
+        assert!(rt;
+            one.capture.taken() == &whole[..call.min(LEN)],
+            "call {call}"
+        );
         assert!(rt; TWO_TAPS.as_bytes().starts_with(one.ledger.taken()));
         let of_ledger = Scripts {
             ledger: misses(1, call as u64),
@@ -257,7 +288,10 @@ fn sinks_that_miss(rt: HostRuntime) -> Result<(), Fail> {
         let missed = call < TWO_TAPS.len();
         assert_eq!(rt; failed(&rt, &other, WRITE_LEDGER)?, missed, "call {call}");
         let most = call.min(TWO_TAPS.len());
-        assert!(rt; other.ledger.taken() == &TWO_TAPS.as_bytes()[..most], "call {call}");
+        assert!(rt;
+            other.ledger.taken() == &TWO_TAPS.as_bytes()[..most],
+            "call {call}"
+        );
         assert!(rt; whole.starts_with(other.capture.taken()));
     }
     Ok(())

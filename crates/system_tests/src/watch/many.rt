@@ -10,6 +10,7 @@ use std::test::Fail;
 
 /// The frames of a recording, and the links of the table.
 const FRAMES: u32 = 50_000;
+
 const LINKS: u32 = 4096;
 
 /// A table of links whose identifiers are 16 apart.
@@ -118,13 +119,17 @@ fn all_links_on_both_networks(rt: HostRuntime) -> Result<(), Fail> {
     };
     let ran = run(alloc, given, scripts)?;
     match ran.outcome {
-        Ok((endings, totals)) => {
-            assert_eq!(rt; endings, [Ending::Clean(50_000), Ending::Clean(50_000)]);
-            assert_eq!(rt; totals.copy, 50_000);
+        Ok(counts) => {
+            let all = Ending::Clean(u64::from(FRAMES));
+            assert_eq!(rt; (counts.a, counts.b), (all, all));
+            assert_eq!(rt; counts.copies, u64::from(FRAMES));
         }
         Err(_) => panic!(rt; "a fault"),
     }
-    assert!(rt; ran.capture.taken() == capture.as_slice(), "another capture");
+    assert!(rt;
+        ran.capture.taken() == capture.as_slice(),
+        "another capture"
+    );
     assert!(rt; ran.ledger.taken() == ledger.as_bytes(), "another ledger");
     Ok(())
 }

@@ -3,7 +3,7 @@
 use crate::judges::TABLE;
 use crate::ledger::TWO_TAPS;
 use crate::support::{EVERY, HEADER};
-use crate::watch::{Given, NOT_FIRST, NO_FAILURE, Scripts, WIDE, push_packet, recording, run};
+use crate::watch::{Given, NO_FAILURE, NOT_FIRST, Scripts, WIDE, push_packet, recording, run};
 use afdx_frame::Network;
 use analyser::WatchFault;
 use pcap_io::{BadReason, Ending, HeaderFault, Script};
@@ -15,7 +15,7 @@ use std::test::Fail;
 fn leaves(
     rt: &(impl Abort + AllocGlobal),
     given: Given<'_>,
-    endings: [Ending; 2],
+    endings: (Ending, Ending),
     capture: &[u8],
     ledger: &str,
 ) -> Result<(), Fail> {
@@ -30,12 +30,17 @@ fn leaves(
         let ran = run(rt.alloc(), given, scripts)?;
         assert_eq!(rt; ran.ledger.taken(), ledger.as_bytes());
         assert_eq!(rt; ran.capture.taken(), capture);
+        let newlines = ledger
+            .as_bytes()
+            .iter()
+            .filter(|byte| **byte == b'\n')
+            .count();
+        // The first line, and those of one link, of the filters, of both taps and of the total.
+        let others = given.filters.len().saturating_add(5);
         match ran.outcome {
-            Ok((found, totals)) => {
-                assert_eq!(rt; found, endings);
-                let lines = ledger.as_bytes().iter().filter(|byte| **byte == b'\n').count();
-                let others = given.filters.len().saturating_add(5);
-                assert_eq!(rt; totals.frames, lines.saturating_sub(others) as u64);
+            Ok(counts) => {
+                assert_eq!(rt; (counts.a, counts.b), endings);
+                assert_eq!(rt; counts.frames, newlines.saturating_sub(others) as u64);
             }
             Err(fault) => panic!(rt; "a fault: {fault}"),
         }
@@ -70,7 +75,7 @@ fn a_frame_and_its_copy_at_one_stamp(rt: HostRuntime) -> Result<(), Fail> {
             a: &tap,
             b: &tap,
         },
-        [Ending::Clean(1), Ending::Clean(1)],
+        (Ending::Clean(1), Ending::Clean(1)),
         &recording(rt.alloc(), &[(5, 1), (5, 1)])?,
         "afdx-ledger 2\n\
          5 A 0 5 1 regular within first deliver 60 01\n\
@@ -94,7 +99,7 @@ fn the_two_tap_ledger(rt: HostRuntime) -> Result<(), Fail> {
             a: &recording(rt.alloc(), &[(0, 1), (100, 2)])?,
             b: &recording(rt.alloc(), &[(200, 2)])?,
         },
-        [Ending::Clean(2), Ending::Clean(1)],
+        (Ending::Clean(2), Ending::Clean(1)),
         &recording(rt.alloc(), &[(100, 2), (200, 2)])?,
         TWO_TAPS,
     )
@@ -115,7 +120,7 @@ fn a_second_filter(rt: HostRuntime) -> Result<(), Fail> {
             a: &recording(rt.alloc(), &[(0, 1), (100, 2)])?,
             b: &recording(rt.alloc(), &[(200, 2)])?,
         },
-        [Ending::Clean(2), Ending::Clean(1)],
+        (Ending::Clean(2), Ending::Clean(1)),
         &capture,
         "afdx-ledger 2\n\
          0 A 0 5 1 regular within first deliver 8 02\n\
@@ -141,7 +146,7 @@ fn two_empty_taps(rt: HostRuntime) -> Result<(), Fail> {
             a: &HEADER,
             b: &HEADER,
         },
-        [Ending::Clean(0), Ending::Clean(0)],
+        (Ending::Clean(0), Ending::Clean(0)),
         &HEADER,
         "afdx-ledger 2\n\
          link 5 brake frames 0 toolong 0 excess 0 out 0 copy 0 delivered 0\n\
@@ -193,7 +198,7 @@ fn torn_records_and_stamps_that_go_back(rt: HostRuntime) -> Result<(), Fail> {
         leaves(
             &rt,
             given,
-            [ending, Ending::Bad(1, BadReason::Fraction)],
+            (ending, Ending::Bad(1, BadReason::Fraction)),
             &one,
             &text,
         )?;
@@ -218,7 +223,7 @@ fn a_late_frame(rt: HostRuntime) -> Result<(), Fail> {
             a: &a,
             b: &HEADER,
         },
-        [Ending::Clean(3), Ending::Clean(0)],
+        (Ending::Clean(3), Ending::Clean(0)),
         &recording(rt.alloc(), &[(0, 1), (1000, 2), (2000, 3)])?,
         "afdx-ledger 2\n\
          0 A 0 5 1 regular within first deliver 60 01\n\
@@ -239,7 +244,7 @@ fn a_late_frame(rt: HostRuntime) -> Result<(), Fail> {
             a: &a,
             b: &HEADER,
         },
-        [Ending::Bad(2, BadReason::StampBack), Ending::Clean(0)],
+        (Ending::Bad(2, BadReason::StampBack), Ending::Clean(0)),
         &recording(rt.alloc(), &[(0, 1), (2000, 3)])?,
         "afdx-ledger 2\n\
          0 A 0 5 1 regular within first deliver 60 01\n\
@@ -253,18 +258,21 @@ fn a_late_frame(rt: HostRuntime) -> Result<(), Fail> {
     )
 }
 
+/// So many filters are refused before anything is read.
+fn refuses_filters(rt: &(impl Abort + AllocGlobal), filters: &[&str]) -> Result<(), Fail> {
+    let given = Given {
+        table: TABLE,
+        filters,
+        a: &[],
+        b: &[],
+    };
+    refuses(rt, given, WatchFault::Filters)
+}
+
 #[test]
 fn numbers_of_filters(rt: HostRuntime) -> Result<(), Fail> {
-    for filters in [[].as_slice(), [EVERY; 9].as_slice()] {
-        let given = Given {
-            table: TABLE,
-            filters,
-            a: &[],
-            b: &[],
-        };
-        refuses(&rt, given, WatchFault::Filters)?;
-    }
-    Ok(())
+    refuses_filters(&rt, &[])?;
+    refuses_filters(&rt, &[EVERY; 9])
 }
 
 #[test]
