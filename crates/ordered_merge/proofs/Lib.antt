@@ -4,3 +4,4 @@ pub mod Merging
 pub mod Recordings
 pub mod Rising
 pub mod Soundness
+pub mod Numbers

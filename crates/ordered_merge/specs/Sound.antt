@@ -1,5 +1,5 @@
 -- What holds of the core after any list of events.
-use Rattle.std.specs.Prelude.{◌≡◌, ℕ, Bool, true, false, List, [], ◌∷◌, ◌++◌, length, map, Option, Some, None, IfSome, ⊤}
+use Rattle.std.specs.Prelude.{◌≡◌, ◌<◌, ℕ, Bool, true, false, List, [], ◌∷◌, ◌++◌, length, map, Option, Some, None, IfSome, IsSome, slice_get, ⊤}
 use Rattle.std.specs.List.{AllByRecursion}
 use Rattle.std.specs.List.Sorted.{IsPermutation}
 use Rattle.std.specs.Option.{unwrap_or}
@@ -7,8 +7,10 @@ use Rattle.afdx_frame.specs.Frame.{Frame}
 use Rattle.afdx_frame.specs.declared.key.Network.{Network}
 use Rattle.afdx_frame.specs.declared.key.Network.TheVariants.{A, B}
 use Rattle.ordered_merge.specs.declared.event.Event.{Event}
+use Rattle.ordered_merge.specs.declared.event.Event.TheVariants as events
 use Rattle.ordered_merge.specs.declared.event.Answered.{Answered}
 use Rattle.ordered_merge.specs.declared.round.Worker.{Worker}
+use Rattle.ordered_merge.specs.declared.round.Worker.TheVariants.{Idle, Holding, Through}
 use Rattle.ordered_merge.specs.declared.side.RingItem.{RingItem}
 use Rattle.ordered_merge.specs.declared.side.RingItem.TheVariants as items
 use Rattle.ordered_merge.specs.Order.{IsRising}
@@ -108,8 +110,30 @@ pub record IsOf (late : ℕ) (a b : List Frame) (s : CoreState) : Type 0 where
   pub follows : Follows s.merger fetched_a fetched_b (given s)
   pub answers : IfSome s.round (λ r. length r.answers ≡ length r.frames)
 
+-- a number that a worker holds is one of the open round
+abbrev pub IsOfRound : Option RoundState → Worker → Type 0
+IsOfRound round Idle = ⊤
+IsOfRound round Through = ⊤
+IsOfRound None (Holding number) = ⊥
+IsOfRound (Some r) (Holding number) = number < length r.frames
+
+abbrev pub HasNumbers : CoreState → Type 0
+HasNumbers s = AllByRecursion (IsOfRound s.round) s.workers
+
 abbrev pub IsSound : CoreState → Type 0
-IsSound s = (late : ℕ) × (a : List Frame) × (b : List Frame) × IsOf late a b s
+IsSound s = (late : ℕ) × (a : List Frame) × (b : List Frame) × IsOf late a b s × HasNumbers s
+
+-- An answer can be posted where the worker holds a number.
+abbrev pub PostsWhereHeld : (Frame → ℕ) → CoreState → Event → Type 0
+PostsWhereHeld answer s (events.Post w) = (number : ℕ) → slice_get s.workers w ≡ Some (Holding number) → IsSome (core_step answer s (events.Post w))
+PostsWhereHeld answer s _ = ⊤
+
+-- the events that may find no memory
+abbrev pub MayAllocate : Event → Type 0
+MayAllocate (events.Fetch network) = ⊤
+MayAllocate events.Cut = ⊤
+MayAllocate events.Gather = ⊤
+MayAllocate _ = ⊥
 
 -- ---- lists of events
 

@@ -3,7 +3,7 @@ ghost use Rattle.std.specs.Prelude.{◌≡◌, ◌≤◌, IfOk, OnErr, IsSome, r
 ghost use Rattle.std.specs.List.Sorted.{IsPermutation};
 ghost use Rattle.ordered_merge.specs.Core.{core_step, new_core};
 ghost use Rattle.ordered_merge.specs.Side.{Steps};
-ghost use Rattle.ordered_merge.specs.Sound.{AnswersAre, EveryRunIsInOrder, IsRecording, OutputIsAll, OutputIsPrefix, held};
+ghost use Rattle.ordered_merge.specs.Sound.{AnswersAre, EveryRunIsInOrder, IsRecording, MayAllocate, OutputIsAll, OutputIsPrefix, PostsWhereHeld, held};
 
 use crate::event::{Answered, Event, Work};
 use crate::parts::Parts;
@@ -60,7 +60,10 @@ impl Core {
         ensures step { IfOk result (λ happened.
             Steps (core_step (W.answer_of work.now) self.old event) self.old happened self.new) }
         ensures unchanged { OnErr result (self.new ≡ self.old) }
-        ensures memory { OnErr result (IsSome (core_step (W.answer_of work.now) self.old event)) }
+        ensures memory { OnErr result (MayAllocate event
+            × IsSome (core_step (W.answer_of work.now) self.old event)) }
+        // A worker that holds a number can post its answer.
+        ensures posts { PostsWhereHeld (W.answer_of work.now) self.old event }
         // The frames that it holds in all places stay the same.
         ensures held { IsPermutation (held self.old) (held self.new) }
         ensures answers { AnswersAre (W.answer_of work.now) self.old →

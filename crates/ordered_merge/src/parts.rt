@@ -4,6 +4,7 @@ ghost use Rattle.std.specs.List.{list_all};
 ghost use Rattle.afdx_frame.specs.Frame.{Frame};
 ghost use Rattle.ordered_merge.specs.Core.{FirstsCanFetch, claim_step, core_fetch_step, core_step, cut_step, fetch_step, gather_step, new_core, post_step};
 ghost use Rattle.ordered_merge.specs.Merge.{CanFetch};
+ghost use Rattle.ordered_merge.specs.Sound.{MayAllocate};
 ghost use Rattle.ordered_merge.specs.Round.{is_through};
 ghost use Rattle.ordered_merge.specs.Side.{Steps};
 
@@ -78,7 +79,8 @@ impl Parts {
         ensures step { IfOk result (λ happened.
             Steps (core_step (W.answer_of work.now) self.old event) self.old happened self.new) }
         ensures unchanged { OnErr result (self.new ≡ self.old) }
-        ensures memory { OnErr result (IsSome (core_step (W.answer_of work.now) self.old event)) }
+        ensures memory { OnErr result (MayAllocate event
+            × IsSome (core_step (W.answer_of work.now) self.old event)) }
     {
         match event {
             Event::Put(Network::A) => Ok(self.a.put()),

@@ -1,7 +1,8 @@
 use Rattle.std.proofs.Common.{sym, subst}
 use Rattle.std.specs.List.Sorted.{IsPermutation}
 use Rattle.ordered_merge.specs.Core.{CoreState, core_step}
-use Rattle.ordered_merge.specs.Sound.{AnswersAre, IsOf, held}
+use Rattle.ordered_merge.specs.Sound.{AnswersAre, HasNumbers, IsOf, PostsWhereHeld, held}
+use Rattle.ordered_merge.proofs.Numbers.{posts_where_held, step_numbers}
 use Rattle.ordered_merge.proofs.Soundness.{called, firsts_can_fetch, held_stays, step_answers, step_sound}
 use Rattle.ordered_merge.proofs.engine.Core.event.Goals as goal
 
@@ -17,7 +18,14 @@ invariant_of-self g c =
       is.2,
       called (IsOf is.0 is.1 is.2) (core_step answer c.self.inside.parts c.args.event) c.self.inside.parts c.event.new.self c.event.result
           (step_sound answer c.args.event is.0 is.1 is.2 c.self.inside.parts is.3) is.3 c.event.ensures.step c.event.ensures.unchanged,
+      called HasNumbers (core_step answer c.self.inside.parts c.args.event) c.self.inside.parts c.event.new.self c.event.result
+          (step_numbers answer c.args.event c.self.inside.parts is.4) is.4 c.event.ensures.step c.event.ensures.unchanged,
     )
+
+pub returns-clause-posts : goal.returns-clause-posts
+returns-clause-posts g c =
+    subst (λ (s : CoreState). PostsWhereHeld (g.W.Work.answer_of c.args.work.now) s c.args.event) c.self.view_is
+    (posts_where_held (g.W.Work.answer_of c.args.work.now) c.args.event c.self.inside.parts c.self.invariant.4)
 
 pub returns-clause-held : goal.returns-clause-held
 returns-clause-held g c =

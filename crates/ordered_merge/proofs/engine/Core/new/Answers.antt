@@ -1,6 +1,7 @@
-use Rattle.std.proofs.Common.{replicate, subst, sym}
+use Rattle.std.proofs.Common.{None, replicate, subst, sym}
 use Rattle.ordered_merge.specs.declared.round.Worker.TheVariants.{Idle}
 use Rattle.ordered_merge.specs.Sound.{IsSound}
+use Rattle.ordered_merge.proofs.Numbers.{all_idle}
 use Rattle.ordered_merge.proofs.Soundness.{new_is_of}
 use Rattle.ordered_merge.proofs.engine.Core.new.Goals as goal
 
@@ -11,4 +12,5 @@ invariant_of-result c =
       c.args.a.items,
       c.args.b.items,
       new_is_of c.args.late c.args.a.items c.args.b.items (replicate c.args.workers Idle) c.requires.recording_a c.requires.recording_b,
+      all_idle None c.args.workers,
     )
