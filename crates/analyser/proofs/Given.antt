@@ -1,13 +1,13 @@
 -- What the options of watch give.
-use Rattle.std.proofs.Common.{◌≡◌, ℕ, ◌<◌, ◌^◌, Bool, true, false, ◌&&◌, List, [], ◌∷◌, length, Option, Some, None, Result, Err, refl, sym, subst, ap, ◌∙◌, codes, arith}
+use Rattle.std.proofs.Common.{◌≡◌, ℕ, ◌<◌, ◌^◌, Bool, true, false, ◌&&◌, [], ◌∷◌, length, Option, Some, None, Err, refl, ap, ◌∙◌, codes}
 use Rattle.std.proofs.lemmas.Bool.{lt-ltb, ltb-true}
 use Rattle.std.specs.Prelude.{nat_lt, option_and_then, if◌then◌else◌}
 use Rattle.std.specs.Char.{digit_value}
 use Rattle.std.specs.Str.Parse.{AllDigits, IsNumeral, ParsesUnsigned, digits_value, without_leading_plus}
-use Rattle.clap.specs.Words.{Text, found_of, first_of, first_value, one_of, one_text, rows_of}
+use Rattle.clap.specs.Words.{Text, first_value, one_text, rows_of}
 use Rattle.clap.specs.declared.parser.matches.Found.{Found}
 use Rattle.clap.proofs.WalkLemmas.{first_value-rows, one_text-rows}
-use Rattle.analyser.specs.Arguments.{WatchWords, are_digits, is_byte_numeral, number_in, watch_in, watch_with}
+use Rattle.analyser.specs.Arguments.{are_digits, is_byte_numeral, number_in, watch_in, watch_with}
 
 -- ---- the texts
 

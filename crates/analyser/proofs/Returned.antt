@@ -1,6 +1,6 @@
 -- What a run over two recordings leaves, once its devices are given back.
-use Rattle.std.proofs.Common.{◌≡◌, inl, inr, ℕ, List, [], ◌∷◌, Option, None, Some, refl, subst, sym, ◌∙◌}
-use Rattle.std.specs.Prelude.{IfSome}
+use Rattle.std.proofs.Common.{◌≡◌, inr, ℕ, List, [], ◌∷◌, length, Option, None, Some, Result, Ok, Err, refl, subst, sym, ◌∙◌}
+use Rattle.std.specs.Prelude.{IfOk, IfSome}
 use Rattle.afdx_frame.specs.Frame.{Frame}
 use Rattle.afdx_frame.specs.declared.key.Network.{Network}
 use Rattle.afdx_frame.specs.declared.key.Network.TheVariants as networks
@@ -17,7 +17,7 @@ use Rattle.analyser.specs.Outputs.{IsFinished, SinkFails, StopsFinishing}
 use Rattle.analyser.specs.Run.{StopsWatching, reading_view}
 use Rattle.analyser.specs.Taps.{HasRead, ReadsPart}
 use Rattle.analyser.specs.Filters.{capture_by}
-use Rattle.analyser.specs.Watch.{AbortsRun, AppendsSome, FailsOnly, HasLines, HaveEnded, IsReadPart, IsReadWhole, IsWatched, SourceView, WatchDevices, watch_devices}
+use Rattle.analyser.specs.Watch.{AbortsRun, AppendsSome, FailsOnly, HasLines, IsReadPart, IsReadWhole, IsNumber, IsWatched, SourceView, WatchDevices, watch_devices}
 use Rattle.analyser.specs.declared.fault.Output.TheVariants as output
 use Rattle.analyser.specs.declared.fault.WatchFault.{WatchFault}
 use Rattle.analyser.specs.declared.fault.WatchFault.TheVariants as watch
@@ -86,6 +86,10 @@ with_both None b P Q f h = tt
 with_both (Some x) None P Q f h = tt
 with_both (Some x) (Some y) P Q f h = f x y h
 
+pub with_ok : {X E : Type 0} (r : Result X E) (P Q : X → Type 0) → ((x : X) → P x → Q x) → IfOk r P → IfOk r Q
+with_ok (Ok x) P Q f h = f x h
+with_ok (Err e) P Q f h = tt
+
 -- ---- the whole run
 
 -- the devices were given back after readers and sinks stood so
@@ -116,9 +120,10 @@ aborted fault ps vl_table before after a b unread_a unread_b r s = (
 pub watched : (ps : List (List Packed)) (vl_table : VlTable) (before after : WatchDevices) (fa fb cut : List Frame) (end_a end_b : Ending) (totals : Totals)
     (m : MergerState) (a b : Reading) (unread_a unread_b : List ℕ) → Returned a b unread_a unread_b after →
     HasRead networks.A vl_table.late before.a fa (Some end_a) a → HasRead networks.B vl_table.late before.b fb (Some end_b) b → Follows m fa fb cut → m.pending ≡ [] →
-    IsFinished ps vl_table before.capture before.ledger after.capture after.ledger cut end_a end_b totals →
+    IsFinished ps vl_table before.capture before.ledger after.capture after.ledger cut end_a end_b totals → IsNumber (length ps) →
     IsWatched ps vl_table (end_a ∷ end_b ∷ []) totals before after
-watched ps vl_table before after fa fb cut end_a end_b totals m a b unread_a unread_b r read_a read_b follows none f = record {
+watched ps vl_table before after fa fb cut end_a end_b totals m a b unread_a unread_b r read_a read_b follows none f number = record {
+  filters = number;
   a = end_a;
   b = end_b;
   endings_are = refl;
@@ -144,10 +149,13 @@ stopped_at_the_end fault ps vl_table before after fa fb cut end_a end_b m a b un
   where
     sound_a : after.a.failures ≡ before.a.failures
     sound_a = r.a_failures ∙ read_a.failures
+
     sound_b : after.b.failures ≡ before.b.failures
     sound_b = r.b_failures ∙ read_b.failures
+
     some : AppendsSome before.capture.contents after.capture.contents (capture_by ps cut)
     some = capture_all ps cut before.capture.contents after.capture.contents s.packets
+
     lines : HasLines ps vl_table before fa fb cut after.ledger.contents
     lines = inr (
       end_a,
@@ -158,6 +166,7 @@ stopped_at_the_end fault ps vl_table before after fa fb cut end_a end_b m a b un
       },
       s.text,
     )
+
     by : (f : WatchFault) → SinkFails f before.capture.failures after.capture.failures before.ledger.failures after.ledger.failures → AbortsRun f ps vl_table before after
     by (watch.Write output.Capture) fails = (
       (sound_a, sound_b, fails.0, fails.1),

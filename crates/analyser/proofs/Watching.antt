@@ -1,7 +1,8 @@
 -- A run over two recordings: its rounds follow on one another, and what it leaves where it stops.
-use Rattle.std.proofs.Common.{◌≡◌, inl, inr, false, ℕ, suc, zero, ◌+◌, ◌^◌, ◌<◌, ◌≤◌, List, [], ◌∷◌, ◌++◌, length, take, Option, Some, None, refl, sym, subst, ap, ◌∙◌, append_assoc, arith}
-use Rattle.std.proofs.lemmas.List.{append-nil, length-append, length-map, take-append-le, take_all}
+use Rattle.std.proofs.Common.{◌≡◌, inl, Bool, false, zero, ℕ, suc, ◌+◌, ◌^◌, ◌≤◌, List, [], ◌∷◌, ◌++◌, length, take, Option, Some, None, sym, subst, ap, ◌∙◌, append_assoc, arith}
+use Rattle.std.proofs.lemmas.List.{append-nil, length-append, take-append-le, take_all}
 use Rattle.std.proofs.lemmas.List.Sorted.{length_permutation}
+use Rattle.std.specs.Prelude.{◌==◌}
 use Rattle.std.specs.List.{AllByRecursion}
 use Rattle.std.specs.Option.{ForSome, option_map_or}
 use Rattle.std.specs.Io.KnownBytes.{Appends}
@@ -11,8 +12,7 @@ use Rattle.afdx_frame.specs.declared.key.Key.{Key}
 use Rattle.afdx_frame.specs.declared.key.Network.{Network}
 use Rattle.afdx_frame.specs.declared.key.Network.TheVariants as networks
 use Rattle.bpf_isa.specs.declared.packed.Packed.{Packed}
-use Rattle.ordered_merge.specs.Merge.{Follows, MergerState}
-use Rattle.ordered_merge.specs.Order.{IsBefore, IsOrder, IsRising}
+use Rattle.ordered_merge.specs.Order.{IsOrder, IsRising}
 use Rattle.pcap_io.specs.Position.{Reading, Reads, after_frame, start_at}
 use Rattle.pcap_io.specs.declared.position.Position.{Position}
 use Rattle.pcap_io.specs.Writer.{has_failed}
@@ -24,15 +24,21 @@ use Rattle.vl_judge.specs.Lanes.{last_key}
 use Rattle.analyser.specs.Filters.{capture_by, entries_by}
 use Rattle.analyser.specs.Outputs.{HasWritten, SinkFails, StopsWriting}
 use Rattle.analyser.specs.Round.{FollowsOn}
-use Rattle.analyser.specs.Run.{IsWatching, StopsWatching, reading_view}
+use Rattle.analyser.specs.Run.{IsWatching, StopsWatching}
 use Rattle.analyser.specs.declared.taps.Taps.{Taps}
 use Rattle.analyser.specs.declared.outputs.Outputs.{Outputs}
-use Rattle.analyser.specs.Taps.{Agree, HasMerged, HasRead, ReadsPart, SourceFails, StopsMerging}
-use Rattle.analyser.specs.Watch.{AppendsSome, FailsOnly, HasReadTap, SinkView, SourceView, WatchDevices, lines_by, most_frames, watch_devices}
+use Rattle.analyser.specs.Taps.{Agree, HasMerged, ReadsPart, SourceFails, StopsMerging}
+use Rattle.analyser.specs.Watch.{HasReadTap, SinkView, SourceView, WatchDevices, lines_by, most_frames}
 use Rattle.analyser.specs.declared.fault.Output.TheVariants as output
 use Rattle.analyser.specs.declared.fault.WatchFault.{WatchFault}
 use Rattle.analyser.specs.declared.fault.WatchFault.TheVariants as watch
 use Rattle.analyser.proofs.Writing.{capture_longer, capture_some, entries_length, lines_longer, lines_some}
+
+-- ---- the number of filters
+
+pub some_filters : (n : ℕ) (empty : Bool) → empty ≡ (n == 0) → empty ≡ false → 1 ≤ n
+some_filters zero empty e is = (let wrong : ⊥ = cc (sym e ∙ is) in absurd wrong)
+some_filters (suc n) empty e is = omega arith
 
 -- ---- a run has begun
 
@@ -151,6 +157,7 @@ stops_by_merging fault ps vl_table before cut a b capture ledger s packets lines
       subst (λ (l : List Frame). Appends before.capture.contents capture.contents (capture_by ps l)) (sym (wholes_before cut s.rest)) packets,
       subst (λ (l : List Frame). Appends before.ledger.contents ledger.contents (lines_by ps vl_table l)) (sym (wholes_before cut s.rest)) lines,
     )
+
     by : (f : WatchFault) → SourceFails f before.a.failures a.failures before.b.failures b.failures → StopsWatching f ps vl_table before a b capture ledger
     by (watch.Read networks.A) fails = record {
       frames_a = s.frames_a;

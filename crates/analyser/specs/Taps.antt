@@ -7,7 +7,7 @@ use Rattle.afdx_frame.specs.declared.key.Network.TheVariants.{A, B}
 use Rattle.ordered_merge.specs.Merge.{MergerState, CanFetch, Follows, ended, fetched, tap_of}
 use Rattle.pcap_io.specs.Device.{CountsFailure, TakesAtMost}
 use Rattle.pcap_io.specs.Position.{EndLeaves, Reading, TakesFrame, after_frame, ending_here}
-use Rattle.pcap_io.specs.Reader.{position_of, reading_of, source_of}
+use Rattle.pcap_io.specs.Reader.{position_of, reading_of}
 use Rattle.ordered_merge.specs.Order.{IsOrder}
 use Rattle.pcap_io.specs.declared.position.Position.{Position}
 use Rattle.pcap_io.specs.declared.record_header.TheConstants.{RECORD_HEADER_LEN}

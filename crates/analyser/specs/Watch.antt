@@ -1,5 +1,5 @@
 -- What a whole run over two recordings leaves, and why it was aborted (this project's profile).
-use Rattle.std.specs.Prelude.{◌≡◌, ◌⊎◌, ℕ, ◌+◌, ◌^◌, ◌≤◌, ◌<◌, List, [], ◌∷◌, ◌++◌, length, take, Option, Err, IfSome, ⊤}
+use Rattle.std.specs.Prelude.{◌≡◌, ◌⊎◌, ℕ, ◌+◌, ◌^◌, ◌≤◌, List, [], ◌∷◌, ◌++◌, length, take, Option, Err, IfSome, ⊤}
 use Rattle.std.specs.Io.KnownBytes.{Appends}
 use Rattle.afdx_frame.specs.Frame.{Frame}
 use Rattle.afdx_frame.specs.declared.bounds.TheConstants.{MAX_SNAPLEN}
@@ -96,9 +96,14 @@ lines_by ps vl_table frames = ledger_head ++ lines_text (entries_by ps vl_table 
 abbrev pub ledger_by : List (List Packed) → VlTable → List Frame → Ending → Ending → List ℕ
 ledger_by ps vl_table frames a b = ledger_text vl_table (length ps) (entries_by ps vl_table frames) a b
 
+-- 1 to 8: how many filters a run has, and how many workers
+abbrev pub IsNumber : ℕ → Type 0
+IsNumber n = (1 ≤ n) × (n ≤ 8)
+
 -- Both recordings were read to their endings. The capture is that of all their frames in the one order, the ledger has a line for
 -- each, with the verdicts along that order, and the totals count them.
 pub record IsWatched (ps : List (List Packed)) (vl_table : VlTable) (endings : List Ending) (totals : Totals) (before after : WatchDevices) : Type 0 where
+  pub filters : IsNumber (length ps)
   pub a : Ending
   pub b : Ending
   pub endings_are : endings ≡ a ∷ b ∷ []
@@ -154,22 +159,21 @@ WasOpened before after = (layout : Layout) × Opens before.remaining after.remai
 abbrev pub OutputsUntouched : WatchDevices → WatchDevices → Type 0
 OutputsUntouched before after = (after.capture ≡ before.capture) × (after.ledger ≡ before.ledger)
 
--- The run didn't begin: there are no filters or too many, or a recording wasn't opened, that of A first. Nothing was written.
-abbrev pub StopsAtOpening : ℕ → WatchFault → WatchDevices → WatchDevices → Type 0
-StopsAtOpening filters watch.Filters before after = ((filters ≡ 0) ⊎ (8 < filters)) × (after ≡ before)
-StopsAtOpening filters (watch.Header A f) before after =
+-- A recording wasn't opened, that of A first. Nothing was written.
+abbrev pub StopsAtOpening : WatchFault → WatchDevices → WatchDevices → Type 0
+StopsAtOpening (watch.Header A f) before after =
     HasHeaderFault f before.a after.a × (after.b ≡ before.b) × OutputsUntouched before after
-StopsAtOpening filters (watch.Header B f) before after =
+StopsAtOpening (watch.Header B f) before after =
     WasOpened before.a after.a × HasHeaderFault f before.b after.b × OutputsUntouched before after
-StopsAtOpening filters (watch.Read A) before after =
+StopsAtOpening (watch.Read A) before after =
     FailsAtHeader before.a after.a × (after.b ≡ before.b) × OutputsUntouched before after
-StopsAtOpening filters (watch.Read B) before after =
+StopsAtOpening (watch.Read B) before after =
     WasOpened before.a after.a × FailsAtHeader before.b after.b × OutputsUntouched before after
-StopsAtOpening filters fault before after = ⊥
+StopsAtOpening fault before after = ⊥
 
--- The run didn't begin: only the device that the fault names failed, if it names one.
-abbrev pub AbortsAtOpening : ℕ → WatchFault → WatchDevices → WatchDevices → Type 0
-AbortsAtOpening filters fault before after = FailsOnly fault before after × StopsAtOpening filters fault before after
+-- and only the device that the fault names failed, if it names one
+abbrev pub AbortsAtOpening : WatchFault → WatchDevices → WatchDevices → Type 0
+AbortsAtOpening fault before after = FailsOnly fault before after × StopsAtOpening fault before after
 
 -- both recordings have ended so
 pub record HaveEnded (late : ℕ) (before : WatchDevices) (frames_a frames_b : List Frame) (a b : Ending) : Type 0 where
@@ -212,15 +216,14 @@ IsRunFault fault = ⊥
 abbrev pub AbortsRun : WatchFault → List (List Packed) → VlTable → WatchDevices → WatchDevices → Type 0
 AbortsRun fault ps vl_table before after = FailsOnly fault before after × IsRunFault fault × StopsRun fault ps vl_table before after
 
--- why a run was aborted, and what it leaves
+-- why a run was aborted, and what it leaves: the number of filters is the first thing that is looked at
 abbrev pub IsWatchAborted : List (List Packed) → VlTable → WatchFault → WatchDevices → WatchDevices → Type 0
-IsWatchAborted ps vl_table fault before after = AbortsAtOpening (length ps) fault before after ⊎ AbortsRun fault ps vl_table before after
-
--- a run may have so many workers
-abbrev pub AreWorkers : ℕ → Type 0
-AreWorkers workers = (1 ≤ workers) × (workers ≤ 8)
+IsWatchAborted ps vl_table fault before after =
+    ((fault ≡ watch.Filters) × (IsNumber (length ps) → ⊥) × (after ≡ before))
+    ⊎ (IsNumber (length ps) × (AbortsAtOpening fault before after ⊎ AbortsRun fault ps vl_table before after))
 
 -- why a run of so many workers was aborted, and what it leaves: the number of workers is the first thing that is looked at
 abbrev pub IsRunAborted : ℕ → List (List Packed) → VlTable → WatchFault → WatchDevices → WatchDevices → Type 0
-IsRunAborted workers ps vl_table watch.Workers before after = ((workers ≡ 0) ⊎ (8 < workers)) × (after ≡ before)
-IsRunAborted workers ps vl_table fault before after = AreWorkers workers × IsWatchAborted ps vl_table fault before after
+IsRunAborted workers ps vl_table fault before after =
+    ((fault ≡ watch.Workers) × (IsNumber workers → ⊥) × (after ≡ before))
+    ⊎ (IsNumber workers × IsWatchAborted ps vl_table fault before after)

@@ -118,11 +118,23 @@ fn watch_command<'a>(alloc: Global) -> Result<Command<'a>, AllocError>
     Command::new(alloc, "watch")
         .about("Judges the frames of two recordings, and writes those that a filter accepts")
         .after_help(WATCH_EXAMPLE)
-        .arg(file_option(alloc, "config", "The table of virtual links, a TOML document"))?
-        .arg(file_option(alloc, "filter", "The filter in the numeric form, as `afdxmon asm` prints it"))?
+        .arg(file_option(
+            alloc,
+            "config",
+            "The table of virtual links, a TOML document",
+        ))?
+        .arg(file_option(
+            alloc,
+            "filter",
+            "The filter in the numeric form, as `afdxmon asm` prints it",
+        ))?
         .arg(file_option(alloc, "a", "The recording of network A, a pcap file"))?
         .arg(file_option(alloc, "b", "The recording of network B, a pcap file"))?
-        .arg(file_option(alloc, "capture", "The capture to write, a nanosecond pcap file"))?
+        .arg(file_option(
+            alloc,
+            "capture",
+            "The capture to write, a nanosecond pcap file",
+        ))?
         .arg(file_option(alloc, "ledger", "The ledger of verdicts to write"))?
         .arg(workers_option(alloc))
 }

@@ -158,7 +158,8 @@ fn config_advice(fault: ConfigFault) -> &'static str {
         ConfigFault::Text => "not a TOML document",
         ConfigFault::Missing { .. } => "a key is missing: docs/TABLE.md lists them",
         ConfigFault::Kind { .. } => "a value has another type than its key's",
-        ConfigFault::Range { .. } => "a value is out of its key's range: docs/TABLE.md has the ranges",
+        ConfigFault::Range { .. } =>
+            "a value is out of its key's range: docs/TABLE.md has the ranges",
         ConfigFault::UnknownKey { .. } => "a key that the table doesn't have",
         ConfigFault::TwiceId { .. } => "an earlier link has the identifier",
         ConfigFault::TwiceName { .. } => "an earlier link has the name",

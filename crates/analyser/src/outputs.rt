@@ -121,10 +121,10 @@ pub struct Unwritten<W, L> {
 
 impl<W: OutSink, L: OutSink> Outputs<W, L> {
     ghost use Rattle.std.specs.Prelude.{◌+◌, ◌^◌, []};
-    ghost use Rattle.analyser.specs.Outputs.{IsFinished, StopsFinishing};
     ghost use Rattle.bpf_isa.specs.declared.packed.Packed.{Packed};
-    ghost use Rattle.verdict_ledger.specs.Ledger.{has_failed as ledger_has_failed, sink_of as ledger_sink, totals_in};
-    ghost use Rattle.analyser.specs.Outputs.{HasWritten, StopsWriting};
+    ghost use Rattle.verdict_ledger.specs.Ledger.{has_failed as ledger_has_failed, totals_in};
+    ghost use Rattle.verdict_ledger.specs.Ledger.{sink_of as ledger_sink};
+    ghost use Rattle.analyser.specs.Outputs.{HasWritten, IsFinished, StopsFinishing, StopsWriting};
     ghost use Rattle.analyser.specs.Watch.{SinkView, sink_view};
 
     /// Begins the capture, and then the ledger of a table, for 1 to 8 filters. A refusal gives both
@@ -185,11 +185,7 @@ impl<W: OutSink, L: OutSink> Outputs<W, L> {
     }
 
     /// Writes the rest of the ledger, by how both recordings ended, and gives the sinks and the counts.
-    pub fn finish(
-        self,
-        a: Ending,
-        b: Ending,
-    ) -> Result<(W, L, Totals), Unwritten<W, L>>
+    pub fn finish(self, a: Ending, b: Ending) -> Result<(W, L, Totals), Unwritten<W, L>>
         requires going { ledger_has_failed self.ledger ≡ false }
         ensures finished { IfOk result (λ done. (ps : List (List Packed)) (vl_table : VlTable)
             (capture ledger : SinkView) (frames : List Frame)

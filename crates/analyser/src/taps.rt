@@ -83,8 +83,8 @@ impl<S: TapSource, T: TapSource> Taps<S, T> {
             late (source_view S.remaining S.failures a) (source_view T.remaining T.failures b)
             [] [] [] taps) }
         ensures agree { IfOk result Agree }
-        ensures refused { IfErr result (λ e. (filters : ℕ) (capture ledger : SinkView)
-            → AbortsAtOpening filters e.fault
+        ensures refused { IfErr result (λ e. (capture ledger : SinkView)
+            → AbortsAtOpening e.fault
             (watch_devices (source_view S.remaining S.failures a)
             (source_view T.remaining T.failures b) capture ledger)
             (watch_devices (source_view S.remaining S.failures e.a)
@@ -94,7 +94,11 @@ impl<S: TapSource, T: TapSource> Taps<S, T> {
             Ok(reader) => reader,
             Err(OpenRefused { source, fault }) => {
                 let fault = fault_of_open(Network::A, fault);
-                return Err(Unopened { fault, a: source, b });
+                return Err(Unopened {
+                    fault,
+                    a: source,
+                    b,
+                });
             }
         };
         let b = match TapReader::open(b, Network::B, MOST_FRAMES, late) {

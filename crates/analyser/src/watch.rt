@@ -8,7 +8,7 @@ ghost use Rattle.pcap_io.specs.Writer.{sink_of};
 ghost use Rattle.verdict_ledger.specs.Ledger.{has_failed as ledger_has_failed, sink_of as ledger_sink};
 ghost use Rattle.analyser.specs.Run.{IsWatching, StopsWatching};
 ghost use Rattle.analyser.specs.Taps.{HasEnded};
-ghost use Rattle.analyser.specs.Watch.{AbortsRun, AreWorkers, IsRunAborted, IsWatchAborted, IsWatched, WatchDevices, sink_view, source_view, watch_devices};
+ghost use Rattle.analyser.specs.Watch.{AbortsRun, IsNumber, IsRunAborted, IsWatchAborted, IsWatched, WatchDevices, sink_view, source_view, watch_devices};
 
 use crate::capture::WatchRefused;
 use crate::fault::WatchFault;
@@ -114,7 +114,7 @@ fn finish<S: TapSource, T: TapSource, W: OutSink, L: OutSink>(
         (ps : List (List Packed)) (vl_table : VlTable) (before : WatchDevices)
         → IsWatching S.remaining S.failures T.remaining T.failures
         W.contents W.failures L.contents L.failures ps vl_table before taps outputs
-        → IsWatched ps vl_table done.endings done.totals before
+        → IsNumber (length ps) → IsWatched ps vl_table done.endings done.totals before
         (watch_devices (source_view S.remaining S.failures done.a)
         (source_view T.remaining T.failures done.b)
         (sink_view W.contents W.failures done.capture)
@@ -143,11 +143,13 @@ fn finish<S: TapSource, T: TapSource, W: OutSink, L: OutSink>(
             capture,
             ledger,
         }),
-        Err(Unwritten {
-            fault,
-            capture,
-            ledger,
-        }) => Err(WatchRefused::new(fault, a, b, capture, ledger)),
+        Err(
+            Unwritten {
+                fault,
+                capture,
+                ledger,
+            },
+        ) => Err(WatchRefused::new(fault, a, b, capture, ledger)),
     }
 }
 
@@ -209,11 +211,13 @@ pub fn watch_whole<S: TapSource, T: TapSource, W: OutSink, L: OutSink>(
     let filters = programs.len() as u32;
     let mut outputs = match Outputs::begin(alloc, config, filters, capture, ledger) {
         Ok(outputs) => outputs,
-        Err(Unwritten {
-            fault,
-            capture,
-            ledger,
-        }) => {
+        Err(
+            Unwritten {
+                fault,
+                capture,
+                ledger,
+            },
+        ) => {
             let (a, b) = taps.into_sources();
             return Err(WatchRefused::new(fault, a, b, capture, ledger));
         }
@@ -240,7 +244,7 @@ pub fn run_watch<S: TapSource, T: TapSource, W: OutSink, L: OutSink>(
     capture: W,
     ledger: L,
 ) -> Result<Watched<S, T, W, L>, WatchRefused<S, T, W, L>>
-    ensures watched { IfOk result (λ done. AreWorkers workers × IsWatched programs.now config.now
+    ensures watched { IfOk result (λ done. IsNumber workers × IsWatched programs.now config.now
         done.endings done.totals
         (watch_devices (source_view S.remaining S.failures a)
         (source_view T.remaining T.failures b)

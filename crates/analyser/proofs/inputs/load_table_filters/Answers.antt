@@ -1,4 +1,4 @@
-use Rattle.std.proofs.Common.{Some, ◌+◌, ◌≡◌, ◌∙◌, ◌++◌, ◌∷◌, [], ap, append_assoc, arith, string_bytes, subst}
+use Rattle.std.proofs.Common.{Some, ◌+◌, ◌∙◌, ◌++◌, ◌∷◌, [], ap, append_assoc, arith, string_bytes, subst}
 use Rattle.std.proofs.lemmas.Result.{err_from_is_err_and}
 use Rattle.analyser.specs.Inputs.{IsFilter, IsFilterFault}
 use Rattle.analyser.proofs.Loading.{fault_at, filters_next}

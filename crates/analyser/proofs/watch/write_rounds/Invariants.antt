@@ -1,5 +1,4 @@
 -- Rounds were read and written.
-use Rattle.std.proofs.Common.{ℕ}
 use Rattle.vl_config.specs.Document.{VlTable}
 use Rattle.analyser.specs.Run.{IsWatching}
 use Rattle.analyser.specs.Taps.{work_left}
@@ -10,9 +9,9 @@ abbrev pub invariant-loop-round : goal.invariant-loop-round
 invariant-loop-round g l = record {
   watching : (vl_table : VlTable) (before : WatchDevices) →
       IsWatching g.S.TapSource.remaining g.S.TapSource.failures g.T.TapSource.remaining g.T.TapSource.failures
-          g.W.OutSink.contents g.W.OutSink.failures g.L.OutSink.contents g.L.OutSink.failures l.programs vl_table before l.fn.taps l.fn.outputs →
+      g.W.OutSink.contents g.W.OutSink.failures g.L.OutSink.contents g.L.OutSink.failures l.programs vl_table before l.fn.taps l.fn.outputs →
       IsWatching g.S.TapSource.remaining g.S.TapSource.failures g.T.TapSource.remaining g.T.TapSource.failures
-          g.W.OutSink.contents g.W.OutSink.failures g.L.OutSink.contents g.L.OutSink.failures l.programs vl_table before l.taps l.outputs;
+      g.W.OutSink.contents g.W.OutSink.failures g.L.OutSink.contents g.L.OutSink.failures l.programs vl_table before l.taps l.outputs;
 }
 
 abbrev pub decreases-loop-round : goal.decreases-loop-round

@@ -1,4 +1,4 @@
-use Rattle.std.proofs.Common.{◌≡◌, ◌∙◌, ◌++◌, ap, length, refl, sym, subst, append_assoc}
+use Rattle.std.proofs.Common.{◌∙◌, length, sym, subst, append_assoc}
 use Rattle.std.proofs.KnownBytes.{Appends-trans}
 use Rattle.std.specs.Io.KnownBytes.{Appends}
 use Rattle.verdict_ledger.specs.Text.{ledger_head, lines_text, rest_text}
