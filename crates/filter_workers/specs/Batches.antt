@@ -1,5 +1,5 @@
 -- What a worker of a round hands back.
-use Rattle.std.specs.Prelude.{◌≡◌, ℕ, ◌+◌, ◌^◌, ◌<◌, ◌≤◌, true, List, [], ◌++◌, length, map, Some, slice_get, All}
+use Rattle.std.specs.Prelude.{◌≡◌, ℕ, ◌+◌, ◌^◌, ◌<◌, ◌≤◌, true, List, [], ◌∷◌, ◌++◌, length, map, Some, slice_get, slice_set, All}
 use Rattle.afdx_frame.specs.Frame.{Frame}
 use Rattle.bpf_isa.specs.declared.packed.Packed.{Packed}
 use Rattle.filter_workers.specs.Seats.{DeskId, SeatState, joined_seat}
@@ -38,3 +38,8 @@ pub record CanShare (desk : DeskId) (programs : List (List Packed)) (frames : Li
   pub workers : 1 ≤ count
   pub room : count ≤ seat.room
   pub numbers : worker + count < 2 ^ 32
+
+-- each decision at the place of its number
+abbrev pub placed : List Decision → List Numbered → List Decision
+placed all [] = all
+placed all (d ∷ ds) = placed (slice_set all d.number d.decision) ds

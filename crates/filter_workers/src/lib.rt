@@ -12,4 +12,5 @@ mod worker;
 pub use decision::{Decision, MAX_FILTERS, decide};
 pub use desk::{ClaimDesk, DeskSeat};
 pub use fault::RoundFault;
+pub use round::filter_round;
 pub use worker::RunGate;

@@ -29,6 +29,7 @@ pub(crate) struct Batch {
 }
 
 /// A round that is lent to its workers.
+#[derive(Drop)]
 pub(crate) struct Lent<'a, G> {
     pub(crate) desk: &'a ClaimDesk,
     pub(crate) programs: &'a [Program],

@@ -7,12 +7,12 @@ use Rattle.filter_workers.proofs.Batching.{join_batches}
 use Rattle.filter_workers.proofs.round.+sharing.Goals as goal
 
 -- src/round.rt:30:1
-pub returns : goal.returns
-returns g t c =
+pub returns-clause-batch : goal.returns-clause-batch
+returns-clause-batch g t c =
     let all = decisions_by c.args.round.now.programs.now c.args.round.now.frames.now in
     let seat = c.args.seat in
     let two = c.in-Ok.ensures in
-    let own : IsBatch c.in-Ok.mine.desk c.in-Ok.mine.room all c.in_ok-own.own = c.in_ok-own.ensures in
+    let own : IsBatch c.in-Ok.mine.desk c.in-Ok.mine.room all c.in_ok-own.own = c.in_ok-own.ensures.batch in
     let left : IsBatch seat.desk (seat.room - seat.room / 2) all c.in_ok-own.own =
       subst (λ (s : SeatState). IsBatch s.desk s.room all c.in_ok-own.own) two.1 own in
     let told : IsBatch c.args.round.now.desk.now c.of.result.value.room all c.in_ok-other.other =
