@@ -1,5 +1,5 @@
 -- Lists in which each number below n stands once.
-use Rattle.std.proofs.Common.{◌≡◌, ℕ, zero, suc, ◌+◌, ◌<◌, ◌≤◌, ◌≢◌, ◌==◌, Bool, true, false, if◌then◌else◌, nat_lt, List, [], ◌∷◌, ◌++◌, refl, sym, subst, ap, ◌∙◌, arith, eq-eqb, ne_eqb}
+use Rattle.std.proofs.Common.{◌≡◌, ℕ, zero, suc, ◌+◌, ◌<◌, ◌≤◌, ◌≢◌, ◌==◌, if◌then◌else◌, List, [], ◌∷◌, ◌++◌, refl, sym, subst, ap, ◌∙◌, arith, eq-eqb, ne_eqb}
 use Rattle.std.specs.Prelude.{All, IsPermutation}
 use Rattle.std.proofs.lemmas.Bool.Decides.{nat_tests}
 use Rattle.std.proofs.lemmas.List.Elements.{All-nil, All-cons}
@@ -7,7 +7,7 @@ use Rattle.std.proofs.lemmas.List.Sorted.{IsPermutation-refl, IsPermutation-sym,
 use mathlib.Core.Logic.{dite}
 use native.Mathlib.Decide.{ℕ_discrete, dec_le}
 use Rattle.filter_workers.specs.Seats.{numbers_below}
-use Rattle.filter_workers.specs.Claims.{total, times, once_below}
+use Rattle.filter_workers.specs.Claims.{times, once_below}
 use Rattle.filter_workers.proofs.Sums.{total-append}
 
 abbrev pub one_if : ℕ → ℕ → ℕ

@@ -1,17 +1,17 @@
 -- Each step of a desk's threads keeps the rule of its table.
-use Rattle.std.proofs.Common.{◌≡◌, ℕ, ◌+◌, ◌-◌, ◌/◌, ◌%◌, ◌^◌, ◌<◌, ◌≤◌, ◌≢◌, ◌⊎◌, min, Bool, true, false, ◌||◌, if◌then◌else◌, nat_lt, List, [], ◌∷◌, ◌++◌, length, get_or, set, refl, sym, subst, ap, ◌∙◌, ⊎_elim, arith, get_or-set_same, length-set}
+use Rattle.std.proofs.Common.{◌≡◌, ℕ, ◌+◌, ◌-◌, ◌/◌, ◌%◌, ◌^◌, ◌<◌, ◌≤◌, ◌≢◌, min, Bool, true, false, ◌||◌, if◌then◌else◌, nat_lt, List, [], ◌∷◌, ◌++◌, get_or, set, refl, sym, subst, ap, ◌∙◌, ⊎_elim, arith, get_or-set_same, length-set}
 use Rattle.std.specs.Prelude.{All}
 use Rattle.std.proofs.lemmas.Bool.Decides.{nat_tests}
 use mathlib.Core.Option.{none, some}
 use lib.ListN.{get_elem?}
 use lib.Seq.{set-get_or}
-use Rattle.atomic_table.specs.Table.{State, Me, step, keeps, Allows, Splits, Joins}
+use Rattle.atomic_table.specs.Table.{Me, step, keeps, Allows, Splits, Joins}
 use Rattle.atomic_table.proofs.Lists.{at_set, at_snoc, set_again, set_else}
 use Rattle.filter_workers.specs.declared.view.SeatView.{SeatView}
-use Rattle.filter_workers.specs.Claims.{total, times, once_below, through_room, IsSeat, AreClaims, Keeps}
+use Rattle.filter_workers.specs.Claims.{times, once_below, through_room, IsSeat, AreClaims, Keeps}
 use Rattle.filter_workers.specs.Claims.{seat_view, spent, after_draw, Draws, Looks, keeps_half, other_half, joined}
 use Rattle.filter_workers.proofs.Sums.{total-append, total-set, term_le, total_le}
-use Rattle.filter_workers.proofs.Numbers.{one_if, once_below-more, once_below-past, times-append, times-push, all_below}
+use Rattle.filter_workers.proofs.Numbers.{once_below-more, once_below-past, times-append, times-push, all_below}
 
 abbrev numbers_in : ℕ → SeatView → ℕ
 numbers_in k v = times k v.numbers

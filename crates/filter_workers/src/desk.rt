@@ -76,7 +76,8 @@ impl ClaimDesk {
     /// Claims the next number, or says that none is left. Either way the seat comes back.
     pub fn claim(&self, seat: DeskSeat) -> (Option<u64>, DeskSeat)
         requires { seat.desk ≡ self.now }
-        ensures { Claims seat result.0 result.1 }
+        ensures claim { Claims seat result.0 result.1 }
+        ensures desk { result.1.desk ≡ self.now }
     {
         let DeskSeat {
             mut seat,

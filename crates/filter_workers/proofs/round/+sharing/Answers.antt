@@ -1,4 +1,4 @@
-use Rattle.std.proofs.Common.{◌≡◌, ◌∙◌, ◌/◌, ◌-◌, ℕ, ap, subst, sym, arith}
+use Rattle.std.proofs.Common.{◌∙◌, ◌/◌, ◌-◌, subst, sym, arith}
 use Rattle.filter_workers.specs.declared.round.Promised.{Promised}
 use Rattle.filter_workers.specs.Seats.{SeatState, DeskId}
 use Rattle.filter_workers.specs.Filters.{decisions_by}

@@ -1,4 +1,4 @@
-use Rattle.std.proofs.Common.{ℕ, ◌+◌, ◌*◌}
+use Rattle.std.proofs.Common.{◌+◌, ◌*◌}
 use Rattle.filter_workers.proofs.round.+sharing.Given as goal
 
 abbrev pub decreases-upper : goal.decreases-upper

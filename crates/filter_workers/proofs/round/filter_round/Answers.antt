@@ -1,8 +1,8 @@
-use Rattle.std.proofs.Common.{◌≡◌, ◌∙◌, ℕ, List, length, sym, ap, subst}
+use Rattle.std.proofs.Common.{◌≡◌, ◌∙◌, List, length, sym, ap}
 use Rattle.std.proofs.lemmas.List.{length-map}
 use Rattle.filter_workers.specs.declared.decision.Decision.{Decision}
 use Rattle.filter_workers.specs.declared.worker.Numbered.{Numbered}
-use Rattle.filter_workers.specs.Seats.{SeatState, DeskId, DrewAll}
+use Rattle.filter_workers.specs.Seats.{SeatState, DrewAll}
 use Rattle.filter_workers.specs.Filters.{decision_by, decisions_by}
 use Rattle.filter_workers.specs.Batches.{IsBatch, placed}
 use Rattle.filter_workers.proofs.Placing.{restored, whole_round}

@@ -1,4 +1,4 @@
-use Rattle.std.proofs.Common.{◌≡◌, sym, ap, ◌∙◌, arith}
+use Rattle.std.proofs.Common.{sym, ap, ◌∙◌, arith}
 use Rattle.filter_workers.specs.Seats.{DeskId, SeatState}
 use Rattle.filter_workers.proofs.Steps.{draws}
 use Rattle.filter_workers.proofs.desk.ClaimDesk.claim.Goals as goal

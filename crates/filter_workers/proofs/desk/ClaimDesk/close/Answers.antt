@@ -1,4 +1,4 @@
-use Rattle.std.proofs.Common.{◌≡◌, ℕ, Bool, List, min, sym, ap, subst, ◌∙◌}
+use Rattle.std.proofs.Common.{◌≡◌, ℕ, min, sym, ap, subst, ◌∙◌}
 use Rattle.filter_workers.specs.Seats.{DeskId, SeatState, DrewAll}
 use Rattle.filter_workers.proofs.Closing.{closes}
 use Rattle.filter_workers.proofs.desk.ClaimDesk.close.Goals as goal

@@ -1,4 +1,4 @@
-use Rattle.std.proofs.Common.{◌≡◌, sym, ap, ◌∙◌, arith}
+use Rattle.std.proofs.Common.{sym, ap, ◌∙◌, arith}
 use Rattle.filter_workers.specs.Seats.{DeskId, SeatState}
 use Rattle.filter_workers.proofs.Steps.{joins, looks}
 use Rattle.filter_workers.proofs.desk.ClaimDesk.join.Goals as goal

@@ -1,4 +1,4 @@
-use Rattle.std.proofs.Common.{◌≡◌, sym, ap, ◌∙◌, arith}
+use Rattle.std.proofs.Common.{sym, ap, ◌∙◌, arith}
 use Rattle.filter_workers.specs.Seats.{DeskId, SeatState}
 use Rattle.filter_workers.proofs.Steps.{splits}
 use Rattle.filter_workers.proofs.desk.ClaimDesk.split.Goals as goal

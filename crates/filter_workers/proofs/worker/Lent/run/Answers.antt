@@ -1,4 +1,4 @@
-use Rattle.std.proofs.Common.{◌≡◌, ◌<◌, ℕ, Option, Some, subst, ap, ◌∙◌, arith}
+use Rattle.std.proofs.Common.{◌<◌, ℕ, Option, subst, ap, ◌∙◌, arith}
 use Rattle.filter_workers.specs.Seats.{DeskId, SeatState, Claims}
 use Rattle.filter_workers.proofs.Batching.{claim_is_nearer, decided_more, numbers_more}
 use Rattle.filter_workers.proofs.worker.Lent.run.Goals as goal
@@ -6,14 +6,14 @@ use Rattle.filter_workers.proofs.worker.Lent.run.Goals as goal
 -- src/worker.rt:58:9
 pub loop-number-smaller : goal.loop-number-smaller
 loop-number-smaller g c =
-    let claim = subst (λ (o : Option ℕ). Claims c.loop-number.seat o c.claim-number.result.1) c.in-Some.is c.claim-number.ensures in
+    let claim = subst (λ (o : Option ℕ). Claims c.loop-number.seat o c.claim-number.result.1) c.in-Some.is c.claim-number.ensures.claim in
     claim_is_nearer _ _ c.loop-number.seat c.claim-number.result.1 claim
       (ap (λ (d : DeskId). d.len) (c.loop-number.invariant.of_desk ∙ c.requires.desk) ∙ c.requires.size)
 
 -- src/worker.rt:58:9
 pub loop-number-preserved : goal.loop-number-preserved
 loop-number-preserved g c =
-    let claim = subst (λ (o : Option ℕ). Claims c.loop-number.seat o c.claim-number.result.1) c.in-Some.is c.claim-number.ensures in
+    let claim = subst (λ (o : Option ℕ). Claims c.loop-number.seat o c.claim-number.result.1) c.in-Some.is c.claim-number.ensures.claim in
     let within : c.in-Some.number < c.args.self.now.desk.now.len =
       subst (λ (n : ℕ). c.in-Some.number < n) (ap (λ (d : DeskId). d.len) (c.loop-number.invariant.of_desk ∙ c.requires.desk)) claim.1 in
     record {
