@@ -28,19 +28,25 @@ pub drew_all : (word : ℕ) (views : List SeatView) (id : ℕ) (v : SeatView) (s
     → AreClaims s.desk.len word views → get_elem? views id ≡ some v → v.room ≡ 64 → v.numbers ≡ s.numbers → v.through ≡ s.through
     → DrewAll s (min word s.desk.len)
 drew_all word views id v s is at full same through = record {
-    within = omega arith;
-    each_once = each_once (min word s.desk.len) s.numbers (λ k. ap (times k) (sym same) ∙ (alone k ∙ is.once k));
-    none_left = λ yes. let h = (is.seats id v at).none_left (through ∙ yes) in omega arith;
-  }
+  within = omega arith;
+  each_once = each_once (min word s.desk.len) s.numbers (λ k. ap (times k) (sym same) ∙ (alone k ∙ is.once k));
+  none_left = λ yes. let h = (is.seats id v at).none_left (through ∙ yes) in omega arith;
+}
   where
     empty : (j : ℕ) (u : SeatView) → get_elem? (set views id spent) j ≡ some u → u.room ≡ 0 → u.numbers ≡ []
     empty j u there none =
         ⊎_elim (λ (here : (j ≡ id) × (spent ≡ u)). sym (ap (λ (x : SeatView). x.numbers) here.1))
-          (λ (other : (j ≢ id) × (get_elem? views j ≡ some u)). (is.seats j u other.1).empty none)
-          (at_set views id j spent u there)
+        (λ (other : (j ≢ id) × (get_elem? views j ≡ some u)). (is.seats j u other.1).empty none)
+        (at_set views id j spent u there)
+
     alone : (k : ℕ) → times k v.numbers ≡ total (numbers_in k) views
-    alone k = omega (arith, total-set (numbers_in k) views id v spent at, total-set room_of views id v spent at, is.rooms,
-      no_numbers k (set views id spent) empty (omega (arith, total-set room_of views id v spent at, is.rooms)))
+    alone k = omega (
+      arith,
+      total-set (numbers_in k) views id v spent at,
+      total-set room_of views id v spent at,
+      is.rooms,
+      no_numbers k (set views id spent) empty (omega (arith, total-set room_of views id v spent at, is.rooms)),
+    )
 
 -- what a closed desk leaves
 pub closes : (len id : ℕ) (v : SeatView) (s : SeatState) (words : List ℕ) (slots : List (Unit {0})) (next : ℕ)
@@ -49,9 +55,9 @@ pub closes : (len id : ℕ) (v : SeatView) (s : SeatState) (words : List ℕ) (s
 closes len id v s words slots next final at same_len full same through =
     let word : get_or final.0.words 0 0 ≡ next = ap (λ ws. get_or ws 0 0) final.2 ∙ first words next at in
     drew_all next final.0.views id v s
-      (subst (λ n. AreClaims s.desk.len n final.0.views) word
-        (subst (λ n. AreClaims n (get_or final.0.words 0 0) final.0.views) same_len final.1.0.claims))
-      final.1.1 full same through
+    (subst (λ n. AreClaims s.desk.len n final.0.views) word
+    (subst (λ n. AreClaims n (get_or final.0.words 0 0) final.0.views) same_len final.1.0.claims))
+    final.1.1 full same through
   where
     first : (ws : List ℕ) (n : ℕ) → get_elem? ws 0 ≡ some n → get_or ws 0 0 ≡ n
     first [] n e = absurd (some-ne-none n (sym e))

@@ -37,8 +37,8 @@ pub all_below : (n : ℕ) (xs : List ℕ) → ((k : ℕ) → n ≤ k → times k
 all_below n [] h = All-nil (λ x. x < n)
 all_below n (x ∷ xs) h =
     All-cons (λ y. y < n) x xs
-      (dite (dec_le n x) (λ past. absurd (omega (arith, h x past, one_if-same x))) (λ near. omega arith))
-      (all_below n xs (λ k past. omega (arith, h k past)))
+    (dite (dec_le n x) (λ past. absurd (omega (arith, h x past, one_if-same x))) (λ near. omega arith))
+    (all_below n xs (λ k past. omega (arith, h k past)))
 
 pub none_there : (xs : List ℕ) → ((k : ℕ) → times k xs ≡ 0) → xs ≡ []
 none_there [] h = refl
@@ -54,9 +54,9 @@ split_at : (k : ℕ) (xs : List ℕ) → 0 < times k xs → Split k xs
 split_at k [] h = absurd (omega arith)
 split_at k (x ∷ xs) h =
     dite (ℕ_discrete x k)
-      (λ e. record { before = []; after = xs; is = ap (λ y. y ∷ xs) e })
-      (λ ne. let r = split_at k xs (omega (arith, one_if-other x k ne)) in
-        record { before = x ∷ r.before; after = r.after; is = ap (λ ys. x ∷ ys) r.is })
+    (λ e. record { before = []; after = xs; is = ap (λ y. y ∷ xs) e })
+    (λ ne. let r = split_at k xs (omega (arith, one_if-other x k ne)) in
+    record { before = x ∷ r.before; after = r.after; is = ap (λ ys. x ∷ ys) r.is })
 
 one_more : (n : ℕ) → suc n ≡ n + 1
 one_more n = omega arith
@@ -75,9 +75,9 @@ put_last : (n : ℕ) (xs before after : List ℕ) → xs ≡ before ++ n ∷ aft
     → IsPermutation xs (numbers_below (suc n))
 put_last n xs before after is rest =
     subst (λ ys. IsPermutation ys (numbers_below (suc n))) (sym is)
-      (IsPermutation-trans _ _ _ (IsPermutation-middle before n after)
-        (IsPermutation-trans _ _ _ (IsPermutation-cons n _ _ rest)
-          (IsPermutation-sym _ _ (IsPermutation-to_front (numbers_below n) n))))
+    (IsPermutation-trans _ _ _ (IsPermutation-middle before n after)
+    (IsPermutation-trans _ _ _ (IsPermutation-cons n _ _ rest)
+    (IsPermutation-sym _ _ (IsPermutation-to_front (numbers_below n) n))))
 
 -- what stands once below n, and no other, is the numbers below n
 pub each_once : (n : ℕ) (xs : List ℕ) → ((k : ℕ) → times k xs ≡ once_below n k) → IsPermutation xs (numbers_below n)

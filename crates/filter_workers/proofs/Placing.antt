@@ -18,7 +18,7 @@ pub within : (all : List Decision) (numbered : List Numbered) (n : ℕ) → leng
     → All (λ (d : Numbered). d.number < n) numbered
 within all numbered n same =
     All-weaker (IsDecided all) (λ (d : Numbered). d.number < n)
-      (λ d is. subst (λ m. d.number < m) same (slice_get_within all d.number d.decision is)) numbered
+    (λ d is. subst (λ m. d.number < m) same (slice_get_within all d.number d.decision is)) numbered
 
 get_set_same : {A : Type 0} (xs : List A) (k : ℕ) (x : A) → k < length xs → slice_get (set xs k x) k ≡ Some x
 get_set_same [] k x h = absurd (omega arith)
@@ -48,10 +48,10 @@ placed_at all old (d ∷ ds) k same right has =
     let next : List Decision = set old d.number d.decision in
     let inside : d.number < length old = subst (λ n. d.number < n) (sym same) (slice_get_within all d.number d.decision head) in
     placed_at all next ds k (length-set old d.number d.decision ∙ same) (All-tail (IsDecided all) d ds right)
-      (dite (ℕ_discrete k d.number)
-        (λ e. inl (ap (slice_get next) e ∙ (get_set_same old d.number d.decision inside ∙ (sym head ∙ ap (slice_get all) (sym e)))))
-        (λ ne. ⊎_elim (λ e. inl (get_set_other old d.number k d.decision ne ∙ e))
-          (λ c. inr (not_first d.number k (numbers_of ds) ne c)) has))
+    (dite (ℕ_discrete k d.number)
+    (λ e. inl (ap (slice_get next) e ∙ (get_set_same old d.number d.decision inside ∙ (sym head ∙ ap (slice_get all) (sym e)))))
+    (λ ne. ⊎_elim (λ e. inl (get_set_other old d.number k d.decision ne ∙ e))
+    (λ c. inr (not_first d.number k (numbers_of ds) ne c)) has))
 
 pub length-placed : (old : List Decision) (ds : List Numbered) → length (placed old ds) ≡ length old
 length-placed old [] = refl
@@ -70,18 +70,18 @@ below_there : (n k : ℕ) → k < n → Contains (numbers_below n) k
 below_there zero k less = absurd (omega arith)
 below_there (suc n) k less =
     dite (dec_lt k n) (λ low. Contains-append_left (numbers_below n) (n ∷ []) k (below_there n k low))
-      (λ high. let e : n ≡ k = omega (arith, high) in
-        subst (λ m. Contains (numbers_below n ++ n ∷ []) m) e (Contains-push (numbers_below n) n))
+    (λ high. let e : n ≡ k = omega (arith, high) in
+    subst (λ m. Contains (numbers_below n ++ n ∷ []) m) e (Contains-push (numbers_below n) n))
 
 -- the decisions of a whole round, each at its place
 pub whole_round : (desk : DeskId) (room drawn : ℕ) (all old : List Decision) (b : Batch) → IsBatch desk room all b → DrewAll b.seat drawn
     → desk.len ≡ length all → length old ≡ length all → placed old b.decisions.items ≡ all
 whole_round desk room drawn all old b is drew len same =
     same_list (placed old b.decisions.items) all (length-placed old b.decisions.items ∙ same)
-      (λ k less. placed_at all old b.decisions.items k same is.decided
-        (inr (subst (λ ns. Contains ns k) (sym is.numbers)
-          (Contains-permutation (numbers_below drawn) b.seat.numbers k (IsPermutation-sym b.seat.numbers (numbers_below drawn) drew.each_once)
-            (below_there drawn k (subst (λ n. k < n) (sym count) less))))))
+    (λ k less. placed_at all old b.decisions.items k same is.decided
+    (inr (subst (λ ns. Contains ns k) (sym is.numbers)
+    (Contains-permutation (numbers_below drawn) b.seat.numbers k (IsPermutation-sym b.seat.numbers (numbers_below drawn) drew.each_once)
+    (below_there drawn k (subst (λ n. k < n) (sym count) less))))))
   where
     count : drawn ≡ length all
     count = drew.none_left is.none_left ∙ (ap (λ (d : DeskId). d.len) is.of_desk ∙ len)

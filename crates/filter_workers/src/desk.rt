@@ -47,10 +47,10 @@ impl Model for DeskSeat {
     ghost Value = { SeatState };
 
     ghost view = { λ s. record {
-        desk = record { table = s.seat.table_id; len = s.seat.me.0.len };
-        numbers = s.seat.me.0.numbers;
-        room = s.room;
-        through = s.through;
+      desk = record { table = s.seat.table_id; len = s.seat.me.0.len };
+      numbers = s.seat.me.0.numbers;
+      room = s.room;
+      through = s.through;
     } };
 
     ghost invariant = { λ s. (s.seat.me.1 ≡ []) × (s.seat.me.0.room ≡ s.room)
@@ -85,25 +85,34 @@ impl ClaimDesk {
             through,
         } = seat;
         if through {
-            return (None, DeskSeat {
-                seat,
-                room,
-                through,
-            });
+            return (
+                None,
+                DeskSeat {
+                    seat,
+                    room,
+                    through,
+                },
+            );
         }
         let number = self.table.shared.fetch_add::<Draw>(&mut seat, 0, 1);
         if number < self.len {
-            (Some(number), DeskSeat {
-                seat,
-                room,
-                through,
-            })
+            (
+                Some(number),
+                DeskSeat {
+                    seat,
+                    room,
+                    through,
+                },
+            )
         } else {
-            (None, DeskSeat {
-                seat,
-                room,
-                through: true,
-            })
+            (
+                None,
+                DeskSeat {
+                    seat,
+                    room,
+                    through: true,
+                },
+            )
         }
     }
 

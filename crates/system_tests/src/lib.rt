@@ -22,3 +22,5 @@ mod recording;
 mod support;
 #[cfg(test)]
 mod text;
+#[cfg(test)]
+mod workers;

@@ -14,12 +14,12 @@ returns-clause-batch g t c =
     let two = c.in-Ok.ensures in
     let own : IsBatch c.in-Ok.mine.desk c.in-Ok.mine.room all c.in_ok-own.own = c.in_ok-own.ensures.batch in
     let left : IsBatch seat.desk (seat.room - seat.room / 2) all c.in_ok-own.own =
-      subst (λ (s : SeatState). IsBatch s.desk s.room all c.in_ok-own.own) two.1 own in
+    subst (λ (s : SeatState). IsBatch s.desk s.room all c.in_ok-own.own) two.1 own in
     let told : IsBatch c.args.round.now.desk.now c.of.result.value.room all c.in_ok-other.other =
-      subst (λ (p : Promised). IsBatch p.desk.now p.seat.value.room (decisions_by p.programs.now p.frames.now) c.in_ok-other.other)
-        c.in-Ok-spawn_with.ensures.ok c.in_ok-other.ensures in
+    subst (λ (p : Promised). IsBatch p.desk.now p.seat.value.room (decisions_by p.programs.now p.frames.now) c.in_ok-other.other)
+    c.in-Ok-spawn_with.ensures.ok c.in_ok-other.ensures in
     let right : IsBatch seat.desk (seat.room / 2) all c.in_ok-other.other =
-      subst (λ (d : DeskId). IsBatch d (seat.room / 2) all c.in_ok-other.other) (sym c.requires.of_desk)
-        (subst (λ (s : SeatState). IsBatch c.args.round.now.desk.now s.room all c.in_ok-other.other) (c.of.ensures ∙ two.2) told) in
+    subst (λ (d : DeskId). IsBatch d (seat.room / 2) all c.in_ok-other.other) (sym c.requires.of_desk)
+    (subst (λ (s : SeatState). IsBatch c.args.round.now.desk.now s.room all c.in_ok-other.other) (c.of.ensures ∙ two.2) told) in
     join_batches seat.desk seat.room (seat.room - seat.room / 2) (seat.room / 2) all c.in_ok-own.own c.in_ok-other.other
-      c.in_ok-join.field-0 (omega arith) left right c.in_ok-join.ensures
+    c.in_ok-join.field-0 (omega arith) left right c.in_ok-join.ensures

@@ -21,11 +21,11 @@ returns-clause-decisions g c =
     let drew : DrewAll b.seat c.in-Ok._drawn = c.in-Ok.ensures.1 in
     let many : length all ≡ length frames = length-map frames (decision_by programs) in
     let size : seat.desk.len ≡ length all =
-      ap (λ (s : SeatState). s.desk.len) c.in_ok-desk.ensures.seat ∙ (c.in_ok-desk.ensures.desk ∙ sym many) in
+    ap (λ (s : SeatState). s.desk.len) c.in_ok-desk.ensures.seat ∙ (c.in_ok-desk.ensures.desk ∙ sym many) in
     let room : length old ≡ c.in_ok-decisions.decisions.len = c.deref_mut.ensures.len in
     let same : length old ≡ length all = room ∙ (c.in_ok-decisions.ensures.len ∙ sym many) in
     let is : c.place.new.decisions ≡ all =
-      c.place.ensures ∙ (ap (λ (ds : List Numbered). placed old ds) c.deref.ensures.value
-        ∙ whole_round seat.desk seat.room c.in-Ok._drawn all old b batch drew size same) in
+    c.place.ensures ∙ (ap (λ (ds : List Numbered). placed old ds) c.deref.ensures.value
+    ∙ whole_round seat.desk seat.room c.in-Ok._drawn all old b batch drew size same) in
     restored c.place.new.decisions _ c.in_ok-decisions.decisions.len
-      (ap (λ (ds : List Decision). length ds) is ∙ (many ∙ sym c.in_ok-decisions.ensures.len)) ∙ is
+    (ap (λ (ds : List Decision). length ds) is ∙ (many ∙ sym c.in_ok-decisions.ensures.len)) ∙ is

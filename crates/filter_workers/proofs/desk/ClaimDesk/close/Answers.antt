@@ -10,7 +10,7 @@ returns c =
     let len : c.self.inside.len ≡ c.args.seat.desk.len = ap (λ (d : DeskId). d.len) c.self.view_is ∙ sym (ap (λ (d : DeskId). d.len) c.requires) in (
       sym room ∙ c.if-seat-ne-ROOM.false,
       subst (λ (n : ℕ). DrewAll c.args.seat n) (sym (c.min.ensures ∙ ap (λ (n : ℕ). min c.word-next.result n) len))
-        (closes _ _ _ c.args.seat _ _ _ c.close_with-closed.ensures.values.2 c.word-next.ensures
+          (closes _ _ _ c.args.seat _ _ _ c.close_with-closed.ensures.values.2 c.word-next.ensures
           (c.self.invariant.0 ∙ len) (c.seat.invariant.1 ∙ c.if-seat-ne-ROOM.false)
           (ap (λ (s : SeatState). s.numbers) view) (c.seat.invariant.2 ∙ ap (λ (s : SeatState). s.through) view)),
     )
