@@ -31,6 +31,7 @@
 mod decision;
 mod desk;
 mod fault;
+mod gate;
 mod round;
 mod rule;
 mod view;
@@ -39,5 +40,5 @@ mod worker;
 pub use decision::{Decision, MAX_FILTERS, decide};
 pub use desk::{ClaimDesk, DeskSeat};
 pub use fault::RoundFault;
+pub use gate::RunGate;
 pub use round::filter_round;
-pub use worker::RunGate;

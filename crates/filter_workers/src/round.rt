@@ -7,7 +7,8 @@ ghost use Rattle.filter_workers.specs.declared.fault.RoundFault.TheVariants.{Spa
 use crate::decision::Decision;
 use crate::desk::{ClaimDesk, DeskSeat};
 use crate::fault::RoundFault;
-use crate::worker::{Batch, Lent, Numbered, RunGate};
+use crate::gate::RunGate;
+use crate::worker::{Batch, Lent, Numbered};
 use afdx_frame::TapFrame;
 use bpf_loader::Program;
 use std::alloc::Global;

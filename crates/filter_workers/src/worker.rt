@@ -4,15 +4,10 @@ ghost use Rattle.filter_workers.specs.Filters.{decisions_by};
 
 use crate::decision::{Decision, decide};
 use crate::desk::{ClaimDesk, DeskSeat};
+use crate::gate::RunGate;
 use afdx_frame::TapFrame;
 use bpf_loader::Program;
 use std::alloc::{AllocError, Global};
-
-/// What a caller is told of each frame before its filters run.
-pub trait RunGate {
-    /// A worker is about to run the filters on the frame of this number. Worker 0 is the caller.
-    fn run(&self, worker: u32, number: u64);
-}
 
 /// What the filters say of the frame of a number.
 #[derive(Clone, Copy, Debug)]

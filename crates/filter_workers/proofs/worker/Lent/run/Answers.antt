@@ -22,6 +22,6 @@ loop-number-preserved g c =
       numbers = numbers_more c.loop-number.decisions.items c.push.new.self.items _ _ c.loop-number.seat c.claim-number.result.1
           c.loop-number.invariant.numbers c.in_ok-push.ensures.items claim;
       decided = decided_more c.args.self.now.programs.now c.args.self.now.frames.now c.loop-number.decisions.items c.push.new.self.items _ _
-          c.index-self-number.result c.loop-number.invariant.decided c.in_ok-push.ensures.items (omega (arith, within, c.requires.size))
+          _ c.loop-number.invariant.decided c.in_ok-push.ensures.items (omega (arith, within, c.requires.size))
           c.decide-decision.ensures;
     }
