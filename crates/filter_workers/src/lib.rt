@@ -41,4 +41,4 @@ pub use decision::{Decision, MAX_FILTERS, decide};
 pub use desk::{ClaimDesk, DeskSeat};
 pub use fault::RoundFault;
 pub use gate::RunGate;
-pub use round::filter_round;
+pub use round::{MAX_WORKERS, filter_round};

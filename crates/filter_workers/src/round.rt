@@ -4,7 +4,7 @@ ghost use Rattle.filter_workers.specs.Batches.{CanShare, IsBatch, placed};
 ghost use Rattle.filter_workers.specs.Filters.{decisions_by};
 ghost use Rattle.filter_workers.specs.declared.fault.RoundFault.TheVariants.{Spawn};
 
-use crate::decision::Decision;
+use crate::decision::{Decision, MAX_FILTERS};
 use crate::desk::{ClaimDesk, DeskSeat};
 use crate::fault::RoundFault;
 use crate::gate::RunGate;
@@ -16,6 +16,9 @@ use std::snapshot::Snapshot;
 use std::sync::Wait;
 use std::thread;
 use std::thread::{Promise, Scope, Threads};
+
+/// The most workers of a round.
+pub const MAX_WORKERS: u32 = 8;
 
 /// What a thread's workers hand back.
 #[derive(Drop)]
@@ -140,8 +143,8 @@ pub fn filter_round<R: Threads + Wait + Sync, G: RunGate + Sync>(
     workers: u32,
     gate: &G,
 ) -> Result<Vec<Decision>, RoundFault>
-    requires workers { (1 ≤ workers) × (workers ≤ 8) }
-    requires programs { (1 ≤ length programs.now) × (length programs.now ≤ 8) }
+    requires workers { (1 ≤ workers) × (workers ≤ MAX_WORKERS) }
+    requires programs { (1 ≤ length programs.now) × (length programs.now ≤ MAX_FILTERS) }
     requires frames { length frames.now ≤ 2 ^ 32 }
     ensures decisions { IfOk result (λ all. all.items ≡ decisions_by programs.now frames.now) }
     ensures fault { IfErr result (λ fault. (0 < length frames.now)
