@@ -35,6 +35,11 @@ decided_more ps frames old new k d frame all is within decided =
     (slice_get-map (decision_by ps) frames k
     ∙ (ap (option_map (decision_by ps)) (slice_get-get_or frames k frame within) ∙ ap (λ x. Some x) (sym decided))))
 
+-- the decision for the frame at a number, however the number is written
+pub decided_at : (ps : List (List Packed)) (frames : List Frame) (n k : ℕ) (d : Decision) (frame : Frame)
+    → d ≡ decision_by ps (get_or frames n frame) → n ≡ k → d ≡ decision_by ps (get_or frames k frame)
+decided_at ps frames n k d frame decided same = subst (λ m. d ≡ decision_by ps (get_or frames m frame)) same decided
+
 pub numbers_more : (old new : List Numbered) (k : ℕ) (d : Decision) (before after : SeatState) → numbers_of old ≡ before.numbers
     → new ≡ old ++ numbered k d ∷ [] → Claims before (Some k) after → numbers_of new ≡ after.numbers
 numbers_more old new k d before after same is claim =

@@ -62,3 +62,7 @@ closes len id v s words slots next final at same_len full same through =
     first : (ws : List ℕ) (n : ℕ) → get_elem? ws 0 ≡ some n → get_or ws 0 0 ≡ n
     first [] n e = absurd (some-ne-none n (sym e))
     first (w ∷ ws) n e = some-injective w n e
+
+-- the same, however the count is written
+pub counted : (s : SeatState) (n m : ℕ) → DrewAll s n → n ≡ m → DrewAll s m
+counted s n m drew same = subst (λ k. DrewAll s k) same drew

@@ -1,6 +1,6 @@
 use Rattle.std.proofs.Common.{◌<◌, ℕ, Option, subst, ap, ◌∙◌, arith}
 use Rattle.filter_workers.specs.Seats.{DeskId, SeatState, Claims}
-use Rattle.filter_workers.proofs.Batching.{claim_is_nearer, decided_more, numbers_more}
+use Rattle.filter_workers.proofs.Batching.{claim_is_nearer, decided_at, decided_more, numbers_more}
 use Rattle.filter_workers.proofs.worker.Lent.run.Goals as goal
 
 -- src/worker.rt:58:9
@@ -23,5 +23,5 @@ loop-number-preserved g c =
           c.loop-number.invariant.numbers c.in_ok-push.ensures.items claim;
       decided = decided_more c.args.self.now.programs.now c.args.self.now.frames.now c.loop-number.decisions.items c.push.new.self.items _ _
           _ c.loop-number.invariant.decided c.in_ok-push.ensures.items (omega (arith, within, c.requires.size))
-          c.decide-decision.ensures;
+          (decided_at c.args.self.now.programs.now c.args.self.now.frames.now _ c.in-Some.number _ _ c.decide-decision.ensures (omega arith));
     }
