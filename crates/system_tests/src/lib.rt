@@ -24,3 +24,5 @@ mod support;
 mod text;
 #[cfg(test)]
 mod watch;
+#[cfg(test)]
+mod workers;

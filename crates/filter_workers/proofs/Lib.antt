@@ -1,0 +1,8 @@
+pub mod Sums
+pub mod Numbers
+pub mod Steps
+pub mod Closing
+pub mod Masks
+pub mod Drawing
+pub mod Batching
+pub mod Placing

@@ -1,0 +1,8 @@
+//! What is told of each frame before its filters run.
+
+/// What is told of each frame before its filters run. A test sees by it that workers run at the same
+/// time, and that no frame is left out or taken twice.
+pub trait RunGate {
+    /// A worker is about to run the filters on the frame of this number. Worker 0 is the caller.
+    fn run(&self, worker: u32, number: u64);
+}
