@@ -1,0 +1,5 @@
+pub mod Reverting
+pub mod Stores
+pub mod Chains
+pub mod Walks
+pub mod Sessions
