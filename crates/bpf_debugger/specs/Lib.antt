@@ -4,3 +4,6 @@ pub mod Following
 pub mod Walking
 pub mod Debugging
 pub mod Standing
+pub mod Lines
+pub mod Texts
+pub mod Laws

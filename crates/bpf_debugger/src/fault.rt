@@ -1,5 +1,8 @@
 //! Why a command is refused.
 
+ghost use Rattle.std.specs.Prelude.{◌≡◌, codes};
+ghost use Rattle.bpf_debugger.specs.Texts.{fault_text};
+
 use afdx_frame::TapFrame;
 use bpf_loader::Program;
 use thiserror::Error;
@@ -19,6 +22,27 @@ pub enum DebugFault {
     /// The system is out of memory.
     #[error("out of memory")]
     Memory,
+}
+
+impl DebugFault {
+    /// The line that tells of the fault, which ends with a newline. Allocates nothing.
+    pub fn line(self) -> &'static str
+        ensures { result.now ≡ fault_text self }
+    {
+        match self {
+            DebugFault::NoFrame => "fault 1 NoFrame\n",
+            DebugFault::NoSuchFrame => "fault 2 NoSuchFrame\n",
+            DebugFault::NoSuchInsn => "fault 3 NoSuchInsn\n",
+            DebugFault::Memory => "fault 4 Memory\n",
+        }
+    }
+}
+
+/// The line that answers a line that is no command, which ends with a newline. Allocates nothing.
+pub fn bad_command_line() -> &'static str
+    ensures { result.now ≡ codes "fault 0 BadCommand\n" }
+{
+    "fault 0 BadCommand\n"
 }
 
 /// A session that there is no memory for, with what the caller passed.
