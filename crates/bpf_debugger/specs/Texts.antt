@@ -42,3 +42,7 @@ fault_text NoFrame = codes "fault 1 NoFrame\n"
 fault_text NoSuchFrame = codes "fault 2 NoSuchFrame\n"
 fault_text NoSuchInsn = codes "fault 3 NoSuchInsn\n"
 fault_text Memory = codes "fault 4 Memory\n"
+
+-- of a line that is no command
+abbrev pub bad_command_text : List ℕ
+bad_command_text = codes "fault 0 BadCommand\n"

@@ -1,7 +1,7 @@
 //! Why a command is refused.
 
-ghost use Rattle.std.specs.Prelude.{◌≡◌, codes};
-ghost use Rattle.bpf_debugger.specs.Texts.{fault_text};
+ghost use Rattle.std.specs.Prelude.{◌≡◌};
+ghost use Rattle.bpf_debugger.specs.Texts.{bad_command_text, fault_text};
 
 use afdx_frame::TapFrame;
 use bpf_loader::Program;
@@ -40,7 +40,7 @@ impl DebugFault {
 
 /// The line that answers a line that is no command, which ends with a newline. Allocates nothing.
 pub fn bad_command_line() -> &'static str
-    ensures { result.now ≡ codes "fault 0 BadCommand\n" }
+    ensures { result.now ≡ bad_command_text }
 {
     "fault 0 BadCommand\n"
 }

@@ -159,10 +159,11 @@ impl Session {
     fn tally(&self) -> Reply
         ensures { result ≡ tally_of self.now }
     {
-        let accepted = count_accepted(&self.program, &self.frames);
+        let frames = self.frames.as_slice();
+        let accepted = count_accepted(&self.program, frames);
         Reply::Tally {
             accepted,
-            rejected: self.frames.len() - accepted,
+            rejected: frames.len() - accepted,
         }
     }
 }
