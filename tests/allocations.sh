@@ -43,4 +43,5 @@ fail_each_allocation merge::allocation::
 fail_each_allocation ledger::allocation::
 fail_each_allocation watch::allocation::
 fail_each_allocation workers::allocation::
+fail_each_allocation debugger::allocation::
 printf 'allocations: all passed\n'
