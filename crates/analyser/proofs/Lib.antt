@@ -2,7 +2,6 @@ pub mod Accepted
 pub mod SourceRuns
 pub mod Copying
 mod Whole
-pub mod Masks
 pub mod Rounds
 pub mod Written
 pub mod TwoTaps

@@ -156,7 +156,7 @@ stopped_at_the_end fault ps vl_table before after fa fb cut end_a end_b m a b un
     some : AppendsSome before.capture.contents after.capture.contents (capture_by ps cut)
     some = capture_all ps cut before.capture.contents after.capture.contents s.packets
 
-    lines : HasLines ps vl_table before fa fb cut after.ledger.contents
+    lines : HasLines ps vl_table before fa fb cut after.capture after.ledger
     lines = inr (
       end_a,
       end_b,
@@ -164,6 +164,7 @@ stopped_at_the_end fault ps vl_table before after fa fb cut end_a end_b m a b un
         a_complete = ended_so networks.A vl_table.late before.a fa end_a a read_a;
         b_complete = ended_so networks.B vl_table.late before.b fb end_b b read_b;
       },
+      s.packets,
       s.text,
     )
 

@@ -16,7 +16,8 @@ use Rattle.vl_config.specs.Document.{VlTable}
 use Rattle.vl_judge.specs.Judgement.{Judgement}
 use Rattle.vl_judge.specs.Verdicts.{Judged, judged_frames, judged_frames_after, verdict_of, verdicts}
 use Rattle.vl_judge.proofs.Judging.{verdicts-append}
-use Rattle.analyser.specs.Filters.{answer_by, capture_by, entries_by, keep_by, keep_of, kept_record, mask_by, packets_by}
+use Rattle.filter_workers.specs.Filters.{answer_by, mask_by}
+use Rattle.analyser.specs.Filters.{capture_by, entries_by, keep_by, keep_of, kept_record, packets_by}
 use Rattle.analyser.specs.Outputs.{SinkFails, ledger_fault}
 use Rattle.verdict_ledger.specs.Writing.{IsAppended}
 use Rattle.verdict_ledger.specs.declared.fault.LedgerFault.{LedgerFault}

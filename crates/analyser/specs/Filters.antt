@@ -1,5 +1,5 @@
 -- What up to eight filters say of a frame (this project's profile).
-use Rattle.std.specs.Prelude.{ℕ, ◌+◌, ◌*◌, min, max, List, [], ◌∷◌, ◌++◌, length, map, flat_map, Option, Some, None, ◌==◌, if◌then◌else◌}
+use Rattle.std.specs.Prelude.{ℕ, min, List, [], ◌++◌, length, map, flat_map, Option, Some, None, ◌==◌, if◌then◌else◌}
 use Rattle.std.specs.Option.{option_map_or}
 use Rattle.afdx_frame.specs.Frame.{Frame}
 use Rattle.bpf_isa.specs.declared.packed.Packed.{Packed}
@@ -7,21 +7,7 @@ use Rattle.pcap_io.specs.Capture.{capture_header, record_text}
 use Rattle.vl_config.specs.Document.{VlTable}
 use Rattle.vl_judge.specs.Verdicts.{verdicts}
 use Rattle.verdict_ledger.specs.Entry.{Entry, entries_of}
-use Rattle.analyser.specs.Capture.{answer_for}
-
--- the greatest of the filters' return values
-abbrev pub answer_by : List (List Packed) → Frame → ℕ
-answer_by [] f = 0
-answer_by (p ∷ ps) f = max (answer_for p f) (answer_by ps f)
-
--- 1 where the filter accepts the frame
-abbrev pub accepts_bit : ℕ → ℕ
-accepts_bit answer = if answer == 0 then 0 else 1
-
--- bit i is set where filter i accepts the frame
-abbrev pub mask_by : List (List Packed) → Frame → ℕ
-mask_by [] f = 0
-mask_by (p ∷ ps) f = mask_by ps f * 2 + accepts_bit (answer_for p f)
+use Rattle.filter_workers.specs.Filters.{answer_by, mask_by}
 
 -- how many bytes are kept of a frame; a rejected frame isn't kept
 abbrev pub keep_of : ℕ → Frame → Option ℕ

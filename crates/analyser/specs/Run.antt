@@ -42,7 +42,7 @@ pub record StopsWatching (fault : WatchFault) (ps : List (List Packed)) (vl_tabl
   pub read_b : ReadsPart B vl_table.late before.b frames_b b
   pub order : IsOrder frames_a frames_b frames
   pub packets : AppendsSome before.capture.contents capture.contents (capture_by ps frames)
-  pub lines : HasLines ps vl_table before frames_a frames_b frames ledger.contents
+  pub lines : HasLines ps vl_table before frames_a frames_b frames capture ledger
   pub wholes : HasWholes fault ps vl_table frames before.capture before.ledger capture ledger
   pub fails : FailsOnly fault before (watch_devices (reading_view a) (reading_view b) capture ledger)
   pub run : IsRunFault fault

@@ -180,11 +180,12 @@ pub record HaveEnded (late : ℕ) (before : WatchDevices) (frames_a frames_b : L
   pub a_complete : IfSome before.a.remaining (λ bytes. IsRecording A late bytes frames_a a)
   pub b_complete : IfSome before.b.remaining (λ bytes. IsRecording B late bytes frames_b b)
 
--- The ledger has a prefix of the frames' lines, or of its whole text where both recordings had ended.
-abbrev pub HasLines : List (List Packed) → VlTable → WatchDevices → List Frame → List Frame → List Frame → Option (List ℕ) → Type 0
-HasLines ps vl_table before frames_a frames_b frames contents =
-    AppendsSome before.ledger.contents contents (lines_by ps vl_table frames)
-    ⊎ ((a b : Ending) × HaveEnded vl_table.late before frames_a frames_b a b × AppendsSome before.ledger.contents contents (ledger_by ps vl_table frames a b))
+-- The ledger has a prefix of the frames' lines; or, where both recordings had ended and the capture is complete, of its whole text.
+abbrev pub HasLines : List (List Packed) → VlTable → WatchDevices → List Frame → List Frame → List Frame → SinkView → SinkView → Type 0
+HasLines ps vl_table before frames_a frames_b frames capture ledger =
+    AppendsSome before.ledger.contents ledger.contents (lines_by ps vl_table frames)
+    ⊎ ((a b : Ending) × HaveEnded vl_table.late before frames_a frames_b a b × Appends before.capture.contents capture.contents (capture_by ps frames)
+    × AppendsSome before.ledger.contents ledger.contents (ledger_by ps vl_table frames a b))
 
 -- Where a recording's source failed, the outputs have all that belongs to the first so many frames, and no part of a packet or a line.
 abbrev pub HasWholes : WatchFault → List (List Packed) → VlTable → List Frame → SinkView → SinkView → SinkView → SinkView → Type 0
@@ -202,7 +203,7 @@ pub record StopsRun (fault : WatchFault) (ps : List (List Packed)) (vl_table : V
   pub read_b : IsReadPart B vl_table.late before.b after.b frames_b
   pub order : IsOrder frames_a frames_b frames
   pub capture : AppendsSome before.capture.contents after.capture.contents (capture_by ps frames)
-  pub ledger : HasLines ps vl_table before frames_a frames_b frames after.ledger.contents
+  pub ledger : HasLines ps vl_table before frames_a frames_b frames after.capture after.ledger
   pub wholes : HasWholes fault ps vl_table frames before.capture before.ledger after.capture after.ledger
 
 -- the faults of a run that has begun

@@ -1,7 +1,7 @@
 //! The texts that a run is set up by: filters in the numeric form, and the table of virtual links.
-ghost use Rattle.std.specs.Prelude.{◌≡◌, ◌+◌, ◌≤◌, ◌∷◌, ◌++◌, IfErr, IfOk, List, OnOk, length, map, string_bytes, vec_capacity, vec_len};
+ghost use Rattle.std.specs.Prelude.{◌≡◌, ◌+◌, ◌≤◌, ◌∷◌, ◌++◌, IfErr, IfOk, List, None, OnOk, length, map, string_bytes, vec_capacity, vec_len};
 ghost use Rattle.bpf_isa.specs.declared.packed.Packed.{Packed};
-ghost use Rattle.vl_config.specs.Document.{IsTableOfText};
+ghost use Rattle.vl_config.specs.Document.{IsTableOfText, first_fault};
 ghost use Rattle.analyser.specs.Inputs.{AreFilters, IsConfigFault, IsFilter, IsFilterFault, IsFiltersFault, IsFirstFilterFault, file_fault};
 ghost use Rattle.analyser.specs.Text.{IsTextRefusal, IsWholeText};
 ghost use Rattle.analyser.specs.declared.text.TextRefusal.{TextRefusal};
@@ -48,6 +48,7 @@ pub fn read_file<S: TapSource>(
 ) -> Result<String, Fault>
     ensures whole { IfOk result (λ text.
         IsWholeText (S.remaining source.old) (S.remaining source.new) (string_bytes text)) }
+    ensures no_failure { OnOk result (S.failures source.new ≡ S.failures source.old) }
     ensures refused { IfErr result (λ fault. (refusal : TextRefusal) × (fault ≡ file_fault file refusal)
         × IsTextRefusal (S.remaining source.old) (S.remaining source.new)
         (S.failures source.old) (S.failures source.new) refusal) }
@@ -61,6 +62,7 @@ pub fn read_file<S: TapSource>(
 /// Reads a table of virtual links.
 pub fn read_config(alloc: Global, text: &str) -> Result<Config, Fault>
     ensures table { IfOk result (λ config. IsTableOfText text.now config) }
+    ensures no_fault { OnOk result (first_fault text.now ≡ None) }
     ensures fault { IfErr result (IsConfigFault text.now) }
 {
     match Config::read(alloc, text) {

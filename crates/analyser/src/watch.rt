@@ -12,17 +12,14 @@ ghost use Rattle.analyser.specs.Watch.{AbortsRun, IsNumber, IsRunAborted, IsWatc
 
 use crate::capture::WatchRefused;
 use crate::fault::WatchFault;
-use crate::filters::MAX_FILTERS;
 use crate::outputs::{Outputs, Unwritten};
 use crate::taps::{Taps, Unopened};
 use bpf_loader::Program;
+use filter_workers::{MAX_FILTERS, MAX_WORKERS};
 use pcap_io::{Ending, OutSink, TapSource};
 use std::alloc::Global;
 use verdict_ledger::Totals;
 use vl_config::Config;
-
-/// The most workers of a run.
-const MAX_WORKERS: u8 = 8;
 
 /// A whole analysis of two recordings, with the devices that it was given.
 #[derive(Debug, Drop)]
@@ -266,7 +263,7 @@ pub fn run_watch<S: TapSource, T: TapSource, W: OutSink, L: OutSink>(
         (sink_view L.contents L.failures refused.ledger))))) }
     ensures back { IfErr result (λ refused. IsSome refused.a × IsSome refused.b) }
 {
-    if workers == 0 || workers > MAX_WORKERS {
+    if workers == 0 || u32::from(workers) > MAX_WORKERS {
         return Err(WatchRefused::new(WatchFault::Workers, a, b, capture, ledger));
     }
     watch_whole(alloc, config, programs, a, b, capture, ledger)

@@ -4,7 +4,6 @@ use Rattle.afdx_frame.specs.Frame.{Frame}
 use Rattle.bpf_isa.specs.declared.packed.Packed.{Packed}
 use Rattle.filter_workers.specs.Seats.{DeskId, SeatState, joined_seat}
 use Rattle.filter_workers.specs.declared.decision.Decision.{Decision}
-use Rattle.filter_workers.specs.declared.decision.TheConstants.{MAX_FILTERS}
 use Rattle.filter_workers.specs.declared.worker.Numbered.{Numbered}
 use Rattle.filter_workers.specs.declared.worker.Batch.{Batch}
 
@@ -34,7 +33,7 @@ pub record CanShare (desk : DeskId) (programs : List (List Packed)) (frames : Li
     : Type 0 where
   pub of_desk : seat.desk ≡ desk
   pub size : desk.len ≡ length frames
-  pub few : length programs ≤ MAX_FILTERS
+  pub few : length programs ≤ 8
   pub fresh : seat.numbers ≡ []
   pub workers : 1 ≤ count
   pub room : count ≤ seat.room

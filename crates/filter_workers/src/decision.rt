@@ -38,7 +38,7 @@ fn accepts_bit(answer: u32) -> u32
 
 /// Runs each filter on a frame.
 pub fn decide(programs: &[Program], frame: &TapFrame) -> Decision
-    requires { length programs.now ≤ MAX_FILTERS }
+    requires { length programs.now ≤ 8 }
     ensures { result ≡ decision_by programs.now frame.now }
 {
     let mut mask = 0u32;

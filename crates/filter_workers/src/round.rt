@@ -4,7 +4,7 @@ ghost use Rattle.filter_workers.specs.Batches.{CanShare, IsBatch, placed};
 ghost use Rattle.filter_workers.specs.Filters.{decisions_by};
 ghost use Rattle.filter_workers.specs.declared.fault.RoundFault.TheVariants.{Spawn};
 
-use crate::decision::{Decision, MAX_FILTERS};
+use crate::decision::Decision;
 use crate::desk::{ClaimDesk, DeskSeat};
 use crate::fault::RoundFault;
 use crate::gate::RunGate;
@@ -143,8 +143,8 @@ pub fn filter_round<R: Threads + Wait + Sync, G: RunGate + Sync>(
     workers: u32,
     gate: &G,
 ) -> Result<Vec<Decision>, RoundFault>
-    requires workers { (1 ≤ workers) × (workers ≤ MAX_WORKERS) }
-    requires programs { (1 ≤ length programs.now) × (length programs.now ≤ MAX_FILTERS) }
+    requires workers { (1 ≤ workers) × (workers ≤ 8) }
+    requires programs { (1 ≤ length programs.now) × (length programs.now ≤ 8) }
     requires frames { length frames.now ≤ 2 ^ 32 }
     ensures decisions { IfOk result (λ all. all.items ≡ decisions_by programs.now frames.now) }
     ensures fault { IfErr result (λ fault. (0 < length frames.now)

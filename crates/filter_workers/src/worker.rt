@@ -2,7 +2,7 @@
 ghost use Rattle.std.specs.Prelude.{◌≡◌, ◌+◌, ◌<◌, ◌≤◌, IfOk, [], length};
 ghost use Rattle.filter_workers.specs.Filters.{decisions_by};
 
-use crate::decision::{Decision, MAX_FILTERS, decide};
+use crate::decision::{Decision, decide};
 use crate::desk::{ClaimDesk, DeskSeat};
 use crate::gate::RunGate;
 use afdx_frame::TapFrame;
@@ -44,7 +44,7 @@ impl<'a, G: RunGate> Lent<'a, G> {
     ) -> Result<Batch, AllocError>
         requires desk { seat.desk ≡ self.now.desk.now }
         requires size { self.now.desk.now.len ≡ length self.now.frames.now }
-        requires few { length self.now.programs.now ≤ MAX_FILTERS }
+        requires few { length self.now.programs.now ≤ 8 }
         requires fresh { seat.numbers ≡ [] }
         ensures { IfOk result (IsBatch seat.desk seat.room
             (decisions_by self.now.programs.now self.now.frames.now)) }

@@ -1,6 +1,7 @@
 -- What the filters say of the frames before the index.
 use Rattle.std.proofs.Common.{◌≡◌, map, take}
-use Rattle.analyser.specs.Filters.{keep_by, mask_by}
+use Rattle.filter_workers.specs.Filters.{mask_by}
+use Rattle.analyser.specs.Filters.{keep_by}
 use Rattle.analyser.proofs.filters.filter_round.Given as goal
 
 abbrev pub invariant-loop-frame : goal.invariant-loop-frame

@@ -6,7 +6,8 @@ use Rattle.pcap_io.specs.Device.{CountsFailure}
 use Rattle.verdict_ledger.specs.Entry.{entries_of}
 use Rattle.verdict_ledger.specs.Ledger.{StandsAfter as LedgerStandsAfter, sink_of as ledger_sink}
 use Rattle.pcap_io.specs.Writer.{sink_of}
-use Rattle.analyser.specs.Filters.{capture_by, entries_by, keep_by, mask_by}
+use Rattle.filter_workers.specs.Filters.{mask_by}
+use Rattle.analyser.specs.Filters.{capture_by, entries_by, keep_by}
 use Rattle.analyser.specs.Watch.{lines_by}
 use Rattle.analyser.specs.Round.{AreKept, packets_kept}
 use Rattle.analyser.proofs.Writing.{all_within, capture_some, capture_told, entries_told, ledger_stops, lines_more, lines_some, some_after, some_of}
