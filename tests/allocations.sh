@@ -42,4 +42,5 @@ fail_each_allocation text::allocation::
 fail_each_allocation merge::allocation::
 fail_each_allocation ledger::allocation::
 fail_each_allocation watch::allocation::
+fail_each_allocation debugger::allocation::
 printf 'allocations: all passed\n'

@@ -7,6 +7,8 @@ mod assembler;
 #[cfg(test)]
 mod capture;
 #[cfg(test)]
+mod debugger;
+#[cfg(test)]
 mod frames;
 #[cfg(test)]
 mod judges;

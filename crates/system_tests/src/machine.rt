@@ -2,10 +2,10 @@
 //! reference interpreter.
 
 mod allocation;
-mod generated;
+pub(crate) mod generated;
 mod loading;
 mod numeric;
 mod programs;
-mod reference;
+pub(crate) mod reference;
 mod sizes;
 mod table;

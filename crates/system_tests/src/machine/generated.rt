@@ -66,13 +66,13 @@ const SHIFTS: [u32; 8] = [0, 1, 7, 8, 16, 30, 31, 32];
 
 /// Marsaglia's generator with three shifts, of 64 bits.
 #[derive(Drop)]
-struct Generator {
-    state: u64,
+pub(crate) struct Generator {
+    pub(crate) state: u64,
 }
 
 impl Generator {
     /// The next number.
-    fn draw(&mut self) -> u64 {
+    pub(crate) fn draw(&mut self) -> u64 {
         let mut state = self.state;
         state ^= state << 13;
         state ^= state >> 7;
@@ -82,7 +82,7 @@ impl Generator {
     }
 
     /// A number below a limit, and 0 where there is none.
-    fn below(&mut self, limit: usize) -> usize {
+    pub(crate) fn below(&mut self, limit: usize) -> usize {
         let drawn = self.draw() as usize;
         drawn.checked_rem(limit).unwrap_or(0)
     }
@@ -122,7 +122,7 @@ fn word(generator: &mut Generator, room: usize) -> Packed {
 }
 
 /// A program of 1 to 12 instructions, half of them after stores of M[0] and M[1].
-fn program(alloc: Global, generator: &mut Generator) -> Result<Vec<Packed>, AllocError> {
+pub(crate) fn program(alloc: Global, generator: &mut Generator) -> Result<Vec<Packed>, AllocError> {
     let mut words = Vec::new(alloc);
     if generator.below(2) == 0 {
         // ldx len; st M[0]; stx M[1]
@@ -156,7 +156,7 @@ fn stepped(rt: &impl Abort, program: &Program, view: &FrameView<'_>, whole: u32)
 }
 
 /// The bytes of the longest frame. Of the other two, one has its first 15 and one has none.
-fn frame_bytes(generator: &mut Generator) -> [u8; 60] {
+pub(crate) fn frame_bytes(generator: &mut Generator) -> [u8; 60] {
     let mut bytes = [0; 60];
     for byte in &mut bytes {
         *byte = u8::try_from(generator.below(256)).unwrap_or(0);

@@ -1,0 +1,9 @@
+pub mod Chain
+pub mod Records
+pub mod Following
+pub mod Walking
+pub mod Debugging
+pub mod Standing
+pub mod Lines
+pub mod Texts
+pub mod Laws

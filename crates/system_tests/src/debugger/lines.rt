@@ -1,0 +1,96 @@
+//! Lines that are commands, and lines that are none.
+
+use bpf_debugger::{Command, DebugFault, bad_command_line, read_command};
+
+static COMMANDS: [(&str, Command); 22] = [
+    ("select 0", Command::Select(0)),
+    ("select 4294967295", Command::Select(u32::MAX)),
+    ("select 0000000000000000000000000000007", Command::Select(7)),
+    ("  select   3  ", Command::Select(3)),
+    ("step 1", Command::Step(1)),
+    ("step +1", Command::Step(1)),
+    ("step -1", Command::Step(-1)),
+    ("step 0", Command::Step(0)),
+    ("step -0", Command::Step(0)),
+    ("step +0", Command::Step(0)),
+    ("step 4294967295", Command::Step(4294967295)),
+    ("step +4294967295", Command::Step(4294967295)),
+    ("step -4294967295", Command::Step(-4294967295)),
+    ("step -007", Command::Step(-7)),
+    ("breakpoint 4095", Command::Breakpoint(4095)),
+    ("breakpoint 00", Command::Breakpoint(0)),
+    ("cont", Command::Cont),
+    (" cont ", Command::Cont),
+    ("disassemble", Command::Disassemble),
+    ("tally", Command::Tally),
+    ("quit", Command::Quit),
+    ("quit   ", Command::Quit),
+];
+
+static NO_COMMANDS: [&str; 39] = [
+    "",
+    " ",
+    "     ",
+    "\r",
+    "\t",
+    "quit\r",
+    "\tquit",
+    "quit\t",
+    "select\t0",
+    "select",
+    "select 0 0",
+    "select -1",
+    "select +1",
+    "select 4294967296",
+    "select 18446744073709551616",
+    "select 0x1",
+    "select 1a",
+    "select one",
+    "Select 0",
+    "SELECT 0",
+    "select0",
+    "step",
+    "step + 1",
+    "step - 1",
+    "step ++1",
+    "step +-1",
+    "step +",
+    "step -",
+    "step 4294967296",
+    "step -4294967296",
+    "step 1 2",
+    "breakpoint",
+    "breakpoint -1",
+    "breakpoint +2",
+    "cont 1",
+    "quit quit",
+    "tally 0",
+    "con",
+    "contt",
+];
+
+#[test]
+fn commands(rt: HostRuntime) {
+    for (line, command) in COMMANDS {
+        assert_eq!(rt; read_command(line), Some(command), "{line:?}");
+    }
+}
+
+#[test]
+fn other_lines(rt: HostRuntime) {
+    for line in NO_COMMANDS {
+        assert_eq!(rt; read_command(line), None, "{line:?}");
+    }
+    assert_eq!(rt; read_command("select 1\u{e9}"), None);
+    assert_eq!(rt; read_command("s\u{e9}lect 1"), None);
+    assert_eq!(rt; read_command("select \u{661}"), None);
+}
+
+#[test]
+fn faults(rt: HostRuntime) {
+    assert_eq!(rt; bad_command_line(), "fault 0 BadCommand\n");
+    assert_eq!(rt; DebugFault::NoFrame.line(), "fault 1 NoFrame\n");
+    assert_eq!(rt; DebugFault::NoSuchFrame.line(), "fault 2 NoSuchFrame\n");
+    assert_eq!(rt; DebugFault::NoSuchInsn.line(), "fault 3 NoSuchInsn\n");
+    assert_eq!(rt; DebugFault::Memory.line(), "fault 4 Memory\n");
+}
