@@ -30,7 +30,7 @@ mod taps;
 mod text;
 mod watch;
 
-pub use arguments::{Invocation, WatchArguments, read_arguments};
+pub use arguments::{DebugArguments, Invocation, WatchArguments, read_arguments};
 pub use asm::{AsmRun, asm_over, run_asm};
 pub use capture::{WatchRefused, capture_one};
 pub use caret::{Caret, caret_at};
