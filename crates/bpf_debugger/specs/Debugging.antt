@@ -102,7 +102,7 @@ RepliesIn s command.Quit r = r ≡ reply.Bye
 
 -- ---- refusals
 
--- the fault of a command, but for want of memory
+-- the fault of a command, if there is memory
 abbrev pub fault_of : SessionState → Command → Option DebugFault
 fault_of s (command.Select n) = if nat_lt n (length s.frames) then None else Some NoSuchFrame
 fault_of s (command.Step d) = option_map_or (λ place. None) s.place (Some NoFrame)

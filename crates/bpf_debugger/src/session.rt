@@ -35,9 +35,11 @@ impl Model for Session {
 
     ghost Value = { SessionState };
 
-    ghost view = { λ s. session_state s.program s.frames.items s.breakpoints.items s.selected s.walk };
+    ghost view = { λ s.
+        session_state s.program s.frames.items s.breakpoints.items s.selected s.walk };
 
-    ghost invariant = { λ s. IsSession s.program s.frames.items s.breakpoints.items s.selected s.walk };
+    ghost invariant = { λ s.
+        IsSession s.program s.frames.items s.breakpoints.items s.selected s.walk };
 }
 
 impl Session {

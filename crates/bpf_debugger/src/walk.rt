@@ -1,6 +1,6 @@
 //! A walk along the run of a filter on a frame.
 
-ghost use Rattle.std.specs.Prelude.{◌≡◌, ◌+◌, ◌-◌, ◌<◌, ◌≤◌, ℕ, List, Some, None, OnOk, OnErr, min};
+ghost use Rattle.std.specs.Prelude.{◌≡◌, ◌+◌, ◌-◌, ◌<◌, ◌≤◌, List, None, OnOk, OnErr, min};
 ghost use Rattle.std.specs.Prelude.{length, slice_get, vec_len, vec_capacity};
 ghost use Rattle.afdx_frame.specs.Frame.{Frame};
 ghost use Rattle.bpf_isa.specs.declared.packed.Packed.{Packed};
@@ -85,7 +85,8 @@ impl Walk {
 
     /// Undoes the last step, if there is one.
     fn retreat(&mut self)
-        ensures on { (p : List Packed) (frame : Frame) → IsOn p frame self.old → IsOn p frame self.new }
+        ensures on { (p : List Packed) (frame : Frame)
+            → IsOn p frame self.old → IsOn p frame self.new }
         ensures position { position_of self.new ≡ position_of self.old - 1 }
     {
         if let Some(record) = self.undos.pop() {
@@ -96,7 +97,8 @@ impl Walk {
 
     /// Makes room for the records of all steps to the end of a run.
     fn reserve(&mut self, program: &Program) -> Result<(), AllocError>
-        ensures on { (p : List Packed) (frame : Frame) → IsOn p frame self.old → IsOn p frame self.new }
+        ensures on { (p : List Packed) (frame : Frame)
+            → IsOn p frame self.old → IsOn p frame self.new }
         ensures position { position_of self.new ≡ position_of self.old }
         ensures answer { self.new.answer ≡ self.old.answer }
         ensures room { OnOk result (length program.now ≤ vec_capacity self.new.undos) }
@@ -130,7 +132,8 @@ impl Walk {
 
     /// Undoes this many steps, or all.
     fn back(&mut self, count: u64)
-        ensures on { (p : List Packed) (frame : Frame) → IsOn p frame self.old → IsOn p frame self.new }
+        ensures on { (p : List Packed) (frame : Frame)
+            → IsOn p frame self.old → IsOn p frame self.new }
         ensures position { position_of self.new ≡ position_of self.old - count }
     {
         let mut left = count;

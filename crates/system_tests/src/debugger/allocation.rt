@@ -55,7 +55,7 @@ fn entry(m: usize) -> Reply {
         40 => Outcome::Done(39),
         _ => Outcome::On(State {
             place: m,
-            a: m as u32,
+            a: u32::try_from(m).unwrap_or(0),
             ..State::start()
         }),
     };

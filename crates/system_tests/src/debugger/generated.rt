@@ -47,7 +47,7 @@ impl Slow<'_> {
 
     fn step(&mut self, by: i64) -> Result<Reply, DebugFault> {
         let (last, _) = self.entry(4096).ok_or(DebugFault::NoFrame)?;
-        let target = (self.position as i64).saturating_add(by);
+        let target = i64::try_from(self.position).unwrap_or(0).saturating_add(by);
         self.position = usize::try_from(target).unwrap_or(0).min(last);
         self.shown()
     }
@@ -99,13 +99,14 @@ impl Slow<'_> {
 /// A command, near the ends of what there is.
 fn command(generator: &mut Generator) -> Command {
     let small = generator.below(14);
+    let distance = i64::try_from(small).unwrap_or(0);
     match generator.below(16) {
-        0 | 1 => Command::Select(generator.below(4) as u32),
-        2..=5 => Command::Step(generator.below(4) as i64),
-        6..=8 => Command::Step(0i64.saturating_sub(small as i64)),
-        9 => Command::Step(small as i64),
+        0 | 1 => Command::Select(u32::try_from(generator.below(4)).unwrap_or(0)),
+        2..=5 => Command::Step(i64::try_from(generator.below(4)).unwrap_or(0)),
+        6..=8 => Command::Step(0i64.saturating_sub(distance)),
+        9 => Command::Step(distance),
         10 | 11 => Command::Cont,
-        12 | 13 => Command::Breakpoint(small as u32),
+        12 | 13 => Command::Breakpoint(u32::try_from(small).unwrap_or(0)),
         14 => Command::Tally,
         _ if small == 0 => Command::Step(i64::MIN),
         _ if small == 1 => Command::Step(i64::MAX),
@@ -193,16 +194,14 @@ fn each_step_is_undone(rt: HostRuntime) -> Result<(), Fail> {
         let words = program(rt.alloc(), &mut generator)?;
         if let Ok(program) = Program::load(words) {
             let mut state = State::start();
-            while state.place < program.len() {
+            for _ in 0..4096 {
+                assert!(rt; state.place < program.len());
                 let record = Undo::of(&program, &state);
                 match step(&program, state, &FrameView::new(&bytes), 60) {
                     Outcome::Done(_) => break,
                     Outcome::On(next) => {
                         assert_eq!(rt; undo(&record, next), state, "{record:?}");
                         undone = undone.saturating_add(1);
-                        if next.place <= state.place {
-                            break;
-                        }
                         state = next;
                     }
                 }

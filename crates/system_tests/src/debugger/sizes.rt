@@ -28,7 +28,7 @@ fn slot(slot: usize, steps: usize) -> u32 {
     let mut value = 0;
     for step in 0..steps {
         if step % 2 == 1 && step / 2 % 16 == slot {
-            value = (step / 2) as u32 + 1;
+            value = u32::try_from(step / 2).unwrap_or(0).saturating_add(1);
         }
     }
     value
@@ -41,7 +41,7 @@ fn state_after(steps: usize) -> State {
     }
     State {
         place: steps,
-        a: steps.div_ceil(2) as u32,
+        a: u32::try_from(steps.div_ceil(2)).unwrap_or(0),
         x: 0,
         scratch,
     }
