@@ -162,7 +162,9 @@ fn debug_command<'a>(alloc: Global) -> Result<Command<'a>, AllocError>
     ensures { IfOk result IsDebug }
 {
     Command::new(alloc, "debug")
-        .about("Steps through a filter on the frames of a recording, by commands from standard input")
+        .about(
+            "Steps through a filter on the frames of a recording, by commands from standard input",
+        )
         .after_help(DEBUG_EXAMPLE)
         .arg(file_option(
             alloc,

@@ -188,8 +188,14 @@ fn fault_of_commands(refusal: TextRefusal) -> Fault
     }
 }
 
-/// Reads the commands, at most 16777216 bytes, and answers them in a session of a filter on frames.
-fn run_session<C: TapSource, W: OutSink>(
+/// Reads the commands whole, at most 16777216 bytes. Then it prints `frames <n>`, and answers the commands
+/// line by line. Lines are ended by newlines alone.
+///
+/// # Errors
+///
+/// `Fault::File(FileOption::Standard)` if the commands can't be read, are longer or not UTF-8, or if the
+/// sink fails. `Fault::Debug(DebugFault::Memory)` if there is no memory for the commands or the session.
+pub fn run_session<C: TapSource, W: OutSink>(
     alloc: Global,
     program: Program,
     frames: Vec<TapFrame>,
@@ -209,9 +215,8 @@ fn run_session<C: TapSource, W: OutSink>(
     answer_lines(alloc, &mut session, &text, sink)
 }
 
-/// The command `debug`: reads the filter from its numeric form, the recording whole as network A, and the
-/// commands whole, at most 16777216 bytes. Then it prints `frames <n>`, and answers the commands line by
-/// line. Lines are ended by newlines alone.
+/// The command `debug`: reads the filter from its numeric form, then the recording whole as network A, and
+/// runs a session over the commands.
 pub fn run_debug<S: TapSource, C: TapSource, W: OutSink>(
     alloc: Global,
     filter: &str,

@@ -35,7 +35,7 @@ pub use asm::{AsmRun, asm_over, run_asm};
 pub use capture::{WatchRefused, capture_one};
 pub use caret::{Caret, caret_at};
 pub use commands::{CaptureRun, Ran, capture_over, run_capture};
-pub use debug::{DebugRun, answer_line, begin_session, debug_over, run_debug};
+pub use debug::{DebugRun, answer_line, begin_session, debug_over, run_debug, run_session};
 pub use exit::{Exit, USAGE};
 pub use fault::{Fault, FileOption, Output, WatchFault, fault_line};
 pub use inputs::{filter_of, load_filters, read_config, read_file};

@@ -24,3 +24,5 @@ mod recording;
 mod support;
 #[cfg(test)]
 mod text;
+#[cfg(test)]
+mod watch;
