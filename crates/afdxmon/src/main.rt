@@ -6,14 +6,15 @@
 
 use afdx_frame::TapFrame;
 use analyser::{
-    AsmRun, CaptureRun, DebugArguments, Exit, Fault, FileOption, Invocation, Note, USAGE,
-    WatchArguments, WatchFault, advice, answer_line, begin_session, caret_at, filter_of,
+    AsmRun, CaptureRun, DebugArguments, Exit, Fault, FileOption, Invocation, Note, TapRead,
+    USAGE, WatchArguments, WatchFault, advice, answer_line, begin_session, caret_at, filter_of,
     load_filters, read_arguments, read_config, read_file, read_tap, run_asm, run_capture,
     run_session, run_watch,
 };
 use bpf_debugger::DebugFault;
 use bpf_loader::Program;
 use pcap_io::{ReadSource, WriteSink};
+use std::alloc::Global;
 use std::fs::File;
 use std::io;
 use std::io::{BufRead, BufReader, BufWriter, ErrorKind, IsTerminal, Write};
@@ -196,7 +197,8 @@ fn debug(rt: &HostRuntime, given: &DebugArguments<'_>) -> Result<Exit, Fault> {
     let code = text_of(rt, given.filter, FileOption::Filter)?;
     let program = filter_of(rt.alloc(), &code, None)?;
     let tap = open(rt, given.tap, FileOption::Tap)?;
-    let frames = match read_tap(rt.alloc(), tap).outcome {
+    let TapRead { outcome, source: _ } = read_tap(rt.alloc(), tap);
+    let frames = match outcome {
         Ok(frames) => frames,
         Err(fault) => return Err(Fault::Watch(fault)),
     };
