@@ -126,7 +126,7 @@ AreAnswered lines (Err f) before after sink sink' = ⊥
 abbrev pub frames_line : ℕ → List ℕ
 frames_line n = codes "frames " ++ decimal n ++ codes "\n"
 
--- a session of these frames was begun, which the sink has a line of, or wasn't, for want of memory or since the sink failed
+-- a session of these frames was begun, which the sink has a line of, or wasn't, since memory is out or the sink failed
 abbrev pub IsBegun : List Packed → List Frame → Result SessionState Fault → SinkView → SinkView → Type 0
 IsBegun p frames (Ok session) sink sink' = (session ≡ new_session p frames) × Takes sink sink' (frames_line (length frames))
 IsBegun p frames (Err (fault.Debug debug.Memory)) sink sink' = sink' ≡ sink

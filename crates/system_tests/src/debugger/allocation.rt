@@ -4,7 +4,7 @@
 
 use crate::support::{FIRST_RUN, SOUND};
 use afdx_frame::{Network, Stamp, TapFrame};
-use analyser::debug_over;
+use analyser::{Ran, debug_over};
 use bpf_debugger::{Command, DebugFault, NewRefused, Reply, Session, render};
 use bpf_isa::{Outcome, Packed, State};
 use bpf_loader::Program;
@@ -160,20 +160,53 @@ fn piece_len(printed: &[u8], piece: &[u8]) -> Option<usize> {
     }
 }
 
-/// Runs the command `debug`. Each command of the session answers alike, whatever became of those before.
-fn runs_the_command(rt: &(impl Abort + AllocGlobal)) -> bool {
-    const FILTER: &str = "3,0 0 0 7,2 0 0 3,22 0 0 0,";
-    const COMMANDS: &str = "select 0\nstep 2\ndisassemble\nbreakpoint 1\ntally\nselect 1\nquit\n";
-    const PIECES: [&str; 8] = [
-        "frames 1\n",
-        START,
-        "at 2 pc 2 A 7 X 0 M 0 0 0 7 0 0 0 0 0 0 0 0 0 0 0 0\n",
-        "L0: ld #7\nL1: st M[3]\nL2: ret a\n",
-        "breakpoint 1 set\n",
-        "tally accepted 1 rejected 0\n",
-        "fault 2 NoSuchFrame\n",
-        "bye\n",
+/// `ld #7`, `st M[3]`, `ret a`
+const FILTER: &str = "3,0 0 0 7,2 0 0 3,22 0 0 0,";
+
+/// Each command answers alike, whatever became of those before.
+const COMMANDS: &str = "select 0\nstep 2\ndisassemble\nbreakpoint 1\ntally\nselect 1\nquit\n";
+
+const ANSWERS: [&str; 8] = [
+    "frames 1\n",
+    START,
+    "at 2 pc 2 A 7 X 0 M 0 0 0 7 0 0 0 0 0 0 0 0 0 0 0 0\n",
+    "L0: ld #7\nL1: st M[3]\nL2: ret a\n",
+    "breakpoint 1 set\n",
+    "tally accepted 1 rejected 0\n",
+    "fault 2 NoSuchFrame\n",
+    "bye\n",
+];
+
+/// Says whether all answers are there, and none of them tells that there was no memory.
+fn are_all(rt: &impl Abort, printed: &[u8]) -> bool {
+    let (mut printed, mut all) = (printed, true);
+    for answer in ANSWERS {
+        let Some(len) = piece_len(printed, answer.as_bytes()) else {
+            assert!(rt; false, "not printed: {answer}");
+            return false;
+        };
+        all &= printed.starts_with(answer.as_bytes());
+        (_, printed) = printed.split_at(len);
+    }
+    assert!(rt; printed.is_empty());
+    all
+}
+
+/// The command's fault is that there was no memory, and nothing was printed.
+fn lacks_memory(rt: &impl Abort, ran: &Ran<MemSink>) {
+    const LINES: [&str; 3] = [
+        "afdxmon: numeric 6 Memory",
+        "afdxmon: watch 7 Memory",
+        "afdxmon: debug 4 Memory",
     ];
+    assert!(rt; ran.sink.taken().is_empty());
+    if let Some(line) = &ran.line {
+        assert!(rt; LINES.iter().any(|known| *known == line.as_str()), "{line}");
+    }
+}
+
+/// Runs the command `debug`.
+fn runs_the_command(rt: &(impl Abort + AllocGlobal)) -> bool {
     let (Ok(tap), Ok(commands), Ok(sink)) = (
         Vec::from_slice(rt.alloc(), &FIRST_RUN[..100]),
         Vec::from_slice(rt.alloc(), COMMANDS.as_bytes()),
@@ -190,28 +223,10 @@ fn runs_the_command(rt: &(impl Abort + AllocGlobal)) -> bool {
     let (tap, commands) = (MemSource::new(tap, SOUND), MemSource::new(commands, SOUND));
     let ran = debug_over(rt.alloc(), FILTER, tap, commands, sink);
     if ran.status != 0 {
-        assert!(rt; ran.sink.taken().is_empty());
-        if let Some(line) = &ran.line {
-            let lines = [
-                "afdxmon: numeric 6 Memory",
-                "afdxmon: watch 7 Memory",
-                "afdxmon: debug 4 Memory",
-            ];
-            assert!(rt; lines.iter().any(|known| *known == line.as_str()), "{line}");
-        }
+        lacks_memory(rt, &ran);
         return false;
     }
-    let (mut printed, mut all) = (ran.sink.taken(), true);
-    for piece in PIECES {
-        let Some(len) = piece_len(printed, piece.as_bytes()) else {
-            assert!(rt; false, "not printed: {piece}");
-            return false;
-        };
-        all &= printed.starts_with(piece.as_bytes());
-        (_, printed) = printed.split_at(len);
-    }
-    assert!(rt; printed.is_empty());
-    all
+    are_all(rt, ran.sink.taken())
 }
 
 #[test]
