@@ -6,8 +6,8 @@
 
 use afdx_frame::TapFrame;
 use analyser::{
-    AsmRun, CaptureRun, DebugArguments, Exit, Fault, FileOption, Invocation, Note, TapRead,
-    USAGE, WatchArguments, WatchFault, advice, answer_line, begin_session, caret_at, filter_of,
+    AsmRun, CaptureRun, DebugArguments, Exit, Fault, FileOption, Invocation, Note, TapRead, USAGE,
+    WatchArguments, WatchFault, advice, answer_line, begin_session, caret_at, filter_of,
     load_filters, read_arguments, read_config, read_file, read_tap, run_asm, run_capture,
     run_session, run_watch,
 };
@@ -89,10 +89,7 @@ fn text_of(rt: &HostRuntime, path: &str, file: FileOption) -> Result<String, Fau
 }
 
 /// The table, and the filters of the command line and of the table.
-fn set_up(
-    rt: &HostRuntime,
-    given: &WatchArguments<'_>,
-) -> Result<(Config, Vec<Program>), Fault> {
+fn set_up(rt: &HostRuntime, given: &WatchArguments<'_>) -> Result<(Config, Vec<Program>), Fault> {
     let table = text_of(rt, given.config, FileOption::Config)?;
     let config = read_config(rt.alloc(), &table)?;
     let code = text_of(rt, given.filter, FileOption::Filter)?;
@@ -163,11 +160,7 @@ fn typed_line<R: BufRead>(alloc: Global, input: &mut R) -> Result<Option<String>
 
 /// Answers the commands that a person types at a terminal, each as soon as it is typed. The prompt and the
 /// help go to standard error, if that is a terminal too.
-fn debug_terminal(
-    rt: &HostRuntime,
-    program: Program,
-    frames: Vec<TapFrame>,
-) -> Result<(), Fault> {
+fn debug_terminal(rt: &HostRuntime, program: Program, frames: Vec<TapFrame>) -> Result<(), Fault> {
     let mut sink = WriteSink::new(rt.stdout());
     let mut session = begin_session(rt.alloc(), program, frames, &mut sink)?;
     let Ok(mut input) = BufReader::new(rt.alloc(), rt.stdin()) else {
