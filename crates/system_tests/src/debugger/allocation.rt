@@ -186,7 +186,7 @@ fn are_all(rt: &impl Abort, printed: &[u8]) -> bool {
             return false;
         };
         all &= printed.starts_with(answer.as_bytes());
-        (_, printed) = printed.split_at(len);
+        printed = printed.get(len..).unwrap_or(b"");
     }
     assert!(rt; printed.is_empty());
     all
