@@ -4,16 +4,20 @@
 //! it ended. What a command does stands in that crate, with its contract.
 #![tactic(auto)]
 
+use afdx_frame::TapFrame;
 use analyser::{
-    AsmRun, CaptureRun, Exit, Fault, FileOption, Invocation, Note, USAGE, WatchArguments,
-    WatchFault, advice, caret_at, load_filters, read_arguments, read_config, read_file, run_asm,
-    run_capture, run_watch,
+    AsmRun, CaptureRun, DebugArguments, Exit, Fault, FileOption, Invocation, Note, TapRead, USAGE,
+    WatchArguments, WatchFault, advice, answer_line, begin_session, caret_at, filter_of,
+    load_filters, read_arguments, read_config, read_file, read_tap, run_asm, run_capture,
+    run_session, run_watch,
 };
+use bpf_debugger::DebugFault;
 use bpf_loader::Program;
 use pcap_io::{ReadSource, WriteSink};
+use std::alloc::Global;
 use std::fs::File;
 use std::io;
-use std::io::{BufWriter, ErrorKind, IsTerminal, Write};
+use std::io::{BufRead, BufReader, BufWriter, ErrorKind, IsTerminal, Write};
 use std::process::ExitCode;
 use vl_config::Config;
 
@@ -85,10 +89,7 @@ fn text_of(rt: &HostRuntime, path: &str, file: FileOption) -> Result<String, Fau
 }
 
 /// The table, and the filters of the command line and of the table.
-fn set_up(
-    rt: &HostRuntime,
-    given: &WatchArguments<'_>,
-) -> Result<(Config, Vec<Program>), Fault> {
+fn set_up(rt: &HostRuntime, given: &WatchArguments<'_>) -> Result<(Config, Vec<Program>), Fault> {
     let table = text_of(rt, given.config, FileOption::Config)?;
     let config = read_config(rt.alloc(), &table)?;
     let code = text_of(rt, given.filter, FileOption::Filter)?;
@@ -125,6 +126,80 @@ fn watch(rt: &HostRuntime, given: &WatchArguments<'_>) -> Result<Exit, Fault> {
     let capture_flushed = capture.into_writer().flush().is_ok();
     let ledger_flushed = ledger.into_writer().flush().is_ok();
     Ok(Exit::of_watch(outcome, capture_flushed, ledger_flushed))
+}
+
+/// There is no memory for a session.
+const NO_SESSION: Fault = Fault::Debug(DebugFault::Memory);
+
+/// Answers the commands on standard input. What was printed before a fault is handed to the system too.
+fn debug_input(rt: &HostRuntime, program: Program, frames: Vec<TapFrame>) -> Exit {
+    let Ok(output) = BufWriter::with_capacity(rt.alloc(), BLOCK, rt.stdout()) else {
+        return Exit::Fault(NO_SESSION);
+    };
+    let mut commands = ReadSource::new(rt.stdin());
+    let mut sink = WriteSink::new(output);
+    let outcome = run_session(rt.alloc(), program, frames, &mut commands, &mut sink);
+    let flushed = sink.into_writer().flush().is_ok();
+    Exit::of_text(outcome, flushed)
+}
+
+/// What a person is told at the start of a session.
+const COMMANDS: &str =
+    "commands: select N, step [+|-]N, cont, breakpoint N, disassemble, tally, quit";
+
+/// The next line that a person types, with its newline. None at the end.
+fn typed_line<R: BufRead>(alloc: Global, input: &mut R) -> Result<Option<String>, Fault> {
+    let mut line = String::new(alloc);
+    match input.read_line(&mut line) {
+        Ok(0) => Ok(None),
+        Ok(_) => Ok(Some(line)),
+        Err(error) if error.kind() == ErrorKind::OutOfMemory => Err(NO_SESSION),
+        Err(_) => Err(Fault::File(FileOption::Standard)),
+    }
+}
+
+/// Answers the commands that a person types at a terminal, each as soon as it is typed. The prompt and the
+/// help go to standard error, if that is a terminal too.
+fn debug_terminal(rt: &HostRuntime, program: Program, frames: Vec<TapFrame>) -> Result<(), Fault> {
+    let mut sink = WriteSink::new(rt.stdout());
+    let mut session = begin_session(rt.alloc(), program, frames, &mut sink)?;
+    let Ok(mut input) = BufReader::new(rt.alloc(), rt.stdin()) else {
+        return Err(NO_SESSION);
+    };
+    let prompts = rt.stderr().is_terminal();
+    if prompts {
+        let _ = rt.eprintln(COMMANDS);
+    }
+    for _ in 0..u64::MAX {
+        if prompts {
+            let _ = rt.eprint("> ");
+        }
+        let Some(line) = typed_line(rt.alloc(), &mut input)? else {
+            break;
+        };
+        let line = line.strip_suffix('\n').unwrap_or(&line);
+        if !answer_line(rt.alloc(), &mut session, line, &mut sink)? {
+            break;
+        }
+    }
+    Ok(())
+}
+
+/// Steps through a filter on the frames of a recording. An error is a fault that was met before the session.
+fn debug(rt: &HostRuntime, given: &DebugArguments<'_>) -> Result<Exit, Fault> {
+    let code = text_of(rt, given.filter, FileOption::Filter)?;
+    let program = filter_of(rt.alloc(), &code, None)?;
+    let tap = open(rt, given.tap, FileOption::Tap)?;
+    let TapRead { outcome, source: _ } = read_tap(rt.alloc(), tap);
+    let frames = match outcome {
+        Ok(frames) => frames,
+        Err(fault) => return Err(Fault::Watch(fault)),
+    };
+    if rt.stdin().is_terminal() {
+        debug_terminal(rt, program, frames)?;
+        return Ok(Exit::Success);
+    }
+    Ok(debug_input(rt, program, frames))
 }
 
 /// Tells standard error how a command ended: the fault line or the note, and to a person at a terminal
@@ -179,6 +254,14 @@ fn main(rt: HostRuntime) -> ExitCode {
         Ok(Some(Invocation::Asm)) => ExitCode::from(asm(&rt).status()),
         Ok(Some(Invocation::Watch(given))) => {
             let exit = match watch(&rt, &given) {
+                Ok(exit) => exit,
+                Err(fault) => Exit::Fault(fault),
+            };
+            let _ = tell(&rt, &exit, None);
+            ExitCode::from(exit.status())
+        }
+        Ok(Some(Invocation::Debug(given))) => {
+            let exit = match debug(&rt, &given) {
                 Ok(exit) => exit,
                 Err(fault) => Exit::Fault(fault),
             };

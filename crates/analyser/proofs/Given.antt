@@ -1,4 +1,4 @@
--- What the options of watch give.
+-- What the options of watch and debug give.
 use Rattle.std.proofs.Common.{◌≡◌, ℕ, ◌<◌, ◌^◌, Bool, true, false, ◌&&◌, [], ◌∷◌, length, Option, Some, None, Err, refl, ap, ◌∙◌, codes}
 use Rattle.std.proofs.lemmas.Bool.{lt-ltb, ltb-true}
 use Rattle.std.specs.Prelude.{nat_lt, option_and_then, if◌then◌else◌}
@@ -7,7 +7,7 @@ use Rattle.std.specs.Str.Parse.{AllDigits, IsNumeral, ParsesUnsigned, digits_val
 use Rattle.clap.specs.Words.{Text, first_value, one_text, rows_of}
 use Rattle.clap.specs.declared.parser.matches.Found.{Found}
 use Rattle.clap.proofs.WalkLemmas.{first_value-rows, one_text-rows}
-use Rattle.analyser.specs.Arguments.{are_digits, is_byte_numeral, number_in, watch_in, watch_with}
+use Rattle.analyser.specs.Arguments.{are_digits, debug_in, debug_with, is_byte_numeral, number_in, watch_in, watch_with}
 
 -- ---- the texts
 
@@ -24,6 +24,10 @@ watch_is f config filter a b capture ledger workers e1 e2 e3 e4 e5 e6 e7 = cc (
   e6 ∙ first_value-rows f (codes "ledger"),
   e7 ∙ ap (option_and_then number_in) (one_text-rows f (codes "workers")),
 )
+
+pub debug_is : (f : Found) (filter tap : Option Text) → filter ≡ first_value f (codes "filter") → tap ≡ first_value f (codes "tap") →
+    debug_with filter tap ≡ debug_in (rows_of f)
+debug_is f filter tap e1 e2 = cc (e1 ∙ first_value-rows f (codes "filter"), e2 ∙ first_value-rows f (codes "tap"))
 
 -- ---- the number
 

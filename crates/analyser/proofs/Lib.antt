@@ -10,3 +10,6 @@ pub mod Watching
 pub mod Returned
 pub mod Loading
 pub mod Given
+pub mod Answering
+mod TapReading
+mod SessionRuns

@@ -1,5 +1,5 @@
--- The command-line arguments (this project's profile), as clap reads them: `afdxmon capture --code <numeric text>`, `afdxmon asm`, and
--- `afdxmon watch` with its files and its number of workers.
+-- The command-line arguments (this project's profile), as clap reads them: `afdxmon capture --code <numeric text>`, `afdxmon asm`,
+-- `afdxmon watch` with its files and its number of workers, and `afdxmon debug` with its files.
 use Rattle.std.specs.Prelude.{◌≡◌, ℕ, pos, nat_lt, Bool, true, false, ◌&&◌, List, [], ◌∷◌, length, Option, Some, None, codes, option_and_then, if◌then◌else◌}
 use Rattle.std.specs.Char.{digit_value}
 use Rattle.std.specs.Str.Parse.{digits_value, without_leading_plus}
@@ -11,6 +11,7 @@ use Rattle.clap.specs.declared.builder.command.Command.{Command}
 use Rattle.clap.specs.declared.builder.command.Command.TheViews.{out-Command}
 use Rattle.clap.specs.declared.builder.action.ArgAction.TheVariants.{Set}
 use Rattle.analyser.specs.declared.arguments.WatchArguments.{WatchArguments}
+use Rattle.analyser.specs.declared.arguments.DebugArguments.{DebugArguments}
 use Rattle.analyser.specs.declared.arguments.Invocation.{Invocation}
 use Rattle.analyser.specs.declared.arguments.Invocation.TheVariants as words
 
@@ -53,8 +54,11 @@ watch_files app =
 unfoldable pub watch_app : App
 watch_app = with_rule (watch_files (new_app (codes "watch"))) workers_rule
 
+unfoldable pub debug_app : App
+debug_app = with_file (codes "tap") (with_file (codes "filter") (new_app (codes "debug")))
+
 unfoldable pub afdxmon_app : App
-afdxmon_app = with_subcommand (with_subcommand (with_subcommand program_app capture_app.top) asm_app.top) watch_app.top
+afdxmon_app = with_subcommand (with_subcommand (with_subcommand (with_subcommand program_app capture_app.top) asm_app.top) watch_app.top) debug_app.top
 
 -- the command is that of capture
 abbrev pub IsCapture : Command → Type 0
@@ -68,6 +72,10 @@ IsAsm c = (app_of c ≡ asm_app) × ((out-Command c).has_globals ≡ false)
 abbrev pub IsWatch : Command → Type 0
 IsWatch c = (app_of c ≡ watch_app) × ((out-Command c).has_globals ≡ false)
 
+-- the command is that of debug
+abbrev pub IsDebug : Command → Type 0
+IsDebug c = (app_of c ≡ debug_app) × ((out-Command c).has_globals ≡ false)
+
 -- the files of a run over two recordings, and its number of workers
 pub record WatchWords : Type 0 where
   pub config : Text
@@ -78,11 +86,17 @@ pub record WatchWords : Type 0 where
   pub ledger : Text
   pub workers : ℕ
 
+-- the files of a session
+pub record DebugWords : Type 0 where
+  pub filter : Text
+  pub tap : Text
+
 -- what arguments ask for
 pub data Meant : Type 0 where
   Captures : Text → Meant  -- to capture by the filter of this text
   Assembles : Meant
   Watches : WatchWords → Meant
+  Debugs : DebugWords → Meant
 
 abbrev pub are_digits : Text → Bool
 are_digits [] = true
@@ -108,13 +122,22 @@ watch_in rows =
     watch_with (first_of (codes "config") rows) (first_of (codes "filter") rows) (first_of (codes "a") rows) (first_of (codes "b") rows)
     (first_of (codes "capture") rows) (first_of (codes "ledger") rows) (option_and_then number_in (one_of (codes "workers") rows))
 
+abbrev pub debug_with : Option Text → Option Text → Option DebugWords
+debug_with (Some filter) (Some tap) = Some (record { filter = filter; tap = tap })
+debug_with _ _ = None
+
+-- what the options of debug give
+abbrev pub debug_in : List Row → Option DebugWords
+debug_in rows = debug_with (first_of (codes "filter") rows) (first_of (codes "tap") rows)
+
 -- by the subcommand that was met and what it was given
 abbrev pub meant_in : Option (Text × List Row) → Option Meant
 meant_in None = None
 meant_in (Some met) =
     if bytes_eq met.0 (codes "capture") then option_map Captures (first_of (codes "code") met.1)
     else if bytes_eq met.0 (codes "asm") then Some Assembles
-    else if bytes_eq met.0 (codes "watch") then option_map Watches (watch_in met.1) else None
+    else if bytes_eq met.0 (codes "watch") then option_map Watches (watch_in met.1)
+    else if bytes_eq met.0 (codes "debug") then option_map Debugs (debug_in met.1) else None
 
 -- by the arguments, the program's name first
 abbrev pub meant_asked : List Text → Option Meant
@@ -131,7 +154,11 @@ watch_words given = record {
   workers = given.workers;
 }
 
+abbrev pub debug_words : DebugArguments → DebugWords
+debug_words given = record { filter = given.filter.now; tap = given.tap.now }
+
 abbrev pub meant_by : Invocation → Meant
 meant_by (words.Capture code) = Captures code.now
 meant_by words.Asm = Assembles
 meant_by (words.Watch given) = Watches (watch_words given)
+meant_by (words.Debug given) = Debugs (debug_words given)

@@ -14,3 +14,5 @@ pub mod Run
 pub mod Taps
 pub mod Watch
 pub mod Outputs
+pub mod WholeTap
+pub mod Sessions

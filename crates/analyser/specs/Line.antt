@@ -17,6 +17,8 @@ use Rattle.bpf_text.specs.declared.fault.TextFault.{TextFault}
 use Rattle.bpf_text.specs.declared.fault.TextFault.TheVariants as text
 use Rattle.bpf_asm.specs.declared.fault.AsmFault.{AsmFault}
 use Rattle.bpf_asm.specs.declared.fault.AsmFault.TheVariants as asm
+use Rattle.bpf_debugger.specs.declared.fault.DebugFault.{DebugFault}
+use Rattle.bpf_debugger.specs.declared.fault.DebugFault.TheVariants as debug
 use Rattle.analyser.specs.declared.fault.FileOption.{FileOption}
 use Rattle.analyser.specs.declared.fault.FileOption.TheVariants as file
 use Rattle.analyser.specs.declared.fault.Fault.{Fault}
@@ -106,6 +108,12 @@ watch_part watch.RingLost = codes "6 RingLost"
 watch_part watch.Memory = codes "7 Memory"
 watch_part watch.Filters = codes "8 Filters"
 
+abbrev pub debug_part : DebugFault → List ℕ
+debug_part debug.NoFrame = codes "1 NoFrame"
+debug_part debug.NoSuchFrame = codes "2 NoSuchFrame"
+debug_part debug.NoSuchInsn = codes "3 NoSuchInsn"
+debug_part debug.Memory = codes "4 Memory"
+
 -- the number of a filter of the table; that of the command line has none
 abbrev pub filter_part : Option ℕ → List ℕ
 filter_part None = []
@@ -118,3 +126,4 @@ line_of (fault.Asm f) = codes "afdxmon: asm " ++ asm_part f
 line_of (fault.Numeric f filter) = codes "afdxmon: numeric " ++ numeric_part f ++ filter_part filter
 line_of (fault.Load f filter) = codes "afdxmon: load " ++ load_part f ++ filter_part filter
 line_of (fault.Watch f) = codes "afdxmon: watch " ++ watch_part f
+line_of (fault.Debug f) = codes "afdxmon: debug " ++ debug_part f

@@ -2,7 +2,7 @@
 ghost use Rattle.std.specs.Prelude.{◌≡◌, false, true, map, IfOk, IfErr, option_map, string_bytes};
 ghost use Rattle.clap.specs.Words.{FailsBy, app_of, fault_of, found_of, kind_of, rows_of, rule_of, subcommand_rows_of, takes};
 ghost use Rattle.clap.specs.declared.error.kind.ErrorKind.TheVariants.{OutOfMemory};
-ghost use Rattle.analyser.specs.Arguments.{IsAsm, IsCapture, IsWatch, afdxmon_app, file_rule, meant_asked, meant_by, meant_in, program_app, watch_in, watch_words, workers_rule};
+ghost use Rattle.analyser.specs.Arguments.{IsAsm, IsCapture, IsDebug, IsWatch, afdxmon_app, debug_in, debug_words, file_rule, meant_asked, meant_by, meant_in, program_app, watch_in, watch_words, workers_rule};
 
 use clap::{Arg, ArgAction, ArgMatches, Command, Error};
 use std::alloc::{AllocError, Global};
@@ -19,6 +19,8 @@ pub enum Invocation<'a> {
     Asm,
     /// Judge the frames of two recordings, and write those that a filter accepts.
     Watch(WatchArguments<'a>),
+    /// Step through a filter on the frames of a recording.
+    Debug(DebugArguments<'a>),
 }
 
 /// The files of a run over two recordings, and its number of workers.
@@ -38,6 +40,15 @@ pub struct WatchArguments<'a> {
     pub ledger: &'a str,
     /// How many workers there are to be.
     pub workers: u8,
+}
+
+/// The files of a session.
+#[derive(Clone, Copy, Debug, PartialEq, Eq)]
+pub struct DebugArguments<'a> {
+    /// The filter, in the numeric form.
+    pub filter: &'a str,
+    /// The recording.
+    pub tap: &'a str,
 }
 
 /// The version that `--version` prints.
@@ -139,6 +150,30 @@ fn watch_command<'a>(alloc: Global) -> Result<Command<'a>, AllocError>
         .arg(workers_option(alloc))
 }
 
+/// What stands after the options in the help of `debug`.
+const DEBUG_EXAMPLE: &str = "\
+Commands: select <n>, step [+|-]<n>, cont, breakpoint <n>, disassemble, tally, quit
+
+Example: the state before the filter's first three instructions on frame 0
+  printf 'select 0\\nstep 1\\nstep 1\\n' | afdxmon debug --filter flight.filter --tap a.pcap";
+
+/// The command `debug`.
+fn debug_command<'a>(alloc: Global) -> Result<Command<'a>, AllocError>
+    ensures { IfOk result IsDebug }
+{
+    Command::new(alloc, "debug")
+        .about(
+            "Steps through a filter on the frames of a recording, by commands from standard input",
+        )
+        .after_help(DEBUG_EXAMPLE)
+        .arg(file_option(
+            alloc,
+            "filter",
+            "The filter in the numeric form, as `afdxmon asm` prints it",
+        ))?
+        .arg(file_option(alloc, "tap", "The recording, a pcap file"))
+}
+
 /// The program's own command, before its subcommands.
 fn program_command<'a>(alloc: Global) -> Command<'a>
     ensures { app_of result ≡ program_app }
@@ -156,7 +191,8 @@ fn whole_command<'a>(alloc: Global) -> Result<Command<'a>, AllocError>
     program_command(alloc)
         .subcommand(capture_command(alloc)?)?
         .subcommand(asm_command(alloc))?
-        .subcommand(watch_command(alloc)?)
+        .subcommand(watch_command(alloc)?)?
+        .subcommand(debug_command(alloc)?)
 }
 
 /// What the options of `watch` give.
@@ -174,6 +210,16 @@ fn watch_arguments<'a>(given: &ArgMatches<'a>) -> Option<WatchArguments<'a>>
     })
 }
 
+/// What the options of `debug` give.
+fn debug_arguments<'a>(given: &ArgMatches<'a>) -> Option<DebugArguments<'a>>
+    ensures { option_map debug_words result ≡ debug_in (rows_of (found_of given.now)) }
+{
+    Some(DebugArguments {
+        filter: given.get_str("filter")?,
+        tap: given.get_str("tap")?,
+    })
+}
+
 /// What the matches of a command line ask for.
 fn arguments_of<'a>(matches: &ArgMatches<'a>) -> Option<Invocation<'a>>
     ensures { option_map meant_by result ≡ meant_in (subcommand_rows_of matches.now) }
@@ -188,6 +234,9 @@ fn arguments_of<'a>(matches: &ArgMatches<'a>) -> Option<Invocation<'a>>
     }
     if name == "watch" {
         return Some(Invocation::Watch(watch_arguments(given)?));
+    }
+    if name == "debug" {
+        return Some(Invocation::Debug(debug_arguments(given)?));
     }
     None
 }

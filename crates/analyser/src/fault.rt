@@ -1,9 +1,10 @@
 //! Why a command was aborted, and the line that says so.
 ghost use Rattle.std.specs.Prelude.{◌≡◌, IfOk, string_bytes};
-ghost use Rattle.analyser.specs.Line.{file_part, header_part, line_of, network_part};
+ghost use Rattle.analyser.specs.Line.{debug_part, file_part, header_part, line_of, network_part};
 
 use afdx_frame::Network;
 use bpf_asm::AsmFault;
+use bpf_debugger::DebugFault;
 use bpf_isa::NumericFault;
 use bpf_loader::LoadFault;
 use bpf_text::TextFault;
@@ -100,6 +101,8 @@ pub enum Fault {
         filter: Option<u8>,
     },
     Watch(WatchFault),
+    /// A session of the debugger that isn't begun: there is no memory for it.
+    Debug(DebugFault),
 }
 
 /// Where a fault of the table is: a link, or the top table.
@@ -242,6 +245,17 @@ impl Display for AsmPart {
     }
 }
 
+fn debug_name(fault: DebugFault) -> &'static str
+    ensures { result.now ≡ debug_part fault }
+{
+    match fault {
+        DebugFault::NoFrame => "1 NoFrame",
+        DebugFault::NoSuchFrame => "2 NoSuchFrame",
+        DebugFault::NoSuchInsn => "3 NoSuchInsn",
+        DebugFault::Memory => "4 Memory",
+    }
+}
+
 fn file_name(file: FileOption) -> &'static str
     ensures { result.now ≡ file_part file }
 {
@@ -362,6 +376,10 @@ impl Display for Fault {
             Fault::Watch(fault) => {
                 let fault = WatchPart(fault);
                 write!(f, "afdxmon: watch {fault}")
+            }
+            Fault::Debug(fault) => {
+                let fault = debug_name(fault);
+                write!(f, "afdxmon: debug {fault}")
             }
         }
     }

@@ -5,6 +5,7 @@ ghost use Rattle.analyser.specs.Exit.{reason_text};
 
 use crate::fault::{Fault, FileOption, Output, WatchFault};
 use bpf_asm::AsmFault;
+use bpf_debugger::DebugFault;
 use bpf_isa::NumericFault;
 use bpf_loader::LoadFault;
 use bpf_text::TextFault;
@@ -193,6 +194,15 @@ fn asm_advice(fault: AsmFault) -> &'static str {
     }
 }
 
+fn debug_advice(fault: DebugFault) -> &'static str {
+    match fault {
+        DebugFault::NoFrame => "no frame is selected",
+        DebugFault::NoSuchFrame => "no frame has this number",
+        DebugFault::NoSuchInsn => "no instruction has this index",
+        DebugFault::Memory => OUT_OF_MEMORY,
+    }
+}
+
 /// What a fault line means and what to do, in plain words, for a person at a terminal.
 pub fn advice(fault: &Fault) -> &'static str {
     match *fault {
@@ -202,5 +212,6 @@ pub fn advice(fault: &Fault) -> &'static str {
         Fault::Numeric { fault, .. } => numeric_advice(fault),
         Fault::Load { fault, .. } => load_advice(fault),
         Fault::Watch(fault) => watch_advice(fault),
+        Fault::Debug(fault) => debug_advice(fault),
     }
 }

@@ -1,5 +1,5 @@
 //! The stepping debugger: worked sessions, the lines of commands, generated sessions beside one that
-//! runs from the start each time, real sizes, and failing allocations.
+//! runs from the start each time, the command over devices, real sizes, and failing allocations.
 
 use afdx_frame::{Network, Stamp, TapFrame};
 use bpf_debugger::{Session, bad_command_line, read_command, render};
@@ -8,6 +8,7 @@ use std::alloc::{AllocError, Global};
 use std::test::Fail;
 
 mod allocation;
+mod command;
 mod generated;
 mod lines;
 mod sizes;

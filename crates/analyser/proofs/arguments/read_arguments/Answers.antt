@@ -5,7 +5,7 @@ use Rattle.analyser.specs.Arguments.{afdxmon_app, meant_in}
 use Rattle.analyser.proofs.arguments.read_arguments.Goals as goal
 
 is_free : is_simple_and_free afdxmon_app ≡ true
-unfolding afdxmon_app Rattle.analyser.specs.Arguments.watch_app
+unfolding afdxmon_app Rattle.analyser.specs.Arguments.watch_app Rattle.analyser.specs.Arguments.debug_app
 is_free = refl
 
 pub returns-in_err-matches-clause-refused : goal.returns-in_err-matches-clause-refused
@@ -27,7 +27,7 @@ returns-clause-kinds c =
     ap (λ (a : App). fault_of a (map string_bytes c.args.arguments.now)) (sym is) ∙ c.in_ok-matches.ensures.kinds (ap is_simple_and_free is ∙ is_free)
 
 pub returns-clause-meant : goal.returns-clause-meant
-unfolding afdxmon_app Rattle.analyser.specs.Arguments.watch_app
+unfolding afdxmon_app Rattle.analyser.specs.Arguments.watch_app Rattle.analyser.specs.Arguments.debug_app
 returns-clause-meant c =
     let is = c.in_ok-command.ensures in
     c.arguments_of.ensures ∙ ap meant_in ((c.in_ok-matches.ensures.matches (ap is_simple is)).1 ∙ ap (λ (a : App). subcommand_of a (map string_bytes c.args.arguments.now)) is)

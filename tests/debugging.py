@@ -1,0 +1,170 @@
+"""Tests of `afdxmon debug` as a program: sessions, faults in their order, and a terminal."""
+import os
+import pty
+import re
+import subprocess
+import tempfile
+
+from harness import EVERY, FAULT, HERE, PROGRAM, SUCCESS, USAGE
+from harness import frame, header, judge, record, run, say
+
+STORING = "5,0 0 0 7,2 0 0 3,97 0 0 3,135 0 0 0,22 0 0 0,"
+ZEROS = " 0" * 16
+START = f"at 0 pc 0 A 0 X 0 M{ZEROS}\n"
+WALK = (
+    ("step +1", "fault 1 NoFrame\n"),
+    ("select 0", START),
+    ("step +3", "at 3 pc 3 A 7 X 7 M 0 0 0 7" + " 0" * 12 + "\n"),
+    ("step -2", f"at 1 pc 1 A 7 X 0 M{ZEROS}\n"),
+    ("step +2", "at 3 pc 3 A 7 X 7 M 0 0 0 7" + " 0" * 12 + "\n"),
+    ("step -9", START),
+    ("breakpoint 2", "breakpoint 2 set\n"),
+    ("cont", "at 2 pc 2 A 7 X 0 M 0 0 0 7" + " 0" * 12 + "\n"),
+    ("cont", "at 5 done 7\n"),
+    ("tally", "tally accepted 1 rejected 0\n"),
+    ("select 1", "fault 2 NoSuchFrame\n"),
+    ("breakpoint 5", "fault 3 NoSuchInsn\n"),
+    ("quit", "bye\n"),
+)
+ONE_FRAME = header() + record(0, frame(5, 60, 1))
+
+
+class Files:
+    """A filter and a tap, in files."""
+
+    def __init__(self, folder):
+        self.folder = folder
+
+    def write(self, name, data):
+        path = os.path.join(self.folder, name)
+        with open(path, "wb") as out:
+            out.write(data if isinstance(data, bytes) else data.encode())
+        return path
+
+    def command(self, code=STORING, tap=ONE_FRAME):
+        return ["debug", "--filter", self.write("filter", code), "--tap", self.write("tap.pcap", tap)]
+
+
+def answered(name, command, given, out, **how):
+    given = given if isinstance(given, bytes) else given.encode()
+    judge(name, run(command, input=given, stdout=subprocess.PIPE, **how), SUCCESS, "", out.encode())
+
+
+def sessions(files):
+    command = files.command()
+    answered("the debugger's walk", command, "".join(line + "\n" for line, _ in WALK), "frames 1\n" + "".join(text for _, text in WALK))
+    for name, given, out in (
+        ("no commands", "", ""),
+        ("blank lines of commands", "\n  \n\n ", ""),
+        ("a last line without its newline", "tally", "tally accepted 1 rejected 0\n"),
+        ("commands after quit", "quit\ntally\n", "bye\n"),
+        ("carriage returns in commands", "quit\r\nselect 0\r\n\r\n", "fault 0 BadCommand\n" * 3),
+        ("tabs in commands", "\tquit\n\t\nselect\t0\n", "fault 0 BadCommand\n" * 3),
+        ("spaces in commands", "  select   00  \n", START),
+    ):
+        answered(name, command, given, "frames 1\n" + out)
+    answered("a recording without frames", files.command(tap=header()), "select 0\n", "frames 0\nfault 2 NoSuchFrame\n")
+    answered("a truncated tap is no fault", files.command(tap=ONE_FRAME + ONE_FRAME[24:99]), "", "frames 1\n")
+    many = header() + b"".join(record(i, frame(5, 1514, i % 255 + 1)) for i in range(5000))
+    answered("5000 frames", files.command(EVERY, many), "select 4999\ntally\n", f"frames 5000\n{START}tally accepted 5000 rejected 0\n")
+    answered("100000 commands", files.command(), "tally\n" * 100_000, "frames 1\n" + "tally accepted 1 rejected 0\n" * 100_000)
+
+
+def page(files):
+    """The session of docs/DEBUGGER.md: each command that it names, and what it shows after it."""
+    with open(os.path.join(HERE, "..", "docs", "DEBUGGER.md"), encoding="utf-8") as text:
+        told = text.read().split("\n## Commands")[0]
+    code = re.search(r"^echo '([^']*)' > number17$", told, re.MULTILINE).group(1)
+    tap = header() + b"".join(record(i * 1_000_000, frame(5, 60, 16 + i)) for i in range(3))
+    begun = told[told.index("It begins with the number of frames"):]
+    named = re.compile(r"\*\*`([^`]*)`\*\*")
+    commands = named.findall(begun)
+    shown = "".join(block + "\n" for block in re.findall(r"^```\n(.*?)\n```$", begun.split("With `sub #1`")[0], re.MULTILINE | re.DOTALL))
+    if len(commands) < 5:
+        say("the session of docs/DEBUGGER.md", f"it names only {commands}")
+    answered("the session of docs/DEBUGGER.md", files.command(code, tap), "".join(line + "\n" for line in commands), shown)
+    answered("its filter, mended", files.command(code.replace("20 0 0 2", "20 0 0 1"), tap), "tally\n", "frames 3\ntally accepted 1 rejected 2\n")
+
+
+def faults(files):
+    absent = os.path.join(files.folder, "absent")
+    sound, tap = files.write("sound", STORING), files.write("sound.pcap", ONE_FRAME)
+    # Each line's later files have faults too.
+    for name, code, recorded, given, line in (
+        ("no filter file", absent, absent, b"\xff", "file --filter"),
+        ("a directory as filter", files.folder, absent, b"\xff", "file --filter"),
+        ("a filter file that isn't UTF-8", files.write("latin", b"\xff"), absent, b"\xff", "file --filter"),
+        ("a filter file that isn't numeric", files.write("words", "ret"), absent, b"\xff", "numeric 1 Character at 0"),
+        ("a filter file that doesn't load", files.write("none", "0,"), absent, b"\xff", "load 1 Length"),
+        ("no tap", sound, absent, b"\xff", "file --tap"),
+        ("a directory as tap", sound, files.folder, b"\xff", "watch 3 Read A"),
+        ("a tap without a file header", sound, files.write("short", b"\x4d"), b"\xff", "watch 2 Header A 1 Short"),
+        ("commands that aren't UTF-8", sound, tap, b"tally\n\xff", "file -"),
+        ("commands over the limit", sound, tap, b"tally\n" + b" " * 16777211, "file -"),
+    ):
+        ran = run(["debug", "--filter", code, "--tap", recorded], input=given, stdout=subprocess.PIPE)
+        judge(name, ran, FAULT, f"afdxmon: {line}", b"")
+    command = ["debug", "--filter", sound, "--tap", tap]
+    with open("/dev/full", "wb") as full:
+        judge("replies on a full disk", run(command, input=b"tally\n", stdout=full), FAULT, "afdxmon: file -")
+    shell = f"'{PROGRAM}' debug --filter '{sound}' --tap '{tap}'"
+    for name, redirection in (("debug with closed standard input", "<&-"), ("debug with closed standard output", "< /dev/null >&-")):
+        ran = subprocess.run(["bash", "-c", f"{shell} {redirection}"], stdout=subprocess.DEVNULL, stderr=subprocess.PIPE, timeout=60)
+        judge(name, ran, FAULT, "afdxmon: file -")
+    reads, writes = os.pipe()
+    child = subprocess.Popen([PROGRAM, *command], stdin=subprocess.PIPE, stdout=writes, stderr=subprocess.PIPE)
+    os.close(writes)
+    os.close(reads)
+    told = child.communicate(b"tally\n", timeout=60)[1]
+    judge("replies into a closed pipe", subprocess.CompletedProcess(command, child.returncode, None, told), FAULT, "afdxmon: file -")
+    for name, arguments in (
+        ("debug without a tap", ["debug", "--filter", sound]),
+        ("debug without a filter", ["debug", "--tap", tap]),
+        ("an argument too many of debug", [*command, "more"]),
+        ("help of debug", ["debug", "--help"]),
+    ):
+        judge(name, run(arguments, input=b"", stdout=subprocess.PIPE), USAGE, lambda told: "--tap <FILE>" in told or "more" in told, b"")
+
+
+def told_up_to(ours, end):
+    """What comes from a terminal up to `end`, or up to its close."""
+    told = b""
+    while not told.endswith(end):
+        try:
+            told += os.read(ours, 65536)
+        except OSError:
+            break  # nobody has the terminal open any more
+    return told
+
+
+def typed(files):
+    """Commands that are typed at a terminal are answered one by one, as they would be from a file. There are prompts only
+    where standard error is a terminal too."""
+    command, expected = files.command(), "frames 1\n" + "".join(text for _, text in WALK)
+    for name, sees in (("commands at a terminal", False), ("commands at a terminal, with prompts", True)):
+        ours, theirs = pty.openpty()
+        child = subprocess.Popen([PROGRAM, *command], stdin=theirs, stdout=subprocess.PIPE, stderr=theirs if sees else subprocess.PIPE)
+        os.close(theirs)
+        said, told, shown = child.stdout.readline(), b"", b""
+        for line, _ in WALK:
+            if sees:
+                told += told_up_to(ours, b"> ")
+            os.write(ours, line.encode() + b"\n")
+            shown += line.encode() + b"\r\n> "
+            said += child.stdout.readline()
+        told = told + told_up_to(ours, b"> ") if sees else child.stderr.read()
+        help_line = b"commands: select N, step [+|-]N, cont, breakpoint N, disassemble, tally, quit\r\n> "
+        status = child.wait(timeout=60)
+        good = status == SUCCESS and said == expected.encode() and told == ((help_line + shown)[:-2] if sees else b"")
+        say(name, "" if good else f"status {status}, {said!r}, {told!r}")
+        child.stdout.close()
+        os.close(ours)
+
+
+def cases():
+    with tempfile.TemporaryDirectory() as folder:
+        files = Files(folder)
+        sessions(files)
+        page(files)
+        faults(files)
+        typed(files)
