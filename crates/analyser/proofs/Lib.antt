@@ -13,3 +13,4 @@ pub mod Given
 pub mod Answering
 mod TapReading
 mod SessionRuns
+pub mod WholeOrder

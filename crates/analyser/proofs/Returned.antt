@@ -1,12 +1,14 @@
 -- What a run over two recordings leaves, once its devices are given back.
-use Rattle.std.proofs.Common.{◌≡◌, inr, ℕ, List, [], ◌∷◌, length, Option, None, Some, Result, Ok, Err, refl, subst, sym, ◌∙◌}
+use Rattle.std.proofs.Common.{◌≡◌, inr, ℕ, List, [], ◌∷◌, ◌++◌, length, ap, Option, None, Some, Result, Ok, Err, refl, subst, sym, ◌∙◌}
+use Rattle.std.proofs.lemmas.List.{append-nil}
 use Rattle.std.specs.Prelude.{IfOk, IfSome}
 use Rattle.afdx_frame.specs.Frame.{Frame}
 use Rattle.afdx_frame.specs.declared.key.Network.{Network}
 use Rattle.afdx_frame.specs.declared.key.Network.TheVariants as networks
 use Rattle.bpf_isa.specs.declared.packed.Packed.{Packed}
 use Rattle.ordered_merge.specs.Merge.{Follows, MergerState}
-use Rattle.ordered_merge.proofs.Following.{follows_order}
+use Rattle.ordered_merge.specs.Order.{IsOrder}
+use Rattle.ordered_merge.proofs.Following.{follows_order, one_order}
 use Rattle.pcap_io.specs.Device.{CountsFailure}
 use Rattle.pcap_io.specs.Position.{Reading}
 use Rattle.pcap_io.specs.declared.recording.Ending.{Ending}
@@ -17,13 +19,14 @@ use Rattle.analyser.specs.Outputs.{IsFinished, SinkFails, StopsFinishing}
 use Rattle.analyser.specs.Run.{StopsWatching, reading_view}
 use Rattle.analyser.specs.Taps.{HasRead, ReadsPart}
 use Rattle.analyser.specs.Filters.{capture_by}
-use Rattle.analyser.specs.Watch.{AbortsRun, AppendsSome, FailsOnly, HasLines, IsReadPart, IsReadWhole, IsNumber, IsWatched, SourceView, WatchDevices, watch_devices}
+use Rattle.analyser.specs.Watch.{AbortsRun, AppendsSome, FailsOnly, HasFirstOfAll, ledger_by, HasLines, IsReadPart, IsReadWhole, IsNumber, IsWatched, SourceView, WatchDevices, watch_devices}
 use Rattle.analyser.specs.declared.fault.Output.TheVariants as output
 use Rattle.analyser.specs.declared.fault.WatchFault.{WatchFault}
 use Rattle.analyser.specs.declared.fault.WatchFault.TheVariants as watch
 use Rattle.analyser.proofs.TwoTaps.{part_of}
 use Rattle.analyser.proofs.Writing.{capture_all}
 use Rattle.analyser.proofs.Whole.{complete}
+use Rattle.analyser.proofs.WholeOrder.{goes_on}
 
 -- ---- the sources
 
@@ -114,6 +117,7 @@ aborted fault ps vl_table before after a b unread_a unread_b r s = (
     capture = s.packets;
     ledger = s.lines;
     wholes = s.wholes;
+    first = s.first;
   },
 )
 
@@ -156,6 +160,22 @@ stopped_at_the_end fault ps vl_table before after fa fb cut end_a end_b m a b un
     some : AppendsSome before.capture.contents after.capture.contents (capture_by ps cut)
     some = capture_all ps cut before.capture.contents after.capture.contents s.packets
 
+    -- the recordings are known, so they are those that were read
+    first : HasFirstOfAll ps vl_table before after.capture after.ledger
+    first = λ bytes_a bytes_b frames_a frames_b frames x y known_a known_b r_a r_b order.
+        (let on_a = goes_on networks.A vl_table.late before.a fa frames_a (Some end_a) a bytes_a x known_a read_a r_a in
+        let on_b = goes_on networks.B vl_table.late before.b fb frames_b (Some end_b) b bytes_b y known_b read_b r_b in
+        let same_a : frames_a ≡ fa = on_a.all ∙ ap (λ (l : List Frame). fa ++ l) (on_a.ended refl).0 ∙ append-nil fa in
+        let same_b : frames_b ≡ fb = on_b.all ∙ ap (λ (l : List Frame). fb ++ l) (on_b.ended refl).0 ∙ append-nil fb in
+        let ends_a : end_a ≡ x = cc (on_a.ended refl).1 in
+        let ends_b : end_b ≡ y = cc (on_b.ended refl).1 in
+        let same : cut ≡ frames = one_order fa fb cut frames (follows_order m fa fb cut follows none)
+        (subst (λ (l : List Frame). IsOrder l fb frames) same_a (subst (λ (l : List Frame). IsOrder frames_a l frames) same_b order)) in (
+          subst (λ (l : List Frame). AppendsSome before.capture.contents after.capture.contents (capture_by ps l)) same some,
+          subst (λ (l : List Frame). AppendsSome before.ledger.contents after.ledger.contents (ledger_by ps vl_table l x y)) same
+              (subst (λ (e : Ending). AppendsSome before.ledger.contents after.ledger.contents (ledger_by ps vl_table cut e y)) ends_a
+              (subst (λ (e : Ending). AppendsSome before.ledger.contents after.ledger.contents (ledger_by ps vl_table cut end_a e)) ends_b s.text)),
+        ))
     lines : HasLines ps vl_table before fa fb cut after.capture after.ledger
     lines = inr (
       end_a,
@@ -182,6 +202,7 @@ stopped_at_the_end fault ps vl_table before after fa fb cut end_a end_b m a b un
         capture = some;
         ledger = lines;
         wholes = tt;
+        first = first;
       },
     )
     by (watch.Write output.Ledger) fails = (
@@ -197,6 +218,7 @@ stopped_at_the_end fault ps vl_table before after fa fb cut end_a end_b m a b un
         capture = some;
         ledger = lines;
         wholes = tt;
+        first = first;
       },
     )
     by watch.Memory fails = (
@@ -212,6 +234,7 @@ stopped_at_the_end fault ps vl_table before after fa fb cut end_a end_b m a b un
         capture = some;
         ledger = lines;
         wholes = tt;
+        first = first;
       },
     )
     by (watch.Read network) fails = absurd fails

@@ -26,7 +26,7 @@ use Rattle.pcap_io.specs.Device.{CountsFailure}
 network_of_frame : (q : Position) (before after : Option (List ℕ)) (f : Frame) → TakesFrame q before after f → f.network ≡ q.network
 network_of_frame q before after f t = ap (λ (g : Frame). g.network) t.same
 
-in_time : (late : ℕ) (tap : Tap) (high stamp : ℕ) → high ≡ unwrap_or tap.high 0 → high ≤ stamp + late → ForSome tap.high (λ h. h ≤ stamp + late)
+pub in_time : (late : ℕ) (tap : Tap) (high stamp : ℕ) → high ≡ unwrap_or tap.high 0 → high ≤ stamp + late → ForSome tap.high (λ h. h ≤ stamp + late)
 in_time late tap high stamp same bound = λ h is. subst (λ n. n ≤ stamp + late) (same ∙ ap (λ (known : Option ℕ). unwrap_or known 0) is) bound
 
 pub frame_fits : (network : Network) (q : Position) (m : MergerState) (before after : Option (List ℕ)) (f : Frame) → Fits network q m → TakesFrame q before after f →
@@ -45,7 +45,7 @@ frame_fits network q m before after f fits t =
 
 -- ---- and stays so after it
 
-high_after : (high stamp : ℕ) (known : Option ℕ) → high ≡ unwrap_or known 0 → max high stamp ≡ highest known stamp
+pub high_after : (high stamp : ℕ) (known : Option ℕ) → high ≡ unwrap_or known 0 → max high stamp ≡ highest known stamp
 high_after high stamp None e = grind (arith, e)
 high_after high stamp (Some h) e = ap (λ n. max n stamp) e
 

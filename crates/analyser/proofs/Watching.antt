@@ -1,5 +1,5 @@
 -- A run over two recordings: its rounds follow on one another, and what it leaves where it stops.
-use Rattle.std.proofs.Common.{◌≡◌, inl, Bool, false, zero, ℕ, suc, ◌+◌, ◌^◌, ◌≤◌, List, [], ◌∷◌, ◌++◌, length, take, Option, Some, None, sym, subst, ap, ◌∙◌, append_assoc, arith}
+use Rattle.std.proofs.Common.{◌≡◌, inl, Bool, false, zero, ℕ, suc, ◌+◌, ◌^◌, ◌≤◌, List, [], ◌∷◌, ◌++◌, length, take, Option, Some, None, sym, subst, ap, ◌∙◌, append_assoc, arith, refl}
 use Rattle.std.proofs.lemmas.List.{append-nil, length-append, take-append-le, take_all}
 use Rattle.std.proofs.lemmas.List.Sorted.{length_permutation}
 use Rattle.std.specs.Prelude.{◌==◌}
@@ -19,6 +19,7 @@ use Rattle.pcap_io.specs.Writer.{has_failed}
 use Rattle.verdict_ledger.specs.Ledger.{has_failed as ledger_has_failed}
 use Rattle.verdict_ledger.specs.Tally.{totals_of}
 use Rattle.verdict_ledger.specs.declared.totals.Totals.{Totals}
+use Rattle.pcap_io.specs.declared.recording.Ending.{Ending}
 use Rattle.vl_config.specs.Document.{VlTable}
 use Rattle.vl_judge.specs.Lanes.{last_key}
 use Rattle.analyser.specs.Filters.{capture_by, entries_by}
@@ -28,11 +29,13 @@ use Rattle.analyser.specs.Run.{IsWatching, StopsWatching}
 use Rattle.analyser.specs.declared.taps.Taps.{Taps}
 use Rattle.analyser.specs.declared.outputs.Outputs.{Outputs}
 use Rattle.analyser.specs.Taps.{Agree, HasMerged, ReadsPart, SourceFails, StopsMerging}
-use Rattle.analyser.specs.Watch.{HasReadTap, SinkView, SourceView, WatchDevices, lines_by, most_frames}
+use Rattle.analyser.specs.Watch.{AppendsSome, HasFirstOfAll, HasReadTap, SinkView, SourceView, WatchDevices, ledger_by, lines_by, most_frames}
 use Rattle.analyser.specs.declared.fault.Output.TheVariants as output
 use Rattle.analyser.specs.declared.fault.WatchFault.{WatchFault}
 use Rattle.analyser.specs.declared.fault.WatchFault.TheVariants as watch
-use Rattle.analyser.proofs.Writing.{capture_longer, capture_some, entries_length, lines_longer, lines_some}
+use Rattle.analyser.proofs.WholeOrder.{IsFirst}
+use Rattle.verdict_ledger.specs.Text.{ledger_head, lines_text, rest_text}
+use Rattle.analyser.proofs.Writing.{capture_all, lines_all, some_longer, capture_longer, capture_some, entries_length, lines_longer, lines_some}
 
 -- ---- the number of filters
 
@@ -138,18 +141,42 @@ room_left late a b fa fb cut round rest position_a position_b left_a left_b coun
     total : (a b c r rest count : ℕ) → (c + r) + rest ≡ a + b → a ≤ 2 ^ 32 → b ≤ 2 ^ 32 → count ≡ c → count + r ≤ 2 ^ 34
     total a b c r rest count e of_a of_b is = omega (arith, e, of_a, of_b, is)
 
+-- ---- of recordings that are known
+
+pub first_of_all : (ps : List (List Packed)) (vl_table : VlTable) (before : WatchDevices) (cut : List Frame) (capture ledger : SinkView) → IsFirst vl_table.late before.a before.b cut →
+    AppendsSome before.capture.contents capture.contents (capture_by ps cut) → AppendsSome before.ledger.contents ledger.contents (lines_by ps vl_table cut) →
+    HasFirstOfAll ps vl_table before capture ledger
+first_of_all ps vl_table before cut capture ledger first packets lines =
+    λ bytes_a bytes_b frames_a frames_b frames a b known_a known_b r_a r_b order.
+    (let rest = first bytes_a bytes_b frames_a frames_b frames a b known_a known_b r_a r_b order in
+    let all : AppendsSome before.ledger.contents ledger.contents (lines_by ps vl_table frames) =
+    subst (λ (l : List Frame). AppendsSome before.ledger.contents ledger.contents (lines_by ps vl_table l)) (sym rest.1)
+    (lines_longer ps vl_table cut rest.0 before.ledger.contents ledger.contents lines) in (
+      subst (λ (l : List Frame). AppendsSome before.capture.contents capture.contents (capture_by ps l)) (sym rest.1)
+          (capture_longer ps cut rest.0 before.capture.contents capture.contents packets),
+      some_longer before.ledger.contents ledger.contents (lines_by ps vl_table frames) (rest_text vl_table (length ps) (entries_by ps vl_table frames) a b)
+          (ledger_by ps vl_table frames a b) all
+          (sym (append_assoc ledger_head (lines_text (entries_by ps vl_table frames)) (rest_text vl_table (length ps) (entries_by ps vl_table frames) a b))),
+    ))
+
+pub none_first : (late : ℕ) (a b : SourceView) → IsFirst late a b []
+none_first late a b = λ bytes_a bytes_b frames_a frames_b frames x y known_a known_b r_a r_b order. (frames, refl)
+
 -- ---- where merging stops
 
 wholes_before : (cut rest : List Frame) → take (length cut) (cut ++ rest) ≡ cut
 wholes_before cut rest = take-append-le (length cut) cut rest (omega arith) ∙ take_all (length cut) cut (omega arith)
 
 pub stops_by_merging : (fault : WatchFault) (ps : List (List Packed)) (vl_table : VlTable) (before : WatchDevices) (cut : List Frame) (a b : Reading) (capture ledger : SinkView) →
-    StopsMerging fault vl_table.late before.a before.b cut a b →
+    IsFirst vl_table.late before.a before.b cut → StopsMerging fault vl_table.late before.a before.b cut a b →
     Appends before.capture.contents capture.contents (capture_by ps cut) → Appends before.ledger.contents ledger.contents (lines_by ps vl_table cut) →
     capture.failures ≡ before.capture.failures → ledger.failures ≡ before.ledger.failures →
     StopsWatching fault ps vl_table before a b capture ledger
-stops_by_merging fault ps vl_table before cut a b capture ledger s packets lines sound_c sound_l = by fault s.fails
+stops_by_merging fault ps vl_table before cut a b capture ledger is_first s packets lines sound_c sound_l = by fault s.fails
   where
+    first : HasFirstOfAll ps vl_table before capture ledger
+    first = first_of_all ps vl_table before cut capture ledger is_first (capture_all ps cut before.capture.contents capture.contents packets)
+        (lines_all ps vl_table cut before.ledger.contents ledger.contents lines)
     whole : (n : ℕ) × Appends before.capture.contents capture.contents (capture_by ps (take n (cut ++ s.rest)))
         × Appends before.ledger.contents ledger.contents (lines_by ps vl_table (take n (cut ++ s.rest)))
     whole = (
@@ -169,6 +196,7 @@ stops_by_merging fault ps vl_table before cut a b capture ledger s packets lines
       packets = capture_some ps cut s.rest before.capture.contents capture.contents packets;
       lines = inl (lines_some ps vl_table cut s.rest before.ledger.contents ledger.contents lines);
       wholes = whole;
+      first = first;
       fails = (fails.0, fails.1, sound_c, sound_l);
       run = tt;
     }
@@ -182,6 +210,7 @@ stops_by_merging fault ps vl_table before cut a b capture ledger s packets lines
       packets = capture_some ps cut s.rest before.capture.contents capture.contents packets;
       lines = inl (lines_some ps vl_table cut s.rest before.ledger.contents ledger.contents lines);
       wholes = whole;
+      first = first;
       fails = (fails.0, fails.1, sound_c, sound_l);
       run = tt;
     }
@@ -195,6 +224,7 @@ stops_by_merging fault ps vl_table before cut a b capture ledger s packets lines
       packets = capture_some ps cut s.rest before.capture.contents capture.contents packets;
       lines = inl (lines_some ps vl_table cut s.rest before.ledger.contents ledger.contents lines);
       wholes = tt;
+      first = first;
       fails = (fails.0, fails.1, sound_c, sound_l);
       run = tt;
     }
@@ -208,12 +238,14 @@ stops_by_merging fault ps vl_table before cut a b capture ledger s packets lines
 -- ---- where writing stops
 
 pub stops_by_writing : (fault : WatchFault) (ps : List (List Packed)) (vl_table : VlTable) (before : WatchDevices) (fa fb cut rest : List Frame) (a b : Reading) (capture ledger : SinkView) →
-    ReadsPart networks.A vl_table.late before.a fa a → ReadsPart networks.B vl_table.late before.b fb b → IsOrder fa fb (cut ++ rest) →
+    IsFirst vl_table.late before.a before.b cut → ReadsPart networks.A vl_table.late before.a fa a → ReadsPart networks.B vl_table.late before.b fb b → IsOrder fa fb (cut ++ rest) →
     a.failures ≡ before.a.failures → b.failures ≡ before.b.failures →
     StopsWriting fault ps vl_table before.capture before.ledger capture ledger cut →
     StopsWatching fault ps vl_table before a b capture ledger
-stops_by_writing fault ps vl_table before fa fb cut rest a b capture ledger read_a read_b order sound_a sound_b s = by fault s.fails
+stops_by_writing fault ps vl_table before fa fb cut rest a b capture ledger is_first read_a read_b order sound_a sound_b s = by fault s.fails
   where
+    first : HasFirstOfAll ps vl_table before capture ledger
+    first = first_of_all ps vl_table before cut capture ledger is_first s.packets s.lines
     by : (f : WatchFault) → SinkFails f before.capture.failures capture.failures before.ledger.failures ledger.failures → StopsWatching f ps vl_table before a b capture ledger
     by (watch.Write output.Capture) fails = record {
       frames_a = fa;
@@ -225,6 +257,7 @@ stops_by_writing fault ps vl_table before fa fb cut rest a b capture ledger read
       packets = capture_longer ps cut rest before.capture.contents capture.contents s.packets;
       lines = inl (lines_longer ps vl_table cut rest before.ledger.contents ledger.contents s.lines);
       wholes = tt;
+      first = first;
       fails = (sound_a, sound_b, fails.0, fails.1);
       run = tt;
     }
@@ -238,6 +271,7 @@ stops_by_writing fault ps vl_table before fa fb cut rest a b capture ledger read
       packets = capture_longer ps cut rest before.capture.contents capture.contents s.packets;
       lines = inl (lines_longer ps vl_table cut rest before.ledger.contents ledger.contents s.lines);
       wholes = tt;
+      first = first;
       fails = (sound_a, sound_b, fails.0, fails.1);
       run = tt;
     }
@@ -251,6 +285,7 @@ stops_by_writing fault ps vl_table before fa fb cut rest a b capture ledger read
       packets = capture_longer ps cut rest before.capture.contents capture.contents s.packets;
       lines = inl (lines_longer ps vl_table cut rest before.ledger.contents ledger.contents s.lines);
       wholes = tt;
+      first = first;
       fails = (sound_a, sound_b, fails.0, fails.1);
       run = tt;
     }

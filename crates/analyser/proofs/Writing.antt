@@ -132,13 +132,16 @@ lines_some ps vl_table fs gs a b appended =
 pub capture_all : (ps : List (List Packed)) (fs : List Frame) (a b : Option (List ℕ)) → Appends a b (capture_by ps fs) → AppendsSome a b (capture_by ps fs)
 capture_all ps fs a b appended = some_of a b (capture_by ps fs) [] (capture_by ps fs) appended (sym (append-nil (capture_by ps fs)))
 
+pub lines_all : (ps : List (List Packed)) (vl_table : VlTable) (fs : List Frame) (a b : Option (List ℕ)) → Appends a b (lines_by ps vl_table fs) → AppendsSome a b (lines_by ps vl_table fs)
+lines_all ps vl_table fs a b appended = some_of a b (lines_by ps vl_table fs) [] (lines_by ps vl_table fs) appended (sym (append-nil (lines_by ps vl_table fs)))
+
 -- a prefix of a list is one of a longer list
 prefix_of_longer : (n : ℕ) (xs ys : List ℕ) → (m : ℕ) × (take m (xs ++ ys) ≡ take n xs)
 prefix_of_longer zero xs ys = (0, refl)
 prefix_of_longer (suc n) [] ys = (0, refl)
 prefix_of_longer (suc n) (x ∷ xs) ys = let p = prefix_of_longer n xs ys in (suc p.0, ap (λ (l : List ℕ). x ∷ l) p.1)
 
-some_longer : (a b : Option (List ℕ)) (bytes rest all : List ℕ) → AppendsSome a b bytes → all ≡ bytes ++ rest → AppendsSome a b all
+pub some_longer : (a b : Option (List ℕ)) (bytes rest all : List ℕ) → AppendsSome a b bytes → all ≡ bytes ++ rest → AppendsSome a b all
 some_longer a b bytes rest all (n, appended) e =
     let p = prefix_of_longer n bytes rest in (p.0, subst (Appends a b) (sym (ap (take p.0) e ∙ p.1)) appended)
 

@@ -11,7 +11,7 @@ use Rattle.vl_config.specs.Document.{VlTable}
 use Rattle.analyser.specs.Filters.{capture_by}
 use Rattle.analyser.specs.Outputs.{HasWritten}
 use Rattle.analyser.specs.Taps.{Agree, HasMerged, ReadsPart}
-use Rattle.analyser.specs.Watch.{AppendsSome, FailsOnly, HasLines, HasWholes, IsRunFault, SinkView, SourceView, WatchDevices, watch_devices}
+use Rattle.analyser.specs.Watch.{AppendsSome, FailsOnly, HasFirstOfAll, HasLines, HasWholes, IsRunFault, SinkView, SourceView, WatchDevices, watch_devices}
 use Rattle.analyser.specs.declared.fault.WatchFault.{WatchFault}
 use Rattle.analyser.specs.declared.outputs.Outputs.{Outputs}
 use Rattle.analyser.specs.declared.taps.Taps.{Taps}
@@ -44,5 +44,6 @@ pub record StopsWatching (fault : WatchFault) (ps : List (List Packed)) (vl_tabl
   pub packets : AppendsSome before.capture.contents capture.contents (capture_by ps frames)
   pub lines : HasLines ps vl_table before frames_a frames_b frames capture ledger
   pub wholes : HasWholes fault ps vl_table frames before.capture before.ledger capture ledger
+  pub first : HasFirstOfAll ps vl_table before capture ledger
   pub fails : FailsOnly fault before (watch_devices (reading_view a) (reading_view b) capture ledger)
   pub run : IsRunFault fault

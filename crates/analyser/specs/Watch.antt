@@ -1,5 +1,5 @@
 -- What a whole run over two recordings leaves, and why it was aborted (this project's profile).
-use Rattle.std.specs.Prelude.{◌≡◌, ◌⊎◌, ℕ, ◌+◌, ◌^◌, ◌≤◌, List, [], ◌∷◌, ◌++◌, length, take, Option, Err, IfSome, ⊤}
+use Rattle.std.specs.Prelude.{◌≡◌, ◌⊎◌, ℕ, ◌+◌, ◌^◌, ◌≤◌, List, [], ◌∷◌, ◌++◌, length, take, Option, Some, Err, IfSome, ⊤}
 use Rattle.std.specs.Io.KnownBytes.{Appends}
 use Rattle.afdx_frame.specs.Frame.{Frame}
 use Rattle.afdx_frame.specs.declared.bounds.TheConstants.{MAX_SNAPLEN}
@@ -194,6 +194,14 @@ HasWholes (watch.Read network) ps vl_table frames capture ledger capture' ledger
     × Appends ledger.contents ledger'.contents (lines_by ps vl_table (take n frames))
 HasWholes fault ps vl_table frames capture ledger capture' ledger' = ⊤
 
+-- Of recordings whose bytes are known, whatever was read: each output has a prefix of what belongs to all their frames.
+abbrev pub HasFirstOfAll : List (List Packed) → VlTable → WatchDevices → SinkView → SinkView → Type 0
+HasFirstOfAll ps vl_table before capture ledger =
+    (bytes_a bytes_b : List ℕ) (frames_a frames_b frames : List Frame) (a b : Ending) → before.a.remaining ≡ Some bytes_a → before.b.remaining ≡ Some bytes_b →
+    IsRecording A vl_table.late bytes_a frames_a a → IsRecording B vl_table.late bytes_b frames_b b → IsOrder frames_a frames_b frames →
+    AppendsSome before.capture.contents capture.contents (capture_by ps frames)
+    × AppendsSome before.ledger.contents ledger.contents (ledger_by ps vl_table frames a b)
+
 -- The run stopped after these frames. Each output has a prefix of what belongs to them.
 pub record StopsRun (fault : WatchFault) (ps : List (List Packed)) (vl_table : VlTable) (before after : WatchDevices) : Type 0 where
   pub frames_a : List Frame
@@ -205,6 +213,7 @@ pub record StopsRun (fault : WatchFault) (ps : List (List Packed)) (vl_table : V
   pub capture : AppendsSome before.capture.contents after.capture.contents (capture_by ps frames)
   pub ledger : HasLines ps vl_table before frames_a frames_b frames after.capture after.ledger
   pub wholes : HasWholes fault ps vl_table frames before.capture before.ledger after.capture after.ledger
+  pub first : HasFirstOfAll ps vl_table before after.capture after.ledger
 
 -- the faults of a run that has begun
 abbrev pub IsRunFault : WatchFault → Type 0

@@ -518,6 +518,15 @@ to_end_b s late fa fb out rest fol e none h =
     (λ t. (s, subst (λ (l : List Frame). Follows s fa l out) (sym (append-nil fb) ∙ ap (λ (l : List Frame). fb ++ l) (sym (none t))) fol))
     (λ t. all_b rest s late fa fb out fol e t h)
 
+-- What was cut comes first in the order of both recordings whole, where those that have ended were fetched whole.
+pub cut_comes_first : (s : MergerState) (late : ℕ) (fa fb out ra rb : List Frame) → Follows s fa fb out → s.late ≡ late
+    → (s.a.ended ≡ true → ra ≡ []) → (s.b.ended ≡ true → rb ≡ []) → IsRecording A late (fa ++ ra) → IsRecording B late (fb ++ rb)
+    → (rest : List Frame) × IsOrder (fa ++ ra) (fb ++ rb) (out ++ rest)
+cut_comes_first s late fa fb out ra rb fol e none_a none_b rec_a rec_b =
+    let on = to_end_a s late fa fb out ra fol e none_a rec_a in
+    let end = to_end_b on.state late (fa ++ ra) fb out rb on.follows on.window (λ t. none_b (sym on.going ∙ t)) rec_b in
+    (end.0.pending, end.1.order)
+
 pub whole_order : (late : ℕ) (a b : List Frame) (s : CoreState) → IsOf late a b s → (rest : List Frame) × IsOrder a b (given s ++ rest)
 whole_order late a b s is =
     let on = to_end_a s.merger late is.fetched_a is.fetched_b (given s) (coming s.a) is.follows is.window

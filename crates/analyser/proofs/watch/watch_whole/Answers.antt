@@ -3,7 +3,7 @@ use Rattle.analyser.specs.Taps.{HasMerged}
 use Rattle.analyser.specs.Watch.{sink_view, source_view, watch_devices}
 use Rattle.analyser.proofs.Returned.{aborted, with_both, with_ok}
 use Rattle.analyser.proofs.TwoTaps.{part_of}
-use Rattle.analyser.proofs.Watching.{has_begun, some_filters, stops_by_writing}
+use Rattle.analyser.proofs.Watching.{has_begun, none_first, some_filters, stops_by_writing}
 use Rattle.analyser.proofs.watch.watch_whole.Goals as goal
 
 pub returns-in-Err-begin-clause-aborted : goal.returns-in-Err-begin-clause-aborted
@@ -20,6 +20,7 @@ returns-in-Err-begin-clause-aborted g c = rw c.new-in-Err-begin.ensures
         a_failures = c.into_sources-a.ensures.a_failures;
         b_failures = c.into_sources-a.ensures.b_failures;
       }) (stops_by_writing c.in-Err-begin.field-0.fault c.args.programs.now c.args.config.now before [] [] [] c.in-Ok.taps.merger.pending _ _ _ _
+          (none_first c.args.config.now.late before.a before.b)
           (part_of _ _ _ _ _ _ merged.read_a) (part_of _ _ _ _ _ _ merged.read_b) merged.follows.order merged.read_a.failures merged.read_b.failures
           (c.in-Err-begin.ensures.stopped c.args.programs.now))),
     ))
