@@ -1,4 +1,4 @@
-//! The one order of both taps' frames: worked examples and refused growth.
+//! The one order of both taps' frames: worked examples, the core over many lists of events, and refused growth.
 
 use afdx_frame::{Key, Network, Stamp, TapFrame};
 use ordered_merge::Merger;
@@ -6,6 +6,8 @@ use std::alloc::{AllocError, Global};
 use std::process::Abort;
 
 mod allocation;
+mod cores;
+mod numbers;
 mod worked;
 
 /// A frame of no captured bytes.
