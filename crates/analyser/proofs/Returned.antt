@@ -176,6 +176,7 @@ stopped_at_the_end fault ps vl_table before after fa fb cut end_a end_b m a b un
               (subst (λ (e : Ending). AppendsSome before.ledger.contents after.ledger.contents (ledger_by ps vl_table cut e y)) ends_a
               (subst (λ (e : Ending). AppendsSome before.ledger.contents after.ledger.contents (ledger_by ps vl_table cut end_a e)) ends_b s.text)),
         ))
+
     lines : HasLines ps vl_table before fa fb cut after.capture after.ledger
     lines = inr (
       end_a,

@@ -177,6 +177,7 @@ stops_by_merging fault ps vl_table before cut a b capture ledger is_first s pack
     first : HasFirstOfAll ps vl_table before capture ledger
     first = first_of_all ps vl_table before cut capture ledger is_first (capture_all ps cut before.capture.contents capture.contents packets)
         (lines_all ps vl_table cut before.ledger.contents ledger.contents lines)
+
     whole : (n : ℕ) × Appends before.capture.contents capture.contents (capture_by ps (take n (cut ++ s.rest)))
         × Appends before.ledger.contents ledger.contents (lines_by ps vl_table (take n (cut ++ s.rest)))
     whole = (
@@ -246,6 +247,7 @@ stops_by_writing fault ps vl_table before fa fb cut rest a b capture ledger is_f
   where
     first : HasFirstOfAll ps vl_table before capture ledger
     first = first_of_all ps vl_table before cut capture ledger is_first s.packets s.lines
+
     by : (f : WatchFault) → SinkFails f before.capture.failures capture.failures before.ledger.failures ledger.failures → StopsWatching f ps vl_table before a b capture ledger
     by (watch.Write output.Capture) fails = record {
       frames_a = fa;

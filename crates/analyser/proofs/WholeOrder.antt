@@ -115,6 +115,8 @@ cut_is_first rs fs rt ft late a b fa fb cut taps h agree =
     let on_b = goes_on B late b fb whole_b taps.end_b _ bytes_b y known_b h.read_b r_b in
     let found = order_of late a b fa fb cut on_a.others on_b.others taps.end_a taps.end_b _ _ taps.merger h.read_a h.read_b h.follows agree.0 agree.1
     (λ t. (on_a.ended t).0) (λ t. (on_b.ended t).0)
-    (subst (IsTapRecording A late) on_a.all (recorded A late bytes_a whole_a x r_a)) (subst (IsTapRecording B late) on_b.all (recorded B late bytes_b whole_b y r_b)) in
-    (found.0, one_order whole_a whole_b whole (cut ++ found.0) order
-    (subst (λ (l : List Frame). IsOrder l whole_b (cut ++ found.0)) (sym on_a.all) (subst (λ (l : List Frame). IsOrder (fa ++ on_a.others) l (cut ++ found.0)) (sym on_b.all) found.1))))
+    (subst (IsTapRecording A late) on_a.all (recorded A late bytes_a whole_a x r_a)) (subst (IsTapRecording B late) on_b.all (recorded B late bytes_b whole_b y r_b)) in (
+      found.0,
+      one_order whole_a whole_b whole (cut ++ found.0) order
+          (subst (λ (l : List Frame). IsOrder l whole_b (cut ++ found.0)) (sym on_a.all) (subst (λ (l : List Frame). IsOrder (fa ++ on_a.others) l (cut ++ found.0)) (sym on_b.all) found.1)),
+    ))
