@@ -1,5 +1,5 @@
 //! Reads the frames of a recording.
-ghost use Rattle.std.specs.Prelude.{◌≡◌, ◌+◌, ◌≤◌, ◌^◌, [], length, drop, Some, Ok, Err, IfOk, IfErr, OnOk, OnErr, IfSome};
+ghost use Rattle.std.specs.Prelude.{◌≡◌, ◌+◌, ◌<◌, ◌≤◌, ◌^◌, [], length, drop, vec_capacity, Some, Ok, Err, IfOk, IfErr, OnOk, OnErr, IfSome};
 ghost use Rattle.afdx_frame.specs.Frame.{IsFrame};
 ghost use Rattle.afdx_frame.specs.LentFrame.{frame_of_lent};
 ghost use Rattle.pcap_io.specs.Device.{CountsFailure, TakesAtMost, TakesFewer};
@@ -18,7 +18,7 @@ use crate::record_header::RECORD_HEADER_LEN;
 use crate::recording::{Ending, Stage};
 use crate::transfer::fill;
 use afdx_frame::{LentFrame, Network, Stamp};
-use std::alloc::Global;
+use std::alloc::{AllocError, Global};
 use thiserror::Error;
 
 /// Why a reader wasn't opened.
@@ -78,6 +78,20 @@ fn read_layout<S: TapSource>(source: &mut S) -> Result<Layout, OpenFault>
     Ok(layout_of(&header)?)
 }
 
+/// An empty buffer with room for so many bytes: the spare one, if it has the room.
+fn emptied(alloc: Global, spare: Vec<u8>, len: usize) -> Result<Vec<u8>, AllocError>
+    ensures items { IfOk result (λ bytes. bytes.items ≡ []) }
+    ensures room { IfOk result (λ bytes. len ≤ vec_capacity bytes) }
+    ensures needed { OnErr result (0 < len) }
+{
+    if spare.capacity() < len {
+        return Vec::with_capacity(alloc, len);
+    }
+    let mut bytes = spare;
+    bytes.clear();
+    Ok(bytes)
+}
+
 /// Reads the frames of one network's recording (pcap savefile format 2.4), one after another.
 ///
 /// It reads the data of its source ahead, a block of 64 KiB at a time, or more for a longer record.
@@ -104,8 +118,8 @@ impl<S: TapSource> TapReader<S> {
     ghost use Rattle.pcap_io.specs.Reader.{lent_of, position_of, reading_of, remaining_of};
     ghost use Rattle.pcap_io.specs.Reader.{source_of, unread_of};
 
-    /// Reads the file header, and stands at the first record. At most `most` records are read, and a
-    /// stamp may lie `late` nanoseconds below the greatest before it. A refusal gives the source
+    /// Reads the file header, and stands at the first record. At most `most` records are read, and
+    /// a stamp may lie `late` nanoseconds below the greatest before it. A refusal gives the source
     /// back. Allocates nothing.
     pub fn open(
         source: S,
@@ -152,8 +166,9 @@ impl<S: TapSource> TapReader<S> {
         }
     }
 
-    /// The same reader, which reads ahead in blocks of `len` bytes, at most 262144, and not of 64 KiB. A
-    /// longer record still has its room. A reader that has found frames keeps the block that it has.
+    /// The same reader, which reads ahead in blocks of `len` bytes, at most 262144, and not of 64
+    /// KiB. A longer record still has its room. A reader that has found frames keeps the block
+    /// that it has.
     pub fn with_block_len(self, len: usize) -> TapReader<S>
         ensures position { position_of result ≡ position_of self }
         ensures source { source_of result ≡ source_of self }
@@ -223,9 +238,10 @@ impl<S: TapSource> TapReader<S> {
         Ok(Found::Frame)
     }
 
-    /// Draws the next record into a frame of its own, or finds the ending.
+    /// Draws the next record into a frame of its own, in the spare where that has the room, or
+    /// finds the ending.
     #[inline(always)]
-    fn take(&mut self, alloc: Global) -> Result<Item, ReadFault>
+    fn take(&mut self, alloc: Global, spare: Vec<u8>) -> Result<Item, ReadFault>
         ensures item { IfOk result (λ a. IsNext (position_of self.old)
             (remaining_of S.remaining self.old) (remaining_of S.remaining self.new) a) }
         ensures room { IfOk result (λ a. HasRoom (position_of self.old) a) }
@@ -247,7 +263,7 @@ impl<S: TapSource> TapReader<S> {
             Start::Header(header) => header,
             Start::End(ending) => return Ok(Item::End(ending)),
         };
-        let mut bytes = Vec::with_capacity(alloc, header.captured_len as usize)?;
+        let mut bytes = emptied(alloc, spare, header.captured_len as usize)?;
         if !self.input.draw(alloc, header.captured_len as usize)? {
             return Ok(Item::End(Ending::Cut(self.position.count)));
         }
@@ -255,8 +271,8 @@ impl<S: TapSource> TapReader<S> {
         Ok(Item::Frame(self.position.frame(&header, bytes)))
     }
 
-    /// Goes on to the next frame, which `frame` lends, or to the ending, which is found again at each
-    /// later call. After a fault each later call returns `Failed`.
+    /// Goes on to the next frame, which `frame` lends, or to the ending, which is found again at
+    /// each later call. After a fault each later call returns `Failed`.
     ///
     /// It allocates only where a block is first made, and where a record is longer than the block.
     #[inline(always)]
@@ -296,8 +312,8 @@ impl<S: TapSource> TapReader<S> {
         }
     }
 
-    /// The frame that the last `advance` found. Its bytes are lent out of the reader's block until the
-    /// next call.
+    /// The frame that the last `advance` found. Its bytes are lent out of the reader's block until
+    /// the next call.
     #[inline(always)]
     pub fn frame(&self) -> LentFrame<'_>
         requires { IsFrame (lent_of self.now) }
@@ -313,9 +329,26 @@ impl<S: TapSource> TapReader<S> {
         .unwrap()
     }
 
-    /// The next frame, with bytes of its own, or the ending, which is given again at each later call.
-    /// After a fault each later call returns `Failed`.
+    /// The next frame, with bytes of its own, or the ending, which is given again at each later
+    /// call. After a fault each later call returns `Failed`.
     pub fn next(&mut self, alloc: Global) -> Result<Item, ReadFault>
+        ensures advances { Advances (λ item. item) (reading_of S.remaining S.failures self.old)
+            (reading_of S.remaining S.failures self.new) result }
+        // The source failed before it gave a whole record: no frame that came whole is lost.
+        ensures unfinished { (position_of self.old).stage ≡ Going → result ≡ Err faults.Device
+            → LacksBytes (position_of self.old) (remaining_of S.remaining self.old)
+            (remaining_of S.remaining self.new) (unread_of self.new) }
+        ensures ended { (e : Ending) → (position_of self.old).stage ≡ Ended e
+            → (result ≡ Ok (items.End e)) × (self.new ≡ self.old) }
+        ensures failed { (position_of self.old).stage ≡ Failed
+            → (result ≡ Err faults.Failed) × (self.new ≡ self.old) }
+    {
+        self.next_into(alloc, Vec::new(alloc))
+    }
+
+    /// `next`, whose frame's bytes stand in the memory of the spare where that has the room for
+    /// them. What the spare holds is lost.
+    pub fn next_into(&mut self, alloc: Global, spare: Vec<u8>) -> Result<Item, ReadFault>
         ensures advances { Advances (λ item. item) (reading_of S.remaining S.failures self.old)
             (reading_of S.remaining S.failures self.new) result }
         // The source failed before it gave a whole record: no frame that came whole is lost.
@@ -332,7 +365,7 @@ impl<S: TapSource> TapReader<S> {
             Stage::Ended(ending) => return Ok(Item::End(ending)),
             Stage::Going => {}
         }
-        match self.take(alloc) {
+        match self.take(alloc, spare) {
             Ok(Item::Frame(frame)) => {
                 self.position.pass_frame(frame.stamp().0);
                 Ok(Item::Frame(frame))
