@@ -1,0 +1,86 @@
+-- An item after those that were taken, by the count of their frames and their greatest stamp.
+use Rattle.std.proofs.Common.{◌≡◌, ◌⊎◌, ℕ, ◌+◌, ◌≤◌, max, true, false, List, [], ◌∷◌, ◌++◌, length, refl, sym, ap, ◌∙◌, subst, inl, inr, arith}
+use Rattle.std.proofs.lemmas.List.{length-append}
+use Rattle.std.specs.List.{AllByRecursion}
+use Rattle.afdx_frame.specs.Frame.{Frame}
+use Rattle.afdx_frame.specs.declared.key.Network.{Network}
+use Rattle.pcap_io.specs.declared.recording.Ending.{Ending}
+use Rattle.pcap_io.specs.declared.item.ReadFault.{ReadFault}
+use Rattle.tap_queue.specs.Items.{Follows, IsNextFrame, IsNextItem, frames_in, high_of, is_last, is_over}
+use Rattle.tap_queue.specs.declared.item.TapItem.{TapItem}
+use Rattle.tap_queue.specs.declared.item.TapItem.TheVariants.{Frame as frame, End, Failed}
+
+-- ---- the greatest stamp
+
+pub each_below_high : (n : ℕ) (frames : List Frame) → high_of frames ≤ n → AllByRecursion (λ (g : Frame). g.stamp ≤ n) frames
+each_below_high n [] h = tt
+each_below_high n (g ∷ frames) h = (omega arith, each_below_high n frames (omega arith))
+
+pub high_below_each : (n : ℕ) (frames : List Frame) → AllByRecursion (λ (g : Frame). g.stamp ≤ n) frames → high_of frames ≤ n
+high_below_each n [] h = omega arith
+high_below_each n (g ∷ frames) h = let rest = high_below_each n frames h.1 in let first = h.0 in omega arith
+
+pub high_of_more : (frames : List Frame) (f : Frame) → high_of (frames ++ f ∷ []) ≡ max (high_of frames) f.stamp
+high_of_more [] f = omega arith
+high_of_more (g ∷ frames) f = let rest = high_of_more frames f in omega arith
+
+-- ---- the frames among items
+
+pub frames_more : (items : List TapItem) (f : Frame) → frames_in (items ++ frame f ∷ []) ≡ frames_in items ++ f ∷ []
+frames_more [] f = refl
+frames_more (frame g ∷ items) f = ap (λ (fs : List Frame). g ∷ fs) (frames_more items f)
+frames_more (End e ∷ items) f = frames_more items f
+frames_more (Failed fault ∷ items) f = frames_more items f
+
+pub count_more : (items : List TapItem) (f : Frame) → length (frames_in (items ++ frame f ∷ [])) ≡ length (frames_in items) + 1
+count_more items f = let all = ap length (frames_more items f) in omega (arith, all, length-append (frames_in items) (f ∷ []))
+
+pub high_with : (items : List TapItem) (f : Frame) → high_of (frames_in (items ++ frame f ∷ [])) ≡ max (high_of (frames_in items)) f.stamp
+high_with items f = ap high_of (frames_more items f) ∙ high_of_more (frames_in items) f
+
+-- ---- the last item
+
+pub last_from : (item : TapItem) → ((e : Ending) × item ≡ End e) ⊎ ((fault : ReadFault) × item ≡ Failed fault) → is_last item ≡ true
+last_from item is = elim is [ inl e ↦ ap is_last e.1 | inr fault ↦ ap is_last fault.1 ]
+
+pub frames_last : (items : List TapItem) (item : TapItem) → is_last item ≡ true → frames_in (items ++ item ∷ []) ≡ frames_in items
+frames_last [] (frame f) last = cc
+frames_last [] (End e) last = refl
+frames_last [] (Failed fault) last = refl
+frames_last (frame g ∷ items) item last = ap (λ (fs : List Frame). g ∷ fs) (frames_last items item last)
+frames_last (End e ∷ items) item last = frames_last items item last
+frames_last (Failed fault ∷ items) item last = frames_last items item last
+
+pub last_follows : (network : Network) (late : ℕ) (items : List TapItem) (item : TapItem) → is_last item ≡ true → is_over items ≡ false
+    → IsNextItem network late items item
+last_follows network late items (frame f) last going = cc
+last_follows network late items (End e) last going = going
+last_follows network late items (Failed fault) last going = going
+
+-- ---- the next frame
+
+pub next_from_follows : (network : Network) (late number high : ℕ) (frames : List Frame) (f : Frame) → number ≡ length frames → high ≡ high_of frames
+    → Follows network late number high f → IsNextFrame network late frames f
+next_from_follows network late number high frames f counted highest follows = record {
+  network_is = follows.network_is;
+  number = follows.number_is ∙ counted;
+  in_time = each_below_high (f.stamp + late) frames (let in_time = follows.in_time in omega arith);
+}
+
+pub follows_from_next : (network : Network) (late number high : ℕ) (frames : List Frame) (f : Frame) → number ≡ length frames → high ≡ high_of frames
+    → IsNextFrame network late frames f → Follows network late number high f
+follows_from_next network late number high frames f counted highest next = record {
+  network_is = next.network_is;
+  number_is = (let n = next.number in omega arith);
+  in_time = (let h = high_below_each (f.stamp + late) frames next.in_time in omega arith);
+}
+
+pub frame_follows : (network : Network) (late number high : ℕ) (items : List TapItem) (f : Frame) (item : TapItem) → item ≡ frame f → is_over items ≡ false
+    → number ≡ length (frames_in items) → high ≡ high_of (frames_in items) → Follows network late number high f → IsNextItem network late items item
+frame_follows network late number high items f item same going counted highest follows =
+    subst (IsNextItem network late items) (sym same) (going, next_from_follows network late number high (frames_in items) f counted highest follows)
+
+pub frame_refused : (network : Network) (late number high : ℕ) (items : List TapItem) (f : Frame) (item : TapItem) → item ≡ frame f
+    → number ≡ length (frames_in items) → high ≡ high_of (frames_in items) → ¬ Follows network late number high f → ¬ IsNextItem network late items item
+frame_refused network late number high items f item same counted highest refused next =
+    refused (follows_from_next network late number high (frames_in items) f counted highest (subst (IsNextItem network late items) same next).1)

@@ -1,0 +1,52 @@
+-- What contracts see of a ring's two ends.
+use Rattle.std.specs.Prelude.{◌≡◌, ℕ, Bool, List}
+use Rattle.rtrb.specs.Ring.{IsPair, SameConsumer, SameProducer, received, sent}
+use Rattle.afdx_frame.specs.declared.key.Network.{Network}
+use Rattle.pcap_io.specs.declared.reader.TapReader.{TapReader}
+use Rattle.tap_queue.specs.declared.item.TapItem.{TapItem}
+use Rattle.tap_queue.specs.declared.ring.TapPut.{TapPut}
+use Rattle.tap_queue.specs.declared.end.TapEnd.{TapEnd}
+use Rattle.tap_queue.specs.declared.feeding.Fed.{Fed}
+
+-- all items that were put, the oldest first
+abbrev pub put_items : TapPut → List TapItem
+put_items put = sent put.producer
+
+-- all items that were taken, the oldest first
+abbrev pub taken_items : TapEnd → List TapItem
+taken_items end = received end.consumer
+
+-- the network whose items are put
+abbrev pub tap_of : TapPut → Network
+tap_of put = put.network
+
+-- the network whose items are taken
+abbrev pub network_of : TapEnd → Network
+network_of end = end.next.network
+
+-- by how many nanoseconds a stamp may lie below the greatest one before it
+abbrev pub late_of : TapEnd → ℕ
+late_of end = end.next.late
+
+-- an item was lost
+abbrev pub has_lost : TapEnd → Bool
+has_lost end = end.lost
+
+-- the two ends of one ring
+abbrev pub IsRing : TapPut → TapEnd → Type 0
+IsRing put end = IsPair put.producer end.consumer
+
+-- the same end of the same ring
+abbrev pub SamePut : TapPut → TapPut → Type 0
+SamePut a b = SameProducer a.producer b.producer × (tap_of b ≡ tap_of a)
+
+abbrev pub SameEnd : TapEnd → TapEnd → Type 0
+SameEnd a b = SameConsumer a.consumer b.consumer × (network_of b ≡ network_of a) × (late_of b ≡ late_of a)
+
+-- ---- a thread that has come to its end
+
+abbrev pub reader_of : {S : Type 0} → Fed S → TapReader S
+reader_of fed = fed.reader
+
+abbrev pub put_of : {S : Type 0} → Fed S → TapPut
+put_of fed = fed.put

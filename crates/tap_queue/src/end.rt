@@ -1,0 +1,224 @@
+//! The end of a ring that items are taken from.
+ghost use Rattle.std.specs.Prelude.{◌≡◌, ◌++◌, ◌∷◌, ◌^◌, ◌≤◌, [], length, false, MatchOption};
+ghost use Rattle.rtrb.specs.Ring.{SameConsumer, received};
+ghost use Rattle.tap_queue.specs.Items.{frames_in, high_of, is_over};
+
+use crate::bell::{Bell, Bells};
+use crate::feeding::Fed;
+use crate::item::{RingLost, TapItem};
+use crate::next_frame::NextFrame;
+use crate::ring::TapPut;
+use afdx_frame::{Network, TapFrame};
+use pcap_io::TapSource;
+use rtrb::{Consumer, Producer};
+use std::alloc::Global;
+use std::hint::spin_loop;
+use std::sync::{Arc, Wait};
+
+/// The most bytes that there is room for in a buffer that goes back.
+const SPARE_LEN: usize = 2048;
+
+/// How often a thread that takes looks again before it sleeps: some microseconds, in which a frame is
+/// read.
+const SPINS: u32 = 64;
+
+/// The end of a ring that items are taken from. It stays with the thread that takes them.
+#[derive(Drop)]
+pub struct TapEnd {
+    next: NextFrame,
+    consumer: Consumer<TapItem>,
+    /// Buffers on their way back to the reader's thread.
+    spent: Producer<Vec<u8>>,
+    bells: Arc<Bells, Global>,
+    /// An ending or a fault was taken.
+    over: bool,
+    /// The ring was left without one, or an item was taken that isn't the next.
+    lost: bool,
+    ghost bounded: { lost ≡ false → next.number ≤ 2 ^ 32 },
+    ghost counted: { lost ≡ false → next.number ≡ length (frames_in (received consumer)) },
+    ghost highest: { lost ≡ false → next.high ≡ high_of (frames_in (received consumer)) },
+    ghost ended: { lost ≡ false → over ≡ is_over (received consumer) },
+}
+
+/// Waits until an item was put, or the ring was left.
+fn wait_for_item<R: Wait>(rt: &R, consumer: &mut Consumer<TapItem>, bell: &Bell)
+    ensures ring { SameConsumer consumer.old consumer.new }
+    ensures taken { received consumer.new ≡ received consumer.old }
+{
+    for _ in 0..SPINS {
+        if !consumer.is_empty() {
+            return;
+        }
+        spin_loop();
+    }
+    bell.listen();
+    if consumer.is_empty() {
+        bell.sleep(rt);
+    }
+    bell.awake();
+}
+
+/// The oldest item that is in the ring, which is waited for. None: the ring is empty, and was left.
+fn pop<R: Wait>(rt: &R, consumer: &mut Consumer<TapItem>, bells: &Bells) -> Option<TapItem>
+    ensures ring { SameConsumer consumer.old consumer.new }
+    ensures taken { MatchOption result (received consumer.new ≡ received consumer.old)
+        (λ item. received consumer.new ≡ received consumer.old ++ item ∷ []) }
+{
+    for _ in rt.forever() {
+        if let Ok(item) = consumer.pop() {
+            // Once for all items that were seen, so that the other thread has room for many.
+            if consumer.cached_slots() == 0 {
+                bells.putter.wake();
+            }
+            return Some(item);
+        }
+        if consumer.is_abandoned() {
+            // Whatever was put before the ring was left can be seen by now.
+            return consumer.pop().ok();
+        }
+        wait_for_item(rt, consumer, &bells.taker);
+    }
+    unreachable!()
+}
+
+impl TapEnd {
+    ghost use Rattle.std.specs.Prelude.{◌≢◌, ◌⊎◌, ◌↔◌, true, Err, IfOk, IsTrue, OnErr};
+    ghost use Rattle.afdx_frame.specs.declared.bounds.TheConstants.{MAX_SNAPLEN};
+    ghost use Rattle.pcap_io.specs.Reader.{source_of, unread_of};
+    ghost use Rattle.tap_queue.specs.Items.{IsLoss, IsNextItem, ring_lost};
+    ghost use Rattle.tap_queue.specs.Ring.{IsRing, SameEnd, has_lost, late_of, network_of};
+    ghost use Rattle.tap_queue.specs.Ring.{put_items, put_of, reader_of, taken_items};
+
+    pub(crate) fn new(
+        network: Network,
+        late: u64,
+        consumer: Consumer<TapItem>,
+        spent: Producer<Vec<u8>>,
+        bells: Arc<Bells, Global>,
+    ) -> TapEnd
+        requires { received consumer ≡ [] }
+        ensures consumer { result.consumer ≡ consumer }
+        ensures network { network_of result ≡ network }
+        ensures late { late_of result ≡ late }
+        ensures not_lost { has_lost result ≡ false }
+    {
+        TapEnd {
+            next: NextFrame::first(network, late),
+            consumer,
+            spent,
+            bells,
+            over: false,
+            lost: false,
+        }
+    }
+
+    /// Whether an item may follow those that were taken.
+    #[inline]
+    fn is_going(&self) -> bool
+        ensures { IsTrue result
+            ↔ (has_lost self.now ≡ false × is_over (taken_items self.now) ≡ false) }
+    {
+        !self.lost && !self.over
+    }
+
+    /// Takes the next item, and waits where there is none. A frame is the network's next: its
+    /// number counts those before it, and its stamp lies no further below theirs than it may.
+    ///
+    /// # Errors
+    ///
+    /// `RingLost` if the ring was left without an ending, if an item isn't the network's next, and
+    /// if the ending or a fault was taken before. Each later call answers so too. After the last
+    /// of the three the end can still be settled.
+    pub fn take<R: Wait>(&mut self, rt: &R) -> Result<TapItem, RingLost>
+        ensures ring { SameEnd self.old self.new }
+        ensures taken { IfOk result (λ item.
+            taken_items self.new ≡ taken_items self.old ++ item ∷ []) }
+        ensures next { IfOk result (λ item. IsNextItem (network_of self.old) (late_of self.old)
+            (taken_items self.old) item) }
+        ensures bounded { IfOk result (λ _. length (frames_in (taken_items self.new)) ≤ 2 ^ 32) }
+        ensures going { IfOk result (λ _. has_lost self.old ≡ false × has_lost self.new ≡ false) }
+        ensures over { is_over (taken_items self.old) ≡ true
+            → (result ≡ Err ring_lost) × (self.new ≡ self.old) }
+        ensures stays_lost { has_lost self.old ≡ true
+            → (result ≡ Err ring_lost) × (self.new ≡ self.old) }
+        ensures lost { is_over (taken_items self.old) ≡ false
+            → OnErr result (has_lost self.new ≡ true) }
+        ensures loss { has_lost self.old ≡ false → is_over (taken_items self.old) ≡ false
+            → OnErr result (IsLoss (network_of self.old) (late_of self.old)
+            (taken_items self.old) (taken_items self.new)) }
+    {
+        if !self.is_going() {
+            return Err(RingLost);
+        }
+        let Some(item) = pop(rt, &mut self.consumer, &self.bells) else {
+            self.lost = true;
+            return Err(RingLost);
+        };
+        match &item {
+            TapItem::Frame(frame) => self.lost = !self.next.pass(frame),
+            TapItem::End(_) | TapItem::Failed(_) => self.over = true,
+        }
+        if self.lost {
+            return Err(RingLost);
+        }
+        Ok(item)
+    }
+
+    /// Hands the memory of a frame that was taken back to the reader's thread, which uses it
+    /// again. It never waits: where 1024 are on their way, and where there is room for more than
+    /// 2048 bytes, the memory is freed.
+    ///
+    /// No clause says what becomes of it. Frames that are freed here and not handed back cost more
+    /// time, since the reader's thread allocated them.
+    #[inline]
+    pub fn give_back(&mut self, frame: TapFrame)
+        ensures ring { SameEnd self.old self.new }
+        ensures taken { taken_items self.new ≡ taken_items self.old }
+        ensures lost { has_lost self.new ≡ has_lost self.old }
+    {
+        let bytes = frame.into_bytes();
+        if bytes.capacity() <= SPARE_LEN {
+            let _ = self.spent.push(bytes);
+        }
+    }
+
+    /// Shows that all was taken that was put, up to the recording's ending or a fault, and gives
+    /// the source back. What was read ahead of the last item is lost, at most 262144 bytes.
+    ///
+    /// # Errors
+    ///
+    /// `RingLost` if an item was lost, if not all was taken, and if neither an ending nor a fault
+    /// was taken. The source is dropped.
+    pub fn settle<S: TapSource + Drop>(self, fed: Fed<S>) -> Result<S, RingLost>
+        requires ring { IsRing (put_of fed) self }
+        ensures source { IfOk result (λ source. source ≡ source_of (reader_of fed)) }
+        ensures ahead { length (unread_of (reader_of fed)) ≤ MAX_SNAPLEN }
+        ensures all { IfOk result (λ _. taken_items self ≡ put_items (put_of fed)) }
+        ensures over { IfOk result (λ _. is_over (taken_items self) ≡ true) }
+        ensures not_lost { IfOk result (λ _. has_lost self ≡ false) }
+        ensures refused { OnErr result ((has_lost self ≡ true)
+            ⊎ (is_over (taken_items self) ≡ false)
+            ⊎ (taken_items self ≢ put_items (put_of fed))) }
+    {
+        let TapEnd {
+            next: _,
+            mut consumer,
+            spent: _,
+            bells: _,
+            over,
+            lost,
+        } = self;
+        let Fed { reader, put } = fed;
+        let TapPut {
+            network: _,
+            mut producer,
+            spares: _,
+            bells: _,
+        } = put;
+        let left = consumer.slots_beside(&mut producer);
+        if lost || !over || left > 0 {
+            return Err(RingLost);
+        }
+        Ok(reader.into_source())
+    }
+}

@@ -1,0 +1,54 @@
+//! What a network's next frame has to be.
+ghost use Rattle.std.specs.Prelude.{◌≡◌, ◌+◌, ◌^◌, ◌≤◌, max, ◌↔◌, IsTrue, IsFalse};
+ghost use Rattle.tap_queue.specs.Items.{Follows};
+
+use afdx_frame::{Network, TapFrame};
+
+/// What a network's next frame has to be.
+#[derive(Clone, Copy, Debug)]
+pub(crate) struct NextFrame {
+    pub(crate) network: Network,
+    /// By how many nanoseconds its stamp may lie below the greatest one before it.
+    pub(crate) late: u64,
+    /// Its number: that of the frames before it.
+    pub(crate) number: u64,
+    /// The greatest stamp before it, 0 where there is none.
+    pub(crate) high: u64,
+}
+
+impl NextFrame {
+    /// The first frame of a recording.
+    pub(crate) fn first(network: Network, late: u64) -> NextFrame
+        ensures { result ≡ record { network = network; late = late; number = 0; high = 0 } }
+    {
+        NextFrame {
+            network,
+            late,
+            number: 0,
+            high: 0,
+        }
+    }
+
+    /// Goes past the frame if it is the next one. False: it isn't.
+    #[inline]
+    pub(crate) fn pass(&mut self, frame: &TapFrame) -> bool
+        ensures next { IsTrue result ↔
+            Follows self.old.network self.old.late self.old.number self.old.high frame.now }
+        ensures passed { IsTrue result → self.new ≡ record self.old {
+          number = self.old.number + 1;
+          high = max self.old.high frame.now.stamp;
+        } }
+        ensures bounded { IsTrue result → self.new.number ≤ 2 ^ 32 }
+        ensures kept { IsFalse result → self.new ≡ self.old }
+    {
+        let stamp = frame.stamp().0;
+        let is_next = frame.network() == self.network
+            && frame.number() == self.number
+            && self.high <= stamp.saturating_add(self.late);
+        if is_next {
+            self.number += 1;
+            self.high = self.high.max(stamp);
+        }
+        is_next
+    }
+}
