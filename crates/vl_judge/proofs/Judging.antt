@@ -202,7 +202,7 @@ pub lanes_kept : (index : List ℕ) (lanes : List Lane) (last : Option Key) (key
 lanes_kept index lanes last key frame place item new at within got same key_is order none kept =
     let (id, named, placed, found) = lane_found lanes frame place item at within got in
     let got_new : get_or lanes place new ≡ item = at_place lanes place item new within got in (
-      IsIndexed-set index lanes place new (same ∙ sym (ap (λ (l : Lane). l.id) got_new)) kept.0,
+      IsIndexed-set index lanes place new within (same ∙ sym (ap (λ (l : Lane). l.id) got_new)) kept.0,
       subst (λ (k : Key). NoneAfterLast (Some k) (set lanes place new)) (sym key_is)
           (none_after lanes last frame id place item new placed within found got_new same order none kept.1),
     )

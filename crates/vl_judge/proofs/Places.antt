@@ -2,6 +2,7 @@
 use Rattle.std.proofs.Common.{◌≡◌, ℕ, zero, suc, ◌+◌, ◌<◌, ◌≤◌, ◌≢◌, Bool, true, false, not, cond, List, [], ◌∷◌, ◌++◌, length, Some, None, get_or, set, drop, find, ◌==◌, refl, sym, ap, ◌∙◌, subst, arith, get_or-set_same, get_or-set_other}
 use Rattle.std.proofs.lemmas.Bool.{eqb-true, eq-eqb, false≢true}
 use Rattle.std.proofs.lemmas.List.{drop_more}
+use Rattle.std.proofs.lemmas.List.Elements.{All-set}
 use Rattle.std.proofs.lemmas.List.Folds.{find_at, find-set, position_or_len-set}
 use Rattle.std.proofs.lemmas.Option.{slice_get-get_or, slice_get_past}
 use Rattle.std.specs.Option.{ForSome}
@@ -101,10 +102,12 @@ pub lane_with-set_other : (lanes : List Lane) (place : ℕ) (new : Lane) (other 
 lane_with-set_other lanes place new other a b = find_set_other (is_lane_of other.0) lanes place new a b
 
 -- the index stays right for a lane of the same identifier
-pub IsIndexed-set : (index : List ℕ) (lanes : List Lane) (place : ℕ) (new : Lane) → new.id ≡ (get_or lanes place new).id →
+pub IsIndexed-set : (index : List ℕ) (lanes : List Lane) (place : ℕ) (new : Lane) → place < length lanes → new.id ≡ (get_or lanes place new).id →
     IsIndexed index lanes → IsIndexed index (set lanes place new)
-IsIndexed-set index lanes place new same indexed = record {
+IsIndexed-set index lanes place new within same indexed = record {
   complete = indexed.complete;
+  fits = All-set (λ (lane : Lane). lane.id.0 < 65536) lanes place new
+      (subst (λ (v : VlId). v.0 < 65536) (sym same) (indexed.fits place new within)) indexed.fits;
   places = λ id small. indexed.places id small
       ∙ sym (position_or_len-set (is_lane_of id) lanes place new new (ap (λ (v : VlId). v.0 == id) same));
 }

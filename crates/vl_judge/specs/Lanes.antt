@@ -1,8 +1,9 @@
 -- What the lanes of all links know after a list of frames.
-use Rattle.std.specs.Prelude.{◌≡◌, ℕ, ◌<◌, ◌≤◌, Bool, List, [], ◌∷◌, length, Option, Some, None, find, ◌==◌, slice_index}
+use Rattle.std.specs.Prelude.{◌≡◌, ℕ, ◌<◌, ◌≤◌, Bool, List, [], ◌∷◌, length, Option, Some, None, find, ◌==◌, slice_index, All, ⊤}
 use Rattle.std.specs.Option.{ForSome, option_map_or}
 use Rattle.std.specs.List.{position_or_len}
-use Rattle.afdx_frame.specs.Frame.{Frame, key_of}
+use Rattle.std.specs.declared.cmp.Ordering.TheVariants.{Less}
+use Rattle.afdx_frame.specs.Frame.{Frame, key_cmp, key_of}
 use Rattle.afdx_frame.specs.View.{link_of}
 use Rattle.afdx_frame.specs.declared.key.Key.{Key}
 use Rattle.afdx_frame.specs.declared.key.VlId.{VlId}
@@ -33,9 +34,10 @@ place_with lanes id = position_or_len (is_lane_of id) lanes
 abbrev pub place_of : List Lane → Frame → ℕ
 place_of lanes frame = option_map_or (λ id. place_with lanes id.0) (link_of frame.bytes) (length lanes)
 
--- an index of all identifiers
+-- an index of all identifiers, which have 16 bits
 pub record IsIndexed (index : List ℕ) (lanes : List Lane) : Type 0 where
   pub complete : length index ≡ 65536
+  pub fits : All (λ lane. lane.id.0 < 65536) lanes
   pub places : (id : ℕ) → id < 65536 → slice_index index id ≡ place_with lanes id
 
 -- no lane has seen a frame later than the last one
@@ -54,6 +56,11 @@ Knows _ _ frames = ⊥
 abbrev pub last_key : Option Key → List Frame → Option Key
 last_key last [] = last
 last_key last (frame ∷ frames) = last_key (Some (key_of frame)) frames
+
+-- each frame's key is above the one before it, and the first one's above the last key
+abbrev pub FollowsOn : Option Key → List Frame → Type 0
+FollowsOn last [] = ⊤
+FollowsOn last (f ∷ fs) = ForSome last (λ key. key_cmp key (key_of f) ≡ Less) × FollowsOn (Some (key_of f)) fs
 
 pub record StandsAfter (state : LanesState) (vl_table : VlTable) (frames : List Frame) : Type 0 where
   pub constant : state.constant ≡ vl_table.constant

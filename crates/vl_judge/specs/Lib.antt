@@ -1,4 +1,5 @@
 pub mod Judgement
 pub mod Lane
 pub mod Lanes
+pub mod Parts
 pub mod Verdicts

@@ -1,6 +1,6 @@
 //! The lane of one virtual link: all that its judgements keep.
 
-ghost use Rattle.std.specs.Prelude.{◌≡◌, ◌≤◌, ◌+◌, ℕ, List, [], ◌∷◌, ◌++◌, length, Some, None, false, is_some, IsTrue, option_to_list, if◌then◌else◌};
+ghost use Rattle.std.specs.Prelude.{◌≡◌, ◌≤◌, ◌+◌, ℕ, List, [], ◌∷◌, ◌++◌, length, Some, None, false, is_some, IfOk, IsTrue, option_to_list, if◌then◌else◌};
 ghost use Rattle.std.specs.Option.{option_map, option_map_or, ForSome};
 ghost use Rattle.vl_config.specs.Link.{VirtualLink};
 ghost use Rattle.vl_judge.specs.Verdicts.{Judged, is_of, size_of, sequence_number, verdict_on};
@@ -17,6 +17,8 @@ use afdx_frame::{Network, TapFrame, VlId};
 use integrity::{Check, Integrity};
 use policing::{Account, Policing};
 use redundancy::{Pair, Redundancy};
+use std::alloc::{AllocError, Global};
+use std::marker::Model;
 use vl_config::{CHECK_LENGTH, Class, Link, class_by};
 
 /// What policing and integrity checking keep of one virtual link on one network.
@@ -89,8 +91,7 @@ pub struct Lane {
 impl Lane {
     ghost use Rattle.vl_judge.specs.Lane.{LaneStandsAfter, NoneLater};
 
-    /// The lane of a link, which has seen no frame.
-    pub fn new(link: &Link) -> Lane
+    fn new(link: &Link) -> Lane
         ensures after { LaneStandsAfter result link.now [] }
         ensures none_later { (stamp : ℕ) → NoneLater result stamp }
     {
@@ -104,35 +105,6 @@ impl Lane {
             b: Side::new(link),
             pair: Pair::new(),
         }
-    }
-
-    /// The identifier of the link.
-    #[inline(always)]
-    pub fn id(&self) -> VlId
-        ensures { result ≡ self.now.id }
-    {
-        self.id
-    }
-
-    /// Judges a frame of the link under a table with this constant field.
-    #[inline(always)]
-    pub fn judge(&mut self, constant: u32, frame: &TapFrame) -> Verdict
-        requires { (later : ℕ) → frame.now.stamp ≤ later → NoneLater self.old later }
-        ensures verdict { (link : VirtualLink) (earlier : List Judged) →
-            LaneStandsAfter self.old link earlier → result ≡
-            verdict_on link (class_by constant (Some link.smax) frame.now) earlier frame.now }
-        ensures after { (link : VirtualLink) (earlier : List Judged) →
-            IsTrue (is_of link.id frame.now) →
-            LaneStandsAfter self.old link earlier → LaneStandsAfter self.new link
-            (earlier ++ record { frame = frame.now; verdict = result } ∷ []) }
-        ensures none_later { (later : ℕ) → frame.now.stamp ≤ later → NoneLater self.new later }
-        ensures id { self.new.id ≡ self.old.id }
-    {
-        let class = class_by(constant, Some(self.smax), frame);
-        if class != Class::Regular {
-            return Verdict::stopped(class);
-        }
-        self.judge_regular(frame)
     }
 
     #[inline(always)]
@@ -169,6 +141,59 @@ impl Lane {
             integrity,
             redundancy,
         }
+    }
+}
+
+/// A lane in memory of its own, so that a move of it is a pointer's. A lane has kilobytes.
+#[derive(Debug, Drop)]
+pub struct LaneBox(Box<Lane>);
+
+impl Model for LaneBox {
+    ghost use Rattle.vl_judge.specs.declared.lane.Lane.{Lane};
+
+    ghost Value = { Lane };
+
+    ghost view = { λ lane. lane.0.value };
+}
+
+impl LaneBox {
+    ghost use Rattle.vl_judge.specs.Lane.{LaneStandsAfter, NoneLater};
+
+    /// The lane of a link, which has seen no frame.
+    pub fn new(alloc: Global, link: &Link) -> Result<LaneBox, AllocError>
+        ensures after { IfOk result (λ lane. LaneStandsAfter lane link.now []) }
+        ensures none_later { IfOk result (λ lane. (stamp : ℕ) → NoneLater lane stamp) }
+    {
+        Ok(LaneBox(Box::new(alloc, Lane::new(link))?))
+    }
+
+    /// The identifier of the link.
+    #[inline(always)]
+    pub fn id(&self) -> VlId
+        ensures { result ≡ self.now.id }
+    {
+        self.0.id
+    }
+
+    /// Judges a frame of the link under a table with this constant field.
+    #[inline(always)]
+    pub fn judge(&mut self, constant: u32, frame: &TapFrame) -> Verdict
+        requires { (later : ℕ) → frame.now.stamp ≤ later → NoneLater self.old later }
+        ensures verdict { (link : VirtualLink) (earlier : List Judged) →
+            LaneStandsAfter self.old link earlier → result ≡
+            verdict_on link (class_by constant (Some link.smax) frame.now) earlier frame.now }
+        ensures after { (link : VirtualLink) (earlier : List Judged) →
+            IsTrue (is_of link.id frame.now) →
+            LaneStandsAfter self.old link earlier → LaneStandsAfter self.new link
+            (earlier ++ record { frame = frame.now; verdict = result } ∷ []) }
+        ensures none_later { (later : ℕ) → frame.now.stamp ≤ later → NoneLater self.new later }
+        ensures id { self.new.id ≡ self.old.id }
+    {
+        let class = class_by(constant, Some(self.0.smax), frame);
+        if class != Class::Regular {
+            return Verdict::stopped(class);
+        }
+        self.0.judge_regular(frame)
     }
 }
 

@@ -9,11 +9,26 @@
 //! let mut lanes = Lanes::new(alloc, &config)?;
 //! let verdict = lanes.judge(&frame);
 //! ```
+//!
+//! [`Lanes::judge_round`] judges a whole round of frames, by several threads if there is more than
+//! one worker. The lanes are moved to the workers and come back; the frames are borrowed. The
+//! verdicts are those of `judge`, frame by frame, whatever the number of workers.
+//!
+//! ```text
+//! let (lanes, verdicts) = lanes.judge_round(rt, &round, 2)?;
+//! for (frame, verdict) in round.iter().zip(&verdicts) {
+//!     println!(rt; "{} {:?}", frame.number(), verdict.policing)?;
+//! }
+//! ```
 #![tactic(auto)]
 
+mod fault;
 mod lane;
 mod lanes;
+mod part;
+mod round;
 mod verdict;
 
+pub use fault::LaneFault;
 pub use lanes::Lanes;
 pub use verdict::Verdict;

@@ -1,5 +1,5 @@
 use Rattle.vl_judge.proofs.After.{lane_after_stopped}
-use Rattle.vl_judge.proofs.lane.Lane.judge.Goals as goal
+use Rattle.vl_judge.proofs.lane.LaneBox.judge.Goals as goal
 
 pub returns-then-ne-clause-after : goal.returns-then-ne-clause-after
 returns-then-ne-clause-after c = λ link earlier of stands.
