@@ -13,4 +13,11 @@ pub mod Given
 pub mod Answering
 mod TapReading
 mod SessionRuns
+pub mod Aborting
+pub mod FedTaps
+pub mod Finishing
+pub mod RingItems
+pub mod RoundsTaken
+pub mod Sharing
+pub mod Starting
 pub mod WholeOrder

@@ -1,7 +1,7 @@
 -- What a run over two recordings leaves, once its devices are given back.
 use Rattle.std.proofs.Common.{◌≡◌, inr, ℕ, List, [], ◌∷◌, ◌++◌, length, ap, Option, None, Some, Result, Ok, Err, refl, subst, sym, ◌∙◌}
 use Rattle.std.proofs.lemmas.List.{append-nil}
-use Rattle.std.specs.Prelude.{IfOk, IfSome}
+use Rattle.std.specs.Prelude.{IfErr, IfOk, IfSome, OnOk}
 use Rattle.afdx_frame.specs.Frame.{Frame}
 use Rattle.afdx_frame.specs.declared.key.Network.{Network}
 use Rattle.afdx_frame.specs.declared.key.Network.TheVariants as networks
@@ -19,7 +19,7 @@ use Rattle.analyser.specs.Outputs.{IsFinished, SinkFails, StopsFinishing}
 use Rattle.analyser.specs.Run.{StopsWatching, reading_view}
 use Rattle.analyser.specs.Taps.{HasRead, ReadsPart}
 use Rattle.analyser.specs.Filters.{capture_by}
-use Rattle.analyser.specs.Watch.{AbortsRun, AppendsSome, FailsOnly, HasFirstOfAll, ledger_by, HasLines, IsReadPart, IsReadWhole, IsNumber, IsWatched, SourceView, WatchDevices, watch_devices}
+use Rattle.analyser.specs.Watch.{AbortsRun, AppendsSome, FailsOnly, HasFirstOfAll, ledger_by, HasLines, IsRunFault, StopsRun, IsReadPart, IsReadWhole, IsNumber, IsWatched, SourceView, WatchDevices, watch_devices}
 use Rattle.analyser.specs.declared.fault.Output.TheVariants as output
 use Rattle.analyser.specs.declared.fault.WatchFault.{WatchFault}
 use Rattle.analyser.specs.declared.fault.WatchFault.TheVariants as watch
@@ -47,7 +47,7 @@ ended_so : (network : Network) (late : ℕ) (before : SourceView) (frames : List
 ended_so network late before frames ending reading read =
     complete network late before.remaining read.read.opened read.left read.read.layout frames read.position ending read.read.opens read.read.reads read.stands.here
 
-whole_given : (network : Network) (late : ℕ) (before after : SourceView) (frames : List Frame) (ending : Ending) (reading : Reading) (unread : List ℕ) →
+pub whole_given : (network : Network) (late : ℕ) (before after : SourceView) (frames : List Frame) (ending : Ending) (reading : Reading) (unread : List ℕ) →
     HasRead network late before frames (Some ending) reading → LeavesUnread unread reading.remaining after.remaining → after.failures ≡ reading.failures →
     IsReadWhole network late before after frames ending
 whole_given network late before after frames ending reading unread read leaves same = record {
@@ -92,6 +92,14 @@ with_both (Some x) (Some y) P Q f h = f x y h
 pub with_ok : {X E : Type 0} (r : Result X E) (P Q : X → Type 0) → ((x : X) → P x → Q x) → IfOk r P → IfOk r Q
 with_ok (Ok x) P Q f h = f x h
 with_ok (Err e) P Q f h = tt
+
+pub with_on_ok : {X E : Type 0} (r : Result X E) (P Q : Type 0) → (P → Q) → OnOk r P → OnOk r Q
+with_on_ok (Ok x) P Q f h = f h
+with_on_ok (Err e) P Q f h = tt
+
+pub with_err : {X E : Type 0} (r : Result X E) (P Q : E → Type 0) → ((e : E) → P e → Q e) → IfErr r P → IfErr r Q
+with_err (Ok x) P Q f h = tt
+with_err (Err e) P Q f h = f e h
 
 -- ---- the whole run
 
@@ -144,11 +152,19 @@ watched ps vl_table before after fa fb cut end_a end_b totals m a b unread_a unr
   ledger_failures = f.ledger_failures;
 }
 
+-- why a run was aborted at the end of its ledger: all frames of both recordings had been read
+pub record StopsAtEnd (fault : WatchFault) (ps : List (List Packed)) (vl_table : VlTable) (before after : WatchDevices) (end_a end_b : Ending) : Type 0 where
+  pub fails : FailsOnly fault before after
+  pub run : IsRunFault fault
+  pub stops : StopsRun fault ps vl_table before after
+  pub whole_a : IsReadWhole networks.A vl_table.late before.a after.a stops.frames_a end_a
+  pub whole_b : IsReadWhole networks.B vl_table.late before.b after.b stops.frames_b end_b
+
 pub stopped_at_the_end : (fault : WatchFault) (ps : List (List Packed)) (vl_table : VlTable) (before after : WatchDevices) (fa fb cut : List Frame) (end_a end_b : Ending)
     (m : MergerState) (a b : Reading) (unread_a unread_b : List ℕ) → Returned a b unread_a unread_b after →
     HasRead networks.A vl_table.late before.a fa (Some end_a) a → HasRead networks.B vl_table.late before.b fb (Some end_b) b → Follows m fa fb cut → m.pending ≡ [] →
     StopsFinishing fault ps vl_table before.capture before.ledger after.capture after.ledger cut end_a end_b →
-    AbortsRun fault ps vl_table before after
+    StopsAtEnd fault ps vl_table before after end_a end_b
 stopped_at_the_end fault ps vl_table before after fa fb cut end_a end_b m a b unread_a unread_b r read_a read_b follows none s = by fault s.fails
   where
     sound_a : after.a.failures ≡ before.a.failures
@@ -189,11 +205,11 @@ stopped_at_the_end fault ps vl_table before after fa fb cut end_a end_b m a b un
       s.text,
     )
 
-    by : (f : WatchFault) → SinkFails f before.capture.failures after.capture.failures before.ledger.failures after.ledger.failures → AbortsRun f ps vl_table before after
-    by (watch.Write output.Capture) fails = (
-      (sound_a, sound_b, fails.0, fails.1),
-      tt,
-      record {
+    by : (f : WatchFault) → SinkFails f before.capture.failures after.capture.failures before.ledger.failures after.ledger.failures → StopsAtEnd f ps vl_table before after end_a end_b
+    by (watch.Write output.Capture) fails = record {
+      fails = (sound_a, sound_b, fails.0, fails.1);
+      run = tt;
+      stops = record {
         frames_a = fa;
         frames_b = fb;
         frames = cut;
@@ -204,12 +220,14 @@ stopped_at_the_end fault ps vl_table before after fa fb cut end_a end_b m a b un
         ledger = lines;
         wholes = tt;
         first = first;
-      },
-    )
-    by (watch.Write output.Ledger) fails = (
-      (sound_a, sound_b, fails.0, fails.1),
-      tt,
-      record {
+      };
+      whole_a = whole_given networks.A vl_table.late before.a after.a fa end_a a unread_a read_a r.a_left r.a_failures;
+      whole_b = whole_given networks.B vl_table.late before.b after.b fb end_b b unread_b read_b r.b_left r.b_failures;
+    }
+    by (watch.Write output.Ledger) fails = record {
+      fails = (sound_a, sound_b, fails.0, fails.1);
+      run = tt;
+      stops = record {
         frames_a = fa;
         frames_b = fb;
         frames = cut;
@@ -220,12 +238,14 @@ stopped_at_the_end fault ps vl_table before after fa fb cut end_a end_b m a b un
         ledger = lines;
         wholes = tt;
         first = first;
-      },
-    )
-    by watch.Memory fails = (
-      (sound_a, sound_b, fails.0, fails.1),
-      tt,
-      record {
+      };
+      whole_a = whole_given networks.A vl_table.late before.a after.a fa end_a a unread_a read_a r.a_left r.a_failures;
+      whole_b = whole_given networks.B vl_table.late before.b after.b fb end_b b unread_b read_b r.b_left r.b_failures;
+    }
+    by watch.Memory fails = record {
+      fails = (sound_a, sound_b, fails.0, fails.1);
+      run = tt;
+      stops = record {
         frames_a = fa;
         frames_b = fb;
         frames = cut;
@@ -236,8 +256,10 @@ stopped_at_the_end fault ps vl_table before after fa fb cut end_a end_b m a b un
         ledger = lines;
         wholes = tt;
         first = first;
-      },
-    )
+      };
+      whole_a = whole_given networks.A vl_table.late before.a after.a fa end_a a unread_a read_a r.a_left r.a_failures;
+      whole_b = whole_given networks.B vl_table.late before.b after.b fb end_b b unread_b read_b r.b_left r.b_failures;
+    }
     by (watch.Read network) fails = absurd fails
     by watch.Workers fails = absurd fails
     by (watch.Header network fault) fails = absurd fails

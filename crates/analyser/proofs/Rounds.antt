@@ -7,7 +7,8 @@ use Rattle.afdx_frame.specs.Frame.{Frame, key_cmp, key_of}
 use Rattle.afdx_frame.specs.declared.key.Key.{Key}
 use Rattle.std.proofs.lemmas.List.{append-nil, length-take-le, take-append-drop}
 use Rattle.analyser.specs.Filters.{kept_record}
-use Rattle.analyser.specs.Round.{AreKept, FollowsOn, packets_kept}
+use Rattle.analyser.specs.Round.{AreKept, packets_kept}
+use Rattle.vl_judge.specs.Lanes.{FollowsOn}
 
 plus_one : (n : ℕ) → n + 1 ≡ suc n
 plus_one n = grind arith

@@ -1,10 +1,9 @@
 -- The frames of a recording that is read whole.
-use Rattle.std.proofs.Common.{◌≡◌, ◌∙◌, ℕ, ◌+◌, ◌≤◌, List, [], ◌∷◌, ◌++◌, Option, Result, Ok, Err, sym, subst, ap, arith}
+use Rattle.std.proofs.Common.{◌≡◌, ◌∙◌, ℕ, ◌≤◌, List, [], ◌∷◌, ◌++◌, Option, Result, Ok, Err, sym, subst, ap, arith}
 use Rattle.std.specs.Prelude.{IfOk}
 use Rattle.afdx_frame.specs.Frame.{Frame}
 use Rattle.afdx_frame.specs.declared.key.Network.TheVariants as networks
 use Rattle.pcap_io.specs.Position.{Opens, Reading, Reads, TakesFrame, after_frame, start_at}
-use Rattle.pcap_io.specs.declared.layout.Layout.{Layout}
 use Rattle.pcap_io.specs.declared.position.Position.{Position}
 use Rattle.pcap_io.proofs.Parse.{reads_more}
 use Rattle.analyser.specs.Capture.{LeavesUnread}

@@ -19,12 +19,11 @@ use Rattle.pcap_io.specs.Writer.{has_failed}
 use Rattle.verdict_ledger.specs.Ledger.{has_failed as ledger_has_failed}
 use Rattle.verdict_ledger.specs.Tally.{totals_of}
 use Rattle.verdict_ledger.specs.declared.totals.Totals.{Totals}
-use Rattle.pcap_io.specs.declared.recording.Ending.{Ending}
 use Rattle.vl_config.specs.Document.{VlTable}
 use Rattle.vl_judge.specs.Lanes.{last_key}
 use Rattle.analyser.specs.Filters.{capture_by, entries_by}
 use Rattle.analyser.specs.Outputs.{HasWritten, SinkFails, StopsWriting}
-use Rattle.analyser.specs.Round.{FollowsOn}
+use Rattle.vl_judge.specs.Lanes.{FollowsOn}
 use Rattle.analyser.specs.Run.{IsWatching, StopsWatching}
 use Rattle.analyser.specs.declared.taps.Taps.{Taps}
 use Rattle.analyser.specs.declared.outputs.Outputs.{Outputs}
@@ -164,7 +163,7 @@ none_first late a b = λ bytes_a bytes_b frames_a frames_b frames x y known_a kn
 
 -- ---- where merging stops
 
-wholes_before : (cut rest : List Frame) → take (length cut) (cut ++ rest) ≡ cut
+pub wholes_before : (cut rest : List Frame) → take (length cut) (cut ++ rest) ≡ cut
 wholes_before cut rest = take-append-le (length cut) cut rest (omega arith) ∙ take_all (length cut) cut (omega arith)
 
 pub stops_by_merging : (fault : WatchFault) (ps : List (List Packed)) (vl_table : VlTable) (before : WatchDevices) (cut : List Frame) (a b : Reading) (capture ledger : SinkView) →

@@ -1,5 +1,5 @@
 -- What a run has cut comes first in the order of both recordings whole.
-use Rattle.std.proofs.Common.{◌≡◌, ℕ, ◌+◌, ◌^◌, max, Bool, true, false, List, [], ◌∷◌, ◌++◌, drop, Option, Some, None, is_some, Result, Ok, refl, sym, subst, ap, ◌∙◌}
+use Rattle.std.proofs.Common.{◌≡◌, ℕ, ◌+◌, max, true, List, [], ◌∷◌, ◌++◌, drop, Option, Some, None, is_some, Result, Ok, refl, sym, subst, ap, ◌∙◌}
 use Rattle.std.proofs.lemmas.List.{append-nil}
 use Rattle.std.specs.Prelude.{IfSome, unwrap_or}
 use Rattle.afdx_frame.specs.Frame.{Frame}
@@ -36,7 +36,7 @@ of_tap network layout late n high tap (r ∷ rs) next known good =
     (high_after high (stamp_of layout r) tap.high known) good.1 in
     (others.0, (refl, sym next, in_time late tap high (stamp_of layout r) known (good.0).in_time, others.1))
 
-recorded : (network : Network) (late : ℕ) (bytes : List ℕ) (frames : List Frame) (ending : Ending) → IsRecording network late bytes frames ending →
+pub recorded : (network : Network) (late : ℕ) (bytes : List ℕ) (frames : List Frame) (ending : Ending) → IsRecording network late bytes frames ending →
     IsTapRecording network late frames
 recorded network late bytes frames ending r =
     subst (IsTapRecording network late) (sym r.holds.same) (of_tap network r.layout late 0 0 new_tap r.holds.records refl refl r.holds.parse.good)

@@ -10,7 +10,10 @@ pub mod Laws
 pub mod Line
 pub mod Text
 pub mod Round
+pub mod Ready
+pub mod Rings
 pub mod Run
+pub mod Running
 pub mod Taps
 pub mod Watch
 pub mod Outputs

@@ -12,7 +12,9 @@ use Rattle.verdict_ledger.specs.declared.totals.Totals.{Totals}
 use Rattle.verdict_ledger.specs.declared.fault.LedgerFault.{LedgerFault}
 use Rattle.verdict_ledger.specs.declared.fault.LedgerFault.TheVariants as ledger_faults
 use Rattle.vl_config.specs.Document.{VlTable}
-use Rattle.vl_judge.specs.Lanes.{StandsAfter}
+use Rattle.vl_judge.specs.Lanes.{LanesState, StandsAfter}
+use Rattle.pcap_io.specs.declared.writer.CaptureWriter.{CaptureWriter}
+use Rattle.verdict_ledger.specs.declared.ledger.Ledger.{Ledger}
 use Rattle.analyser.specs.Filters.{capture_by, entries_by}
 use Rattle.analyser.specs.Watch.{AppendsSome, SinkView, ledger_by, lines_by}
 use Rattle.analyser.specs.declared.fault.Output.TheVariants as output
@@ -25,6 +27,15 @@ abbrev pub ledger_fault : LedgerFault → WatchFault
 ledger_fault ledger_faults.Device = watch.Write output.Ledger
 ledger_fault ledger_faults.Memory = watch.Memory
 ledger_fault ledger_faults.Failed = watch.Write output.Ledger
+
+-- the outputs of a run, by their parts
+abbrev pub outputs_of : {W L : Type 0} → LanesState → CaptureWriter W → Ledger L → Outputs W L
+outputs_of lanes capture ledger = record { lanes = lanes; capture = capture; ledger = ledger }
+
+-- what a fault leaves of the outputs: a thread that couldn't be started leaves what no memory leaves
+abbrev pub effect_of : WatchFault → WatchFault
+effect_of watch.Spawn = watch.Memory
+effect_of fault = fault
 
 -- The capture and the ledger of these frames were written, and the lanes know them.
 pub record HasWritten {W L : Type 0} (contents_w : W → Option (List ℕ)) (failures_w : W → ℕ) (contents_l : L → Option (List ℕ)) (failures_l : L → ℕ)

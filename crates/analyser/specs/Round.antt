@@ -1,15 +1,16 @@
 -- A round of frames, as it is judged and written.
-use Rattle.std.specs.Prelude.{◌≡◌, ℕ, ◌≤◌, List, [], ◌∷◌, ◌++◌, length, Option, Some, ⊤}
+use Rattle.std.specs.Prelude.{◌≡◌, ℕ, ◌≤◌, List, [], ◌∷◌, ◌++◌, length, map, Option, ⊤}
 use Rattle.std.specs.Option.{ForSome}
-use Rattle.std.specs.declared.cmp.Ordering.TheVariants.{Less}
-use Rattle.afdx_frame.specs.Frame.{Frame, key_cmp, key_of}
-use Rattle.afdx_frame.specs.declared.key.Key.{Key}
-use Rattle.analyser.specs.Filters.{kept_record}
-
--- each frame's key is above the one before it, and the first one's above the last key
-abbrev pub FollowsOn : Option Key → List Frame → Type 0
-FollowsOn last [] = ⊤
-FollowsOn last (f ∷ fs) = ForSome last (λ key. key_cmp key (key_of f) ≡ Less) × FollowsOn (Some (key_of f)) fs
+use Rattle.afdx_frame.specs.Frame.{Frame}
+use Rattle.bpf_isa.specs.declared.packed.Packed.{Packed}
+use Rattle.filter_workers.specs.Filters.{mask_by}
+use Rattle.vl_config.specs.Document.{VlTable}
+use Rattle.vl_judge.specs.Judgement.{Judgement}
+use Rattle.vl_judge.specs.Verdicts.{verdicts}
+use Rattle.analyser.specs.Filters.{keep_by, kept_record}
+use Rattle.analyser.specs.Watch.{IsNumber}
+use Rattle.analyser.specs.declared.fault.WatchFault.{WatchFault}
+use Rattle.analyser.specs.declared.fault.WatchFault.TheVariants as watch
 
 -- of each frame at most its bytes are kept
 abbrev pub AreKept : List Frame → List (Option ℕ) → Type 0
@@ -20,3 +21,19 @@ AreKept _ _ = ⊤
 abbrev pub packets_kept : List Frame → List (Option ℕ) → List ℕ
 packets_kept (f ∷ fs) (k ∷ ks) = kept_record f k ++ packets_kept fs ks
 packets_kept _ _ = []
+
+-- 1 to 8 filters run on 1 to 8 workers
+abbrev pub IsShared : List (List Packed) → ℕ → Type 0
+IsShared ps workers = IsNumber (length ps) × IsNumber workers
+
+-- what is said of a round's frames, which follow on these: the verdicts along them all, and what the filters say of each
+pub record AreSaid (ps : List (List Packed)) (vl_table : VlTable) (frames round : List Frame) (said : List Judgement) (keeps : List (Option ℕ)) (masks : List ℕ) : Type 0 where
+  pub verdicts_are : verdicts vl_table (frames ++ round) ≡ verdicts vl_table frames ++ said
+  pub keeps_are : keeps ≡ map (keep_by ps) round
+  pub masks_are : masks ≡ map (mask_by ps) round
+
+-- why nothing is said of a round
+abbrev pub IsSayFault : WatchFault → Type 0
+IsSayFault watch.Memory = ⊤
+IsSayFault watch.Spawn = ⊤
+IsSayFault fault = ⊥

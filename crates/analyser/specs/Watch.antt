@@ -231,9 +231,3 @@ abbrev pub IsWatchAborted : List (List Packed) → VlTable → WatchFault → Wa
 IsWatchAborted ps vl_table fault before after =
     ((fault ≡ watch.Filters) × (IsNumber (length ps) → ⊥) × (after ≡ before))
     ⊎ (IsNumber (length ps) × (AbortsAtOpening fault before after ⊎ AbortsRun fault ps vl_table before after))
-
--- why a run of so many workers was aborted, and what it leaves: the number of workers is the first thing that is looked at
-abbrev pub IsRunAborted : ℕ → List (List Packed) → VlTable → WatchFault → WatchDevices → WatchDevices → Type 0
-IsRunAborted workers ps vl_table fault before after =
-    ((fault ≡ watch.Workers) × (IsNumber workers → ⊥) × (after ≡ before))
-    ⊎ (IsNumber workers × IsWatchAborted ps vl_table fault before after)

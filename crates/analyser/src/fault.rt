@@ -8,12 +8,15 @@ use bpf_debugger::DebugFault;
 use bpf_isa::NumericFault;
 use bpf_loader::LoadFault;
 use bpf_text::TextFault;
+use filter_workers::RoundFault;
 use pcap_io::HeaderFault;
 use std::alloc::{AllocError, Global};
 use std::fmt;
 use std::fmt::{Display, Formatter};
+use tap_queue::RingLost;
 use thiserror::Error;
 use vl_config::ConfigFault;
+use vl_judge::LaneFault;
 
 /// One of the two files that an analysis writes: the capture of accepted frames, or the ledger of verdicts.
 #[derive(Clone, Copy, Debug, PartialEq, Eq)]
@@ -47,8 +50,8 @@ pub enum WatchFault {
     /// A thread couldn't be started.
     #[error("a thread couldn't be started")]
     Spawn,
-    /// A tap's ring was left without an end.
-    #[error("a ring was left without an end")]
+    /// What was taken of a tap's ring isn't what its thread read.
+    #[error("the items of a ring were lost")]
     RingLost,
     /// The system is out of memory.
     #[error("out of memory")]
@@ -65,6 +68,42 @@ impl From<AllocError> for WatchFault {
 
     fn from(_fault: AllocError) -> WatchFault {
         WatchFault::Memory
+    }
+}
+
+impl From<RoundFault> for WatchFault {
+    ghost use Rattle.analyser.specs.Round.{IsSayFault};
+
+    ghost from_gives = { λ _ e. IsSayFault e };
+
+    fn from(fault: RoundFault) -> WatchFault {
+        match fault {
+            RoundFault::Spawn => WatchFault::Spawn,
+            RoundFault::Memory => WatchFault::Memory,
+        }
+    }
+}
+
+impl From<LaneFault> for WatchFault {
+    ghost use Rattle.analyser.specs.Round.{IsSayFault};
+
+    ghost from_gives = { λ _ e. IsSayFault e };
+
+    fn from(fault: LaneFault) -> WatchFault {
+        match fault {
+            LaneFault::Spawn => WatchFault::Spawn,
+            LaneFault::Memory => WatchFault::Memory,
+        }
+    }
+}
+
+impl From<RingLost> for WatchFault {
+    ghost use Rattle.analyser.specs.declared.fault.WatchFault.TheVariants as faults;
+
+    ghost from_gives = { λ _ e. e ≡ faults.RingLost };
+
+    fn from(_fault: RingLost) -> WatchFault {
+        WatchFault::RingLost
     }
 }
 

@@ -9,7 +9,7 @@ use filter_workers::{Decision, decide};
 use std::alloc::{AllocError, Global};
 
 /// How many bytes are kept of a frame, by the greatest return value. None: it is rejected.
-fn keep_of(answer: u32, frame: &TapFrame) -> Option<u32>
+pub fn keep_of(answer: u32, frame: &TapFrame) -> Option<u32>
     ensures { result ≡ keep_of answer frame.now }
 {
     if answer == 0 {

@@ -135,7 +135,7 @@ fn watch_advice(fault: WatchFault) -> &'static str {
             output: Output::Ledger,
         } => "the ledger can't be written: is the disk full, or the pipe closed?",
         WatchFault::Spawn => "the system starts no more threads",
-        WatchFault::RingLost => "a tap's thread ended before its recording",
+        WatchFault::RingLost => "what a tap's thread read did not come as it was read",
         WatchFault::Memory => OUT_OF_MEMORY,
         WatchFault::Filters => "there are 1 to 8 filters",
     }

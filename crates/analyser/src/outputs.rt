@@ -7,17 +7,28 @@ ghost use Rattle.vl_config.specs.Document.{VlTable};
 ghost use Rattle.vl_judge.specs.Lanes.{StandsAfter};
 ghost use Rattle.vl_judge.specs.Verdicts.{verdicts};
 ghost use Rattle.std.specs.Option.{ForSome};
+ghost use Rattle.filter_workers.specs.Filters.{mask_by};
 ghost use Rattle.analyser.specs.Filters.{keep_by, kept_record};
-ghost use Rattle.analyser.specs.Outputs.{ledger_fault};
-ghost use Rattle.analyser.specs.Round.{AreKept, FollowsOn, packets_kept};
+ghost use Rattle.std.specs.Prelude.{◌+◌, ◌^◌, []};
+ghost use Rattle.bpf_isa.specs.declared.packed.Packed.{Packed};
+ghost use Rattle.verdict_ledger.specs.Ledger.{has_failed as ledger_has_failed, totals_in};
+ghost use Rattle.verdict_ledger.specs.Ledger.{sink_of as ledger_sink};
+ghost use Rattle.analyser.specs.Outputs.{HasWritten, IsFinished, StopsFinishing, StopsWriting, effect_of, ledger_fault, outputs_of};
+ghost use Rattle.analyser.specs.Watch.{SinkView, sink_view};
+ghost use Rattle.analyser.specs.Round.{AreKept, AreSaid, IsShared, packets_kept};
+ghost use Rattle.vl_judge.specs.Lanes.{FollowsOn, LanesState};
 
 use crate::capture::CAPTURE_FAILED;
 use crate::fault::{Output, WatchFault};
 use crate::filters::filter_round;
+use crate::round::{Said, Sharing};
 use afdx_frame::TapFrame;
 use bpf_loader::Program;
+use filter_workers::RunGate;
 use pcap_io::{CaptureWriter, Ending, OutSink};
 use std::alloc::{AllocError, Global};
+use std::sync::Wait;
+use std::thread::Threads;
 use verdict_ledger::{Ledger, LedgerFault, LedgerRefused, Totals};
 use vl_config::Config;
 use vl_judge::{Lanes, Verdict};
@@ -88,6 +99,95 @@ fn write_packets<W: OutSink>(
     Ok(())
 }
 
+/// Writes the packets and the lines of a round, by what is said of its frames.
+fn write_entries<W: OutSink, L: OutSink>(
+    capture: &mut CaptureWriter<W>,
+    ledger: &mut Ledger<L>,
+    round: &[TapFrame],
+    verdicts: &[Verdict],
+    keeps: &[Option<u32>],
+    masks: &[u8],
+) -> Result<(), WatchFault>
+    requires verdicts { length verdicts.now ≡ length round.now }
+    requires keeps { length keeps.now ≡ length round.now }
+    requires masks { length masks.now ≡ length round.now }
+    requires within { AreKept round.now keeps.now }
+    requires room { (totals_in ledger.old).frames + length round.now ≤ 2 ^ 34 }
+    requires capture_going { has_failed capture.old ≡ false }
+    requires ledger_going { ledger_has_failed ledger.old ≡ false }
+    ensures written { OnOk result ((ps : List (List Packed)) (vl_table : VlTable)
+        (capture_view ledger_view : SinkView) (frames : List Frame) (before after : LanesState)
+        → HasWritten W.contents W.failures L.contents L.failures
+        ps vl_table capture_view ledger_view frames (outputs_of before capture.old ledger.old)
+        → AreSaid ps vl_table frames round.now verdicts.now keeps.now masks.now
+        → StandsAfter after vl_table (frames ++ round.now)
+        → HasWritten W.contents W.failures L.contents L.failures
+        ps vl_table capture_view ledger_view (frames ++ round.now)
+        (outputs_of after capture.new ledger.new)) }
+    ensures capture_going { OnOk result (has_failed capture.new ≡ false) }
+    ensures ledger_going { OnOk result (ledger_has_failed ledger.new ≡ false) }
+    ensures stopped { IfErr result (λ fault. (ps : List (List Packed)) (vl_table : VlTable)
+        (capture_view ledger_view : SinkView) (frames : List Frame) (before : LanesState)
+        → HasWritten W.contents W.failures L.contents L.failures
+        ps vl_table capture_view ledger_view frames (outputs_of before capture.old ledger.old)
+        → AreSaid ps vl_table frames round.now verdicts.now keeps.now masks.now
+        → StopsWriting fault ps vl_table capture_view ledger_view
+        (sink_view W.contents W.failures (sink_of capture.new))
+        (sink_view L.contents L.failures (ledger_sink ledger.new)) (frames ++ round.now)) }
+{
+    write_packets(capture, round, keeps)?;
+    match ledger.round(round, verdicts, keeps, masks) {
+        Ok(()) => Ok(()),
+        Err(fault) => Err(fault_of_ledger(fault)),
+    }
+}
+
+impl Said {
+    /// Writes the packets and the lines of the round of which this is said, and gives the lanes after it.
+    fn write<W: OutSink, L: OutSink>(
+        self,
+        capture: &mut CaptureWriter<W>,
+        ledger: &mut Ledger<L>,
+        round: &[TapFrame],
+    ) -> Result<Lanes, WatchFault>
+        requires verdicts { length self.verdicts.items ≡ length round.now }
+        requires said { (ps : List (List Packed)) × (self.keeps.items ≡ map (keep_by ps) round.now)
+            × (self.masks.items ≡ map (mask_by ps) round.now) }
+        requires room { (totals_in ledger.old).frames + length round.now ≤ 2 ^ 34 }
+        requires capture_going { has_failed capture.old ≡ false }
+        requires ledger_going { ledger_has_failed ledger.old ≡ false }
+        ensures lanes { IfOk result (λ lanes. lanes ≡ self.lanes) }
+        ensures written { OnOk result ((ps : List (List Packed)) (vl_table : VlTable)
+            (capture_view ledger_view : SinkView) (frames : List Frame) (before after : LanesState)
+            → HasWritten W.contents W.failures L.contents L.failures
+            ps vl_table capture_view ledger_view frames (outputs_of before capture.old ledger.old)
+            → AreSaid ps vl_table frames round.now self.verdicts.items self.keeps.items self.masks.items
+            → StandsAfter after vl_table (frames ++ round.now)
+            → HasWritten W.contents W.failures L.contents L.failures
+            ps vl_table capture_view ledger_view (frames ++ round.now)
+            (outputs_of after capture.new ledger.new)) }
+        ensures capture_going { OnOk result (has_failed capture.new ≡ false) }
+        ensures ledger_going { OnOk result (ledger_has_failed ledger.new ≡ false) }
+        ensures stopped { IfErr result (λ fault. (ps : List (List Packed)) (vl_table : VlTable)
+            (capture_view ledger_view : SinkView) (frames : List Frame) (before : LanesState)
+            → HasWritten W.contents W.failures L.contents L.failures
+            ps vl_table capture_view ledger_view frames (outputs_of before capture.old ledger.old)
+            → AreSaid ps vl_table frames round.now self.verdicts.items self.keeps.items self.masks.items
+            → StopsWriting fault ps vl_table capture_view ledger_view
+            (sink_view W.contents W.failures (sink_of capture.new))
+            (sink_view L.contents L.failures (ledger_sink ledger.new)) (frames ++ round.now)) }
+    {
+        let Said {
+            lanes,
+            verdicts,
+            keeps,
+            masks,
+        } = self;
+        write_entries(capture, ledger, round, &verdicts, &keeps, &masks)?;
+        Ok(lanes)
+    }
+}
+
 /// The lanes, the capture and the ledger of a run.
 #[derive(Drop)]
 pub struct Outputs<W, L> {
@@ -119,14 +219,20 @@ pub struct Unwritten<W, L> {
     pub ledger: L,
 }
 
-impl<W: OutSink, L: OutSink> Outputs<W, L> {
-    ghost use Rattle.std.specs.Prelude.{◌+◌, ◌^◌, []};
-    ghost use Rattle.bpf_isa.specs.declared.packed.Packed.{Packed};
-    ghost use Rattle.verdict_ledger.specs.Ledger.{has_failed as ledger_has_failed, totals_in};
-    ghost use Rattle.verdict_ledger.specs.Ledger.{sink_of as ledger_sink};
-    ghost use Rattle.analyser.specs.Outputs.{HasWritten, IsFinished, StopsFinishing, StopsWriting};
-    ghost use Rattle.analyser.specs.Watch.{SinkView, sink_view};
+impl<W: OutSink, L: OutSink> Unwritten<W, L> {
+    /// After a fault of outputs that had begun.
+    fn after(fault: WatchFault, capture: CaptureWriter<W>, ledger: Ledger<L>) -> Unwritten<W, L>
+        ensures { result ≡ record { fault = fault; capture = sink_of capture; ledger = ledger_sink ledger } }
+    {
+        Unwritten {
+            fault,
+            capture: capture.finish(),
+            ledger: ledger.into_sink(),
+        }
+    }
+}
 
+impl<W: OutSink, L: OutSink> Outputs<W, L> {
     /// Begins the capture, and then the ledger of a table, for 1 to 8 filters. A refusal gives both
     /// sinks back.
     pub fn begin(
@@ -217,6 +323,22 @@ impl<W: OutSink, L: OutSink> Outputs<W, L> {
         }
     }
 
+    /// A run of these outputs stops, and nothing more is written.
+    pub fn unwritten(self, fault: WatchFault) -> Unwritten<W, L>
+        ensures { result ≡ record {
+          fault = fault;
+          capture = sink_of self.capture;
+          ledger = ledger_sink self.ledger;
+        } }
+    {
+        let Outputs {
+            lanes: _,
+            capture,
+            ledger,
+        } = self;
+        Unwritten::after(fault, capture, ledger)
+    }
+
     /// The sinks. Nothing more is written.
     pub fn into_sinks(self) -> (W, L)
         ensures { result ≡ (sink_of self.capture, ledger_sink self.ledger) }
@@ -261,10 +383,63 @@ impl<W: OutSink, L: OutSink> Outputs<W, L> {
     {
         let verdicts = judge_round(alloc, &mut self.lanes, round)?;
         let (keeps, masks) = filter_round(alloc, programs, round)?;
-        write_packets(&mut self.capture, round, &keeps)?;
-        match self.ledger.round(round, &verdicts, &keeps, &masks) {
-            Ok(()) => Ok(()),
-            Err(fault) => Err(fault_of_ledger(fault)),
+        write_entries(
+            &mut self.capture,
+            &mut self.ledger,
+            round,
+            &verdicts,
+            &keeps,
+            &masks,
+        )
+    }
+
+    /// Shares a round's frames, which follow on all before, among workers, who judge and filter them, and
+    /// writes their packets and their lines. A refusal gives both sinks back.
+    pub fn write_shared<R: Threads + Wait + Sync, G: RunGate + Sync>(
+        self,
+        rt: &R,
+        alloc: Global,
+        sharing: &Sharing<'_, G>,
+        round: &[TapFrame],
+    ) -> Result<Outputs<W, L>, Unwritten<W, L>>
+        requires shared { IsShared sharing.now.programs.now sharing.now.workers }
+        requires size { length round.now ≤ 256 }
+        requires follows { FollowsOn self.lanes.last round.now }
+        requires room { (totals_in self.ledger).frames + length round.now ≤ 2 ^ 34 }
+        requires capture_going { has_failed self.capture ≡ false }
+        requires ledger_going { ledger_has_failed self.ledger ≡ false }
+        ensures written { IfOk result (λ outputs. (vl_table : VlTable) (capture ledger : SinkView)
+            (frames : List Frame)
+            → HasWritten W.contents W.failures L.contents L.failures
+            sharing.now.programs.now vl_table capture ledger frames self
+            → HasWritten W.contents W.failures L.contents L.failures
+            sharing.now.programs.now vl_table capture ledger (frames ++ round.now) outputs) }
+        ensures capture_going { IfOk result (λ outputs. has_failed outputs.capture ≡ false) }
+        ensures ledger_going { IfOk result (λ outputs. ledger_has_failed outputs.ledger ≡ false) }
+        ensures stopped { IfErr result (λ e. (vl_table : VlTable) (capture ledger : SinkView)
+            (frames : List Frame)
+            → HasWritten W.contents W.failures L.contents L.failures
+            sharing.now.programs.now vl_table capture ledger frames self
+            → StopsWriting (effect_of e.fault) sharing.now.programs.now vl_table capture ledger
+            (sink_view W.contents W.failures e.capture)
+            (sink_view L.contents L.failures e.ledger) (frames ++ round.now)) }
+    {
+        let Outputs {
+            lanes,
+            mut capture,
+            mut ledger,
+        } = self;
+        let said = match sharing.say(rt, alloc, lanes, round) {
+            Ok(said) => said,
+            Err(fault) => return Err(Unwritten::after(fault, capture, ledger)),
+        };
+        match said.write(&mut capture, &mut ledger, round) {
+            Ok(lanes) => Ok(Outputs {
+                lanes,
+                capture,
+                ledger,
+            }),
+            Err(fault) => Err(Unwritten::after(fault, capture, ledger)),
         }
     }
 }

@@ -67,9 +67,10 @@ pub struct Unopened<S, T> {
 }
 
 /// How many frames are merged before a round of them is cut, and the most frames of a round.
-const ROUND: usize = 256;
+pub const ROUND: usize = 256;
 
 impl<S: TapSource, T: TapSource> Taps<S, T> {
+    ghost use Rattle.ordered_merge.specs.Merge.{new_state};
     ghost use Rattle.pcap_io.specs.Reader.{remaining_of, unread_of};
     ghost use Rattle.analyser.specs.Capture.{LeavesUnread};
     ghost use Rattle.analyser.specs.Taps.{Agree, HasEnded, HasMerged, StopsMerging, work_left};
@@ -83,6 +84,9 @@ impl<S: TapSource, T: TapSource> Taps<S, T> {
             late (source_view S.remaining S.failures a) (source_view T.remaining T.failures b)
             [] [] [] taps) }
         ensures agree { IfOk result Agree }
+        ensures merger { IfOk result (λ taps. taps.merger ≡ new_state late) }
+        ensures fresh { IfOk result (λ taps. (unread_of taps.a ≡ []) × (unread_of taps.b ≡ [])) }
+        ensures ends { IfOk result (λ taps. (taps.end_a ≡ None) × (taps.end_b ≡ None)) }
         ensures refused { IfErr result (λ e. (capture ledger : SinkView)
             → AbortsAtOpening e.fault
             (watch_devices (source_view S.remaining S.failures a)

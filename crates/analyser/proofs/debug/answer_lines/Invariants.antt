@@ -1,5 +1,5 @@
 -- The lines before those that are left were answered.
-use Rattle.std.proofs.Common.{◌≡◌, ℕ, suc, zero, List, [], length, Option, Some, None}
+use Rattle.std.proofs.Common.{ℕ, suc, List, length}
 use Rattle.std.specs.Borrow.{Bor}
 use Rattle.std.specs.Option.{option_map_or}
 use Rattle.analyser.specs.Sessions.{Takes, lines_left, lines_of}

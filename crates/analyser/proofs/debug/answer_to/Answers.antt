@@ -1,6 +1,5 @@
-use Rattle.std.proofs.Common.{◌≡◌, ◌∙◌, sym, true, false, refl, subst, ap, Some, Option}
-use Rattle.bpf_debugger.specs.declared.command.Command.{Command}
-use Rattle.analyser.specs.Sessions.{AnswersCommand, command_in, is_blank, text_of}
+use Rattle.std.proofs.Common.{◌≡◌, ◌∙◌, sym, true, false, refl}
+use Rattle.analyser.specs.Sessions.{is_blank}
 use Rattle.analyser.proofs.debug.answer_to.Goals as goal
 
 pub returns-then-is_blank : goal.returns-then-is_blank

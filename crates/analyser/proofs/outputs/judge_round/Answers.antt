@@ -1,7 +1,7 @@
 use Rattle.std.proofs.Common.{length, length-append, ◌+◌, ◌∙◌, ◌++◌, ◌∷◌, [], List, drop, sym, subst, ap, append_assoc}
 use Rattle.vl_judge.specs.Lanes.{StandsAfter}
 use Rattle.vl_judge.specs.Verdicts.{verdicts}
-use Rattle.analyser.specs.Round.{FollowsOn}
+use Rattle.vl_judge.specs.Lanes.{FollowsOn}
 use Rattle.analyser.proofs.Rounds.{all_taken, longer, next_follows}
 use Rattle.analyser.proofs.outputs.judge_round.Goals as goal
 

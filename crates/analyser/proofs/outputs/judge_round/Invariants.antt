@@ -4,7 +4,7 @@ use Rattle.afdx_frame.specs.Frame.{Frame}
 use Rattle.vl_config.specs.Document.{VlTable}
 use Rattle.vl_judge.specs.Lanes.{StandsAfter}
 use Rattle.vl_judge.specs.Verdicts.{verdicts}
-use Rattle.analyser.specs.Round.{FollowsOn}
+use Rattle.vl_judge.specs.Lanes.{FollowsOn}
 use Rattle.analyser.proofs.outputs.judge_round.Given as goal
 
 abbrev pub invariant-loop-frame : goal.invariant-loop-frame

@@ -3,7 +3,7 @@ use Rattle.vl_config.specs.Document.{VlTable}
 use Rattle.analyser.specs.Run.{IsWatching}
 use Rattle.analyser.specs.Taps.{work_left}
 use Rattle.analyser.specs.Watch.{WatchDevices}
-use Rattle.analyser.proofs.watch.write_rounds.Given as goal
+use Rattle.analyser.proofs.one_thread.write_rounds.Given as goal
 
 abbrev pub invariant-loop-round : goal.invariant-loop-round
 invariant-loop-round g l = record {

@@ -3,7 +3,7 @@ use Rattle.std.proofs.lemmas.Result.{err_from_is_err_and}
 use Rattle.analyser.proofs.TwoTaps.{part_of}
 use Rattle.analyser.proofs.Watching.{frames_counted, no_round, room_left, round_follows, some_round, stops_by_merging, stops_by_writing}
 use Rattle.analyser.proofs.WholeOrder.{cut_is_first}
-use Rattle.analyser.proofs.watch.write_rounds.Goals as goal
+use Rattle.analyser.proofs.one_thread.write_rounds.Goals as goal
 
 pub next_round-requires : goal.next_round-requires
 next_round-requires g c =

@@ -4,7 +4,7 @@ use Rattle.analyser.specs.Watch.{sink_view, source_view, watch_devices}
 use Rattle.analyser.proofs.Returned.{aborted, with_both, with_ok}
 use Rattle.analyser.proofs.TwoTaps.{part_of}
 use Rattle.analyser.proofs.Watching.{has_begun, none_first, some_filters, stops_by_writing}
-use Rattle.analyser.proofs.watch.watch_whole.Goals as goal
+use Rattle.analyser.proofs.one_thread.watch_whole.Goals as goal
 
 pub returns-in-Err-begin-clause-aborted : goal.returns-in-Err-begin-clause-aborted
 returns-in-Err-begin-clause-aborted g c = rw c.new-in-Err-begin.ensures

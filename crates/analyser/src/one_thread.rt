@@ -8,14 +8,14 @@ ghost use Rattle.pcap_io.specs.Writer.{sink_of};
 ghost use Rattle.verdict_ledger.specs.Ledger.{has_failed as ledger_has_failed, sink_of as ledger_sink};
 ghost use Rattle.analyser.specs.Run.{IsWatching, StopsWatching};
 ghost use Rattle.analyser.specs.Taps.{HasEnded};
-ghost use Rattle.analyser.specs.Watch.{AbortsRun, IsNumber, IsRunAborted, IsWatchAborted, IsWatched, WatchDevices, sink_view, source_view, watch_devices};
+ghost use Rattle.analyser.specs.Watch.{AbortsRun, IsNumber, IsWatchAborted, IsWatched, WatchDevices, sink_view, source_view, watch_devices};
 
 use crate::capture::WatchRefused;
 use crate::fault::WatchFault;
 use crate::outputs::{Outputs, Unwritten};
 use crate::taps::{Taps, Unopened};
 use bpf_loader::Program;
-use filter_workers::{MAX_FILTERS, MAX_WORKERS};
+use filter_workers::MAX_FILTERS;
 use pcap_io::{Ending, OutSink, TapSource};
 use std::alloc::Global;
 use verdict_ledger::Totals;
@@ -223,48 +223,4 @@ pub fn watch_whole<S: TapSource, T: TapSource, W: OutSink, L: OutSink>(
         Ok(()) => finish(taps, outputs),
         Err(fault) => Err(stopped(fault, taps, outputs)),
     }
-}
-
-/// The command `watch` once its files are open: [`watch_whole`] for 1 to 8 workers.
-///
-/// # Errors
-///
-/// `Workers` if there are not 1 to 8 workers, and then nothing was read or written; otherwise those of
-/// [`watch_whole`].
-pub fn run_watch<S: TapSource, T: TapSource, W: OutSink, L: OutSink>(
-    alloc: Global,
-    config: &Config,
-    programs: &[Program],
-    workers: u8,
-    a: S,
-    b: T,
-    capture: W,
-    ledger: L,
-) -> Result<Watched<S, T, W, L>, WatchRefused<S, T, W, L>>
-    ensures watched { IfOk result (λ done. IsNumber workers × IsWatched programs.now config.now
-        done.endings done.totals
-        (watch_devices (source_view S.remaining S.failures a)
-        (source_view T.remaining T.failures b)
-        (sink_view W.contents W.failures capture)
-        (sink_view L.contents L.failures ledger))
-        (watch_devices (source_view S.remaining S.failures done.a)
-        (source_view T.remaining T.failures done.b)
-        (sink_view W.contents W.failures done.capture)
-        (sink_view L.contents L.failures done.ledger))) }
-    ensures aborted { IfErr result (λ refused. IfSome refused.a (λ a'. IfSome refused.b (λ b'.
-        IsRunAborted workers programs.now config.now refused.fault
-        (watch_devices (source_view S.remaining S.failures a)
-        (source_view T.remaining T.failures b)
-        (sink_view W.contents W.failures capture)
-        (sink_view L.contents L.failures ledger))
-        (watch_devices (source_view S.remaining S.failures a')
-        (source_view T.remaining T.failures b')
-        (sink_view W.contents W.failures refused.capture)
-        (sink_view L.contents L.failures refused.ledger))))) }
-    ensures back { IfErr result (λ refused. IsSome refused.a × IsSome refused.b) }
-{
-    if workers == 0 || u32::from(workers) > MAX_WORKERS {
-        return Err(WatchRefused::new(WatchFault::Workers, a, b, capture, ledger));
-    }
-    watch_whole(alloc, config, programs, a, b, capture, ledger)
 }

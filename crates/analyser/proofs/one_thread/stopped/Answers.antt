@@ -1,5 +1,5 @@
 use Rattle.analyser.proofs.Returned.{aborted}
-use Rattle.analyser.proofs.watch.stopped.Goals as goal
+use Rattle.analyser.proofs.one_thread.stopped.Goals as goal
 
 pub returns-clause-aborted : goal.returns-clause-aborted
 returns-clause-aborted g c = rw (c.new.ensures, c.into_sinks-capture.ensures) (λ ps vl_table before h.
