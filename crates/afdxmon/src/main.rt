@@ -6,10 +6,10 @@
 
 use afdx_frame::TapFrame;
 use analyser::{
-    AsmRun, CaptureRun, DebugArguments, Exit, Fault, FileOption, Invocation, Note, TapRead, USAGE,
-    WatchArguments, WatchFault, advice, answer_line, begin_session, caret_at, filter_of,
-    load_filters, read_arguments, read_config, read_file, read_tap, run_asm, run_capture,
-    run_session, run_watch,
+    AsmRun, CaptureRun, DebugArguments, Exit, Fault, FileOption, Invocation, Note, OpenGate,
+    TapRead, USAGE, WatchArguments, WatchFault, advice, answer_line, begin_session, caret_at,
+    filter_of, load_filters, read_arguments, read_config, read_file, read_tap, run_asm,
+    run_capture, run_session,
 };
 use bpf_debugger::DebugFault;
 use bpf_loader::Program;
@@ -19,6 +19,8 @@ use std::fs::File;
 use std::io;
 use std::io::{BufRead, BufReader, BufWriter, ErrorKind, IsTerminal, Write};
 use std::process::ExitCode;
+use std::sync::Wait;
+use std::thread::Threads;
 use vl_config::Config;
 
 /// How many bytes are handed to the system at once.
@@ -97,23 +99,29 @@ fn set_up(rt: &HostRuntime, given: &WatchArguments<'_>) -> Result<(Config, Vec<P
     Ok((config, programs))
 }
 
-/// Judges and filters the frames of two recordings. What was written before a fault is handed to the
-/// system too. An error is a fault that was met before the run.
-fn watch(rt: &HostRuntime, given: &WatchArguments<'_>) -> Result<Exit, Fault> {
+/// Judges and filters the frames of two recordings, on threads. What was written before a fault is
+/// handed to the system too. An error is a fault that was met before the run.
+fn watch<R: Threads + Wait + Sync>(
+    rt: &HostRuntime,
+    threads: &R,
+    given: &WatchArguments<'_>,
+) -> Result<Exit, Fault> {
     let (config, programs) = set_up(rt, given)?;
     let a = open(rt, given.a, FileOption::A)?;
     let b = open(rt, given.b, FileOption::B)?;
     let capture = create(rt, given.capture, FileOption::Capture)?;
     let ledger = create(rt, given.ledger, FileOption::Ledger)?;
-    let run = run_watch(
+    let run = analyser::watch(
+        threads,
         rt.alloc(),
         &config,
         &programs,
-        given.workers,
+        u32::from(given.workers),
         a,
         b,
         capture,
         ledger,
+        &OpenGate,
     );
     let (outcome, capture, ledger) = match run {
         Ok(done) => (Ok(()), done.capture, done.ledger),
@@ -253,7 +261,7 @@ fn main(rt: HostRuntime) -> ExitCode {
         }
         Ok(Some(Invocation::Asm)) => ExitCode::from(asm(&rt).status()),
         Ok(Some(Invocation::Watch(given))) => {
-            let exit = match watch(&rt, &given) {
+            let exit = match watch(&rt, &rt, &given) {
                 Ok(exit) => exit,
                 Err(fault) => Exit::Fault(fault),
             };
