@@ -21,6 +21,8 @@ mod merge;
 #[cfg(test)]
 mod recording;
 #[cfg(test)]
+mod rings;
+#[cfg(test)]
 mod support;
 #[cfg(test)]
 mod text;

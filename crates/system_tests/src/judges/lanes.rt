@@ -13,7 +13,7 @@ use vl_judge::{Lanes, Verdict};
 
 /// A frame of so many bytes: the constant field's first byte, the link's identifier, zeros and the
 /// sequence number.
-fn bytes_of(
+pub(super) fn bytes_of(
     alloc: Global,
     first: u8,
     link: u16,
@@ -28,7 +28,7 @@ fn bytes_of(
     Ok(bytes)
 }
 
-fn frame_at(
+pub(super) fn frame_at(
     network: Network,
     place: u64,
     stamp: u64,
@@ -39,7 +39,7 @@ fn frame_at(
 }
 
 /// Judges a frame that comes after the last one.
-fn judge_next(rt: &impl Abort, lanes: &mut Lanes, frame: &TapFrame) -> Verdict {
+pub(super) fn judge_next(rt: &impl Abort, lanes: &mut Lanes, frame: &TapFrame) -> Verdict {
     if let Some(last) = lanes.last() {
         assert!(rt;
             last < frame.key(),

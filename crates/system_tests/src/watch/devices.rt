@@ -1,16 +1,18 @@
-//! Devices that stop, or fail once and go on, at every place of the two-tap ledger: the fault is that
-//! device's, and each output has a prefix of its text.
+//! Devices that stop, or fail once and go on, at every place of the two-tap ledger: the fault is
+//! that device's, it has failed once, and each output has a prefix of its text.
 
 use crate::judges::TABLE;
 use crate::ledger::TWO_TAPS;
 use crate::support::HEADER;
-use crate::watch::{Given, NO_FAILURE, NOT_FIRST, Ran, Scripts, WIDE, recording, run};
+use crate::watch::{Given, NO_FAILURE, NOT_FIRST, Ran, Scripts, WIDE, Way, recording, run};
 use afdx_frame::Network;
 use analyser::{Output, WatchFault};
 use pcap_io::Script;
 use std::alloc::Global;
 use std::process::Abort;
+use std::sync::Wait;
 use std::test::Fail;
+use std::thread::Threads;
 
 /// The bytes of both recordings, and of the capture.
 const LEN_A: usize = 176;
@@ -35,17 +37,31 @@ const WRITE_LEDGER: WatchFault = WatchFault::Write {
     output: Output::Ledger,
 };
 
+/// On one thread and on several, by devices that pass one byte at once, seven and many.
+const CASES: [(Way, usize); 6] = [
+    (Way::OneThread, 1),
+    (Way::OneThread, 7),
+    (Way::OneThread, usize::MAX),
+    (Way::Workers(2), 1),
+    (Way::Workers(2), 7),
+    (Way::Workers(2), usize::MAX),
+];
+
 /// The two-tap ledger, over these devices.
-fn ran(alloc: Global, scripts: Scripts) -> Result<Ran, Fail> {
-    let a = recording(alloc, &[(0, 1), (100, 2)])?;
-    let b = recording(alloc, &[(200, 2)])?;
+fn ran<R: Threads + Wait + Sync + AllocGlobal>(
+    rt: &R,
+    way: Way,
+    scripts: Scripts,
+) -> Result<Ran, Fail> {
+    let a = recording(rt.alloc(), &[(0, 1), (100, 2)])?;
+    let b = recording(rt.alloc(), &[(200, 2)])?;
     let given = Given {
         table: TABLE,
         filters: &[NOT_FIRST],
         a: &a,
         b: &b,
     };
-    run(alloc, given, scripts)
+    run(rt, way, given, scripts)
 }
 
 /// The whole capture.
@@ -63,11 +79,30 @@ fn stops(piece: usize, most: usize) -> Script {
 }
 
 /// A script by which one call fails.
-fn misses(piece: usize, call: u64) -> Script {
+fn misses(piece: usize, call: usize) -> Script {
     Script {
         piece,
-        miss: Some(call),
+        miss: Some(call as u64),
         ..WIDE
+    }
+}
+
+/// How often each device has failed where the run ended with this fault: the fault's device once.
+fn failures_by(fault: WatchFault) -> [u64; 4] {
+    match fault {
+        WatchFault::Read {
+            network: Network::A,
+        } => [1, 0, 0, 0],
+        WatchFault::Read {
+            network: Network::B,
+        } => [0, 1, 0, 0],
+        WatchFault::Write {
+            output: Output::Capture,
+        } => [0, 0, 1, 0],
+        WatchFault::Write {
+            output: Output::Ledger,
+        } => [0, 0, 0, 1],
+        _ => [0; 4],
     }
 }
 
@@ -77,66 +112,100 @@ fn failed(rt: &(impl Abort + AllocGlobal), ran: &Ran, expected: WatchFault) -> R
         Ok(_) => {
             assert_eq!(rt; ran.capture.taken(), capture(rt.alloc())?.as_slice());
             assert_eq!(rt; ran.ledger.taken(), TWO_TAPS.as_bytes());
+            assert_eq!(rt; ran.failures(), Some([0; 4]));
             Ok(false)
         }
         Err(fault) => {
             assert_eq!(rt; fault, expected);
+            assert_eq!(rt; ran.failures(), Some(failures_by(fault)));
             Ok(true)
         }
     }
 }
 
+/// The capture has so many bytes of the whole one, and the ledger a prefix of its text.
+fn has_captured(rt: &(impl Abort + AllocGlobal), ran: &Ran, most: usize) -> Result<(), Fail> {
+    let whole = capture(rt.alloc())?;
+    let written = ran.capture.taken();
+    assert!(rt; whole.starts_with(written), "after {most} bytes");
+    assert_eq!(rt; written.len(), most.min(LEN));
+    assert!(rt; TWO_TAPS.as_bytes().starts_with(ran.ledger.taken()));
+    assert!(rt;
+        most >= 24 || ran.ledger.taken().is_empty(),
+        "after {most} bytes"
+    );
+    Ok(())
+}
+
+/// The ledger has so many bytes of its text, and the capture a prefix of the whole one.
+fn has_listed(rt: &(impl Abort + AllocGlobal), ran: &Ran, most: usize) -> Result<(), Fail> {
+    let written = ran.ledger.taken();
+    assert!(rt;
+        TWO_TAPS.as_bytes().starts_with(written),
+        "after {most} bytes"
+    );
+    assert_eq!(rt; written.len(), most.min(TWO_TAPS.len()));
+    assert!(rt; capture(rt.alloc())?.starts_with(ran.capture.taken()));
+    Ok(())
+}
+
+/// A sink for the capture that stops after each number of bytes.
+fn stops_capturing<R: Threads + Wait + Sync + Abort + AllocGlobal>(
+    rt: &R,
+    way: Way,
+    piece: usize,
+) -> Result<(), Fail> {
+    for most in 0..=LEN {
+        let scripts = Scripts {
+            capture: stops(piece, most),
+            ..NO_FAILURE
+        };
+        let ran = ran(rt, way, scripts)?;
+        let refused = failed(rt, &ran, WRITE_CAPTURE)?;
+        assert_eq!(rt; refused, most < LEN, "after {most} bytes");
+        has_captured(rt, &ran, most)?;
+    }
+    Ok(())
+}
+
 #[test]
 fn a_capture_sink_that_stops(rt: HostRuntime) -> Result<(), Fail> {
-    let whole = capture(rt.alloc())?;
-    assert_eq!(rt; whole.len(), LEN);
-    for piece in [1, 7, usize::MAX] {
-        for most in 0..=LEN {
-            let scripts = Scripts {
-                capture: stops(piece, most),
-                ..NO_FAILURE
-            };
-            let ran = ran(rt.alloc(), scripts)?;
-            assert_eq!(rt;
-                failed(&rt, &ran, WRITE_CAPTURE)?,
-                most < LEN,
-                "after {most} bytes"
-            );
-            assert!(rt; ran.capture.taken() == &whole[..most], "after {most} bytes");
-            assert!(rt; TWO_TAPS.as_bytes().starts_with(ran.ledger.taken()));
-            assert!(rt;
-                most >= 24 || ran.ledger.taken().is_empty(),
-                "after {most} bytes"
-            );
-        }
+    assert_eq!(rt; capture(rt.alloc())?.len(), LEN);
+    for (way, piece) in CASES {
+        stops_capturing(&rt, way, piece)?;
+    }
+    Ok(())
+}
+
+/// A sink for the ledger that stops after each number of bytes.
+fn stops_listing<R: Threads + Wait + Sync + Abort + AllocGlobal>(
+    rt: &R,
+    way: Way,
+    piece: usize,
+) -> Result<(), Fail> {
+    for most in 0..=TWO_TAPS.len() {
+        let scripts = Scripts {
+            ledger: stops(piece, most),
+            ..NO_FAILURE
+        };
+        let ran = ran(rt, way, scripts)?;
+        let refused = failed(rt, &ran, WRITE_LEDGER)?;
+        assert_eq!(rt; refused, most < TWO_TAPS.len(), "after {most} bytes");
+        has_listed(rt, &ran, most)?;
     }
     Ok(())
 }
 
 #[test]
 fn a_ledger_sink_that_stops(rt: HostRuntime) -> Result<(), Fail> {
-    let whole = capture(rt.alloc())?;
-    for piece in [7, usize::MAX] {
-        for most in 0..=TWO_TAPS.len() {
-            let scripts = Scripts {
-                ledger: stops(piece, most),
-                ..NO_FAILURE
-            };
-            let ran = ran(rt.alloc(), scripts)?;
-            let refused = failed(&rt, &ran, WRITE_LEDGER)?;
-            assert_eq!(rt; refused, most < TWO_TAPS.len(), "after {most} bytes");
-            assert!(rt;
-                ran.ledger.taken() == &TWO_TAPS.as_bytes()[..most],
-                "after {most} bytes"
-            );
-            assert!(rt; whole.starts_with(ran.capture.taken()));
-        }
+    for (way, piece) in CASES {
+        stops_listing(&rt, way, piece)?;
     }
     Ok(())
 }
 
-/// The ledger's first line, and the lines of the frames of which these many bytes of a recording of A
-/// were given, and of all frames of B.
+/// The ledger's first line, and the lines of the frames of which these many bytes of a recording of
+/// A were given, and of all frames of B.
 fn lines_with_a(given: usize) -> &'static str {
     match given {
         0..24 => "",
@@ -190,109 +259,187 @@ fn accepted_with_a(given: usize) -> &'static [(u32, u8)] {
     }
 }
 
-#[test]
-fn a_source_a_that_stops(rt: HostRuntime) -> Result<(), Fail> {
-    for piece in [1, 7, usize::MAX] {
-        for most in 0..=LEN_A + 1 {
-            let scripts = Scripts {
-                a: stops(piece, most),
-                ..NO_FAILURE
-            };
-            let ran = ran(rt.alloc(), scripts)?;
-            // The read after the last byte, which finds the end, fails too.
-            assert_eq!(rt;
-                failed(&rt, &ran, READ_A)?,
-                most <= LEN_A,
-                "after {most} bytes"
-            );
-            if most <= LEN_A {
-                has_wholes(&rt, &ran, lines_with_a(most), accepted_with_a(most))?;
-            }
-        }
+/// The run over a source of A that gave so many bytes and then failed once, or reached its end.
+fn fails_on_a<R: Threads + Wait + Sync + Abort + AllocGlobal>(
+    rt: &R,
+    way: Way,
+    script: Script,
+    given: usize,
+) -> Result<(), Fail> {
+    let scripts = Scripts {
+        a: script,
+        ..NO_FAILURE
+    };
+    let ran = ran(rt, way, scripts)?;
+    // The read after the last byte, which finds the end, fails too.
+    let refused = failed(rt, &ran, READ_A)?;
+    assert_eq!(rt; refused, given <= LEN_A, "after {given} bytes");
+    if refused {
+        has_wholes(rt, &ran, lines_with_a(given), accepted_with_a(given))?;
+    }
+    Ok(())
+}
+
+/// The same of B.
+fn fails_on_b<R: Threads + Wait + Sync + Abort + AllocGlobal>(
+    rt: &R,
+    way: Way,
+    script: Script,
+    given: usize,
+) -> Result<(), Fail> {
+    let scripts = Scripts {
+        b: script,
+        ..NO_FAILURE
+    };
+    let ran = ran(rt, way, scripts)?;
+    let refused = failed(rt, &ran, READ_B)?;
+    assert_eq!(rt; refused, given <= LEN_B, "after {given} bytes");
+    if refused {
+        has_wholes(rt, &ran, lines_with_b(given), &[(100, 2), (200, 2)])?;
+    }
+    Ok(())
+}
+
+/// Sources that stop after each number of bytes.
+fn stops_reading<R: Threads + Wait + Sync + Abort + AllocGlobal>(
+    rt: &R,
+    way: Way,
+    piece: usize,
+) -> Result<(), Fail> {
+    for most in 0..=LEN_A + 1 {
+        fails_on_a(rt, way, stops(piece, most), most)?;
+        fails_on_b(rt, way, stops(piece, most), most)?;
     }
     Ok(())
 }
 
 #[test]
-fn a_source_b_that_stops(rt: HostRuntime) -> Result<(), Fail> {
-    for piece in [1, 7, usize::MAX] {
-        for most in 0..=LEN_B + 1 {
-            let scripts = Scripts {
-                b: stops(piece, most),
-                ..NO_FAILURE
-            };
-            let ran = ran(rt.alloc(), scripts)?;
-            assert_eq!(rt;
-                failed(&rt, &ran, READ_B)?,
-                most <= LEN_B,
-                "after {most} bytes"
-            );
-            if most <= LEN_B {
-                has_wholes(&rt, &ran, lines_with_b(most), &[(100, 2), (200, 2)])?;
-            }
-        }
+fn sources_that_stop(rt: HostRuntime) -> Result<(), Fail> {
+    for (way, piece) in CASES {
+        stops_reading(&rt, way, piece)?;
+    }
+    Ok(())
+}
+
+/// Sources of single bytes, of which each call fails alone.
+fn misses_reading<R: Threads + Wait + Sync + Abort + AllocGlobal>(
+    rt: &R,
+    way: Way,
+) -> Result<(), Fail> {
+    for call in 0..LEN_A + 3 {
+        fails_on_a(rt, way, misses(1, call), call)?;
+        fails_on_b(rt, way, misses(1, call), call)?;
     }
     Ok(())
 }
 
 #[test]
 fn sources_that_miss(rt: HostRuntime) -> Result<(), Fail> {
-    for call in 0..LEN_A + 3 {
-        let of_a = Scripts {
-            a: misses(1, call as u64),
+    misses_reading(&rt, Way::OneThread)?;
+    misses_reading(&rt, Way::Workers(2))
+}
+
+/// A sink for the capture that takes single bytes, of which each call fails alone.
+fn misses_capturing<R: Threads + Wait + Sync + Abort + AllocGlobal>(
+    rt: &R,
+    way: Way,
+) -> Result<(), Fail> {
+    for call in 0..LEN + 2 {
+        let scripts = Scripts {
+            capture: misses(1, call),
             ..NO_FAILURE
         };
-        let one = ran(rt.alloc(), of_a)?;
-        assert_eq!(rt; failed(&rt, &one, READ_A)?, call <= LEN_A, "call {call}");
-        if call <= LEN_A {
-            has_wholes(&rt, &one, lines_with_a(call), accepted_with_a(call))?;
-        }
-        let of_b = Scripts {
-            b: misses(1, call as u64),
-            ..NO_FAILURE
-        };
-        let other = ran(rt.alloc(), of_b)?;
-        assert_eq!(rt; failed(&rt, &other, READ_B)?, call <= LEN_B, "call {call}");
-        if call <= LEN_B {
-            has_wholes(&rt, &other, lines_with_b(call), &[(100, 2), (200, 2)])?;
-        }
+        let ran = ran(rt, way, scripts)?;
+        let refused = failed(rt, &ran, WRITE_CAPTURE)?;
+        assert_eq!(rt; refused, call < LEN, "call {call}");
+        has_captured(rt, &ran, call)?;
     }
     Ok(())
 }
 
 #[test]
-fn sinks_that_miss(rt: HostRuntime) -> Result<(), Fail> {
-    let whole = capture(rt.alloc())?;
-    assert_eq!(rt; whole.len(), LEN);
+fn a_capture_sink_that_misses(rt: HostRuntime) -> Result<(), Fail> {
+    misses_capturing(&rt, Way::OneThread)?;
+    misses_capturing(&rt, Way::Workers(2))
+}
+
+/// A sink for the ledger that takes single bytes, of which each call fails alone.
+fn misses_listing<R: Threads + Wait + Sync + Abort + AllocGlobal>(
+    rt: &R,
+    way: Way,
+) -> Result<(), Fail> {
     for call in 0..TWO_TAPS.len() + 2 {
-        let of_capture = Scripts {
-            capture: misses(1, call as u64),
+        let scripts = Scripts {
+            ledger: misses(1, call),
             ..NO_FAILURE
         };
-        let one = ran(rt.alloc(), of_capture)?;
-        assert_eq!(rt;
-            failed(&rt, &one, WRITE_CAPTURE)?,
-            call < LEN,
-            "call {call}"
-        );
-        assert!(rt;
-            one.capture.taken() == &whole[..call.min(LEN)],
-            "call {call}"
-        );
-        assert!(rt; TWO_TAPS.as_bytes().starts_with(one.ledger.taken()));
-        let of_ledger = Scripts {
-            ledger: misses(1, call as u64),
-            ..NO_FAILURE
-        };
-        let other = ran(rt.alloc(), of_ledger)?;
-        let missed = call < TWO_TAPS.len();
-        assert_eq!(rt; failed(&rt, &other, WRITE_LEDGER)?, missed, "call {call}");
-        let most = call.min(TWO_TAPS.len());
-        assert!(rt;
-            other.ledger.taken() == &TWO_TAPS.as_bytes()[..most],
-            "call {call}"
-        );
-        assert!(rt; whole.starts_with(other.capture.taken()));
+        let ran = ran(rt, way, scripts)?;
+        let refused = failed(rt, &ran, WRITE_LEDGER)?;
+        assert_eq!(rt; refused, call < TWO_TAPS.len(), "call {call}");
+        has_listed(rt, &ran, call)?;
+    }
+    Ok(())
+}
+
+#[test]
+fn a_ledger_sink_that_misses(rt: HostRuntime) -> Result<(), Fail> {
+    misses_listing(&rt, Way::OneThread)?;
+    misses_listing(&rt, Way::Workers(2))
+}
+
+/// The ledger's first line, and the lines of the frames of which these many bytes of both
+/// recordings were given.
+fn lines_with(given_a: usize, given_b: usize) -> &'static str {
+    if given_b >= LEN_B {
+        return lines_with_a(given_a);
+    }
+    match given_a {
+        0..100 => "afdx-ledger 2\n",
+        100..LEN_A => "afdx-ledger 2\n0 A 0 5 1 regular within first deliver - 00\n",
+        _ => lines_with_b(given_b),
+    }
+}
+
+/// The accepted frames of which these many bytes of both recordings were given.
+fn accepted_with(given_a: usize, given_b: usize) -> &'static [(u32, u8)] {
+    if given_b >= LEN_B {
+        return accepted_with_a(given_a);
+    }
+    if given_a < LEN_A { &[] } else { &[(100, 2)] }
+}
+
+/// One of both sources' faults is told, and each source has failed once.
+fn fails_on_both<R: Threads + Wait + Sync + Abort + AllocGlobal>(
+    rt: &R,
+    given_a: usize,
+    given_b: usize,
+) -> Result<(), Fail> {
+    let scripts = Scripts {
+        a: stops(usize::MAX, given_a),
+        b: stops(7, given_b),
+        ..NO_FAILURE
+    };
+    let ran = ran(rt, Way::Workers(2), scripts)?;
+    assert!(rt; ran.outcome == Err(READ_A) || ran.outcome == Err(READ_B));
+    assert_eq!(rt; ran.failures(), Some([1, 1, 0, 0]));
+    let lines = lines_with(given_a, given_b);
+    has_wholes(rt, &ran, lines, accepted_with(given_a, given_b))
+}
+
+#[test]
+fn both_sources_stop(rt: HostRuntime) -> Result<(), Fail> {
+    // after the headers, within frames and after them, and at the ends
+    for (given_a, given_b) in [
+        (24, 24),
+        (24, 70),
+        (70, 24),
+        (100, 99),
+        (150, 60),
+        (150, 100),
+        (176, 24),
+        (176, 100),
+    ] {
+        fails_on_both(&rt, given_a, given_b)?;
     }
     Ok(())
 }
@@ -309,12 +456,12 @@ fn a_header_alone_is_read_to_its_end(rt: HostRuntime) -> Result<(), Fail> {
         b: stops(usize::MAX, 24),
         ..NO_FAILURE
     };
-    let ran = run(rt.alloc(), given, scripts)?;
-    match ran.outcome {
-        Ok(_) => panic!(rt; "no fault"),
-        Err(fault) => assert_eq!(rt; fault, READ_B),
+    for way in [Way::OneThread, Way::Workers(2)] {
+        let ran = run(&rt, way, given, scripts)?;
+        assert_eq!(rt; ran.outcome, Err(READ_B));
+        assert_eq!(rt; ran.failures(), Some([0, 1, 0, 0]));
+        assert_eq!(rt; ran.capture.taken(), HEADER.as_slice());
+        assert_eq!(rt; ran.ledger.taken(), b"afdx-ledger 2\n".as_slice());
     }
-    assert_eq!(rt; ran.capture.taken(), HEADER.as_slice());
-    assert_eq!(rt; ran.ledger.taken(), b"afdx-ledger 2\n".as_slice());
     Ok(())
 }

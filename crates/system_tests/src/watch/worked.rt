@@ -1,23 +1,60 @@
-//! The worked examples of a whole analysis, over devices that pass many bytes, some and single ones.
+//! The worked examples of a whole analysis, on one thread and on several, over devices that pass
+//! many bytes, some and single ones.
 
 use crate::judges::TABLE;
 use crate::ledger::TWO_TAPS;
 use crate::support::{EVERY, HEADER};
-use crate::watch::{Given, NO_FAILURE, NOT_FIRST, Scripts, WIDE, push_packet, recording, run};
+use crate::watch::{
+    Given, NO_FAILURE, NOT_FIRST, Ran, Scripts, WAYS, WIDE, Way, push_packet, recording, run,
+};
 use afdx_frame::Network;
 use analyser::WatchFault;
 use pcap_io::{BadReason, Ending, HeaderFault, Script};
 use std::alloc::{AllocError, Global};
 use std::process::Abort;
+use std::sync::Wait;
 use std::test::Fail;
+use std::thread::Threads;
 
-/// The run leaves this capture and this ledger, however many bytes the devices pass at once.
-fn leaves(
-    rt: &(impl Abort + AllocGlobal),
-    given: Given<'_>,
+/// What a run has to leave.
+#[derive(Clone, Copy)]
+struct Expected<'a> {
     endings: (Ending, Ending),
-    capture: &[u8],
-    ledger: &str,
+    capture: &'a [u8],
+    ledger: &'a str,
+    filters: usize,
+}
+
+impl Expected<'_> {
+    /// How many lines of the ledger are those of frames.
+    fn frames(&self) -> u64 {
+        let lines = self.ledger.as_bytes().iter();
+        let newlines = lines.filter(|byte| **byte == b'\n').count();
+        // The first line, and those of one link, of the filters, of both taps and of the total.
+        let others = self.filters.saturating_add(5);
+        newlines.saturating_sub(others) as u64
+    }
+}
+
+/// The run has left this.
+fn has_left(rt: &impl Abort, ran: &Ran, expected: Expected<'_>) {
+    assert_eq!(rt; ran.ledger.taken(), expected.ledger.as_bytes());
+    assert_eq!(rt; ran.capture.taken(), expected.capture);
+    match ran.outcome {
+        Ok(counts) => {
+            assert_eq!(rt; (counts.a, counts.b), expected.endings);
+            assert_eq!(rt; counts.totals.frames, expected.frames());
+        }
+        Err(fault) => panic!(rt; "a fault: {fault}"),
+    }
+}
+
+/// The run leaves this, however many bytes the devices pass at once.
+fn leaves_by<R: Threads + Wait + Sync + Abort + AllocGlobal>(
+    rt: &R,
+    way: Way,
+    given: Given<'_>,
+    expected: Expected<'_>,
 ) -> Result<(), Fail> {
     for piece in [1, 7, usize::MAX] {
         let narrow = Script { piece, ..WIDE };
@@ -27,40 +64,62 @@ fn leaves(
             capture: narrow,
             ledger: narrow,
         };
-        let ran = run(rt.alloc(), given, scripts)?;
-        assert_eq!(rt; ran.ledger.taken(), ledger.as_bytes());
-        assert_eq!(rt; ran.capture.taken(), capture);
-        let newlines = ledger
-            .as_bytes()
-            .iter()
-            .filter(|byte| **byte == b'\n')
-            .count();
-        // The first line, and those of one link, of the filters, of both taps and of the total.
-        let others = given.filters.len().saturating_add(5);
-        match ran.outcome {
-            Ok(counts) => {
-                assert_eq!(rt; (counts.a, counts.b), endings);
-                assert_eq!(rt; counts.frames, newlines.saturating_sub(others) as u64);
-            }
-            Err(fault) => panic!(rt; "a fault: {fault}"),
-        }
+        has_left(rt, &run(rt, way, given, scripts)?, expected);
     }
     Ok(())
 }
 
-/// The run ends with this fault, and has written nothing.
-fn refuses(
-    rt: &(impl Abort + AllocGlobal),
+/// The run leaves this capture and this ledger, however it is done.
+fn leaves<R: Threads + Wait + Sync + Abort + AllocGlobal>(
+    rt: &R,
+    given: Given<'_>,
+    endings: (Ending, Ending),
+    capture: &[u8],
+    ledger: &str,
+) -> Result<(), Fail> {
+    let expected = Expected {
+        endings,
+        capture,
+        ledger,
+        filters: given.filters.len(),
+    };
+    for way in WAYS {
+        leaves_by(rt, way, given, expected)?;
+    }
+    Ok(())
+}
+
+/// The run ends with this fault, has written nothing, and gives both sources back. Returns how many
+/// bytes were read.
+fn refuses_by<R: Threads + Wait + Sync + Abort + AllocGlobal>(
+    rt: &R,
+    way: Way,
     given: Given<'_>,
     fault: WatchFault,
-) -> Result<(), Fail> {
-    let ran = run(rt.alloc(), given, NO_FAILURE)?;
+) -> Result<u64, Fail> {
+    let ran = run(rt, way, given, NO_FAILURE)?;
     match ran.outcome {
         Ok(_) => panic!(rt; "no fault"),
         Err(found) => assert_eq!(rt; found, fault),
     }
     assert!(rt; ran.capture.taken().is_empty());
     assert!(rt; ran.ledger.taken().is_empty());
+    assert_eq!(rt; ran.failures(), Some([0; 4]));
+    match (&ran.a, &ran.b) {
+        (Some(a), Some(b)) => Ok(a.passed.saturating_add(b.passed)),
+        _ => panic!(rt; "a source is lost"),
+    }
+}
+
+/// The run ends with this fault, however it is done.
+fn refuses<R: Threads + Wait + Sync + Abort + AllocGlobal>(
+    rt: &R,
+    given: Given<'_>,
+    fault: WatchFault,
+) -> Result<(), Fail> {
+    for way in WAYS {
+        refuses_by(rt, way, given, fault)?;
+    }
     Ok(())
 }
 
@@ -206,11 +265,11 @@ fn torn_records_and_stamps_that_go_back(rt: HostRuntime) -> Result<(), Fail> {
     Ok(())
 }
 
-/// The table of the worked examples, in which a stamp may lie by a microsecond below the greatest one
-/// before it.
+/// The table of the worked examples, in which a stamp may lie by a microsecond below the greatest
+/// one before it.
 const LATE_TABLE: &str =
-    "constant = 50331648\nlate_us = 1\n[[link]]\nid = 5\nname = \"brake\"\nbag_ms = 1\njitter_us = 0\n\
-     smax = 200\nintegrity = true\nredundancy = true\nskew_us = 1000\n";
+    "constant = 50331648\nlate_us = 1\n[[link]]\nid = 5\nname = \"brake\"\nbag_ms = 1\n\
+     jitter_us = 0\nsmax = 200\nintegrity = true\nredundancy = true\nskew_us = 1000\n";
 
 #[test]
 fn a_late_frame(rt: HostRuntime) -> Result<(), Fail> {
@@ -258,21 +317,62 @@ fn a_late_frame(rt: HostRuntime) -> Result<(), Fail> {
     )
 }
 
-/// So many filters are refused before anything is read.
-fn refuses_filters(rt: &(impl Abort + AllocGlobal), filters: &[&str]) -> Result<(), Fail> {
+/// So many filters are refused before anything is read of these taps.
+fn refuses_filters<R: Threads + Wait + Sync + Abort + AllocGlobal>(
+    rt: &R,
+    filters: &[&str],
+    tap: &[u8],
+) -> Result<(), Fail> {
     let given = Given {
         table: TABLE,
         filters,
-        a: &[],
-        b: &[],
+        a: tap,
+        b: tap,
     };
-    refuses(rt, given, WatchFault::Filters)
+    for way in WAYS {
+        assert_eq!(rt; refuses_by(rt, way, given, WatchFault::Filters)?, 0);
+    }
+    Ok(())
 }
 
 #[test]
 fn numbers_of_filters(rt: HostRuntime) -> Result<(), Fail> {
-    refuses_filters(&rt, &[])?;
-    refuses_filters(&rt, &[EVERY; 9])
+    refuses_filters(&rt, &[], &[])?;
+    refuses_filters(&rt, &[], &HEADER)?;
+    refuses_filters(&rt, &[EVERY; 9], &[])?;
+    refuses_filters(&rt, &[EVERY; 9], &HEADER)
+}
+
+/// So many workers are refused before anything is read, and whatever else is wrong.
+fn refuses_workers<R: Threads + Wait + Sync + Abort + AllocGlobal>(
+    rt: &R,
+    workers: u32,
+) -> Result<(), Fail> {
+    let cases: [(&[&str], &[u8]); 4] = [
+        (&[EVERY], &HEADER),
+        (&[EVERY], &[]),
+        (&[], &[]),
+        (&[EVERY; 9], &HEADER),
+    ];
+    for (filters, tap) in cases {
+        let given = Given {
+            table: TABLE,
+            filters,
+            a: tap,
+            b: tap,
+        };
+        let read = refuses_by(rt, Way::Workers(workers), given, WatchFault::Workers)?;
+        assert_eq!(rt; read, 0, "{workers} workers");
+    }
+    Ok(())
+}
+
+#[test]
+fn numbers_of_workers(rt: HostRuntime) -> Result<(), Fail> {
+    for workers in [0, 9, 256, u32::MAX] {
+        refuses_workers(&rt, workers)?;
+    }
+    Ok(())
 }
 
 #[test]

@@ -1,0 +1,112 @@
+//! Whole recordings through a ring: every item of the reader in its order, and the source back.
+
+use crate::rings::{Open, pass, reader_of, recording, same};
+use afdx_frame::Network;
+use pcap_io::{BadReason, Ending, ReadFault, ReadSource, TapReader, TapSource};
+use std::io;
+use std::io::Read;
+use std::process::Abort;
+use std::sync::Wait;
+use std::test::Fail;
+use std::thread::Threads;
+use tap_queue::{RING_LEN, TapItem, tap_ring};
+
+/// The bytes without the last ones.
+fn without(bytes: &[u8], last: usize) -> &[u8] {
+    &bytes[..bytes.len().saturating_sub(last)]
+}
+
+/// A recording goes through a ring: each item as the reader alone gives it, and this ending.
+fn passes<R: Threads + Wait + Sync + Abort + AllocGlobal>(
+    rt: &R,
+    bytes: &[u8],
+    late: u64,
+    ending: Ending,
+) -> Result<(), Fail> {
+    let alloc = rt.alloc();
+    let ring = tap_ring(alloc, Network::B, late)?;
+    let passed = pass(rt, alloc, reader_of(alloc, bytes, late)?, ring, &Open)?;
+    let mut alone = reader_of(alloc, bytes, late)?;
+    for item in &passed.items {
+        same(rt, item, &alone.next(alloc)?);
+    }
+    let last = passed.items.last();
+    assert!(rt;
+        matches!(last, Some(TapItem::End(found)) if *found == ending),
+        "{last:?}"
+    );
+    let mut source = passed.settled?;
+    assert_eq!(rt; source.read(&mut [0; 8]), Ok(0));
+    Ok(())
+}
+
+#[test]
+fn clean_recordings(rt: HostRuntime) -> Result<(), Fail> {
+    let ring = RING_LEN as u32;
+    for count in [0, 1, ring - 1, ring, ring + 1, 1000] {
+        let stamps: Vec<u32> = (0..count).collect(rt.alloc())?;
+        let bytes = recording(rt.alloc(), &stamps, 60)?;
+        passes(&rt, &bytes, 0, Ending::Clean(u64::from(count)))?;
+    }
+    Ok(())
+}
+
+#[test]
+fn a_recording_of_real_size(rt: HostRuntime) -> Result<(), Fail> {
+    let stamps: Vec<u32> = (0..3000).collect(rt.alloc())?;
+    let bytes = recording(rt.alloc(), &stamps, 1514)?;
+    passes(&rt, &bytes, 0, Ending::Clean(3000))
+}
+
+#[test]
+fn a_cut_recording(rt: HostRuntime) -> Result<(), Fail> {
+    let bytes = recording(rt.alloc(), &[1, 2, 3], 60)?;
+    passes(&rt, without(&bytes, 1), 0, Ending::Cut(2))?;
+    passes(&rt, without(&bytes, 60), 0, Ending::Cut(2))
+}
+
+#[test]
+fn a_bad_recording(rt: HostRuntime) -> Result<(), Fail> {
+    let bytes = recording(rt.alloc(), &[1000, 2000, 1500, 999], 60)?;
+    passes(&rt, &bytes, 0, Ending::Bad(2, BadReason::StampBack))?;
+    passes(&rt, &bytes, 500, Ending::Bad(3, BadReason::StampBack))?;
+    passes(&rt, &bytes, 1001, Ending::Clean(4))
+}
+
+/// A reader that fails where its bytes end, and counts how often it failed.
+#[derive(Debug, Drop)]
+struct Failing<'a> {
+    rest: &'a [u8],
+    failures: u64,
+}
+
+impl<'a> Read for Failing<'a> {
+    fn read(&mut self, buf: &mut [u8]) -> io::Result<usize> {
+        if self.rest.is_empty() {
+            self.failures = self.failures.saturating_add(1);
+            return Err(io::ErrorKind::Other.into());
+        }
+        self.rest.read(buf)
+    }
+}
+
+#[test]
+fn a_source_that_fails(rt: HostRuntime) -> Result<(), Fail> {
+    let alloc = rt.alloc();
+    let stamps: Vec<u32> = (0..200).collect(alloc)?;
+    let bytes = recording(alloc, &stamps, 1514)?;
+    let source = ReadSource::new(Failing {
+        rest: without(&bytes, 10),
+        failures: 0,
+    });
+    let reader = TapReader::open(source, Network::A, 1 << 32, 0)?;
+    let passed = pass(&rt, alloc, reader, tap_ring(alloc, Network::A, 0)?, &Open)?;
+    assert_eq!(rt; passed.items.len(), 200);
+    let last = passed.items.last();
+    assert!(rt;
+        matches!(last, Some(TapItem::Failed(ReadFault::Device))),
+        "{last:?}"
+    );
+    assert_eq!(rt; passed.settled?.into_reader().failures, 1);
+    Ok(())
+}
