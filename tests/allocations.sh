@@ -44,4 +44,5 @@ fail_each_allocation ledger::allocation::
 fail_each_allocation watch::allocation::
 fail_each_allocation workers::allocation::
 fail_each_allocation debugger::allocation::
+fail_each_allocation rings::allocation::
 printf 'allocations: all passed\n'
