@@ -1,0 +1,150 @@
+//! One tap, one filter, a capture.
+ghost use Rattle.std.specs.Prelude.{◌≡◌, ◌≤◌, None, Some, IfOk, IfErr, IfSome, IsSome, OnOk, false};
+ghost use Rattle.std.specs.Io.KnownBytes.{Appends};
+ghost use Rattle.afdx_frame.specs.LentFrame.{frame_of_lent};
+ghost use Rattle.pcap_io.specs.Device.{Writes};
+ghost use Rattle.pcap_io.specs.Reader.{position_of, reading_of, unread_of};
+ghost use Rattle.pcap_io.specs.Writer.{sink_of, has_failed};
+ghost use Rattle.pcap_io.specs.declared.recording.Stage.TheVariants.{Going};
+ghost use Rattle.capture_run.specs.Capture.{answer_for, record_of, devices_of, IsCaptured, IsAborted};
+ghost use Rattle.run_outcome.specs.Fault.{open_fault};
+ghost use Rattle.capture_run.specs.Copy.{IsCopied, StopsCopy, copying_of};
+
+use afdx_frame::{LentFrame, Network};
+use bpf_loader::Program;
+use bpf_machine::run;
+use pcap_io::{
+    CaptureWriter, Ending, Found, OpenFault, OpenRefused, OutSink, ReadFault, TapReader, TapSource,
+    WriteFault,
+};
+use run_outcome::{CAPTURE_FAILED, MAX_FRAMES, Output, WatchFault, WatchRefused, fault_of_open};
+use std::alloc::Global;
+
+/// The filter's return value for a frame. It stands apart, so that the loop over its instructions has
+/// the registers to itself.
+#[inline(never)]
+fn answer_for(program: &Program, frame: &LentFrame<'_>) -> u32
+    ensures { result ≡ answer_for program.now (frame_of_lent frame.now) }
+{
+    let (answer, _steps) = run(program, &frame.view(), frame.whole());
+    answer
+}
+
+/// Writes the frame's packet, if the filter accepts the frame.
+#[inline]
+fn write_accepted<W: OutSink>(
+    program: &Program,
+    frame: &LentFrame<'_>,
+    writer: &mut CaptureWriter<W>,
+) -> Result<(), WatchFault>
+    requires { has_failed writer.old ≡ false }
+    ensures written { Writes result
+        (W.contents (sink_of writer.old)) (W.contents (sink_of writer.new))
+        (W.failures (sink_of writer.old)) (W.failures (sink_of writer.new))
+        (record_of program.now (frame_of_lent frame.now)) }
+    ensures going { OnOk result (has_failed writer.new ≡ false) }
+    ensures fault { IfErr result (λ fault. fault ≡ WatchFault.Write Output.Capture) }
+{
+    let answer = answer_for(program, frame);
+    if answer == 0 {
+        return Ok(());
+    }
+    let keep = answer.min(frame.view().bytes().len() as u32);
+    writer.put_lent(frame, keep).map_err(|_| CAPTURE_FAILED)
+}
+
+/// Copies what is left of a recording, up to its ending.
+fn copy_accepted<S: TapSource, W: OutSink>(
+    alloc: Global,
+    program: &Program,
+    reader: &mut TapReader<S>,
+    writer: &mut CaptureWriter<W>,
+) -> Result<Ending, WatchFault>
+    requires reading { (position_of reader.old).stage ≡ Going }
+    requires bounded { (position_of reader.old).count ≤ (position_of reader.old).most }
+    requires writing { has_failed writer.old ≡ false }
+    ensures copied { IfOk result (λ ending. IsCopied program.now ending
+        (copying_of (reading_of S.remaining S.failures reader.old) (unread_of reader.old)
+        (W.contents (sink_of writer.old)) (W.failures (sink_of writer.old)))
+        (copying_of (reading_of S.remaining S.failures reader.new) (unread_of reader.new)
+        (W.contents (sink_of writer.new)) (W.failures (sink_of writer.new)))) }
+    ensures stopped { IfErr result (λ fault. StopsCopy program.now fault
+        (copying_of (reading_of S.remaining S.failures reader.old) (unread_of reader.old)
+        (W.contents (sink_of writer.old)) (W.failures (sink_of writer.old)))
+        (copying_of (reading_of S.remaining S.failures reader.new) (unread_of reader.new)
+        (W.contents (sink_of writer.new)) (W.failures (sink_of writer.new)))) }
+{
+    loop {
+        match reader.advance(alloc) {
+            Ok(Found::Frame) => {
+                let frame = reader.frame();
+                write_accepted(program, &frame, writer)?;
+            }
+            Ok(Found::End(ending)) => return Ok(ending),
+            Err(ReadFault::Device) => {
+                return Err(WatchFault::Read {
+                    network: Network::A,
+                });
+            }
+            Err(ReadFault::Memory) => return Err(WatchFault::Memory),
+            Err(ReadFault::Failed) => unreachable!(),
+        }
+    }
+}
+
+/// A capture that was aborted.
+fn refused<S, W>(fault: WatchFault, source: S, sink: W) -> WatchRefused<S, (), W, ()>
+    ensures { result ≡ record { fault = fault; a = Some source; b = None; capture = sink; ledger = tt } }
+{
+    WatchRefused {
+        fault,
+        a: Some(source),
+        b: None,
+        capture: sink,
+        ledger: (),
+    }
+}
+
+/// Copies the frames of a recording that the filter accepts, each cut to the filter's return value, and
+/// returns how the recording ended.
+///
+/// The tap is read as network A, up to 2^32 frames, with no window for late timestamps. Both devices
+/// come back. The source may have been read ahead of the last frame, by no more than 262144 bytes.
+///
+/// # Errors
+///
+/// `Header` or `Read` if the recording can't be opened, and then nothing was written. `Read` or `Memory`
+/// after some of its frames: the sink has the whole capture of them, and no frame that the source gave
+/// whole is left out. `Write` if the sink failed: it has a prefix of the capture.
+pub fn capture_one<S: TapSource, W: OutSink>(
+    alloc: Global,
+    program: &Program,
+    source: S,
+    sink: W,
+) -> Result<(Ending, S, W), WatchRefused<S, (), W, ()>>
+    ensures captured { IfOk result (λ done. IsCaptured program.now done.0
+        (devices_of S.remaining S.failures W.contents W.failures source sink)
+        (devices_of S.remaining S.failures W.contents W.failures done.1 done.2)) }
+    ensures aborted { IfErr result (λ refused. IfSome refused.a (λ a. IsAborted program.now refused.fault
+        (devices_of S.remaining S.failures W.contents W.failures source sink)
+        (devices_of S.remaining S.failures W.contents W.failures a refused.capture))) }
+    ensures back { IfErr result (λ refused. IsSome refused.a × (refused.b ≡ None)) }
+{
+    let mut reader = match TapReader::open(source, Network::A, MAX_FRAMES, 0) {
+        Ok(reader) => reader,
+        Err(OpenRefused { source, fault }) => {
+            return Err(refused(fault_of_open(Network::A, fault), source, sink));
+        }
+    };
+    let mut writer = match CaptureWriter::begin(sink) {
+        Ok(writer) => writer,
+        Err(sink) => return Err(refused(CAPTURE_FAILED, reader.into_source(), sink)),
+    };
+    let copied = copy_accepted(alloc, program, &mut reader, &mut writer);
+    let source = reader.into_source();
+    let sink = writer.finish();
+    match copied {
+        Ok(ending) => Ok((ending, source, sink)),
+        Err(fault) => Err(refused(fault, source, sink)),
+    }
+}

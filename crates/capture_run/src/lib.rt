@@ -1,0 +1,8 @@
+//! One recording, one filter, a capture: the frames that the filter accepts are copied, each cut to the filter's return value.
+#![tactic(auto)]
+
+mod capture;
+mod laws;
+
+pub use capture::capture_one;
+pub use laws::capture_gives_the_accepted_frames;

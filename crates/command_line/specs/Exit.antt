@@ -1,0 +1,60 @@
+-- How the program ends (this project's profile): status 0 where the command did its work, 1 after a fault. A recording that didn't
+-- end clean is no fault, but noted.
+use Rattle.std.specs.Prelude.{ℕ, List, ◌++◌, Bool, true, false, Result, Ok, Err, codes, decimal, ◌==◌, if◌then◌else◌}
+use Rattle.pcap_io.specs.declared.recording.BadReason.{BadReason}
+use Rattle.pcap_io.specs.declared.recording.BadReason.TheVariants as reasons
+use Rattle.pcap_io.specs.declared.recording.Ending.{Ending}
+use Rattle.pcap_io.specs.declared.recording.Ending.TheVariants.{Clean, Cut, Bad}
+use Rattle.command_line.specs.declared.exit.Exit.{Exit}
+use Rattle.command_line.specs.declared.exit.Exit.TheVariants as exit
+use Rattle.command_line.specs.declared.fault.Fault.{Fault}
+use Rattle.command_line.specs.declared.fault.Fault.TheVariants as fault
+use Rattle.command_line.specs.declared.fault.FileOption.TheVariants as file
+use Rattle.run_outcome.specs.declared.fault.Output.TheVariants as output
+use Rattle.run_outcome.specs.declared.fault.WatchFault.TheVariants as watch
+
+-- the end of a command that read the recording up to this ending
+abbrev pub exit_at : Ending → Exit
+exit_at (Clean n) = exit.Success
+exit_at (Cut n) = exit.Note (Cut n)
+exit_at (Bad n reason) = exit.Note (Bad n reason)
+
+-- the end of a capture, by what it came to and whether its output was flushed
+abbrev pub exit_of : Result Ending Fault → Bool → Exit
+exit_of (Err f) flushed = exit.Fault f
+exit_of (Ok ending) true = exit_at ending
+exit_of (Ok ending) false = exit.Fault (fault.Watch (watch.Write output.Capture))
+
+-- the end of a run over two recordings, by what it came to and whether its capture and its ledger were flushed
+abbrev pub watch_exit : Result (Unit {0}) Fault → Bool → Bool → Exit
+watch_exit (Err f) capture ledger = exit.Fault f
+watch_exit (Ok done) false ledger = exit.Fault (fault.Watch (watch.Write output.Capture))
+watch_exit (Ok done) true false = exit.Fault (fault.Watch (watch.Write output.Ledger))
+watch_exit (Ok done) true true = exit.Success
+
+-- the end of a command that prints a text, by what it came to and whether its output was flushed
+abbrev pub text_exit : Result (Unit {0}) Fault → Bool → Exit
+text_exit (Err f) flushed = exit.Fault f
+text_exit (Ok done) true = exit.Success
+text_exit (Ok done) false = exit.Fault (fault.File file.Standard)
+
+abbrev pub status_of : Exit → ℕ
+status_of exit.Success = 0
+status_of (exit.Note ending) = 0
+status_of (exit.Fault f) = 1
+
+-- so many frames
+abbrev pub frames_text : ℕ → List ℕ
+frames_text n = decimal n ++ (if n == 1 then codes " frame" else codes " frames")
+
+abbrev pub reason_text : BadReason → List ℕ
+reason_text reasons.Length = codes "captured length over 262144 bytes"
+reason_text reasons.Fraction = codes "fraction of a second out of range"
+reason_text reasons.StampBack = codes "timestamp out of order"
+reason_text reasons.TooMany = codes "too many frames"
+
+-- the note on an ending: what kind, after how many frames, and why
+abbrev pub note_of : Ending → List ℕ
+note_of (Clean n) = codes "afdxmon: note: recording ends clean after " ++ frames_text n
+note_of (Cut n) = codes "afdxmon: note: recording ends cut after " ++ frames_text n ++ codes ": truncated within a record"
+note_of (Bad n reason) = codes "afdxmon: note: recording ends bad after " ++ frames_text n ++ codes ": " ++ reason_text reason

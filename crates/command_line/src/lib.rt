@@ -1,0 +1,15 @@
+//! What stands on the command line: the arguments that a person types, and what the program answers on standard error. Faults by
+//! their stated lines, notes, exit statuses, and for a terminal advice and a caret under the place of a fault.
+#![tactic(auto)]
+
+mod arguments;
+mod caret;
+mod exit;
+mod fault;
+mod message;
+
+pub use arguments::{DebugArguments, Invocation, WatchArguments, read_arguments};
+pub use caret::{Caret, caret_at};
+pub use exit::{Exit, USAGE};
+pub use fault::{Fault, FileOption, fault_line};
+pub use message::{Note, advice};

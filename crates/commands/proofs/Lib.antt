@@ -1,0 +1,5 @@
+pub mod Answering
+pub mod Loading
+pub mod SessionRuns
+pub mod SourceRuns
+pub mod TapReading

@@ -1,0 +1,7 @@
+pub mod Asm
+pub mod Capture
+pub mod Inputs
+pub mod Laws
+pub mod Sessions
+pub mod Text
+pub mod WholeTap

@@ -1,0 +1,89 @@
+-- A recording that is read whole into memory, as network A.
+use Rattle.std.specs.Prelude.{◌≡◌, ◌⊎◌, ℕ, ◌≤◌, List, Option}
+use Rattle.afdx_frame.specs.Frame.{Frame}
+use Rattle.afdx_frame.specs.declared.key.Network.TheVariants as networks
+use Rattle.pcap_io.specs.Device.{CountsFailure}
+use Rattle.pcap_io.specs.Position.{LacksBytes, LacksMemory, Reading, Reads, TakesFrame}
+use Rattle.pcap_io.specs.declared.position.Position.{Position}
+use Rattle.pcap_io.specs.declared.recording.Ending.{Ending}
+use Rattle.run_outcome.specs.Recording.{LeavesUnread}
+use Rattle.run_outcome.specs.Recording.{Ends}
+use Rattle.run_outcome.specs.Recording.{FailsAtHeader, HasHeaderFault, HasReadTap, IsReadWhole}
+use Rattle.run_outcome.specs.Device.{SourceView}
+use Rattle.run_outcome.specs.declared.fault.WatchFault.{WatchFault}
+use Rattle.run_outcome.specs.declared.fault.WatchFault.TheVariants as watch
+
+-- ---- the recording
+
+-- the tap was read to its ending, as network A, and these are all its frames
+abbrev pub IsTap : SourceView → SourceView → List Frame → Type 0
+IsTap before after frames = (ending : Ending) × IsReadWhole networks.A 0 before after frames ending
+
+-- The source failed after these frames, and before it gave the next packet whole.
+pub record FailsInTap (before after : SourceView) : Type 0 where
+  pub frames : List Frame
+  pub position : Position
+  pub left : Option (List ℕ)
+  pub rest : Option (List ℕ)
+  pub ahead : List ℕ
+  pub read : HasReadTap networks.A 0 before.remaining frames position left
+  pub lacks : LacksBytes position left rest ahead
+  pub unread : LeavesUnread ahead rest after.remaining
+
+-- There was no memory for the packet after these frames, whose header is gone, or for one more frame, which is gone.
+pub record LacksTapMemory (before after : SourceView) : Type 0 where
+  pub frames : List Frame
+  pub position : Position
+  pub left : Option (List ℕ)
+  pub rest : Option (List ℕ)
+  pub ahead : List ℕ
+  pub read : HasReadTap networks.A 0 before.remaining frames position left
+  pub lacks : LacksMemory position left rest ⊎ ((f : Frame) × TakesFrame position left rest f)
+  pub unread : LeavesUnread ahead rest after.remaining
+
+-- why a tap wasn't read, and what that leaves of its source
+abbrev pub IsTapRefusal : WatchFault → SourceView → SourceView → Type 0
+IsTapRefusal (watch.Header networks.A f) before after = HasHeaderFault f before after × (after.failures ≡ before.failures)
+IsTapRefusal (watch.Read networks.A) before after =
+    (FailsAtHeader before after ⊎ FailsInTap before after) × CountsFailure before.failures after.failures
+IsTapRefusal watch.Memory before after = LacksTapMemory before after × (after.failures ≡ before.failures)
+IsTapRefusal fault before after = ⊥
+
+-- ---- its reader
+
+-- A reader gave these frames, and stood at the position with `left` after them.
+pub record Gives (old : Reading) (frames : List Frame) (position : Position) (left : Option (List ℕ)) : Type 0 where
+  pub reads : Reads old.position old.remaining frames position left
+  pub bounded : position.count ≤ position.most
+  pub same_most : position.most ≡ old.position.most
+
+-- it gave these frames, and then the recording's ending
+pub record GivesAll (old new : Reading) (frames : List Frame) : Type 0 where
+  pub position : Position
+  pub left : Option (List ℕ)
+  pub ending : Ending
+  pub gives : Gives old frames position left
+  pub ends : Ends position left new.remaining ending
+  pub no_failure : new.failures ≡ old.failures
+
+-- it gave these frames, and its source failed before the next packet was whole
+pub record StopsInPacket (old new : Reading) (ahead : List ℕ) : Type 0 where
+  pub frames : List Frame
+  pub position : Position
+  pub left : Option (List ℕ)
+  pub gives : Gives old frames position left
+  pub lacks : LacksBytes position left new.remaining ahead
+
+-- it gave these frames, and there was no memory for the next packet, whose header is gone, or for one more frame, which is gone
+pub record StopsForMemory (old new : Reading) : Type 0 where
+  pub frames : List Frame
+  pub position : Position
+  pub left : Option (List ℕ)
+  pub gives : Gives old frames position left
+  pub lacks : LacksMemory position left new.remaining ⊎ ((f : Frame) × TakesFrame position left new.remaining f)
+
+-- why a reader's frames weren't taken
+abbrev pub StopsReading : WatchFault → Reading → Reading → List ℕ → Type 0
+StopsReading (watch.Read networks.A) old new ahead = StopsInPacket old new ahead × CountsFailure old.failures new.failures
+StopsReading watch.Memory old new ahead = StopsForMemory old new × (new.failures ≡ old.failures)
+StopsReading fault old new ahead = ⊥

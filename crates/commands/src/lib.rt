@@ -1,0 +1,18 @@
+//! The commands over any sources and sinks, from the text of their arguments to how they ended: `capture`, `asm` and `debug`, and
+//! the texts that `watch` is set up by. The command `watch` itself is `watch_run`'s.
+#![tactic(auto)]
+
+mod asm;
+mod capture;
+mod debug;
+mod inputs;
+mod laws;
+mod tap;
+mod text;
+
+pub use asm::{AsmRun, asm_over, run_asm};
+pub use capture::{CaptureRun, Ran, capture_over, run_capture};
+pub use debug::{DebugRun, answer_line, begin_session, debug_over, run_debug, run_session};
+pub use inputs::{filter_of, load_filters, read_config, read_file};
+pub use laws::source_means_its_program;
+pub use tap::{TapRead, read_tap};

@@ -1,0 +1,402 @@
+-- What is left of a run whose taps were read by threads, once both rings are settled.
+use Rattle.std.proofs.Common.{◌≡◌, inl, inr, ◌⊎◌, ◌++◌, ◌∷◌, [], ℕ, ◌+◌, ◌≤◌, List, Option, Some, None, true, false, length, take, refl, sym, subst, ap, ◌∙◌, append-nil, append_assoc}
+use Rattle.std.specs.Prelude.{unwrap_or}
+use Rattle.std.specs.Io.KnownBytes.{Appends}
+use Rattle.afdx_frame.specs.Frame.{Frame}
+use Rattle.afdx_frame.specs.declared.key.Network.{Network}
+use Rattle.afdx_frame.specs.declared.key.Network.TheVariants.{A, B}
+use Rattle.bpf_isa.specs.declared.packed.Packed.{Packed}
+use Rattle.ordered_merge.specs.Merge.{AreOfTap, Tap, new_tap, tap_after}
+use Rattle.ordered_merge.specs.Order.{IsOrder}
+use Rattle.ordered_merge.specs.Sound.{IsRecording as IsTapRecording}
+use Rattle.ordered_merge.proofs.Following.{one_order}
+use Rattle.ordered_merge.proofs.Soundness.{cut_comes_first}
+use Rattle.pcap_io.specs.Device.{CountsFailure}
+use Rattle.pcap_io.specs.Position.{Reading, Reads, after_frame, start_at}
+use Rattle.pcap_io.specs.Reader.{reading_of}
+use Rattle.pcap_io.specs.declared.reader.TapReader.{TapReader}
+use Rattle.pcap_io.specs.declared.item.ReadFault.TheVariants as faults
+use Rattle.pcap_io.specs.declared.position.Position.{Position}
+use Rattle.pcap_io.specs.declared.recording.Ending.{Ending}
+use Rattle.tap_queue.specs.Items.{Gives, frames_in, is_over}
+use Rattle.tap_queue.specs.Ring.{has_lost, taken_items}
+use Rattle.tap_queue.specs.declared.end.TapEnd.{TapEnd}
+use Rattle.tap_queue.specs.declared.item.TapItem.TheVariants as items
+use Rattle.vl_config.specs.Document.{VlTable}
+use Rattle.run_outcome.specs.Recording.{IsRecording, LeavesUnread}
+use Rattle.watch_run.specs.Filters.{capture_by}
+use Rattle.watch_run.specs.Outputs.{SinkFails, StopsWriting, effect_of}
+use Rattle.watch_run.specs.Rings.{AreFirst, EndsWith, RingsFault, StopsTaking, TakesOn, TapFault}
+use Rattle.watch_run.specs.Running.{AbortsBegun, AbortsRunning, FailsAmong, HasWholeRounds, IsReadOut, IsRunningFault, IsSettled, IsStarted, LosesRing, MayFail, StopsRunning}
+use Rattle.watch_run.specs.Taps.{HasRead, ReadsPart}
+use Rattle.run_outcome.specs.Device.{AppendsSome, SinkView, SourceView, source_view}
+use Rattle.run_outcome.specs.Recording.{IsReadPart, most_frames}
+use Rattle.watch_run.specs.Watch.{HasWholes, StopsRun, WatchDevices, lines_by, watch_devices}
+use Rattle.run_outcome.specs.declared.fault.Output.TheVariants as output
+use Rattle.run_outcome.specs.declared.fault.WatchFault.{WatchFault}
+use Rattle.run_outcome.specs.declared.fault.WatchFault.TheVariants as watch
+use Rattle.watch_run.proofs.FedTaps.{IsOut, IsTapRun, tap_run}
+use Rattle.watch_run.proofs.Returned.{whole_given}
+use Rattle.watch_run.proofs.RingItems.{ends_on, stops_on}
+use Rattle.watch_run.proofs.TwoTaps.{high_after, in_time}
+use Rattle.watch_run.proofs.Watching.{first_of_all, wholes_before}
+use Rattle.watch_run.proofs.WholeOrder.{IsFirst, goes_on, recorded}
+use Rattle.watch_run.proofs.Writing.{capture_all, capture_longer, lines_all, lines_longer}
+
+-- ---- a tap whose ring is settled
+
+pub record IsTapSettled (network : Network) (late : ℕ) (before : SourceView) (end : TapEnd) (after : SourceView) : Type 0 where
+  pub reading : Reading
+  pub ahead : List ℕ
+  pub run : IsTapRun network late before (frames_in (taken_items end)) (taken_items end) reading
+  pub sound : has_lost end ≡ false
+  pub leaves : LeavesUnread ahead reading.remaining after.remaining
+  pub same_failures : after.failures ≡ reading.failures
+
+pub tap_settled : (network : Network) (late : ℕ) (before after : SourceView) (start reading : Reading) (end : TapEnd) (ahead : List ℕ) → IsStarted network late before start →
+    Gives start (taken_items end) reading → is_over (taken_items end) ≡ true → has_lost end ≡ false → LeavesUnread ahead reading.remaining after.remaining →
+    after.failures ≡ reading.failures → IsTapSettled network late before end after
+tap_settled network late before after start reading end ahead started gives over sound leaves same = record {
+  reading = reading;
+  ahead = ahead;
+  run = tap_run network late before [] (taken_items end) start reading started.read started.going started.most gives over;
+  sound = sound;
+  leaves = leaves;
+  same_failures = same;
+}
+
+pub part_back : (network : Network) (late : ℕ) (before after : SourceView) (end : TapEnd) → IsTapSettled network late before end after →
+    IsReadPart network late before after (frames_in (taken_items end))
+part_back network late before after end s = record {
+  position = s.run.part.position;
+  left = s.run.part.left;
+  rest = s.reading.remaining;
+  ahead = s.ahead;
+  read = s.run.part.read;
+  gone = s.run.part.gone;
+  unread = s.leaves;
+}
+
+pub may_fail_back : (network : Network) (late : ℕ) (before after : SourceView) (end : TapEnd) → IsTapSettled network late before end after → MayFail before.failures after.failures
+may_fail_back network late before after end s = subst (MayFail before.failures) (sym s.same_failures) s.run.may_fail
+
+failed_back : (network : Network) (late : ℕ) (before after : SourceView) (end : TapEnd) → IsTapSettled network late before end after →
+    EndsWith (items.Failed faults.Device) (taken_items end) → CountsFailure before.failures after.failures
+failed_back network late before after end s ends = subst (CountsFailure before.failures) (sym s.same_failures) (s.run.failed ends)
+
+out_back : (network : Network) (late : ℕ) (before after : SourceView) (end : TapEnd) → IsTapSettled network late before end after →
+    IsReadOut network late before after (frames_in (taken_items end))
+out_back network late before after end s = by s.run.out
+  where
+    by : IsOut network late before (frames_in (taken_items end)) s.reading → IsReadOut network late before after (frames_in (taken_items end))
+    by (inl (ending, read)) = inl (ending, whole_given network late before after (frames_in (taken_items end)) ending s.reading s.ahead read s.leaves s.same_failures)
+    by (inr (inl counts)) = inr (inl (subst (CountsFailure before.failures) (sym s.same_failures) counts))
+    by (inr (inr (position, left, read, lacks))) = inr (inr (record {
+      position = position;
+      left = left;
+      rest = s.reading.remaining;
+      ahead = s.ahead;
+      read = read;
+      lacks = lacks;
+      unread = s.leaves;
+    }))
+
+-- ---- the frames that were read are those of a tap
+
+reads_tap : (network : Network) (late : ℕ) (p q : Position) (before after : Option (List ℕ)) (frames : List Frame) (tap : Tap) → p.network ≡ network → p.late ≡ late →
+    tap.next ≡ p.count → p.high ≡ unwrap_or tap.high 0 → Reads p before frames q after → (last : Tap) × AreOfTap network late tap frames last
+reads_tap network late p q before after [] tap net is next high reads = (tap, (refl, refl))
+reads_tap network late p q before after (f ∷ frames) tap net is next high (mid, t, reads) =
+    let others = reads_tap network late (after_frame p f.stamp) q mid after frames (tap_after f.stamp tap) net is (ap (λ k. k + 1) next) (high_after p.high f.stamp tap.high high) reads in (
+      others.0,
+      (
+        ap (λ (g : Frame). g.network) t.same ∙ net,
+        ap (λ (g : Frame). g.number) t.same ∙ sym next,
+        in_time late tap p.high f.stamp high
+            (subst (λ l. p.high ≤ f.stamp + l) is (subst (λ s. p.high ≤ s + p.late) (sym (ap (λ (g : Frame). g.stamp) t.same)) t.good.in_time)),
+        others.1,
+      ),
+    )
+
+part_recorded : (network : Network) (late : ℕ) (before : SourceView) (frames : List Frame) (reading : Reading) → ReadsPart network late before frames reading →
+    IsTapRecording network late frames
+part_recorded network late before frames reading part =
+    reads_tap network late (start_at network part.read.layout most_frames late) part.position part.read.opened part.left frames new_tap refl refl refl refl part.read.reads
+
+-- ---- a recording whose bytes are known goes on after what was read, unless its ending was taken
+
+as_read : (network : Network) (late : ℕ) (before : SourceView) (frames : List Frame) (reading : Reading) (part : ReadsPart network late before frames reading) →
+    HasRead network late before frames None (record { position = part.position; remaining = part.left; failures = before.failures })
+as_read network late before frames reading part = record { position = part.position; left = part.left; read = part.read; stands = (refl, refl); failures = refl }
+
+none_behind : (xs ys : List Frame) → xs ≡ xs ++ ys → ys ≡ []
+none_behind [] ys e = sym e
+none_behind (f ∷ xs) ys e = none_behind xs ys (cc e)
+
+goes_on_after : (network : Network) (late : ℕ) (before after : SourceView) (end : TapEnd) (whole : List Frame) (bytes : List ℕ) (ending : Ending) →
+    IsTapSettled network late before end after → before.remaining ≡ Some bytes → IsRecording network late bytes whole ending →
+    (others : List Frame) × (whole ≡ frames_in (taken_items end) ++ others) × ((e : Ending) → EndsWith (items.End e) (taken_items end) → others ≡ [])
+goes_on_after network late before after end whole bytes ending s known r =
+    let frames = frames_in (taken_items end) in
+    let on = goes_on network late before frames whole None _ bytes ending known (as_read network late before frames s.reading s.run.part) r in (
+      on.others,
+      on.all,
+      λ e ends.
+          (let all = goes_on network late before frames whole (Some e) s.reading bytes ending known (s.run.ended e ends) r in
+          none_behind frames on.others (sym (append-nil frames) ∙ ap (λ (l : List Frame). frames ++ l) (sym (all.ended refl).0) ∙ sym all.all ∙ on.all)),
+    )
+
+-- ---- what was cut is the first of all
+
+both_none : (xs ys : List Frame) → xs ≡ [] → ys ≡ [] → xs ++ ys ≡ []
+both_none xs ys none also = ap (λ (l : List Frame). l ++ ys) none ∙ also
+
+pub record IsStopped (late : ℕ) (cut : List Frame) (before_a before_b : SourceView) (a b : TapEnd) : Type 0 where
+  pub rest : List Frame
+  pub order : IsOrder (frames_in (taken_items a)) (frames_in (taken_items b)) (cut ++ rest)
+  pub first : IsFirst late before_a before_b cut
+
+pub stopped_so : (late : ℕ) (cut : List Frame) (before_a before_b after_a after_b : SourceView) (a b : TapEnd) → IsTapSettled A late before_a a after_a →
+    IsTapSettled B late before_b b after_b → StopsTaking late cut a b → IsStopped late cut before_a before_b a b
+stopped_so late cut before_a before_b after_a after_b a b settled_a settled_b s = record { rest = found.0; order = order; first = first }
+  where
+    on_a : AreFirst s.frames_a s.merger.a (taken_items a)
+    on_a = s.first_a settled_a.sound
+
+    on_b : AreFirst s.frames_b s.merger.b (taken_items b)
+    on_b = s.first_b settled_b.sound
+
+    tap_a : IsTapRecording A late (s.frames_a ++ on_a.more)
+    tap_a = subst (IsTapRecording A late) on_a.all (part_recorded A late before_a (frames_in (taken_items a)) settled_a.reading settled_a.run.part)
+
+    tap_b : IsTapRecording B late (s.frames_b ++ on_b.more)
+    tap_b = subst (IsTapRecording B late) on_b.all (part_recorded B late before_b (frames_in (taken_items b)) settled_b.reading settled_b.run.part)
+
+    found : (rest : List Frame) × IsOrder (s.frames_a ++ on_a.more) (s.frames_b ++ on_b.more) (cut ++ rest)
+    found = cut_comes_first s.merger late s.frames_a s.frames_b cut on_a.more on_b.more s.follows s.late_is (λ done. (on_a.over done).0) (λ done. (on_b.over done).0) tap_a tap_b
+
+    order : IsOrder (frames_in (taken_items a)) (frames_in (taken_items b)) (cut ++ found.0)
+    order = subst (λ (l : List Frame). IsOrder l (frames_in (taken_items b)) (cut ++ found.0)) (sym on_a.all)
+        (subst (λ (l : List Frame). IsOrder (s.frames_a ++ on_a.more) l (cut ++ found.0)) (sym on_b.all) found.1)
+
+    first : IsFirst late before_a before_b cut
+    first = λ bytes_a bytes_b whole_a whole_b whole x y known_a known_b r_a r_b all.
+        (let more_a = goes_on_after A late before_a after_a a whole_a bytes_a x settled_a known_a r_a in
+        let more_b = goes_on_after B late before_b after_b b whole_b bytes_b y settled_b known_b r_b in
+        let is_a : whole_a ≡ s.frames_a ++ (on_a.more ++ more_a.0) = more_a.1 ∙ ap (λ (l : List Frame). l ++ more_a.0) on_a.all ∙ append_assoc s.frames_a on_a.more more_a.0 in
+        let is_b : whole_b ≡ s.frames_b ++ (on_b.more ++ more_b.0) = more_b.1 ∙ ap (λ (l : List Frame). l ++ more_b.0) on_b.all ∙ append_assoc s.frames_b on_b.more more_b.0 in
+        let there = cut_comes_first s.merger late s.frames_a s.frames_b cut (on_a.more ++ more_a.0) (on_b.more ++ more_b.0) s.follows s.late_is
+        (λ done. both_none on_a.more more_a.0 (on_a.over done).0 (more_a.2 (on_a.over done).1 (on_a.over done).2))
+        (λ done. both_none on_b.more more_b.0 (on_b.over done).0 (more_b.2 (on_b.over done).1 (on_b.over done).2))
+        (subst (IsTapRecording A late) is_a (recorded A late bytes_a whole_a x r_a)) (subst (IsTapRecording B late) is_b (recorded B late bytes_b whole_b y r_b)) in (
+          there.0,
+          one_order whole_a whole_b whole (cut ++ there.0) all
+              (subst (λ (l : List Frame). IsOrder l whole_b (cut ++ there.0)) (sym is_a) (subst (λ (l : List Frame). IsOrder (s.frames_a ++ (on_a.more ++ more_a.0)) l (cut ++ there.0)) (sym is_b) there.1)),
+        ))
+
+-- ---- the outputs
+
+some_packets : (fault : WatchFault) (ps : List (List Packed)) (vl_table : VlTable) (capture ledger capture' ledger' : SinkView) (a b : TapEnd)
+    (s : StopsRunning fault ps vl_table capture ledger a b capture' ledger') → AppendsSome capture.contents capture'.contents (capture_by ps s.cut)
+some_packets fault ps vl_table capture ledger capture' ledger' a b s = by s.why
+  where
+    by : ((RingsFault fault a b × HasWholeRounds ps vl_table s.cut capture ledger capture' ledger') ⊎ StopsWriting (effect_of fault) ps vl_table capture ledger capture' ledger' s.cut) →
+        AppendsSome capture.contents capture'.contents (capture_by ps s.cut)
+    by (inl (rings, whole)) = capture_all ps s.cut capture.contents capture'.contents whole.packets
+    by (inr w) = w.packets
+
+some_lines : (fault : WatchFault) (ps : List (List Packed)) (vl_table : VlTable) (capture ledger capture' ledger' : SinkView) (a b : TapEnd)
+    (s : StopsRunning fault ps vl_table capture ledger a b capture' ledger') → AppendsSome ledger.contents ledger'.contents (lines_by ps vl_table s.cut)
+some_lines fault ps vl_table capture ledger capture' ledger' a b s = by s.why
+  where
+    by : ((RingsFault fault a b × HasWholeRounds ps vl_table s.cut capture ledger capture' ledger') ⊎ StopsWriting (effect_of fault) ps vl_table capture ledger capture' ledger' s.cut) →
+        AppendsSome ledger.contents ledger'.contents (lines_by ps vl_table s.cut)
+    by (inl (rings, whole)) = lines_all ps vl_table s.cut ledger.contents ledger'.contents whole.lines
+    by (inr w) = w.lines
+
+one_fails : (fault : WatchFault) (c c' l l' : ℕ) → SinkFails fault c c' l l' → MayFail c c' × MayFail l l'
+one_fails (watch.Write output.Capture) c c' l l' (counts, same) = (inr counts, inl same)
+one_fails (watch.Write output.Ledger) c c' l l' (same, counts) = (inl same, inr counts)
+one_fails watch.Memory c c' l l' (same, also) = (inl same, inl also)
+one_fails (watch.Read n) c c' l l' h = absurd h
+one_fails watch.Spawn c c' l l' h = absurd h
+one_fails watch.RingLost c c' l l' h = absurd h
+one_fails watch.Workers c c' l l' h = absurd h
+one_fails (watch.Header n f) c c' l l' h = absurd h
+one_fails watch.Filters c c' l l' h = absurd h
+
+sinks_may_fail : (fault : WatchFault) (ps : List (List Packed)) (vl_table : VlTable) (capture ledger capture' ledger' : SinkView) (a b : TapEnd) →
+    StopsRunning fault ps vl_table capture ledger a b capture' ledger' → MayFail capture.failures capture'.failures × MayFail ledger.failures ledger'.failures
+sinks_may_fail fault ps vl_table capture ledger capture' ledger' a b s = by s.why
+  where
+    by : ((RingsFault fault a b × HasWholeRounds ps vl_table s.cut capture ledger capture' ledger') ⊎ StopsWriting (effect_of fault) ps vl_table capture ledger capture' ledger' s.cut) →
+        MayFail capture.failures capture'.failures × MayFail ledger.failures ledger'.failures
+    by (inl (rings, whole)) = (inl whole.capture_failures, inl whole.ledger_failures)
+    by (inr w) = one_fails (effect_of fault) capture.failures capture'.failures ledger.failures ledger'.failures w.fails
+
+-- ---- a ring was lost
+
+pub loses_ring : (fault : WatchFault) (ps : List (List Packed)) (vl_table : VlTable) (before : WatchDevices) (a b : TapEnd) (capture ledger : SinkView) →
+    StopsRunning fault ps vl_table before.capture before.ledger a b capture ledger → LosesRing ps vl_table before capture ledger
+loses_ring fault ps vl_table before a b capture ledger s =
+    let m = s.taken.merger in
+    record {
+      frames_a = s.taken.frames_a;
+      frames_b = s.taken.frames_b;
+      frames = s.cut ++ m.pending;
+      tap_a = subst (λ n. IsTapRecording A n s.taken.frames_a) s.taken.late_is (m.a, s.taken.follows.a);
+      tap_b = subst (λ n. IsTapRecording B n s.taken.frames_b) s.taken.late_is (m.b, s.taken.follows.b);
+      order = s.taken.follows.order;
+      packets = capture_longer ps s.cut m.pending before.capture.contents capture.contents
+          (some_packets fault ps vl_table before.capture before.ledger capture ledger a b s);
+      lines = lines_longer ps vl_table s.cut m.pending before.ledger.contents ledger.contents
+          (some_lines fault ps vl_table before.capture before.ledger capture ledger a b s);
+      capture_failures = (sinks_may_fail fault ps vl_table before.capture before.ledger capture ledger a b s).0;
+      ledger_failures = (sinks_may_fail fault ps vl_table before.capture before.ledger capture ledger a b s).1;
+    }
+
+-- ---- both sources came back
+
+ring_fault_on : (network : Network) (fault : WatchFault) (old new : TapEnd) → TapFault network fault old → TakesOn old new → has_lost new ≡ false → TapFault network fault new
+ring_fault_on network (watch.Read failed) old new (is, going, ends) takes sound = (is, sound, ends_on (items.Failed faults.Device) old new refl ends takes sound)
+ring_fault_on network watch.Memory old new h takes sound = tt
+ring_fault_on network watch.RingLost old new h takes sound = tt
+ring_fault_on network watch.Workers old new h takes sound = absurd h
+ring_fault_on network (watch.Header n f) old new h takes sound = absurd h
+ring_fault_on network (watch.Write out) old new h takes sound = absurd h
+ring_fault_on network watch.Spawn old new h takes sound = absurd h
+ring_fault_on network watch.Filters old new h takes sound = absurd h
+
+pub runs_on : (fault : WatchFault) (ps : List (List Packed)) (vl_table : VlTable) (capture ledger capture' ledger' : SinkView) (a b a' b' : TapEnd) →
+    StopsRunning fault ps vl_table capture ledger a b capture' ledger' → TakesOn a a' → TakesOn b b' → has_lost a' ≡ false → has_lost b' ≡ false →
+    StopsRunning fault ps vl_table capture ledger a' b' capture' ledger'
+runs_on fault ps vl_table capture ledger capture' ledger' a b a' b' s takes_a takes_b sound_a sound_b = record {
+  cut = s.cut;
+  taken = stops_on vl_table.late s.cut a b a' b' s.taken takes_a takes_b;
+  why = by s.why;
+}
+  where
+    by : ((RingsFault fault a b × HasWholeRounds ps vl_table s.cut capture ledger capture' ledger') ⊎ StopsWriting (effect_of fault) ps vl_table capture ledger capture' ledger' s.cut) →
+        ((RingsFault fault a' b' × HasWholeRounds ps vl_table s.cut capture ledger capture' ledger') ⊎ StopsWriting (effect_of fault) ps vl_table capture ledger capture' ledger' s.cut)
+    by (inl ((A, h), whole)) = inl ((A, ring_fault_on A fault a a' h takes_a sound_a), whole)
+    by (inl ((B, h), whole)) = inl ((B, ring_fault_on B fault b b' h takes_b sound_b), whole)
+    by (inr w) = inr w
+
+pub running_aborts : (fault : WatchFault) (ps : List (List Packed)) (vl_table : VlTable) (before : WatchDevices) (a b : TapEnd) (after_a after_b : SourceView) (capture ledger : SinkView) →
+    IsTapSettled A vl_table.late before.a a after_a → IsTapSettled B vl_table.late before.b b after_b →
+    StopsRunning fault ps vl_table before.capture before.ledger a b capture ledger → ((fault ≡ watch.RingLost) → ⊥) →
+    AbortsRunning fault ps vl_table before (watch_devices after_a after_b capture ledger)
+running_aborts fault ps vl_table before a b after_a after_b capture ledger settled_a settled_b s not_lost = by fault s.why not_lost
+  where
+    stopped : IsStopped vl_table.late s.cut before.a before.b a b
+    stopped = stopped_so vl_table.late s.cut before.a before.b after_a after_b a b settled_a settled_b s.taken
+
+    packets : AppendsSome before.capture.contents capture.contents (capture_by ps s.cut)
+    packets = some_packets fault ps vl_table before.capture before.ledger capture ledger a b s
+
+    lines : AppendsSome before.ledger.contents ledger.contents (lines_by ps vl_table s.cut)
+    lines = some_lines fault ps vl_table before.capture before.ledger capture ledger a b s
+
+    stops : (f : WatchFault) → HasWholes f ps vl_table (s.cut ++ stopped.rest) before.capture before.ledger capture ledger →
+        StopsRun f ps vl_table before (watch_devices after_a after_b capture ledger)
+    stops f wholes = record {
+      frames_a = frames_in (taken_items a);
+      frames_b = frames_in (taken_items b);
+      frames = s.cut ++ stopped.rest;
+      read_a = part_back A vl_table.late before.a after_a a settled_a;
+      read_b = part_back B vl_table.late before.b after_b b settled_b;
+      order = stopped.order;
+      capture = capture_longer ps s.cut stopped.rest before.capture.contents capture.contents packets;
+      ledger = inl (lines_longer ps vl_table s.cut stopped.rest before.ledger.contents ledger.contents lines);
+      wholes = wholes;
+      first = first_of_all ps vl_table before s.cut capture ledger stopped.first packets lines;
+    }
+
+    whole : HasWholeRounds ps vl_table s.cut before.capture before.ledger capture ledger →
+        (n : ℕ) × Appends before.capture.contents capture.contents (capture_by ps (take n (s.cut ++ stopped.rest)))
+        × Appends before.ledger.contents ledger.contents (lines_by ps vl_table (take n (s.cut ++ stopped.rest)))
+    whole w = (
+      length s.cut,
+      subst (λ (l : List Frame). Appends before.capture.contents capture.contents (capture_by ps l)) (sym (wholes_before s.cut stopped.rest)) w.packets,
+      subst (λ (l : List Frame). Appends before.ledger.contents ledger.contents (lines_by ps vl_table l)) (sym (wholes_before s.cut stopped.rest)) w.lines,
+    )
+
+    back_a : MayFail before.a.failures after_a.failures
+    back_a = may_fail_back A vl_table.late before.a after_a a settled_a
+
+    back_b : MayFail before.b.failures after_b.failures
+    back_b = may_fail_back B vl_table.late before.b after_b b settled_b
+
+    aborts : (f : WatchFault) → FailsAmong f before (watch_devices after_a after_b capture ledger) → IsRunningFault f →
+        HasWholes f ps vl_table (s.cut ++ stopped.rest) before.capture before.ledger capture ledger →
+        AbortsRunning f ps vl_table before (watch_devices after_a after_b capture ledger)
+    aborts f fails run wholes = record {
+      fails = fails;
+      run = run;
+      stops = stops f wholes;
+      out_a = out_back A vl_table.late before.a after_a a settled_a;
+      out_b = out_back B vl_table.late before.b after_b b settled_b;
+    }
+
+    by : (f : WatchFault) → ((RingsFault f a b × HasWholeRounds ps vl_table s.cut before.capture before.ledger capture ledger)
+        ⊎ StopsWriting (effect_of f) ps vl_table before.capture before.ledger capture ledger s.cut) → ((f ≡ watch.RingLost) → ⊥) →
+        AbortsRunning f ps vl_table before (watch_devices after_a after_b capture ledger)
+    by (watch.Read A) (inl ((A, (is, sound, ends)), w)) other =
+        aborts (watch.Read A) (failed_back A vl_table.late before.a after_a a settled_a ends, back_b, w.capture_failures, w.ledger_failures) tt (whole w)
+    by (watch.Read B) (inl ((B, (is, sound, ends)), w)) other =
+        aborts (watch.Read B) (back_a, failed_back B vl_table.late before.b after_b b settled_b ends, w.capture_failures, w.ledger_failures) tt (whole w)
+    by (watch.Read A) (inl ((B, (is, sound, ends)), w)) other = (let wrong : ⊥ = cc is in absurd wrong)
+    by (watch.Read B) (inl ((A, (is, sound, ends)), w)) other = (let wrong : ⊥ = cc is in absurd wrong)
+    by watch.Memory (inl (rings, w)) other = aborts watch.Memory (back_a, back_b, w.capture_failures, w.ledger_failures) tt tt
+    by watch.RingLost (inl (rings, w)) other = absurd (other refl)
+    by watch.Workers (inl ((A, h), w)) other = absurd h
+    by watch.Workers (inl ((B, h), w)) other = absurd h
+    by (watch.Header n f) (inl ((A, h), w)) other = absurd h
+    by (watch.Header n f) (inl ((B, h), w)) other = absurd h
+    by (watch.Write out) (inl ((A, h), w)) other = absurd h
+    by (watch.Write out) (inl ((B, h), w)) other = absurd h
+    by watch.Spawn (inl ((A, h), w)) other = absurd h
+    by watch.Spawn (inl ((B, h), w)) other = absurd h
+    by watch.Filters (inl ((A, h), w)) other = absurd h
+    by watch.Filters (inl ((B, h), w)) other = absurd h
+    by (watch.Write output.Capture) (inr w) other = aborts (watch.Write output.Capture) (back_a, back_b, w.fails.0, w.fails.1) tt tt
+    by (watch.Write output.Ledger) (inr w) other = aborts (watch.Write output.Ledger) (back_a, back_b, w.fails.0, w.fails.1) tt tt
+    by watch.Memory (inr w) other = aborts watch.Memory (back_a, back_b, w.fails.0, w.fails.1) tt tt
+    by watch.Spawn (inr w) other = aborts watch.Spawn (back_a, back_b, w.fails.0, w.fails.1) tt tt
+    by (watch.Read n) (inr w) other = absurd w.fails
+    by watch.RingLost (inr w) other = absurd w.fails
+    by watch.Workers (inr w) other = absurd w.fails
+    by (watch.Header n f) (inr w) other = absurd w.fails
+    by watch.Filters (inr w) other = absurd w.fails
+
+-- ---- a run that was aborted
+
+pub settled_of : {S : Type 0} (remaining : S → Option (List ℕ)) (failures : S → ℕ) (network : Network) (late : ℕ) (before : SourceView) (reader : TapReader S) (end : TapEnd) (source : S) →
+    IsStarted network late before (reading_of remaining failures reader) → IsSettled remaining failures reader end source →
+    IsTapSettled network late before end (source_view remaining failures source)
+settled_of remaining failures network late before reader end source started s =
+    tap_settled network late before (source_view remaining failures source) (reading_of remaining failures reader) s.reading end s.ahead started s.gives s.over s.sound s.leaves s.same_failures
+
+pub begun_aborts : (fault : WatchFault) (ps : List (List Packed)) (vl_table : VlTable) (before : WatchDevices) (a b : TapEnd) (after_a after_b : SourceView) (capture ledger : SinkView) →
+    IsTapSettled A vl_table.late before.a a after_a → IsTapSettled B vl_table.late before.b b after_b →
+    StopsRunning fault ps vl_table before.capture before.ledger a b capture ledger → AbortsBegun fault ps vl_table before (Some after_a) (Some after_b) capture ledger
+begun_aborts watch.RingLost ps vl_table before a b after_a after_b capture ledger settled_a settled_b s =
+    inr (inr (refl, loses_ring watch.RingLost ps vl_table before a b capture ledger s))
+begun_aborts (watch.Read n) ps vl_table before a b after_a after_b capture ledger settled_a settled_b s =
+    inl (running_aborts (watch.Read n) ps vl_table before a b after_a after_b capture ledger settled_a settled_b s (λ is. (let wrong : ⊥ = cc is in absurd wrong)))
+begun_aborts (watch.Write out) ps vl_table before a b after_a after_b capture ledger settled_a settled_b s =
+    inl (running_aborts (watch.Write out) ps vl_table before a b after_a after_b capture ledger settled_a settled_b s (λ is. (let wrong : ⊥ = cc is in absurd wrong)))
+begun_aborts watch.Memory ps vl_table before a b after_a after_b capture ledger settled_a settled_b s =
+    inl (running_aborts watch.Memory ps vl_table before a b after_a after_b capture ledger settled_a settled_b s (λ is. (let wrong : ⊥ = cc is in absurd wrong)))
+begun_aborts watch.Spawn ps vl_table before a b after_a after_b capture ledger settled_a settled_b s =
+    inl (running_aborts watch.Spawn ps vl_table before a b after_a after_b capture ledger settled_a settled_b s (λ is. (let wrong : ⊥ = cc is in absurd wrong)))
+begun_aborts watch.Workers ps vl_table before a b after_a after_b capture ledger settled_a settled_b s =
+    inl (running_aborts watch.Workers ps vl_table before a b after_a after_b capture ledger settled_a settled_b s (λ is. (let wrong : ⊥ = cc is in absurd wrong)))
+begun_aborts (watch.Header n f) ps vl_table before a b after_a after_b capture ledger settled_a settled_b s =
+    inl (running_aborts (watch.Header n f) ps vl_table before a b after_a after_b capture ledger settled_a settled_b s (λ is. (let wrong : ⊥ = cc is in absurd wrong)))
+begun_aborts watch.Filters ps vl_table before a b after_a after_b capture ledger settled_a settled_b s =
+    inl (running_aborts watch.Filters ps vl_table before a b after_a after_b capture ledger settled_a settled_b s (λ is. (let wrong : ⊥ = cc is in absurd wrong)))
+
+pub begun_loses : (fault : WatchFault) (ps : List (List Packed)) (vl_table : VlTable) (before : WatchDevices) (a b : TapEnd) (back_a back_b : Option SourceView) (capture ledger : SinkView) →
+    StopsRunning fault ps vl_table before.capture before.ledger a b capture ledger → AbortsBegun watch.RingLost ps vl_table before back_a back_b capture ledger
+begun_loses fault ps vl_table before a b back_a back_b capture ledger s = inr (inr (refl, loses_ring fault ps vl_table before a b capture ledger s))

@@ -1,0 +1,114 @@
+-- A run whose recordings have ended, once both rings are settled.
+use Rattle.std.proofs.Common.{◌≡◌, inl, ◌∷◌, [], ℕ, List, Option, Some, length, subst, Result, Ok, Err}
+use Rattle.std.specs.Prelude.{IfErr, IfOk}
+use Rattle.afdx_frame.specs.Frame.{Frame}
+use Rattle.afdx_frame.specs.declared.key.Network.TheVariants.{A, B}
+use Rattle.bpf_isa.specs.declared.packed.Packed.{Packed}
+use Rattle.ordered_merge.specs.Merge.{Tap}
+use Rattle.pcap_io.specs.declared.recording.Ending.{Ending}
+use Rattle.pcap_io.specs.Writer.{sink_of}
+use Rattle.tap_queue.specs.Items.{frames_in}
+use Rattle.tap_queue.specs.Ring.{taken_items}
+use Rattle.tap_queue.specs.declared.item.TapItem.{TapItem}
+use Rattle.tap_queue.specs.declared.item.TapItem.TheVariants as items
+use Rattle.verdict_ledger.specs.Ledger.{sink_of as ledger_sink}
+use Rattle.verdict_ledger.specs.declared.totals.Totals.{Totals}
+use Rattle.vl_config.specs.Document.{VlTable}
+use Rattle.watch_run.specs.Outputs.{IsFinished, StopsFinishing}
+use Rattle.watch_run.specs.Rings.{EndsWith, HasEnding, HasTaken}
+use Rattle.watch_run.specs.Running.{AbortsBegun, FailsAmong, IsRunning, IsRunningFault, StopsRunning}
+use Rattle.run_outcome.specs.Device.{SinkView, SourceView, sink_view}
+use Rattle.watch_run.specs.Watch.{FailsOnly, IsNumber, IsRunFault, IsWatched, WatchDevices, watch_devices}
+use Rattle.run_outcome.specs.declared.fault.Output.TheVariants as output
+use Rattle.run_outcome.specs.declared.fault.WatchFault.{WatchFault}
+use Rattle.run_outcome.specs.declared.fault.WatchFault.TheVariants as watch
+use Rattle.watch_run.specs.declared.outputs.Outputs.{Outputs}
+use Rattle.watch_run.specs.declared.rings.Rings.{Rings}
+use Rattle.watch_run.proofs.Aborting.{IsTapSettled}
+use Rattle.watch_run.proofs.Returned.{Returned, StopsAtEnd, stopped_at_the_end, watched}
+use Rattle.watch_run.proofs.RingItems.{stops_with, takes_none}
+
+-- ---- clauses of one result together
+
+pub ok_with : {X E : Type 0} {P R T Q : X → Type 0} (r : Result X E) → IfOk r P → IfOk r R → IfOk r T → ((x : X) → P x → R x → T x → Q x) → IfOk r Q
+ok_with (Ok x) p q t f = f x p q t
+ok_with (Err e) p q t f = tt
+
+pub err_with : {X E : Type 0} {P R Q : E → Type 0} (r : Result X E) → IfErr r P → IfErr r R → ((e : E) → P e → R e → Q e) → IfErr r Q
+err_with (Ok x) p q f = tt
+err_with (Err e) p q f = f e p q
+
+-- ---- the recordings have ended
+
+ending_taken : (end : Option Ending) (ending : Ending) (tap : Tap) (taken : List TapItem) → HasEnding end tap taken → end ≡ Some ending → EndsWith (items.End ending) taken
+ending_taken end ending tap taken h is = (subst (λ (e : Option Ending). HasEnding e tap taken) is h).1
+
+settled_return : (late : ℕ) (before after : WatchDevices) (rings : Rings) (settled_a : IsTapSettled A late before.a rings.a after.a) (settled_b : IsTapSettled B late before.b rings.b after.b) →
+    Returned settled_a.reading settled_b.reading settled_a.ahead settled_b.ahead after
+settled_return late before after rings settled_a settled_b = record {
+  a_left = settled_a.leaves;
+  b_left = settled_b.leaves;
+  a_failures = settled_a.same_failures;
+  b_failures = settled_b.same_failures;
+}
+
+pub finishes : (ps : List (List Packed)) (vl_table : VlTable) (before after : WatchDevices) (rings : Rings) (cut : List Frame) (end_a end_b : Ending) (totals : Totals) →
+    IsTapSettled A vl_table.late before.a rings.a after.a → IsTapSettled B vl_table.late before.b rings.b after.b → HasTaken vl_table.late cut rings →
+    rings.end_a ≡ Some end_a → rings.end_b ≡ Some end_b → rings.merger.pending ≡ [] →
+    IsFinished ps vl_table before.capture before.ledger after.capture after.ledger cut end_a end_b totals → IsNumber (length ps) →
+    IsWatched ps vl_table (end_a ∷ end_b ∷ []) totals before after
+finishes ps vl_table before after rings cut end_a end_b totals settled_a settled_b h is_a is_b none f number =
+    watched ps vl_table before after (frames_in (taken_items rings.a)) (frames_in (taken_items rings.b)) cut end_a end_b totals rings.merger settled_a.reading settled_b.reading
+    settled_a.ahead settled_b.ahead (settled_return vl_table.late before after rings settled_a settled_b)
+    (settled_a.run.ended end_a (ending_taken rings.end_a end_a rings.merger.a (taken_items rings.a) h.ended_a is_a))
+    (settled_b.run.ended end_b (ending_taken rings.end_b end_b rings.merger.b (taken_items rings.b) h.ended_b is_b)) h.follows none f number
+
+among : (f : WatchFault) (before after : WatchDevices) → FailsOnly f before after → IsRunFault f → FailsAmong f before after × IsRunningFault f
+among (watch.Read A) before after (a, b, c, l) run = ((a, inl b, c, l), tt)
+among (watch.Read B) before after (a, b, c, l) run = ((inl a, b, c, l), tt)
+among (watch.Write output.Capture) before after (a, b, c, l) run = ((inl a, inl b, c, l), tt)
+among (watch.Write output.Ledger) before after (a, b, c, l) run = ((inl a, inl b, c, l), tt)
+among watch.Memory before after (a, b, c, l) run = ((inl a, inl b, c, l), tt)
+among watch.Spawn before after h run = absurd run
+among watch.Workers before after h run = absurd run
+among (watch.Header n f) before after h run = absurd run
+among watch.RingLost before after h run = absurd run
+among watch.Filters before after h run = absurd run
+
+pub finish_aborts : (fault : WatchFault) (ps : List (List Packed)) (vl_table : VlTable) (before : WatchDevices) (rings : Rings) (a b : SourceView) (capture ledger : SinkView)
+    (cut : List Frame) (end_a end_b : Ending) →
+    IsTapSettled A vl_table.late before.a rings.a a → IsTapSettled B vl_table.late before.b rings.b b → HasTaken vl_table.late cut rings →
+    rings.end_a ≡ Some end_a → rings.end_b ≡ Some end_b → rings.merger.pending ≡ [] →
+    StopsFinishing fault ps vl_table before.capture before.ledger capture ledger cut end_a end_b →
+    AbortsBegun fault ps vl_table before (Some a) (Some b) capture ledger
+finish_aborts fault ps vl_table before rings a b capture ledger cut end_a end_b settled_a settled_b h is_a is_b none s =
+    inl (record { fails = f.0; run = f.1; stops = aborts.stops; out_a = inl (end_a, aborts.whole_a); out_b = inl (end_b, aborts.whole_b) })
+  where
+    aborts : StopsAtEnd fault ps vl_table before (watch_devices a b capture ledger) end_a end_b
+    aborts = stopped_at_the_end fault ps vl_table before (watch_devices a b capture ledger) (frames_in (taken_items rings.a)) (frames_in (taken_items rings.b)) cut end_a end_b rings.merger
+        settled_a.reading settled_b.reading settled_a.ahead settled_b.ahead (settled_return vl_table.late before (watch_devices a b capture ledger) rings settled_a settled_b)
+        (settled_a.run.ended end_a (ending_taken rings.end_a end_a rings.merger.a (taken_items rings.a) h.ended_a is_a))
+        (settled_b.run.ended end_b (ending_taken rings.end_b end_b rings.merger.b (taken_items rings.b) h.ended_b is_b)) h.follows none s
+
+    f : FailsAmong fault before (watch_devices a b capture ledger) × IsRunningFault fault
+    f = among fault before (watch_devices a b capture ledger) aborts.fails aborts.run
+
+-- ---- a ring was lost at the end
+
+pub lost_at_end : {W L : Type 0} (contents_w : W → Option (List ℕ)) (failures_w : W → ℕ) (contents_l : L → Option (List ℕ)) (failures_l : L → ℕ)
+    (ps : List (List Packed)) (vl_table : VlTable) (capture ledger : SinkView) (rings : Rings) (outputs : Outputs W L) →
+    IsRunning contents_w failures_w contents_l failures_l ps vl_table capture ledger rings outputs →
+    StopsRunning watch.RingLost ps vl_table capture ledger rings.a rings.b (sink_view contents_w failures_w (sink_of outputs.capture)) (sink_view contents_l failures_l (ledger_sink outputs.ledger))
+lost_at_end contents_w failures_w contents_l failures_l ps vl_table capture ledger rings outputs w = record {
+  cut = w.cut;
+  taken = stops_with vl_table.late w.cut rings rings.a rings.b w.taken (takes_none rings.a) (takes_none rings.b);
+  why = inl (
+    (A, tt),
+    record {
+      packets = w.written.packets;
+      lines = w.written.lines;
+      capture_failures = w.written.capture_failures;
+      ledger_failures = w.written.ledger_failures;
+    },
+  );
+}

@@ -1,0 +1,13 @@
+pub mod Aborting
+pub mod FedTaps
+pub mod Finishing
+pub mod Returned
+pub mod RingItems
+pub mod Rounds
+pub mod RoundsTaken
+pub mod Sharing
+pub mod Starting
+pub mod TwoTaps
+pub mod Watching
+pub mod WholeOrder
+pub mod Writing

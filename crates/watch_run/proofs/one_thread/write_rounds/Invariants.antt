@@ -1,0 +1,18 @@
+-- Rounds were read and written.
+use Rattle.vl_config.specs.Document.{VlTable}
+use Rattle.watch_run.specs.Run.{IsWatching}
+use Rattle.watch_run.specs.Taps.{work_left}
+use Rattle.watch_run.specs.Watch.{WatchDevices}
+use Rattle.watch_run.proofs.one_thread.write_rounds.Given as goal
+
+abbrev pub invariant-loop-round : goal.invariant-loop-round
+invariant-loop-round g l = record {
+  watching : (vl_table : VlTable) (before : WatchDevices) →
+      IsWatching g.S.TapSource.remaining g.S.TapSource.failures g.T.TapSource.remaining g.T.TapSource.failures
+      g.W.OutSink.contents g.W.OutSink.failures g.L.OutSink.contents g.L.OutSink.failures l.programs vl_table before l.fn.taps l.fn.outputs →
+      IsWatching g.S.TapSource.remaining g.S.TapSource.failures g.T.TapSource.remaining g.T.TapSource.failures
+      g.W.OutSink.contents g.W.OutSink.failures g.L.OutSink.contents g.L.OutSink.failures l.programs vl_table before l.taps l.outputs;
+}
+
+abbrev pub decreases-loop-round : goal.decreases-loop-round
+decreases-loop-round g l = work_left l.taps

@@ -1,0 +1,18 @@
+-- The verdicts are those of the frames before the index, and the lanes know these frames.
+use Rattle.std.proofs.Common.{◌≡◌, ◌++◌, List, length, take, drop}
+use Rattle.afdx_frame.specs.Frame.{Frame}
+use Rattle.vl_config.specs.Document.{VlTable}
+use Rattle.vl_judge.specs.Lanes.{StandsAfter}
+use Rattle.vl_judge.specs.Verdicts.{verdicts}
+use Rattle.vl_judge.specs.Lanes.{FollowsOn}
+use Rattle.watch_run.proofs.outputs.judge_round.Given as goal
+
+abbrev pub invariant-loop-frame : goal.invariant-loop-frame
+invariant-loop-frame l = record {
+  follows : FollowsOn l.lanes.last (drop l.frame-index l.round);
+  verdicts_are : (vl_table : VlTable) (frames : List Frame) → StandsAfter l.fn.lanes vl_table frames →
+      verdicts vl_table (frames ++ take l.frame-index l.round) ≡ verdicts vl_table frames ++ l.said.items;
+  count : length l.said.items ≡ l.frame-index;
+  after : (vl_table : VlTable) (frames : List Frame) → StandsAfter l.fn.lanes vl_table frames →
+      StandsAfter l.lanes vl_table (frames ++ take l.frame-index l.round);
+}

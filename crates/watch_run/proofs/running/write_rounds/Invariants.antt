@@ -1,0 +1,15 @@
+-- Rounds were taken, shared and written.
+use Rattle.vl_config.specs.Document.{VlTable}
+use Rattle.tap_queue.specs.Ring.{SameEnd}
+use Rattle.watch_run.specs.Running.{IsRunning}
+use Rattle.run_outcome.specs.Device.{SinkView}
+use Rattle.watch_run.proofs.running.write_rounds.Given as goal
+
+abbrev pub invariant-loop : goal.invariant-loop
+invariant-loop g l = record {
+  a : SameEnd l.fn.rings.a l.rings.a;
+  b : SameEnd l.fn.rings.b l.rings.b;
+  running : (vl_table : VlTable) (capture ledger : SinkView) →
+      IsRunning g.W.OutSink.contents g.W.OutSink.failures g.L.OutSink.contents g.L.OutSink.failures l.sharing.programs.now vl_table capture ledger l.fn.rings l.fn.outputs →
+      IsRunning g.W.OutSink.contents g.W.OutSink.failures g.L.OutSink.contents g.L.OutSink.failures l.sharing.programs.now vl_table capture ledger l.rings l.outputs;
+}

@@ -1,0 +1,80 @@
+-- A run that is ready to start its threads, and what it comes to.
+use Rattle.std.specs.Prelude.{◌≡◌, ℕ, false, List, [], length, Option, Result, MatchResult}
+use Rattle.std.specs.Option.{option_map}
+use Rattle.afdx_frame.specs.declared.key.Network.TheVariants.{A, B}
+use Rattle.bpf_isa.specs.declared.packed.Packed.{Packed}
+use Rattle.pcap_io.specs.Reader.{reading_of, unread_of}
+use Rattle.pcap_io.specs.Writer.{has_failed}
+use Rattle.tap_queue.specs.Ring.{IsRing, late_of, network_of, put_items, taken_items}
+use Rattle.tap_queue.specs.declared.end.TapEnd.{TapEnd}
+use Rattle.tap_queue.specs.declared.ring.TapPut.{TapPut}
+use Rattle.verdict_ledger.specs.Ledger.{has_failed as ledger_has_failed}
+use Rattle.vl_config.specs.Document.{VlTable}
+use Rattle.watch_run.specs.Outputs.{HasWritten}
+use Rattle.watch_run.specs.Rings.{HasTaken}
+use Rattle.watch_run.specs.Running.{AbortsBegun, IsStarted}
+use Rattle.run_outcome.specs.Device.{sink_view, source_view}
+use Rattle.watch_run.specs.Watch.{IsNumber, IsWatched, WatchDevices, watch_devices}
+use Rattle.run_outcome.specs.declared.refused.WatchRefused.{WatchRefused}
+use Rattle.watch_run.specs.declared.outputs.Outputs.{Outputs}
+use Rattle.watch_run.specs.declared.taps.Taps.{Taps}
+use Rattle.watch_run.specs.declared.threads.Ready.{Ready}
+use Rattle.watch_run.specs.declared.one_thread.Watched.{Watched}
+
+-- both rings are new, and their ends belong together
+pub record AreNew {S T W L : Type 0} (ready : Ready S T W L) : Type 0 where
+  pub ring_a : IsRing ready.put_a ready.rings.a
+  pub ring_b : IsRing ready.put_b ready.rings.b
+  pub none_a : put_items ready.put_a ≡ []
+  pub none_b : put_items ready.put_b ≡ []
+
+-- Both recordings were opened and both outputs begun; no frame was read.
+pub record IsReady {S T W L : Type 0} (remaining_s : S → Option (List ℕ)) (failures_s : S → ℕ) (remaining_t : T → Option (List ℕ)) (failures_t : T → ℕ)
+    (contents_w : W → Option (List ℕ)) (failures_w : W → ℕ) (contents_l : L → Option (List ℕ)) (failures_l : L → ℕ)
+    (ps : List (List Packed)) (vl_table : VlTable) (before : WatchDevices) (ready : Ready S T W L) : Type 0 where
+  pub a : IsStarted A vl_table.late before.a (reading_of remaining_s failures_s ready.a)
+  pub b : IsStarted B vl_table.late before.b (reading_of remaining_t failures_t ready.b)
+  pub fresh : unread_of ready.b ≡ []
+  pub taken : HasTaken vl_table.late [] ready.rings
+  pub written : HasWritten contents_w failures_w contents_l failures_l ps vl_table before.capture before.ledger [] ready.outputs
+  pub capture_going : has_failed ready.outputs.capture ≡ false
+  pub ledger_going : ledger_has_failed ready.outputs.ledger ≡ false
+
+-- what a run that was ready comes to
+abbrev pub Runs : {S T W L : Type 0} → (S → Option (List ℕ)) → (S → ℕ) → (T → Option (List ℕ)) → (T → ℕ)
+    → (W → Option (List ℕ)) → (W → ℕ) → (L → Option (List ℕ)) → (L → ℕ)
+    → List (List Packed) → Ready S T W L → Result (Watched S T W L) (WatchRefused S T W L) → Type 0
+Runs remaining_s failures_s remaining_t failures_t contents_w failures_w contents_l failures_l ps ready result =
+    (vl_table : VlTable) (before : WatchDevices) → IsNumber (length ps)
+    → IsReady remaining_s failures_s remaining_t failures_t contents_w failures_w contents_l failures_l ps vl_table before ready
+    → MatchResult result
+    (λ done. IsWatched ps vl_table done.endings done.totals before
+    (watch_devices (source_view remaining_s failures_s done.a) (source_view remaining_t failures_t done.b)
+    (sink_view contents_w failures_w done.capture) (sink_view contents_l failures_l done.ledger)))
+    (λ refused. AbortsBegun refused.fault ps vl_table before
+    (option_map (source_view remaining_s failures_s) refused.a) (option_map (source_view remaining_t failures_t) refused.b)
+    (sink_view contents_w failures_w refused.capture) (sink_view contents_l failures_l refused.ledger))
+
+-- new rings of networks A and B
+pub record AreTwoRings (late : ℕ) (ends : (TapPut × TapEnd) × (TapPut × TapEnd)) : Type 0 where
+  pub ring_a : IsRing ends.0.0 ends.0.1
+  pub ring_b : IsRing ends.1.0 ends.1.1
+  pub none_a : put_items ends.0.0 ≡ []
+  pub none_b : put_items ends.1.0 ≡ []
+  pub none_taken_a : taken_items ends.0.1 ≡ []
+  pub none_taken_b : taken_items ends.1.1 ≡ []
+  pub network_a : network_of ends.0.1 ≡ A
+  pub network_b : network_of ends.1.1 ≡ B
+  pub late_a : late_of ends.0.1 ≡ late
+  pub late_b : late_of ends.1.1 ≡ late
+
+-- what is ready, by its parts
+abbrev pub ready_of : {S T W L : Type 0} → TapPut → TapEnd → TapPut → TapEnd → Taps S T → Outputs W L → Ready S T W L
+ready_of put_a a put_b b taps outputs = record {
+  a = taps.a;
+  b = taps.b;
+  put_a = put_a;
+  put_b = put_b;
+  rings = record { a = a; b = b; merger = taps.merger; end_a = taps.end_a; end_b = taps.end_b };
+  outputs = outputs;
+}

@@ -1,0 +1,50 @@
+-- A run over two recordings, between the opening of its devices and their return.
+use Rattle.std.specs.Prelude.{◌≡◌, ℕ, false, List, Option}
+use Rattle.afdx_frame.specs.Frame.{Frame}
+use Rattle.afdx_frame.specs.declared.key.Network.TheVariants.{A, B}
+use Rattle.bpf_isa.specs.declared.packed.Packed.{Packed}
+use Rattle.ordered_merge.specs.Order.{IsOrder}
+use Rattle.pcap_io.specs.Position.{Reading}
+use Rattle.pcap_io.specs.Writer.{has_failed}
+use Rattle.verdict_ledger.specs.Ledger.{has_failed as ledger_has_failed}
+use Rattle.vl_config.specs.Document.{VlTable}
+use Rattle.watch_run.specs.Filters.{capture_by}
+use Rattle.watch_run.specs.Outputs.{HasWritten}
+use Rattle.watch_run.specs.Taps.{Agree, HasMerged, ReadsPart}
+use Rattle.run_outcome.specs.Device.{AppendsSome, SinkView, SourceView}
+use Rattle.watch_run.specs.Watch.{FailsOnly, HasFirstOfAll, HasLines, HasWholes, IsRunFault, WatchDevices, watch_devices}
+use Rattle.run_outcome.specs.declared.fault.WatchFault.{WatchFault}
+use Rattle.watch_run.specs.declared.outputs.Outputs.{Outputs}
+use Rattle.watch_run.specs.declared.taps.Taps.{Taps}
+
+-- These frames were read, and those that were cut, the first in order, were judged, filtered and written.
+pub record IsWatching {S T W L : Type 0} (remaining_s : S → Option (List ℕ)) (failures_s : S → ℕ) (remaining_t : T → Option (List ℕ)) (failures_t : T → ℕ)
+    (contents_w : W → Option (List ℕ)) (failures_w : W → ℕ) (contents_l : L → Option (List ℕ)) (failures_l : L → ℕ)
+    (ps : List (List Packed)) (vl_table : VlTable) (before : WatchDevices) (taps : Taps S T) (outputs : Outputs W L) : Type 0 where
+  pub frames_a : List Frame
+  pub frames_b : List Frame
+  pub cut : List Frame
+  pub merged : HasMerged remaining_s failures_s remaining_t failures_t vl_table.late before.a before.b frames_a frames_b cut taps
+  pub written : HasWritten contents_w failures_w contents_l failures_l ps vl_table before.capture before.ledger cut outputs
+  pub agree : Agree taps
+  pub capture_going : has_failed outputs.capture ≡ false
+  pub ledger_going : ledger_has_failed outputs.ledger ≡ false
+
+-- a reader as a source that gives what is left for it
+abbrev pub reading_view : Reading → SourceView
+reading_view reading = record { remaining = reading.remaining; failures = reading.failures }
+
+-- The run stopped after these frames, where its readers and sinks stand so.
+pub record StopsWatching (fault : WatchFault) (ps : List (List Packed)) (vl_table : VlTable) (before : WatchDevices) (a b : Reading) (capture ledger : SinkView) : Type 0 where
+  pub frames_a : List Frame
+  pub frames_b : List Frame
+  pub frames : List Frame
+  pub read_a : ReadsPart A vl_table.late before.a frames_a a
+  pub read_b : ReadsPart B vl_table.late before.b frames_b b
+  pub order : IsOrder frames_a frames_b frames
+  pub packets : AppendsSome before.capture.contents capture.contents (capture_by ps frames)
+  pub lines : HasLines ps vl_table before frames_a frames_b frames capture ledger
+  pub wholes : HasWholes fault ps vl_table frames before.capture before.ledger capture ledger
+  pub first : HasFirstOfAll ps vl_table before capture ledger
+  pub fails : FailsOnly fault before (watch_devices (reading_view a) (reading_view b) capture ledger)
+  pub run : IsRunFault fault

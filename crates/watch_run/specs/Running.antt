@@ -1,0 +1,190 @@
+-- A run whose recordings are read by threads of their own: why it was aborted, and what it leaves.
+use Rattle.std.specs.Prelude.{◌≡◌, ◌⊎◌, ℕ, true, false, List, [], length, Option, Some, None, ⊤}
+use Rattle.std.specs.Io.KnownBytes.{Appends}
+use Rattle.afdx_frame.specs.Frame.{Frame}
+use Rattle.afdx_frame.specs.declared.key.Network.{Network}
+use Rattle.afdx_frame.specs.declared.key.Network.TheVariants.{A, B}
+use Rattle.bpf_isa.specs.declared.packed.Packed.{Packed}
+use Rattle.ordered_merge.specs.Order.{IsOrder}
+use Rattle.ordered_merge.specs.Sound.{IsRecording as IsTapRecording}
+use Rattle.pcap_io.specs.Device.{CountsFailure}
+use Rattle.pcap_io.specs.Position.{LacksMemory, Reading}
+use Rattle.pcap_io.specs.declared.position.Position.{Position}
+use Rattle.pcap_io.specs.declared.recording.Ending.{Ending}
+use Rattle.pcap_io.specs.Reader.{reading_of}
+use Rattle.pcap_io.specs.Writer.{has_failed}
+use Rattle.pcap_io.specs.declared.reader.TapReader.{TapReader}
+use Rattle.pcap_io.specs.declared.recording.Stage.TheVariants.{Going}
+use Rattle.tap_queue.specs.Items.{Gives, IsFed, is_over}
+use Rattle.tap_queue.specs.Ring.{SamePut, has_lost, put_items, put_of, reader_of, taken_items}
+use Rattle.tap_queue.specs.declared.end.TapEnd.{TapEnd}
+use Rattle.tap_queue.specs.declared.feeding.Fed.{Fed}
+use Rattle.tap_queue.specs.declared.ring.TapPut.{TapPut}
+use Rattle.run_outcome.specs.Recording.{LeavesUnread}
+use Rattle.verdict_ledger.specs.Ledger.{has_failed as ledger_has_failed}
+use Rattle.vl_config.specs.Document.{VlTable}
+use Rattle.watch_run.specs.Filters.{capture_by}
+use Rattle.watch_run.specs.Outputs.{HasWritten, StopsWriting, effect_of}
+use Rattle.watch_run.specs.Rings.{HasTaken, RingsFault, StopsTaking}
+use Rattle.watch_run.specs.Taps.{HasRead}
+use Rattle.run_outcome.specs.Device.{AppendsSome, SinkView, SourceView}
+use Rattle.run_outcome.specs.Recording.{HasReadTap, IsReadPart, IsReadWhole, WasOpened, most_frames}
+use Rattle.watch_run.specs.Watch.{AbortsAtOpening, AbortsRun, IsNumber, StopsRun, WatchDevices, lines_by, watch_devices}
+use Rattle.run_outcome.specs.declared.fault.Output.TheVariants as output
+use Rattle.run_outcome.specs.declared.fault.WatchFault.{WatchFault}
+use Rattle.run_outcome.specs.declared.fault.WatchFault.TheVariants as watch
+use Rattle.watch_run.specs.declared.outputs.Outputs.{Outputs}
+use Rattle.watch_run.specs.declared.rings.Rings.{Rings}
+
+-- ---- a tap's thread
+
+-- a reader that was opened and has read nothing more
+pub record IsStarted (network : Network) (late : ℕ) (before : SourceView) (reading : Reading) : Type 0 where
+  pub read : HasRead network late before [] None reading
+  pub going : reading.position.stage ≡ Going
+  pub most : reading.position.most ≡ most_frames
+
+-- what the thread of a tap hands back: the reader's items were put into the ring
+abbrev pub IsReadInto : {S : Type 0} → (S → Option (List ℕ)) → (S → ℕ) → TapReader S → TapPut → Fed S → Type 0
+IsReadInto remaining failures reader put fed =
+    SamePut put (put_of fed) × IsFed (reading_of remaining failures reader) (put_items (put_of fed)) (reading_of remaining failures (reader_of fed))
+
+-- All items of a reader, up to an ending or a fault, were taken from the ring, and its source came back.
+pub record IsSettled {S : Type 0} (remaining : S → Option (List ℕ)) (failures : S → ℕ) (reader : TapReader S) (end : TapEnd) (source : S) : Type 0 where
+  pub reading : Reading
+  pub ahead : List ℕ
+  pub gives : Gives (reading_of remaining failures reader) (taken_items end) reading
+  pub over : is_over (taken_items end) ≡ true
+  pub sound : has_lost end ≡ false
+  pub leaves : LeavesUnread ahead reading.remaining (remaining source)
+  pub same_failures : failures source ≡ reading.failures
+
+-- ---- between the start of the threads and their end
+
+-- All frames that were taken of the rings were merged; those that were cut, the first in order, were judged, filtered and written.
+pub record IsRunning {W L : Type 0} (contents_w : W → Option (List ℕ)) (failures_w : W → ℕ) (contents_l : L → Option (List ℕ)) (failures_l : L → ℕ)
+    (ps : List (List Packed)) (vl_table : VlTable) (capture ledger : SinkView) (rings : Rings) (outputs : Outputs W L) : Type 0 where
+  pub cut : List Frame
+  pub taken : HasTaken vl_table.late cut rings
+  pub written : HasWritten contents_w failures_w contents_l failures_l ps vl_table capture ledger cut outputs
+  pub capture_going : has_failed outputs.capture ≡ false
+  pub ledger_going : ledger_has_failed outputs.ledger ≡ false
+
+-- Both outputs have all that belongs to these frames, and no more.
+pub record HasWholeRounds (ps : List (List Packed)) (vl_table : VlTable) (cut : List Frame) (capture ledger capture' ledger' : SinkView) : Type 0 where
+  pub packets : Appends capture.contents capture'.contents (capture_by ps cut)
+  pub lines : Appends ledger.contents ledger'.contents (lines_by ps vl_table cut)
+  pub capture_failures : capture'.failures ≡ capture.failures
+  pub ledger_failures : ledger'.failures ≡ ledger.failures
+
+-- The run stopped with these frames cut: by what was taken of the rings, or by what was written.
+pub record StopsRunning (fault : WatchFault) (ps : List (List Packed)) (vl_table : VlTable) (capture ledger : SinkView) (a b : TapEnd) (capture' ledger' : SinkView) : Type 0 where
+  pub cut : List Frame
+  pub taken : StopsTaking vl_table.late cut a b
+  pub why : (RingsFault fault a b × HasWholeRounds ps vl_table cut capture ledger capture' ledger')
+      ⊎ StopsWriting (effect_of fault) ps vl_table capture ledger capture' ledger' cut
+
+-- ---- what is left of an aborted run
+
+-- a device failed once more, or not
+abbrev pub MayFail : ℕ → ℕ → Type 0
+MayFail old new = (new ≡ old) ⊎ CountsFailure old new
+
+-- The device that the fault names failed once, if it names one. No other sink did; a source may have, since of several faults one is told.
+abbrev pub FailsAmong : WatchFault → WatchDevices → WatchDevices → Type 0
+FailsAmong (watch.Read A) before after =
+    CountsFailure before.a.failures after.a.failures × MayFail before.b.failures after.b.failures
+    × (after.capture.failures ≡ before.capture.failures) × (after.ledger.failures ≡ before.ledger.failures)
+FailsAmong (watch.Read B) before after =
+    MayFail before.a.failures after.a.failures × CountsFailure before.b.failures after.b.failures
+    × (after.capture.failures ≡ before.capture.failures) × (after.ledger.failures ≡ before.ledger.failures)
+FailsAmong (watch.Write output.Capture) before after =
+    MayFail before.a.failures after.a.failures × MayFail before.b.failures after.b.failures
+    × CountsFailure before.capture.failures after.capture.failures × (after.ledger.failures ≡ before.ledger.failures)
+FailsAmong (watch.Write output.Ledger) before after =
+    MayFail before.a.failures after.a.failures × MayFail before.b.failures after.b.failures
+    × (after.capture.failures ≡ before.capture.failures) × CountsFailure before.ledger.failures after.ledger.failures
+FailsAmong fault before after =
+    MayFail before.a.failures after.a.failures × MayFail before.b.failures after.b.failures
+    × (after.capture.failures ≡ before.capture.failures) × (after.ledger.failures ≡ before.ledger.failures)
+
+-- the faults of a run whose threads were started and whose sources came back
+abbrev pub IsRunningFault : WatchFault → Type 0
+IsRunningFault (watch.Read network) = ⊤
+IsRunningFault (watch.Write out) = ⊤
+IsRunningFault watch.Memory = ⊤
+IsRunningFault watch.Spawn = ⊤
+IsRunningFault fault = ⊥
+
+-- both sources came back, and this holds of them
+abbrev pub BothBack : Option SourceView → Option SourceView → (SourceView → SourceView → Type 0) → Type 0
+BothBack (Some a) (Some b) P = P a b
+BothBack _ _ P = ⊥
+
+-- There was no memory for the packet after these frames: its header is gone, and no more, but for what was read ahead.
+pub record LacksPacketMemory (network : Network) (late : ℕ) (before after : SourceView) (frames : List Frame) : Type 0 where
+  pub position : Position
+  pub left : Option (List ℕ)
+  pub rest : Option (List ℕ)
+  pub ahead : List ℕ
+  pub read : HasReadTap network late before.remaining frames position left
+  pub lacks : LacksMemory position left rest
+  pub unread : LeavesUnread ahead rest after.remaining
+
+-- A recording was read on, whatever had happened to the run: to its ending, or until its source failed or there was no memory for a packet.
+abbrev pub IsReadOut : Network → ℕ → SourceView → SourceView → List Frame → Type 0
+IsReadOut network late before after frames =
+    ((ending : Ending) × IsReadWhole network late before after frames ending)
+    ⊎ CountsFailure before.failures after.failures
+    ⊎ LacksPacketMemory network late before after frames
+
+-- why a run was aborted whose sources came back, and what it leaves
+pub record AbortsRunning (fault : WatchFault) (ps : List (List Packed)) (vl_table : VlTable) (before after : WatchDevices) : Type 0 where
+  pub fails : FailsAmong fault before after
+  pub run : IsRunningFault fault
+  pub stops : StopsRun fault ps vl_table before after
+  pub out_a : IsReadOut A vl_table.late before.a after.a stops.frames_a
+  pub out_b : IsReadOut B vl_table.late before.b after.b stops.frames_b
+
+-- A tap's thread couldn't be started, and its source is gone with it. The other one came back: B as it was opened, or A read by its
+-- thread.
+abbrev pub LosesTap : ℕ → WatchDevices → Option SourceView → Option SourceView → Type 0
+LosesTap late before None (Some b) = WasOpened before.b b × (b.failures ≡ before.b.failures)
+LosesTap late before (Some a) None = (frames : List Frame) × IsReadPart A late before.a a frames × MayFail before.a.failures a.failures
+LosesTap late before _ _ = ⊥
+
+-- The items of a ring were lost, and perhaps sources. The outputs have prefixes of what belongs to two recordings' frames in order, which
+-- nothing ties to the sources.
+pub record LosesRing (ps : List (List Packed)) (vl_table : VlTable) (before : WatchDevices) (capture ledger : SinkView) : Type 0 where
+  pub frames_a : List Frame
+  pub frames_b : List Frame
+  pub frames : List Frame
+  pub tap_a : IsTapRecording A vl_table.late frames_a
+  pub tap_b : IsTapRecording B vl_table.late frames_b
+  pub order : IsOrder frames_a frames_b frames
+  pub packets : AppendsSome before.capture.contents capture.contents (capture_by ps frames)
+  pub lines : AppendsSome before.ledger.contents ledger.contents (lines_by ps vl_table frames)
+  pub capture_failures : MayFail before.capture.failures capture.failures
+  pub ledger_failures : MayFail before.ledger.failures ledger.failures
+
+-- why a run was aborted once its threads were started, or the first of them
+abbrev pub AbortsBegun : WatchFault → List (List Packed) → VlTable → WatchDevices → Option SourceView → Option SourceView → SinkView → SinkView → Type 0
+AbortsBegun fault ps vl_table before a b capture ledger =
+    BothBack a b (λ x y. AbortsRunning fault ps vl_table before (watch_devices x y capture ledger))
+    ⊎ ((fault ≡ watch.Spawn) × LosesTap vl_table.late before a b × HasWholeRounds ps vl_table [] before.capture before.ledger capture ledger)
+    ⊎ ((fault ≡ watch.RingLost) × LosesRing ps vl_table before capture ledger)
+
+-- why no thread was started: a recording wasn't opened, or one of the outputs wasn't begun or there was no memory for the rings, and then both
+-- recordings were opened and no more was read of them
+abbrev pub IsNotBegun : List (List Packed) → VlTable → WatchFault → WatchDevices → WatchDevices → Type 0
+IsNotBegun ps vl_table fault before after =
+    AbortsAtOpening fault before after
+    ⊎ (WasOpened before.a after.a × WasOpened before.b after.b × AbortsRun fault ps vl_table before after)
+
+-- Why a run was aborted, and what it leaves. What is looked at first: the number of workers, that of filters, the recordings, A first.
+abbrev pub IsRunningAborted : ℕ → List (List Packed) → VlTable → WatchFault → WatchDevices → Option SourceView → Option SourceView → SinkView → SinkView → Type 0
+IsRunningAborted workers ps vl_table fault before a b capture ledger =
+    ((fault ≡ watch.Workers) × (IsNumber workers → ⊥) × BothBack a b (λ x y. watch_devices x y capture ledger ≡ before))
+    ⊎ ((fault ≡ watch.Filters) × IsNumber workers × (IsNumber (length ps) → ⊥) × BothBack a b (λ x y. watch_devices x y capture ledger ≡ before))
+    ⊎ (IsNumber workers × IsNumber (length ps) × BothBack a b (λ x y. IsNotBegun ps vl_table fault before (watch_devices x y capture ledger)))
+    ⊎ (IsNumber workers × IsNumber (length ps) × AbortsBegun fault ps vl_table before a b capture ledger)

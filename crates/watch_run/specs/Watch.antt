@@ -1,0 +1,169 @@
+-- What a whole run over two recordings leaves, and why it was aborted (this project's profile).
+use Rattle.std.specs.Prelude.{◌≡◌, ◌⊎◌, ℕ, ◌+◌, ◌^◌, ◌≤◌, List, [], ◌∷◌, ◌++◌, length, take, Option, Some, Err, IfSome, ⊤}
+use Rattle.std.specs.Io.KnownBytes.{Appends}
+use Rattle.afdx_frame.specs.Frame.{Frame}
+use Rattle.afdx_frame.specs.declared.bounds.TheConstants.{MAX_SNAPLEN}
+use Rattle.afdx_frame.specs.declared.key.Network.{Network}
+use Rattle.afdx_frame.specs.declared.key.Network.TheVariants.{A, B}
+use Rattle.bpf_isa.specs.declared.packed.Packed.{Packed}
+use Rattle.ordered_merge.specs.Order.{IsOrder}
+use Rattle.pcap_io.specs.Device.{CountsFailure, TakesAtMost, TakesFewer}
+use Rattle.pcap_io.specs.Layout.{header_of}
+use Rattle.pcap_io.specs.Position.{EndLeaves, Opens, Reads, start_at}
+use Rattle.pcap_io.specs.declared.layout.HeaderFault.{HeaderFault}
+use Rattle.pcap_io.specs.declared.layout.Layout.{Layout}
+use Rattle.pcap_io.specs.declared.layout.TheConstants.{FILE_HEADER_LEN}
+use Rattle.pcap_io.specs.declared.position.Position.{Position}
+use Rattle.pcap_io.specs.declared.record_header.TheConstants.{RECORD_HEADER_LEN}
+use Rattle.pcap_io.specs.declared.recording.Ending.{Ending}
+use Rattle.verdict_ledger.specs.Tally.{totals_of}
+use Rattle.verdict_ledger.specs.Text.{ledger_head, ledger_text, lines_text}
+use Rattle.verdict_ledger.specs.declared.totals.Totals.{Totals}
+use Rattle.vl_config.specs.Document.{VlTable}
+use Rattle.run_outcome.specs.Recording.{IsRecording, LeavesUnread}
+use Rattle.watch_run.specs.Filters.{capture_by, entries_by}
+use Rattle.run_outcome.specs.declared.fault.Output.TheVariants as output
+use Rattle.run_outcome.specs.declared.fault.WatchFault.{WatchFault}
+use Rattle.run_outcome.specs.declared.fault.WatchFault.TheVariants as watch
+use Rattle.run_outcome.specs.Device.{SourceView, SinkView, AppendsSome}
+use Rattle.run_outcome.specs.Recording.{IsReadPart, IsReadWhole, HasHeaderFault, FailsAtHeader, WasOpened}
+
+-- ---- what a run sees of its devices
+
+pub record WatchDevices : Type 0 where
+  pub a : SourceView
+  pub b : SourceView
+  pub capture : SinkView
+  pub ledger : SinkView
+
+abbrev pub watch_devices : SourceView → SourceView → SinkView → SinkView → WatchDevices
+watch_devices a b capture ledger = record { a = a; b = b; capture = capture; ledger = ledger }
+
+-- ---- a whole run
+
+-- of frames the ledger's first line and their lines
+abbrev pub lines_by : List (List Packed) → VlTable → List Frame → List ℕ
+lines_by ps vl_table frames = ledger_head ++ lines_text (entries_by ps vl_table frames)
+
+-- the whole ledger of frames
+abbrev pub ledger_by : List (List Packed) → VlTable → List Frame → Ending → Ending → List ℕ
+ledger_by ps vl_table frames a b = ledger_text vl_table (length ps) (entries_by ps vl_table frames) a b
+
+-- 1 to 8: how many filters a run has, and how many workers
+abbrev pub IsNumber : ℕ → Type 0
+IsNumber n = (1 ≤ n) × (n ≤ 8)
+
+-- Both recordings were read to their endings. The capture is that of all their frames in the one order, the ledger has a line for
+-- each, with the verdicts along that order, and the totals count them.
+pub record IsWatched (ps : List (List Packed)) (vl_table : VlTable) (endings : List Ending) (totals : Totals) (before after : WatchDevices) : Type 0 where
+  pub filters : IsNumber (length ps)
+  pub a : Ending
+  pub b : Ending
+  pub endings_are : endings ≡ a ∷ b ∷ []
+  pub frames_a : List Frame
+  pub frames_b : List Frame
+  pub frames : List Frame
+  pub read_a : IsReadWhole A vl_table.late before.a after.a frames_a a
+  pub read_b : IsReadWhole B vl_table.late before.b after.b frames_b b
+  pub order : IsOrder frames_a frames_b frames
+  pub capture : Appends before.capture.contents after.capture.contents (capture_by ps frames)
+  pub ledger : Appends before.ledger.contents after.ledger.contents (ledger_by ps vl_table frames a b)
+  pub totals_are : totals ≡ totals_of (entries_by ps vl_table frames)
+  pub capture_failures : after.capture.failures ≡ before.capture.failures
+  pub ledger_failures : after.ledger.failures ≡ before.ledger.failures
+
+-- ---- an aborted run
+
+-- Only the device that the fault names failed, if it names one, and just once.
+abbrev pub FailsOnly : WatchFault → WatchDevices → WatchDevices → Type 0
+FailsOnly (watch.Read A) before after =
+    CountsFailure before.a.failures after.a.failures × (after.b.failures ≡ before.b.failures)
+    × (after.capture.failures ≡ before.capture.failures) × (after.ledger.failures ≡ before.ledger.failures)
+FailsOnly (watch.Read B) before after =
+    (after.a.failures ≡ before.a.failures) × CountsFailure before.b.failures after.b.failures
+    × (after.capture.failures ≡ before.capture.failures) × (after.ledger.failures ≡ before.ledger.failures)
+FailsOnly (watch.Write output.Capture) before after =
+    (after.a.failures ≡ before.a.failures) × (after.b.failures ≡ before.b.failures)
+    × CountsFailure before.capture.failures after.capture.failures × (after.ledger.failures ≡ before.ledger.failures)
+FailsOnly (watch.Write output.Ledger) before after =
+    (after.a.failures ≡ before.a.failures) × (after.b.failures ≡ before.b.failures)
+    × (after.capture.failures ≡ before.capture.failures) × CountsFailure before.ledger.failures after.ledger.failures
+FailsOnly _ before after =
+    (after.a.failures ≡ before.a.failures) × (after.b.failures ≡ before.b.failures)
+    × (after.capture.failures ≡ before.capture.failures) × (after.ledger.failures ≡ before.ledger.failures)
+
+abbrev pub OutputsUntouched : WatchDevices → WatchDevices → Type 0
+OutputsUntouched before after = (after.capture ≡ before.capture) × (after.ledger ≡ before.ledger)
+
+-- A recording wasn't opened, that of A first. Nothing was written.
+abbrev pub StopsAtOpening : WatchFault → WatchDevices → WatchDevices → Type 0
+StopsAtOpening (watch.Header A f) before after =
+    HasHeaderFault f before.a after.a × (after.b ≡ before.b) × OutputsUntouched before after
+StopsAtOpening (watch.Header B f) before after =
+    WasOpened before.a after.a × HasHeaderFault f before.b after.b × OutputsUntouched before after
+StopsAtOpening (watch.Read A) before after =
+    FailsAtHeader before.a after.a × (after.b ≡ before.b) × OutputsUntouched before after
+StopsAtOpening (watch.Read B) before after =
+    WasOpened before.a after.a × FailsAtHeader before.b after.b × OutputsUntouched before after
+StopsAtOpening fault before after = ⊥
+
+-- and only the device that the fault names failed, if it names one
+abbrev pub AbortsAtOpening : WatchFault → WatchDevices → WatchDevices → Type 0
+AbortsAtOpening fault before after = FailsOnly fault before after × StopsAtOpening fault before after
+
+-- both recordings have ended so
+pub record HaveEnded (late : ℕ) (before : WatchDevices) (frames_a frames_b : List Frame) (a b : Ending) : Type 0 where
+  pub a_complete : IfSome before.a.remaining (λ bytes. IsRecording A late bytes frames_a a)
+  pub b_complete : IfSome before.b.remaining (λ bytes. IsRecording B late bytes frames_b b)
+
+-- The ledger has a prefix of the frames' lines; or, where both recordings had ended and the capture is complete, of its whole text.
+abbrev pub HasLines : List (List Packed) → VlTable → WatchDevices → List Frame → List Frame → List Frame → SinkView → SinkView → Type 0
+HasLines ps vl_table before frames_a frames_b frames capture ledger =
+    AppendsSome before.ledger.contents ledger.contents (lines_by ps vl_table frames)
+    ⊎ ((a b : Ending) × HaveEnded vl_table.late before frames_a frames_b a b × Appends before.capture.contents capture.contents (capture_by ps frames)
+    × AppendsSome before.ledger.contents ledger.contents (ledger_by ps vl_table frames a b))
+
+-- Where a recording's source failed, the outputs have all that belongs to the first so many frames, and no part of a packet or a line.
+abbrev pub HasWholes : WatchFault → List (List Packed) → VlTable → List Frame → SinkView → SinkView → SinkView → SinkView → Type 0
+HasWholes (watch.Read network) ps vl_table frames capture ledger capture' ledger' =
+    (n : ℕ) × Appends capture.contents capture'.contents (capture_by ps (take n frames))
+    × Appends ledger.contents ledger'.contents (lines_by ps vl_table (take n frames))
+HasWholes fault ps vl_table frames capture ledger capture' ledger' = ⊤
+
+-- Of recordings whose bytes are known, whatever was read: each output has a prefix of what belongs to all their frames.
+abbrev pub HasFirstOfAll : List (List Packed) → VlTable → WatchDevices → SinkView → SinkView → Type 0
+HasFirstOfAll ps vl_table before capture ledger =
+    (bytes_a bytes_b : List ℕ) (frames_a frames_b frames : List Frame) (a b : Ending) → before.a.remaining ≡ Some bytes_a → before.b.remaining ≡ Some bytes_b →
+    IsRecording A vl_table.late bytes_a frames_a a → IsRecording B vl_table.late bytes_b frames_b b → IsOrder frames_a frames_b frames →
+    AppendsSome before.capture.contents capture.contents (capture_by ps frames)
+    × AppendsSome before.ledger.contents ledger.contents (ledger_by ps vl_table frames a b)
+
+-- The run stopped after these frames. Each output has a prefix of what belongs to them.
+pub record StopsRun (fault : WatchFault) (ps : List (List Packed)) (vl_table : VlTable) (before after : WatchDevices) : Type 0 where
+  pub frames_a : List Frame
+  pub frames_b : List Frame
+  pub frames : List Frame
+  pub read_a : IsReadPart A vl_table.late before.a after.a frames_a
+  pub read_b : IsReadPart B vl_table.late before.b after.b frames_b
+  pub order : IsOrder frames_a frames_b frames
+  pub capture : AppendsSome before.capture.contents after.capture.contents (capture_by ps frames)
+  pub ledger : HasLines ps vl_table before frames_a frames_b frames after.capture after.ledger
+  pub wholes : HasWholes fault ps vl_table frames before.capture before.ledger after.capture after.ledger
+  pub first : HasFirstOfAll ps vl_table before after.capture after.ledger
+
+-- the faults of a run that has begun
+abbrev pub IsRunFault : WatchFault → Type 0
+IsRunFault (watch.Read network) = Unit {0}
+IsRunFault (watch.Write out) = Unit {0}
+IsRunFault watch.Memory = Unit {0}
+IsRunFault fault = ⊥
+
+-- why a run that had begun was aborted, and what it leaves
+abbrev pub AbortsRun : WatchFault → List (List Packed) → VlTable → WatchDevices → WatchDevices → Type 0
+AbortsRun fault ps vl_table before after = FailsOnly fault before after × IsRunFault fault × StopsRun fault ps vl_table before after
+
+-- why a run was aborted, and what it leaves: the number of filters is the first thing that is looked at
+abbrev pub IsWatchAborted : List (List Packed) → VlTable → WatchFault → WatchDevices → WatchDevices → Type 0
+IsWatchAborted ps vl_table fault before after =
+    ((fault ≡ watch.Filters) × (IsNumber (length ps) → ⊥) × (after ≡ before))
+    ⊎ (IsNumber (length ps) × (AbortsAtOpening fault before after ⊎ AbortsRun fault ps vl_table before after))

@@ -1,0 +1,20 @@
+//! Two recordings, up to eight filters: the capture of the accepted frames in one order, and the ledger of all verdicts.
+//!
+//! [`watch_whole`] does it on the calling thread; [`watch`] reads each recording by a thread of its own and shares each round of
+//! frames among workers. What stands after either is one definition (`IsWatched`).
+#![tactic(auto)]
+
+mod filters;
+mod gate;
+mod one_thread;
+mod outputs;
+mod rings;
+mod round;
+mod running;
+mod tap_thread;
+mod taps;
+mod threads;
+
+pub use gate::OpenGate;
+pub use one_thread::{Watched, watch_whole};
+pub use threads::watch;

@@ -1,0 +1,226 @@
+//! Two recordings, up to eight filters: the capture of the accepted frames in one order, and the
+//! ledger of all verdicts.
+ghost use Rattle.std.specs.Prelude.{◌≡◌, ◌≤◌, IfErr, IfOk, IfSome, IsSome, List, OnOk, false, length, map, [], Some};
+ghost use Rattle.vl_config.specs.Document.{VlTable};
+ghost use Rattle.bpf_isa.specs.declared.packed.Packed.{Packed};
+ghost use Rattle.pcap_io.specs.Reader.{reading_of};
+ghost use Rattle.pcap_io.specs.Writer.{sink_of};
+ghost use Rattle.verdict_ledger.specs.Ledger.{has_failed as ledger_has_failed, sink_of as ledger_sink};
+ghost use Rattle.watch_run.specs.Run.{IsWatching, StopsWatching};
+ghost use Rattle.watch_run.specs.Taps.{HasEnded};
+ghost use Rattle.run_outcome.specs.Device.{sink_view, source_view};
+ghost use Rattle.watch_run.specs.Watch.{AbortsRun, IsNumber, IsWatchAborted, IsWatched, WatchDevices, watch_devices};
+
+use crate::outputs::{Outputs, Unwritten};
+use crate::taps::{Taps, Unopened};
+use bpf_loader::Program;
+use filter_workers::MAX_FILTERS;
+use pcap_io::{Ending, OutSink, TapSource};
+use run_outcome::{WatchFault, WatchRefused};
+use std::alloc::Global;
+use verdict_ledger::Totals;
+use vl_config::Config;
+
+/// A whole analysis of two recordings, with the devices that it was given.
+#[derive(Debug, Drop)]
+pub struct Watched<S, T, W, L> {
+    /// How the recordings of networks A and B ended.
+    pub endings: [Ending; 2],
+    /// The counts of all frames.
+    pub totals: Totals,
+    /// The source of network A.
+    pub a: S,
+    /// The source of network B.
+    pub b: T,
+    /// The sink of the capture.
+    pub capture: W,
+    /// The sink of the ledger.
+    pub ledger: L,
+}
+
+/// Reads, judges, filters and writes all frames, a round at a time.
+fn write_rounds<S: TapSource, T: TapSource, W: OutSink, L: OutSink>(
+    alloc: Global,
+    programs: &[Program],
+    taps: &mut Taps<S, T>,
+    outputs: &mut Outputs<W, L>,
+) -> Result<(), WatchFault>
+    requires few { length programs.now ≤ 8 }
+    requires begun { (vl_table : VlTable) × (before : WatchDevices)
+        × IsWatching S.remaining S.failures T.remaining T.failures
+        W.contents W.failures L.contents L.failures
+        programs.now vl_table before taps.old outputs.old }
+    ensures watching { OnOk result ((vl_table : VlTable) (before : WatchDevices)
+        → IsWatching S.remaining S.failures T.remaining T.failures
+        W.contents W.failures L.contents L.failures
+        programs.now vl_table before taps.old outputs.old
+        → IsWatching S.remaining S.failures T.remaining T.failures
+        W.contents W.failures L.contents L.failures
+        programs.now vl_table before taps.new outputs.new) }
+    ensures ended { OnOk result (HasEnded taps.new × (taps.new.merger.pending ≡ [])) }
+    ensures stopped { IfErr result (λ fault. (vl_table : VlTable) (before : WatchDevices)
+        → IsWatching S.remaining S.failures T.remaining T.failures
+        W.contents W.failures L.contents L.failures
+        programs.now vl_table before taps.old outputs.old
+        → StopsWatching fault programs.now vl_table before
+        (reading_of S.remaining S.failures taps.new.a)
+        (reading_of T.remaining T.failures taps.new.b)
+        (sink_view W.contents W.failures (sink_of outputs.new.capture))
+        (sink_view L.contents L.failures (ledger_sink outputs.new.ledger))) }
+{
+    while let Some(round) = taps.next_round(alloc)? {
+        outputs.write_round(alloc, programs, &round)?;
+    }
+    Ok(())
+}
+
+/// A run that has begun and was aborted.
+fn stopped<S: TapSource, T: TapSource, W: OutSink, L: OutSink>(
+    fault: WatchFault,
+    taps: Taps<S, T>,
+    outputs: Outputs<W, L>,
+) -> WatchRefused<S, T, W, L>
+    ensures aborted { IfSome result.a (λ a. IfSome result.b (λ b.
+        (ps : List (List Packed)) (vl_table : VlTable) (before : WatchDevices)
+        → StopsWatching fault ps vl_table before
+        (reading_of S.remaining S.failures taps.a)
+        (reading_of T.remaining T.failures taps.b)
+        (sink_view W.contents W.failures (sink_of outputs.capture))
+        (sink_view L.contents L.failures (ledger_sink outputs.ledger))
+        → AbortsRun result.fault ps vl_table before
+        (watch_devices (source_view S.remaining S.failures a)
+        (source_view T.remaining T.failures b)
+        (sink_view W.contents W.failures result.capture)
+        (sink_view L.contents L.failures result.ledger)))) }
+    ensures back { IsSome result.a × IsSome result.b }
+{
+    let (a, b) = taps.into_sources();
+    let (capture, ledger) = outputs.into_sinks();
+    WatchRefused::new(fault, a, b, capture, ledger)
+}
+
+/// Writes what follows the lines of frames, after both recordings have ended.
+fn finish<S: TapSource, T: TapSource, W: OutSink, L: OutSink>(
+    taps: Taps<S, T>,
+    outputs: Outputs<W, L>,
+) -> Result<Watched<S, T, W, L>, WatchRefused<S, T, W, L>>
+    requires ended { HasEnded taps }
+    requires all { taps.merger.pending ≡ [] }
+    requires going { ledger_has_failed outputs.ledger ≡ false }
+    ensures watched { IfOk result (λ done.
+        (ps : List (List Packed)) (vl_table : VlTable) (before : WatchDevices)
+        → IsWatching S.remaining S.failures T.remaining T.failures
+        W.contents W.failures L.contents L.failures ps vl_table before taps outputs
+        → IsNumber (length ps) → IsWatched ps vl_table done.endings done.totals before
+        (watch_devices (source_view S.remaining S.failures done.a)
+        (source_view T.remaining T.failures done.b)
+        (sink_view W.contents W.failures done.capture)
+        (sink_view L.contents L.failures done.ledger))) }
+    ensures aborted { IfErr result (λ refused. IfSome refused.a (λ a. IfSome refused.b (λ b.
+        (ps : List (List Packed)) (vl_table : VlTable) (before : WatchDevices)
+        → IsWatching S.remaining S.failures T.remaining T.failures
+        W.contents W.failures L.contents L.failures ps vl_table before taps outputs
+        → AbortsRun refused.fault ps vl_table before
+        (watch_devices (source_view S.remaining S.failures a)
+        (source_view T.remaining T.failures b)
+        (sink_view W.contents W.failures refused.capture)
+        (sink_view L.contents L.failures refused.ledger))))) }
+    ensures back { IfErr result (λ refused. IsSome refused.a × IsSome refused.b) }
+{
+    let (Some(end_a), Some(end_b)) = (taps.end_a, taps.end_b) else {
+        unreachable!()
+    };
+    let (a, b) = taps.into_sources();
+    match outputs.finish(end_a, end_b) {
+        Ok((capture, ledger, totals)) => Ok(Watched {
+            endings: [end_a, end_b],
+            totals,
+            a,
+            b,
+            capture,
+            ledger,
+        }),
+        Err(
+            Unwritten {
+                fault,
+                capture,
+                ledger,
+            },
+        ) => Err(WatchRefused::new(fault, a, b, capture, ledger)),
+    }
+}
+
+/// Analyses two recordings on the calling thread. Of the frames of both, in rising order of timestamp,
+/// network and number, it writes those that a filter accepts to the capture, each cut to the greatest
+/// return value, and a line for each, with its verdict by the table, to the ledger.
+///
+/// Stamps may go back within the table's window. Each recording is read up to 2^32 frames. All devices
+/// come back. A source may have been read ahead of the last frame, by no more than 262144 bytes.
+///
+/// Its memory is flat, however long the recordings are: it holds the frames that may still be preceded
+/// by others, a round of 256, and a block of each recording.
+///
+/// # Errors
+///
+/// `Filters` if there are not 1 to 8 programs; `Header` or `Read` if a recording can't be opened, that of
+/// A first. Up to there nothing was written. Later `Read`, `Write` or `Memory`: each output has a prefix of
+/// what belongs to the frames that were read; after `Read` it ends with a whole packet and a whole line.
+pub fn watch_whole<S: TapSource, T: TapSource, W: OutSink, L: OutSink>(
+    alloc: Global,
+    config: &Config,
+    programs: &[Program],
+    a: S,
+    b: T,
+    capture: W,
+    ledger: L,
+) -> Result<Watched<S, T, W, L>, WatchRefused<S, T, W, L>>
+    ensures watched { IfOk result (λ done. IsWatched programs.now config.now
+        done.endings done.totals
+        (watch_devices (source_view S.remaining S.failures a)
+        (source_view T.remaining T.failures b)
+        (sink_view W.contents W.failures capture)
+        (sink_view L.contents L.failures ledger))
+        (watch_devices (source_view S.remaining S.failures done.a)
+        (source_view T.remaining T.failures done.b)
+        (sink_view W.contents W.failures done.capture)
+        (sink_view L.contents L.failures done.ledger))) }
+    ensures aborted { IfErr result (λ refused. IfSome refused.a (λ a'. IfSome refused.b (λ b'.
+        IsWatchAborted programs.now config.now refused.fault
+        (watch_devices (source_view S.remaining S.failures a)
+        (source_view T.remaining T.failures b)
+        (sink_view W.contents W.failures capture)
+        (sink_view L.contents L.failures ledger))
+        (watch_devices (source_view S.remaining S.failures a')
+        (source_view T.remaining T.failures b')
+        (sink_view W.contents W.failures refused.capture)
+        (sink_view L.contents L.failures refused.ledger))))) }
+    ensures back { IfErr result (λ refused. IsSome refused.a × IsSome refused.b) }
+{
+    if programs.is_empty() || programs.len() > MAX_FILTERS {
+        return Err(WatchRefused::new(WatchFault::Filters, a, b, capture, ledger));
+    }
+    let mut taps = match Taps::open(alloc, config.late(), a, b) {
+        Ok(taps) => taps,
+        Err(Unopened { fault, a, b }) => {
+            return Err(WatchRefused::new(fault, a, b, capture, ledger));
+        }
+    };
+    let filters = programs.len() as u32;
+    let mut outputs = match Outputs::begin(alloc, config, filters, capture, ledger) {
+        Ok(outputs) => outputs,
+        Err(
+            Unwritten {
+                fault,
+                capture,
+                ledger,
+            },
+        ) => {
+            let (a, b) = taps.into_sources();
+            return Err(WatchRefused::new(fault, a, b, capture, ledger));
+        }
+    };
+    match write_rounds(alloc, programs, &mut taps, &mut outputs) {
+        Ok(()) => finish(taps, outputs),
+        Err(fault) => Err(stopped(fault, taps, outputs)),
+    }
+}

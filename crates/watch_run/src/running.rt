@@ -1,0 +1,246 @@
+//! A run whose taps are read by threads of their own.
+ghost use Rattle.std.specs.Prelude.{◌≡◌, ◌∷◌, List, Some, false, length, true, [], is_some, IfErr, IfOk};
+ghost use Rattle.std.specs.Option.{option_map};
+ghost use Rattle.bpf_isa.specs.declared.packed.Packed.{Packed};
+ghost use Rattle.pcap_io.specs.Reader.{reading_of};
+ghost use Rattle.vl_config.specs.Document.{VlTable};
+ghost use Rattle.watch_run.specs.Round.{IsShared};
+ghost use Rattle.tap_queue.specs.Ring.{SameEnd};
+ghost use Rattle.watch_run.specs.Running.{AbortsBegun, IsRunning, IsStarted, StopsRunning};
+ghost use Rattle.watch_run.specs.Outputs.{HasWritten, IsFinished, StopsFinishing};
+ghost use Rattle.run_outcome.specs.Device.{SinkView};
+ghost use Rattle.watch_run.specs.Watch.{IsNumber, IsWatched, WatchDevices};
+ghost use Rattle.run_outcome.specs.Device.{sink_view, source_view};
+ghost use Rattle.watch_run.specs.Watch.{watch_devices};
+ghost use Rattle.verdict_ledger.specs.Ledger.{has_failed as ledger_has_failed};
+ghost use Rattle.afdx_frame.specs.Frame.{Frame};
+
+use crate::one_thread::Watched;
+use crate::outputs::{Outputs, Unwritten};
+use crate::rings::{Rings, drain};
+use crate::round::Sharing;
+use crate::tap_thread::{TapThread, settle_tap};
+use afdx_frame::Network;
+use filter_workers::RunGate;
+use pcap_io::{Ending, OutSink, TapSource};
+use run_outcome::{WatchFault, WatchRefused};
+use std::alloc::Global;
+use std::sync::Wait;
+use std::thread::Threads;
+
+/// Takes and merges all frames, and shares each round of them among workers, until both recordings have
+/// ended.
+pub fn write_rounds<R: Threads + Wait + Sync, W: OutSink, L: OutSink, G: RunGate + Sync>(
+    rt: &R,
+    alloc: Global,
+    sharing: &Sharing<'_, G>,
+    rings: &mut Rings,
+    outputs: Outputs<W, L>,
+) -> Result<Outputs<W, L>, Unwritten<W, L>>
+    requires shared { IsShared sharing.now.programs.now sharing.now.workers }
+    requires begun { (vl_table : VlTable) × (capture : SinkView) × (ledger : SinkView)
+        × IsRunning W.contents W.failures L.contents L.failures
+        sharing.now.programs.now vl_table capture ledger rings.old outputs }
+    ensures a { SameEnd rings.old.a rings.new.a }
+    ensures b { SameEnd rings.old.b rings.new.b }
+    ensures running { IfOk result (λ written. (vl_table : VlTable) (capture ledger : SinkView)
+        → IsRunning W.contents W.failures L.contents L.failures
+        sharing.now.programs.now vl_table capture ledger rings.old outputs
+        → IsRunning W.contents W.failures L.contents L.failures
+        sharing.now.programs.now vl_table capture ledger rings.new written) }
+    ensures ended { IfOk result (λ _. (is_some rings.new.end_a ≡ true)
+        × (is_some rings.new.end_b ≡ true) × (rings.new.merger.pending ≡ [])) }
+    ensures stopped { IfErr result (λ e. (vl_table : VlTable) (capture ledger : SinkView)
+        → IsRunning W.contents W.failures L.contents L.failures
+        sharing.now.programs.now vl_table capture ledger rings.old outputs
+        → StopsRunning e.fault sharing.now.programs.now vl_table capture ledger
+        rings.new.a rings.new.b
+        (sink_view W.contents W.failures e.capture) (sink_view L.contents L.failures e.ledger)) }
+{
+    let mut outputs = outputs;
+    for _ in rt.forever() {
+        let round = match rings.next_round(rt) {
+            Ok(Some(round)) => round,
+            Ok(None) => return Ok(outputs),
+            Err(fault) => return Err(outputs.unwritten(fault)),
+        };
+        outputs = match outputs.write_shared(rt, alloc, sharing, &round) {
+            Ok(outputs) => outputs,
+            Err(unwritten) => return Err(unwritten),
+        };
+        rings.give_back(round);
+    }
+    unreachable!()
+}
+
+/// Writes what follows the lines of frames, for sources that came back.
+fn finish_outputs<S, T, W: OutSink, L: OutSink>(
+    outputs: Outputs<W, L>,
+    end_a: Ending,
+    end_b: Ending,
+    a: S,
+    b: T,
+) -> Result<Watched<S, T, W, L>, WatchRefused<S, T, W, L>>
+    requires going { ledger_has_failed outputs.ledger ≡ false }
+    ensures endings { IfOk result (λ done. done.endings ≡ end_a ∷ end_b ∷ []) }
+    ensures sources { IfOk result (λ done. (done.a ≡ a) × (done.b ≡ b)) }
+    ensures back { IfErr result (λ refused. (refused.a ≡ Some a) × (refused.b ≡ Some b)) }
+    ensures finished { IfOk result (λ done. (ps : List (List Packed)) (vl_table : VlTable)
+        (capture ledger : SinkView) (frames : List Frame)
+        → HasWritten W.contents W.failures L.contents L.failures
+        ps vl_table capture ledger frames outputs
+        → IsFinished ps vl_table capture ledger (sink_view W.contents W.failures done.capture)
+        (sink_view L.contents L.failures done.ledger) frames end_a end_b done.totals) }
+    ensures stopped { IfErr result (λ refused. (ps : List (List Packed)) (vl_table : VlTable)
+        (capture ledger : SinkView) (frames : List Frame)
+        → HasWritten W.contents W.failures L.contents L.failures
+        ps vl_table capture ledger frames outputs
+        → StopsFinishing refused.fault ps vl_table capture ledger
+        (sink_view W.contents W.failures refused.capture)
+        (sink_view L.contents L.failures refused.ledger) frames end_a end_b) }
+{
+    match outputs.finish(end_a, end_b) {
+        Ok((capture, ledger, totals)) => Ok(Watched {
+            endings: [end_a, end_b],
+            totals,
+            a,
+            b,
+            capture,
+            ledger,
+        }),
+        Err(
+            Unwritten {
+                fault,
+                capture,
+                ledger,
+            },
+        ) => Err(WatchRefused::new(fault, a, b, capture, ledger)),
+    }
+}
+
+/// A run whose taps are read by threads.
+#[derive(Drop)]
+pub struct Running<S: TapSource, T: TapSource> {
+    pub rings: Rings,
+    pub a: TapThread<S>,
+    pub b: TapThread<T>,
+}
+
+impl<S: TapSource + Drop, T: TapSource + Drop> Running<S, T> {
+    ghost use Rattle.tap_queue.specs.Ring.{IsRing};
+
+    /// Settles both rings of a run whose recordings have ended, and writes what follows the lines of
+    /// frames.
+    pub fn finish<R: Threads, W: OutSink, L: OutSink>(
+        self,
+        rt: &R,
+        outputs: Outputs<W, L>,
+    ) -> Result<Watched<S, T, W, L>, WatchRefused<S, T, W, L>>
+        requires ring_a { IsRing self.a.promise.put.value self.rings.a }
+        requires ring_b { IsRing self.b.promise.put.value self.rings.b }
+        requires ended { (is_some self.rings.end_a ≡ true) × (is_some self.rings.end_b ≡ true) }
+        requires all { self.rings.merger.pending ≡ [] }
+        requires going { ledger_has_failed outputs.ledger ≡ false }
+        ensures watched { IfOk result (λ done.
+            (ps : List (List Packed)) (vl_table : VlTable) (before : WatchDevices)
+            → IsStarted Network.A vl_table.late before.a
+            (reading_of S.remaining S.failures self.a.promise.reader.value)
+            → IsStarted Network.B vl_table.late before.b
+            (reading_of T.remaining T.failures self.b.promise.reader.value)
+            → IsRunning W.contents W.failures L.contents L.failures
+            ps vl_table before.capture before.ledger self.rings outputs
+            → IsNumber (length ps) → IsWatched ps vl_table done.endings done.totals before
+            (watch_devices (source_view S.remaining S.failures done.a)
+            (source_view T.remaining T.failures done.b)
+            (sink_view W.contents W.failures done.capture)
+            (sink_view L.contents L.failures done.ledger))) }
+        ensures aborted { IfErr result (λ refused.
+            (ps : List (List Packed)) (vl_table : VlTable) (before : WatchDevices)
+            → IsStarted Network.A vl_table.late before.a
+            (reading_of S.remaining S.failures self.a.promise.reader.value)
+            → IsStarted Network.B vl_table.late before.b
+            (reading_of T.remaining T.failures self.b.promise.reader.value)
+            → IsRunning W.contents W.failures L.contents L.failures
+            ps vl_table before.capture before.ledger self.rings outputs
+            → AbortsBegun refused.fault ps vl_table before
+            (option_map (source_view S.remaining S.failures) refused.a)
+            (option_map (source_view T.remaining T.failures) refused.b)
+            (sink_view W.contents W.failures refused.capture)
+            (sink_view L.contents L.failures refused.ledger)) }
+    {
+        let Running { rings, a, b } = self;
+        let (Some(end_a), Some(end_b)) = (rings.end_a, rings.end_b) else {
+            unreachable!()
+        };
+        let Rings {
+            a: ring_a,
+            b: ring_b,
+            merger: _,
+            end_a: _,
+            end_b: _,
+        } = rings;
+        match (settle_tap(rt, ring_a, a), settle_tap(rt, ring_b, b)) {
+            (Some(a), Some(b)) => finish_outputs(outputs, end_a, end_b, a, b),
+            (a, b) => {
+                let (capture, ledger) = outputs.into_sinks();
+                Err(WatchRefused {
+                    fault: WatchFault::RingLost,
+                    a,
+                    b,
+                    capture,
+                    ledger,
+                })
+            }
+        }
+    }
+
+    /// Aborts a run: takes what is left of both rings, waits for the threads, and gives the sources back.
+    pub fn abort<R: Threads + Wait, W: OutSink, L: OutSink>(
+        self,
+        rt: &R,
+        unwritten: Unwritten<W, L>,
+    ) -> WatchRefused<S, T, W, L>
+        requires ring_a { IsRing self.a.promise.put.value self.rings.a }
+        requires ring_b { IsRing self.b.promise.put.value self.rings.b }
+        ensures { (ps : List (List Packed)) (vl_table : VlTable) (before : WatchDevices)
+            → IsStarted Network.A vl_table.late before.a
+            (reading_of S.remaining S.failures self.a.promise.reader.value)
+            → IsStarted Network.B vl_table.late before.b
+            (reading_of T.remaining T.failures self.b.promise.reader.value)
+            → StopsRunning unwritten.fault ps vl_table before.capture before.ledger
+            self.rings.a self.rings.b
+            (sink_view W.contents W.failures unwritten.capture)
+            (sink_view L.contents L.failures unwritten.ledger)
+            → AbortsBegun result.fault ps vl_table before
+            (option_map (source_view S.remaining S.failures) result.a)
+            (option_map (source_view T.remaining T.failures) result.b)
+            (sink_view W.contents W.failures result.capture)
+            (sink_view L.contents L.failures result.ledger) }
+    {
+        let Running { mut rings, a, b } = self;
+        drain(rt, &mut rings.a);
+        drain(rt, &mut rings.b);
+        let Rings {
+            a: ring_a,
+            b: ring_b,
+            merger: _,
+            end_a: _,
+            end_b: _,
+        } = rings;
+        let Unwritten {
+            fault,
+            capture,
+            ledger,
+        } = unwritten;
+        match (settle_tap(rt, ring_a, a), settle_tap(rt, ring_b, b)) {
+            (Some(a), Some(b)) => WatchRefused::new(fault, a, b, capture, ledger),
+            (a, b) => WatchRefused {
+                fault: WatchFault::RingLost,
+                a,
+                b,
+                capture,
+                ledger,
+            },
+        }
+    }
+}

@@ -1,0 +1,394 @@
+//! Two recordings, up to eight filters, on threads: each tap is read by one of its own, and each round of
+//! frames is shared among workers.
+ghost use Rattle.std.specs.Prelude.{◌≡◌, List, None, length, is_some, IfErr, IfOk, IfSome, IsSome, if◌then◌else◌};
+ghost use Rattle.std.specs.Option.{option_map};
+ghost use Rattle.bpf_isa.specs.declared.packed.Packed.{Packed};
+ghost use Rattle.pcap_io.specs.Writer.{sink_of};
+ghost use Rattle.verdict_ledger.specs.Ledger.{sink_of as ledger_sink};
+ghost use Rattle.vl_config.specs.Document.{VlTable};
+ghost use Rattle.watch_run.specs.Round.{IsShared};
+ghost use Rattle.watch_run.specs.Ready.{AreNew, AreTwoRings, IsReady, Runs, ready_of};
+ghost use Rattle.watch_run.specs.Running.{AbortsBegun, IsNotBegun, IsRunningAborted};
+ghost use Rattle.watch_run.specs.Watch.{IsNumber, IsWatched, WatchDevices};
+ghost use Rattle.run_outcome.specs.Device.{sink_view, source_view};
+ghost use Rattle.watch_run.specs.Watch.{watch_devices};
+
+use crate::one_thread::Watched;
+use crate::outputs::{Outputs, Unwritten};
+use crate::rings::{Rings, drain};
+use crate::round::Sharing;
+use crate::running::{Running, write_rounds};
+use crate::tap_thread::{settle_tap, start_tap};
+use crate::taps::{Taps, Unopened};
+use afdx_frame::Network;
+use bpf_loader::Program;
+use filter_workers::{MAX_FILTERS, MAX_WORKERS, RunGate};
+use pcap_io::{OutSink, TapReader, TapSource};
+use run_outcome::{WatchFault, WatchRefused};
+use std::alloc::{AllocError, Global};
+use std::sync::Wait;
+use std::thread;
+use std::thread::{Scope, Threads};
+use tap_queue::{TapEnd, TapGate, TapPut, tap_ring};
+use vl_config::Config;
+
+/// A run that is ready to start: opened readers, the rings that they are read into, and the outputs, which
+/// have begun.
+#[derive(Drop)]
+pub struct Ready<S, T, W, L> {
+    pub a: TapReader<S>,
+    pub b: TapReader<T>,
+    pub put_a: TapPut,
+    pub put_b: TapPut,
+    pub rings: Rings,
+    pub outputs: Outputs<W, L>,
+}
+
+/// A run that was aborted, as one tap's thread couldn't be started. The other tap's source is back, but for
+/// its ring being lost.
+fn not_started<S, T, W: OutSink, L: OutSink>(
+    a: Option<S>,
+    outputs: Outputs<W, L>,
+) -> WatchRefused<S, T, W, L>
+    ensures a { result.a ≡ a }
+    ensures b { result.b ≡ None }
+    ensures fault { result.fault ≡ (if is_some a then WatchFault.Spawn else WatchFault.RingLost) }
+    ensures capture { result.capture ≡ sink_of outputs.capture }
+    ensures ledger { result.ledger ≡ ledger_sink outputs.ledger }
+{
+    let fault = match &a {
+        Some(_) => WatchFault::Spawn,
+        None => WatchFault::RingLost,
+    };
+    let (capture, ledger) = outputs.into_sinks();
+    WatchRefused {
+        fault,
+        a,
+        b: None,
+        capture,
+        ledger,
+    }
+}
+
+impl<S: TapSource + Drop + Send, T: TapSource + Drop + Send, W: OutSink, L: OutSink> Ready<
+    S,
+    T,
+    W,
+    L,
+> {
+    /// Starts the threads that read the taps. The source of a tap whose thread can't be started is lost;
+    /// the other one comes back.
+    fn start<'s, E, R: Threads + Wait + Sync, G: TapGate + Sync>(
+        self,
+        scope: &Scope<'s, E>,
+        rt: &'s R,
+        alloc: Global,
+        gate: &'s G,
+    ) -> Result<(Running<S, T>, Outputs<W, L>), WatchRefused<S, T, W, L>>
+    where
+        S: 's,
+        T: 's,
+        requires new { AreNew self }
+        ensures rings { IfOk result (λ started. started.0.rings ≡ self.rings) }
+        ensures outputs { IfOk result (λ started. started.1 ≡ self.outputs) }
+        ensures a { IfOk result (λ started. started.0.a.promise.reader.value ≡ self.a) }
+        ensures b { IfOk result (λ started. started.0.b.promise.reader.value ≡ self.b) }
+        ensures put_a { IfOk result (λ started. started.0.a.promise.put.value ≡ self.put_a) }
+        ensures put_b { IfOk result (λ started. started.0.b.promise.put.value ≡ self.put_b) }
+        ensures lost { IfErr result (λ refused.
+            (ps : List (List Packed)) (vl_table : VlTable) (before : WatchDevices)
+            → IsReady S.remaining S.failures T.remaining T.failures
+            W.contents W.failures L.contents L.failures ps vl_table before self
+            → AbortsBegun refused.fault ps vl_table before
+            (option_map (source_view S.remaining S.failures) refused.a)
+            (option_map (source_view T.remaining T.failures) refused.b)
+            (sink_view W.contents W.failures refused.capture)
+            (sink_view L.contents L.failures refused.ledger)) }
+    {
+        let Ready {
+            a,
+            b,
+            put_a,
+            put_b,
+            mut rings,
+            outputs,
+        } = self;
+        let Some(a) = start_tap(scope, rt, alloc, gate, a, put_a) else {
+            let (capture, ledger) = outputs.into_sinks();
+            return Err(WatchRefused {
+                fault: WatchFault::Spawn,
+                a: None,
+                b: Some(b.into_source()),
+                capture,
+                ledger,
+            });
+        };
+        let Some(b) = start_tap(scope, rt, alloc, gate, b, put_b) else {
+            drain(rt, &mut rings.a);
+            return Err(not_started(settle_tap(rt, rings.a, a), outputs));
+        };
+        Ok((Running { rings, a, b }, outputs))
+    }
+}
+
+/// Runs what is ready, to its end.
+fn run_ready<'s, E, R, S, T, W, L, G>(
+    scope: &Scope<'s, E>,
+    rt: &'s R,
+    alloc: Global,
+    sharing: &Sharing<'_, G>,
+    gate: &'s G,
+    ready: Ready<S, T, W, L>,
+) -> Result<Watched<S, T, W, L>, WatchRefused<S, T, W, L>>
+where
+    R: Threads + Wait + Sync,
+    S: TapSource + Drop + Send + 's,
+    T: TapSource + Drop + Send + 's,
+    W: OutSink,
+    L: OutSink,
+    G: RunGate + TapGate + Sync,
+    requires shared { IsShared sharing.now.programs.now sharing.now.workers }
+    requires new { AreNew ready }
+    requires ready { (vl_table : VlTable) × (before : WatchDevices)
+        × IsReady S.remaining S.failures T.remaining T.failures
+        W.contents W.failures L.contents L.failures
+        sharing.now.programs.now vl_table before ready }
+    ensures { Runs S.remaining S.failures T.remaining T.failures
+        W.contents W.failures L.contents L.failures sharing.now.programs.now ready result }
+{
+    let (mut running, outputs) = match ready.start(scope, rt, alloc, gate) {
+        Ok(started) => started,
+        Err(refused) => return Err(refused),
+    };
+    match write_rounds(rt, alloc, sharing, &mut running.rings, outputs) {
+        Ok(outputs) => running.finish(rt, outputs),
+        Err(unwritten) => Err(running.abort(rt, unwritten)),
+    }
+}
+
+/// Opens the recordings, begins the outputs and makes the rings of a run.
+fn prepare<S: TapSource, T: TapSource, W: OutSink, L: OutSink>(
+    alloc: Global,
+    config: &Config,
+    programs: &[Program],
+    a: S,
+    b: T,
+    capture: W,
+    ledger: L,
+) -> Result<Ready<S, T, W, L>, WatchRefused<S, T, W, L>>
+    requires number { IsNumber (length programs.now) }
+    ensures new { IfOk result AreNew }
+    ensures ready { IfOk result (IsReady S.remaining S.failures T.remaining T.failures
+        W.contents W.failures L.contents L.failures programs.now config.now
+        (watch_devices (source_view S.remaining S.failures a)
+        (source_view T.remaining T.failures b)
+        (sink_view W.contents W.failures capture)
+        (sink_view L.contents L.failures ledger))) }
+    ensures refused { IfErr result (λ refused. IfSome refused.a (λ a'. IfSome refused.b (λ b'.
+        IsNotBegun programs.now config.now refused.fault
+        (watch_devices (source_view S.remaining S.failures a)
+        (source_view T.remaining T.failures b)
+        (sink_view W.contents W.failures capture)
+        (sink_view L.contents L.failures ledger))
+        (watch_devices (source_view S.remaining S.failures a')
+        (source_view T.remaining T.failures b')
+        (sink_view W.contents W.failures refused.capture)
+        (sink_view L.contents L.failures refused.ledger))))) }
+    ensures back { IfErr result (λ refused. IsSome refused.a × IsSome refused.b) }
+{
+    let late = config.late();
+    let taps = match Taps::open(alloc, late, a, b) {
+        Ok(taps) => taps,
+        Err(Unopened { fault, a, b }) => {
+            return Err(WatchRefused::new(fault, a, b, capture, ledger));
+        }
+    };
+    let filters = programs.len() as u32;
+    let outputs = match Outputs::begin(alloc, config, filters, capture, ledger) {
+        Ok(outputs) => outputs,
+        Err(
+            Unwritten {
+                fault,
+                capture,
+                ledger,
+            },
+        ) => {
+            let (a, b) = taps.into_sources();
+            return Err(WatchRefused::new(fault, a, b, capture, ledger));
+        }
+    };
+    match two_rings(alloc, late) {
+        Ok(ends) => Ok(Ready::of(ends, taps, outputs)),
+        Err(AllocError) => {
+            let (a, b) = taps.into_sources();
+            let (capture, ledger) = outputs.into_sinks();
+            Err(WatchRefused::new(WatchFault::Memory, a, b, capture, ledger))
+        }
+    }
+}
+
+/// The ends of the rings of networks A and B.
+type TwoRings = ((TapPut, TapEnd), (TapPut, TapEnd));
+
+/// The rings of networks A and B.
+fn two_rings(alloc: Global, late: u64) -> Result<TwoRings, AllocError>
+    ensures { IfOk result (AreTwoRings late) }
+{
+    let a = tap_ring(alloc, Network::A, late)?;
+    let b = tap_ring(alloc, Network::B, late)?;
+    Ok((a, b))
+}
+
+impl<S, T, W, L> Ready<S, T, W, L> {
+    /// What is ready, by its parts.
+    fn of(ends: TwoRings, taps: Taps<S, T>, outputs: Outputs<W, L>) -> Ready<S, T, W, L>
+        ensures { result ≡ ready_of ends.0.0 ends.0.1 ends.1.0 ends.1.1 taps outputs }
+    {
+        let ((put_a, a), (put_b, b)) = ends;
+        let Taps {
+            a: reader_a,
+            b: reader_b,
+            merger,
+            end_a,
+            end_b,
+        } = taps;
+        Ready {
+            a: reader_a,
+            b: reader_b,
+            put_a,
+            put_b,
+            rings: Rings {
+                a,
+                b,
+                merger,
+                end_a,
+                end_b,
+            },
+            outputs,
+        }
+    }
+}
+
+/// Analyses two recordings on threads, with the outputs of [`watch_whole`](crate::watch_whole), byte for
+/// byte: each tap is read by a thread of its own into a ring of 64 items; the calling thread merges the
+/// frames and cuts them into rounds of at most 256; `workers` workers, of which it is the first, filter and
+/// judge each round, which it then writes.
+///
+/// Stamps may go back within the table's window. Each recording is read up to 2^32 frames. The gate is told
+/// of each tap before its first frame is read, and of each frame before the filters run on it.
+///
+/// Its memory is flat, however long the recordings are: it holds the frames that may still be preceded
+/// by others, those of rounds that are still to be cut, the items of both rings, at most 1024 spent buffers
+/// of at most 2048 bytes a tap, and a block of each recording.
+///
+/// # Errors
+///
+/// `Workers` if there are not 1 to 8 workers, then `Filters` if there are not 1 to 8 programs; `Header` or
+/// `Read` if a recording can't be opened, that of A first. Up to there nothing was written. `Write` or
+/// `Memory` before the threads start: of the recordings the file headers alone were read.
+///
+/// Later `Read`, `Write`, `Memory`, or `Spawn` if a worker can't be started: each output has a prefix of what
+/// belongs to the frames that were read, after `Read` with whole packets and lines. Both recordings were
+/// read on to their endings, or until they failed; of several faults one is told. All devices come back. A
+/// source may have been read ahead by no more than 262144 bytes, and after a fault by a packet more.
+///
+/// `Spawn` if a tap's thread can't be started: its source is lost, and the outputs have what they begin
+/// with. `RingLost` if the items of a ring aren't what its reader put into it: sources may be lost.
+pub fn watch<R, S, T, W, L, G>(
+    rt: &R,
+    alloc: Global,
+    config: &Config,
+    programs: &[Program],
+    workers: u32,
+    a: S,
+    b: T,
+    capture: W,
+    ledger: L,
+    gate: &G,
+) -> Result<Watched<S, T, W, L>, WatchRefused<S, T, W, L>>
+where
+    R: Threads + Wait + Sync,
+    S: TapSource + Drop + Send,
+    T: TapSource + Drop + Send,
+    W: OutSink + Drop,
+    L: OutSink + Drop,
+    G: RunGate + TapGate + Sync,
+    ensures watched { IfOk result (λ done. IsNumber workers × IsWatched programs.now config.now
+        done.endings done.totals
+        (watch_devices (source_view S.remaining S.failures a)
+        (source_view T.remaining T.failures b)
+        (sink_view W.contents W.failures capture)
+        (sink_view L.contents L.failures ledger))
+        (watch_devices (source_view S.remaining S.failures done.a)
+        (source_view T.remaining T.failures done.b)
+        (sink_view W.contents W.failures done.capture)
+        (sink_view L.contents L.failures done.ledger))) }
+    ensures aborted { IfErr result (λ refused.
+        IsRunningAborted workers programs.now config.now refused.fault
+        (watch_devices (source_view S.remaining S.failures a)
+        (source_view T.remaining T.failures b)
+        (sink_view W.contents W.failures capture)
+        (sink_view L.contents L.failures ledger))
+        (option_map (source_view S.remaining S.failures) refused.a)
+        (option_map (source_view T.remaining T.failures) refused.b)
+        (sink_view W.contents W.failures refused.capture)
+        (sink_view L.contents L.failures refused.ledger)) }
+{
+    if workers == 0 || workers > MAX_WORKERS {
+        return Err(WatchRefused::new(WatchFault::Workers, a, b, capture, ledger));
+    }
+    if programs.is_empty() || programs.len() > MAX_FILTERS {
+        return Err(WatchRefused::new(WatchFault::Filters, a, b, capture, ledger));
+    }
+    let ready = match prepare(alloc, config, programs, a, b, capture, ledger) {
+        Ok(ready) => ready,
+        Err(refused) => return Err(refused),
+    };
+    let sharing = Sharing {
+        programs,
+        workers,
+        gate,
+    };
+    run_threads(rt, alloc, &sharing, ready)
+}
+
+/// Runs what is ready, and returns when each thread has come to its end.
+fn run_threads<R, S, T, W, L, G>(
+    rt: &R,
+    alloc: Global,
+    sharing: &Sharing<'_, G>,
+    ready: Ready<S, T, W, L>,
+) -> Result<Watched<S, T, W, L>, WatchRefused<S, T, W, L>>
+where
+    R: Threads + Wait + Sync,
+    S: TapSource + Drop + Send,
+    T: TapSource + Drop + Send,
+    W: OutSink + Drop,
+    L: OutSink + Drop,
+    G: RunGate + TapGate + Sync,
+    requires shared { IsShared sharing.now.programs.now sharing.now.workers }
+    requires new { AreNew ready }
+    requires ready { (vl_table : VlTable) × (before : WatchDevices)
+        × IsReady S.remaining S.failures T.remaining T.failures
+        W.contents W.failures L.contents L.failures
+        sharing.now.programs.now vl_table before ready }
+    ensures { Runs S.remaining S.failures T.remaining T.failures
+        W.contents W.failures L.contents L.failures sharing.now.programs.now ready result }
+{
+    let gate = sharing.gate;
+    let mut slot = Some(ready);
+    thread::scope(
+        thread::scope_env(),
+        rt,
+        |scope| -> Result<Watched<S, T, W, L>, WatchRefused<S, T, W, L>>
+            requires { IsSome slot × IsShared sharing.now.programs.now sharing.now.workers
+                × IfSome slot (λ ready. AreNew ready × ((vl_table : VlTable) × (before : WatchDevices)
+                × IsReady S.remaining S.failures T.remaining T.failures
+                W.contents W.failures L.contents L.failures
+                sharing.now.programs.now vl_table before ready)) }
+            ensures { IfSome slot.entry (λ ready. Runs S.remaining S.failures T.remaining T.failures
+                W.contents W.failures L.contents L.failures
+                sharing.entry.now.programs.now ready result) }
+        { run_ready(scope, rt, alloc, sharing, gate, slot.take().unwrap()) },
+    )
+}
