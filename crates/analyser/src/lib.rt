@@ -25,4 +25,4 @@ pub use commands::{
     run_debug, run_session, source_means_its_program,
 };
 pub use run_outcome::{Output, WatchFault, WatchRefused};
-pub use watch_run::{OpenGate, Watched, watch, watch_whole};
+pub use watch_run::{OpenGate, Watched, same_bytes_in_same_bytes_out, watch, watch_whole};

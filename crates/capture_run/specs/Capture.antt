@@ -21,6 +21,7 @@ use Rattle.run_outcome.specs.declared.fault.Output.TheVariants as output
 use Rattle.run_outcome.specs.declared.fault.WatchFault.{WatchFault}
 use Rattle.run_outcome.specs.declared.fault.WatchFault.TheVariants as watch
 use Rattle.run_outcome.specs.Recording.{LeavesUnread, IsRecording}
+use Rattle.run_outcome.specs.Device.{SourceMembers, SinkMembers}
 
 -- the filter's return value for a frame
 abbrev pub answer_for : List Packed → Frame → ℕ
@@ -59,12 +60,12 @@ pub record Devices : Type 0 where
   pub contents : Option (List ℕ)
   pub sink_failures : ℕ
 
-abbrev pub devices_of : {S W : Type 0} → (S → Option (List ℕ)) → (S → ℕ) → (W → Option (List ℕ)) → (W → ℕ) → S → W → Devices
-devices_of remaining source_failures contents sink_failures source sink = record {
-  remaining = remaining source;
-  source_failures = source_failures source;
-  contents = contents sink;
-  sink_failures = sink_failures sink;
+abbrev pub devices_of : {S W : Type 0} → SourceMembers S → SinkMembers W → S → W → Devices
+devices_of s w source sink = record {
+  remaining = s.remaining source;
+  source_failures = s.failures source;
+  contents = w.contents sink;
+  sink_failures = w.failures sink;
 }
 
 -- neither device failed

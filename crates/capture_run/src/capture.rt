@@ -123,11 +123,11 @@ pub fn capture_one<S: TapSource, W: OutSink>(
     sink: W,
 ) -> Result<(Ending, S, W), WatchRefused<S, (), W, ()>>
     ensures captured { IfOk result (λ done. IsCaptured program.now done.0
-        (devices_of S.remaining S.failures W.contents W.failures source sink)
-        (devices_of S.remaining S.failures W.contents W.failures done.1 done.2)) }
+        (devices_of S.TapSource W.OutSink source sink)
+        (devices_of S.TapSource W.OutSink done.1 done.2)) }
     ensures aborted { IfErr result (λ refused. IfSome refused.a (λ a. IsAborted program.now refused.fault
-        (devices_of S.remaining S.failures W.contents W.failures source sink)
-        (devices_of S.remaining S.failures W.contents W.failures a refused.capture))) }
+        (devices_of S.TapSource W.OutSink source sink)
+        (devices_of S.TapSource W.OutSink a refused.capture))) }
     ensures back { IfErr result (λ refused. IsSome refused.a × (refused.b ≡ None)) }
 {
     let mut reader = match TapReader::open(source, Network::A, MAX_FRAMES, 0) {

@@ -68,8 +68,8 @@ fn print_numeric<W: OutSink>(alloc: Global, text: &str, sink: &mut W) -> Result<
 /// numeric form and a newline.
 pub fn run_asm<S: TapSource, W: OutSink>(alloc: Global, source: S, sink: W) -> AsmRun<S, W>
     ensures { IsAsmRun (option_map string_bytes result.text) result.outcome
-        (devices_of S.remaining S.failures W.contents W.failures source sink)
-        (devices_of S.remaining S.failures W.contents W.failures result.source result.sink) }
+        (devices_of S.TapSource W.OutSink source sink)
+        (devices_of S.TapSource W.OutSink result.source result.sink) }
 {
     let (mut source, mut sink) = (source, sink);
     let text = match read_text(alloc, &mut source) {
@@ -96,8 +96,8 @@ pub fn run_asm<S: TapSource, W: OutSink>(alloc: Global, source: S, sink: W) -> A
 pub fn asm_over<S: TapSource + Drop, W: OutSink>(alloc: Global, source: S, sink: W) -> Ran<W>
     ensures { (text : Option (List ℕ)) × (outcome : Result (Unit {0}) Fault) × (rest : S)
         × IsAsmRun text outcome
-        (devices_of S.remaining S.failures W.contents W.failures source sink)
-        (devices_of S.remaining S.failures W.contents W.failures rest result.sink)
+        (devices_of S.TapSource W.OutSink source sink)
+        (devices_of S.TapSource W.OutSink rest result.sink)
         × IsTextRan outcome result.status (option_map string_bytes result.line) }
 {
     let run = run_asm(alloc, source, sink);

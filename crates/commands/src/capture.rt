@@ -42,8 +42,8 @@ pub fn run_capture<S: TapSource, W: OutSink>(
     sink: W,
 ) -> CaptureRun<S, W>
     ensures { IsCaptureRun code.now result.outcome
-        (devices_of S.remaining S.failures W.contents W.failures source sink)
-        (devices_of S.remaining S.failures W.contents W.failures result.source result.sink) }
+        (devices_of S.TapSource W.OutSink source sink)
+        (devices_of S.TapSource W.OutSink result.source result.sink) }
 {
     let program = match filter_of(alloc, code, None) {
         Ok(program) => program,
@@ -88,8 +88,8 @@ pub fn capture_over<S: TapSource + Drop, W: OutSink>(
 ) -> Ran<W>
     ensures { (outcome : Result Ending Fault) × (rest : S)
         × IsCaptureRun code.now outcome
-        (devices_of S.remaining S.failures W.contents W.failures source sink)
-        (devices_of S.remaining S.failures W.contents W.failures rest result.sink)
+        (devices_of S.TapSource W.OutSink source sink)
+        (devices_of S.TapSource W.OutSink rest result.sink)
         × IsRan outcome result.status (option_map string_bytes result.line) }
 {
     let run = run_capture(alloc, code, source, sink);

@@ -4,7 +4,7 @@ ghost use Rattle.command_line.specs.declared.fault.Fault.{Fault};
 ghost use Rattle.commands.specs.Asm.{IsTextRan};
 ghost use Rattle.commands.specs.Sessions.{Answers, AnswersCommand, AreAnswered, IsAnswered, IsBegun, IsDebugRun, IsSessionRun};
 ghost use Rattle.commands.specs.Sessions.{commands_fault, debug_devices, ends_session, is_blank, lines_left, lines_of, text_of};
-ghost use Rattle.run_outcome.specs.Device.{sink_view, source_view};
+ghost use Rattle.run_outcome.specs.Device.{sink_at, source_at};
 
 use crate::capture::Ran;
 use crate::inputs::filter_of;
@@ -106,7 +106,7 @@ pub fn answer_line<W: OutSink>(
     sink: &mut W,
 ) -> Result<bool, Fault>
     ensures { IsAnswered line.now result session.old session.new
-        (sink_view W.contents W.failures sink.old) (sink_view W.contents W.failures sink.new) }
+        (sink_at W.OutSink sink.old) (sink_at W.OutSink sink.new) }
 {
     let answer = answer_to(alloc, session, line);
     match write_all(sink, answer.as_str().as_bytes()) {
@@ -134,7 +134,7 @@ fn answer_lines<W: OutSink>(
     sink: &mut W,
 ) -> Result<(), Fault>
     ensures { AreAnswered (lines_of text.now) result session.old session.new
-        (sink_view W.contents W.failures sink.old) (sink_view W.contents W.failures sink.new) }
+        (sink_at W.OutSink sink.old) (sink_at W.OutSink sink.new) }
 {
     let mut left = Some(text);
     while let Some(text) = left {
@@ -160,7 +160,7 @@ pub fn begin_session<W: OutSink>(
     sink: &mut W,
 ) -> Result<Session, Fault>
     ensures { IsBegun program frames.items result
-        (sink_view W.contents W.failures sink.old) (sink_view W.contents W.failures sink.new) }
+        (sink_at W.OutSink sink.old) (sink_at W.OutSink sink.new) }
 {
     let Ok(session) = Session::new(alloc, program, frames) else {
         return Err(Fault::Debug(DebugFault::Memory));
@@ -202,9 +202,9 @@ pub fn run_session<C: TapSource, W: OutSink>(
     sink: &mut W,
 ) -> Result<(), Fault>
     ensures { IsSessionRun program frames.items result
-        (source_view C.remaining C.failures commands.old)
-        (source_view C.remaining C.failures commands.new)
-        (sink_view W.contents W.failures sink.old) (sink_view W.contents W.failures sink.new) }
+        (source_at C.TapSource commands.old)
+        (source_at C.TapSource commands.new)
+        (sink_at W.OutSink sink.old) (sink_at W.OutSink sink.new) }
 {
     let text = match read_text(alloc, commands) {
         Ok(text) => text,
@@ -224,11 +224,11 @@ pub fn run_debug<S: TapSource, C: TapSource, W: OutSink>(
     sink: W,
 ) -> DebugRun<S, C, W>
     ensures { IsDebugRun filter.now result.outcome
-        (debug_devices (source_view S.remaining S.failures tap)
-        (source_view C.remaining C.failures commands) (sink_view W.contents W.failures sink))
-        (debug_devices (source_view S.remaining S.failures result.tap)
-        (source_view C.remaining C.failures result.commands)
-        (sink_view W.contents W.failures result.sink)) }
+        (debug_devices (source_at S.TapSource tap)
+        (source_at C.TapSource commands) (sink_at W.OutSink sink))
+        (debug_devices (source_at S.TapSource result.tap)
+        (source_at C.TapSource result.commands)
+        (sink_at W.OutSink result.sink)) }
 {
     let program = match filter_of(alloc, filter, None) {
         Ok(program) => program,
@@ -276,11 +276,11 @@ pub fn debug_over<S: TapSource + Drop, C: TapSource + Drop, W: OutSink>(
 ) -> Ran<W>
     ensures { (outcome : Result (Unit {0}) Fault) × (tap' : S) × (commands' : C)
         × IsDebugRun filter.now outcome
-        (debug_devices (source_view S.remaining S.failures tap)
-        (source_view C.remaining C.failures commands) (sink_view W.contents W.failures sink))
-        (debug_devices (source_view S.remaining S.failures tap')
-        (source_view C.remaining C.failures commands')
-        (sink_view W.contents W.failures result.sink))
+        (debug_devices (source_at S.TapSource tap)
+        (source_at C.TapSource commands) (sink_at W.OutSink sink))
+        (debug_devices (source_at S.TapSource tap')
+        (source_at C.TapSource commands')
+        (sink_at W.OutSink result.sink))
         × IsTextRan outcome result.status (option_map string_bytes result.line) }
 {
     let run = run_debug(alloc, filter, tap, commands, sink);

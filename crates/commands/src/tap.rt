@@ -2,7 +2,7 @@
 ghost use Rattle.std.specs.Prelude.{◌≡◌, ◌≤◌, IfErr, IfOk};
 ghost use Rattle.pcap_io.specs.Reader.{position_of, reading_of, unread_of};
 ghost use Rattle.pcap_io.specs.declared.recording.Stage.TheVariants.{Going};
-ghost use Rattle.run_outcome.specs.Device.{source_view};
+ghost use Rattle.run_outcome.specs.Device.{source_at};
 ghost use Rattle.commands.specs.WholeTap.{GivesAll, IsTap, IsTapRefusal, StopsReading};
 
 use afdx_frame::{Network, TapFrame};
@@ -59,11 +59,11 @@ fn read_frames<S: TapSource>(
 /// The fault is `Header`, `Read` or `Memory`.
 pub fn read_tap<S: TapSource>(alloc: Global, source: S) -> TapRead<S>
     ensures frames { IfOk result.outcome (λ frames. IsTap
-        (source_view S.remaining S.failures source)
-        (source_view S.remaining S.failures result.source) frames.items) }
+        (source_at S.TapSource source)
+        (source_at S.TapSource result.source) frames.items) }
     ensures refused { IfErr result.outcome (λ fault. IsTapRefusal fault
-        (source_view S.remaining S.failures source)
-        (source_view S.remaining S.failures result.source)) }
+        (source_at S.TapSource source)
+        (source_at S.TapSource result.source)) }
 {
     let mut reader = match TapReader::open(source, Network::A, MAX_FRAMES, 0) {
         Ok(reader) => reader,

@@ -1,6 +1,8 @@
 -- What a run sees of its devices, and what it wrote to them (this project's profile).
 use Rattle.std.specs.Prelude.{ℕ, List, take, Option}
 use Rattle.std.specs.Io.KnownBytes.{Appends}
+pub use Rattle.pcap_io.specs.declared.device.TapSource.{Ghosts as SourceMembers}
+pub use Rattle.pcap_io.specs.declared.device.OutSink.{Ghosts as SinkMembers}
 
 -- a recording's source: the bytes that it still gives, where they are known, and its count of failures
 pub record SourceView : Type 0 where
@@ -12,11 +14,12 @@ pub record SinkView : Type 0 where
   pub contents : Option (List ℕ)
   pub failures : ℕ
 
-abbrev pub source_view : {S : Type 0} → (S → Option (List ℕ)) → (S → ℕ) → S → SourceView
-source_view remaining failures s = record { remaining = remaining s; failures = failures s }
+-- what a run sees of a source, and of a sink: each by the ghost members of its trait
+abbrev pub source_at : {S : Type 0} → SourceMembers S → S → SourceView
+source_at s source = record { remaining = s.remaining source; failures = s.failures source }
 
-abbrev pub sink_view : {W : Type 0} → (W → Option (List ℕ)) → (W → ℕ) → W → SinkView
-sink_view contents failures w = record { contents = contents w; failures = failures w }
+abbrev pub sink_at : {W : Type 0} → SinkMembers W → W → SinkView
+sink_at w sink = record { contents = w.contents sink; failures = w.failures sink }
 
 -- known bytes grow by the bytes, or by a prefix of them
 abbrev pub AppendsSome : Option (List ℕ) → Option (List ℕ) → List ℕ → Type 0

@@ -29,7 +29,7 @@ use Rattle.watch_run.specs.Outputs.{SinkFails, StopsWriting, effect_of}
 use Rattle.watch_run.specs.Rings.{AreFirst, EndsWith, RingsFault, StopsTaking, TakesOn, TapFault}
 use Rattle.watch_run.specs.Running.{AbortsBegun, AbortsRunning, FailsAmong, HasWholeRounds, IsReadOut, IsRunningFault, IsSettled, IsStarted, LosesRing, MayFail, StopsRunning}
 use Rattle.watch_run.specs.Taps.{HasRead, ReadsPart}
-use Rattle.run_outcome.specs.Device.{AppendsSome, SinkView, SourceView, source_view}
+use Rattle.run_outcome.specs.Device.{SourceMembers, AppendsSome, SinkView, SourceView, source_at}
 use Rattle.run_outcome.specs.Recording.{IsReadPart, most_frames}
 use Rattle.watch_run.specs.Watch.{HasWholes, StopsRun, WatchDevices, lines_by, watch_devices}
 use Rattle.run_outcome.specs.declared.fault.Output.TheVariants as output
@@ -371,11 +371,11 @@ running_aborts fault ps vl_table before a b after_a after_b capture ledger settl
 
 -- ---- a run that was aborted
 
-pub settled_of : {S : Type 0} (remaining : S → Option (List ℕ)) (failures : S → ℕ) (network : Network) (late : ℕ) (before : SourceView) (reader : TapReader S) (end : TapEnd) (source : S) →
-    IsStarted network late before (reading_of remaining failures reader) → IsSettled remaining failures reader end source →
-    IsTapSettled network late before end (source_view remaining failures source)
-settled_of remaining failures network late before reader end source started s =
-    tap_settled network late before (source_view remaining failures source) (reading_of remaining failures reader) s.reading end s.ahead started s.gives s.over s.sound s.leaves s.same_failures
+pub settled_of : {S : Type 0} (s : SourceMembers S) (network : Network) (late : ℕ) (before : SourceView) (reader : TapReader S) (end : TapEnd) (source : S) →
+    IsStarted network late before (reading_of s.remaining s.failures reader) → IsSettled s reader end source →
+    IsTapSettled network late before end (source_at s source)
+settled_of s network late before reader end source started settled =
+    tap_settled network late before (source_at s source) (reading_of s.remaining s.failures reader) settled.reading end settled.ahead started settled.gives settled.over settled.sound settled.leaves settled.same_failures
 
 pub begun_aborts : (fault : WatchFault) (ps : List (List Packed)) (vl_table : VlTable) (before : WatchDevices) (a b : TapEnd) (after_a after_b : SourceView) (capture ledger : SinkView) →
     IsTapSettled A vl_table.late before.a a after_a → IsTapSettled B vl_table.late before.b b after_b →

@@ -17,7 +17,7 @@ use Rattle.vl_config.specs.Document.{VlTable}
 use Rattle.watch_run.specs.Outputs.{IsFinished, StopsFinishing}
 use Rattle.watch_run.specs.Rings.{EndsWith, HasEnding, HasTaken}
 use Rattle.watch_run.specs.Running.{AbortsBegun, FailsAmong, IsRunning, IsRunningFault, StopsRunning}
-use Rattle.run_outcome.specs.Device.{SinkView, SourceView, sink_view}
+use Rattle.run_outcome.specs.Device.{SinkMembers, SinkView, SourceView, sink_at}
 use Rattle.watch_run.specs.Watch.{FailsOnly, IsNumber, IsRunFault, IsWatched, WatchDevices, watch_devices}
 use Rattle.run_outcome.specs.declared.fault.Output.TheVariants as output
 use Rattle.run_outcome.specs.declared.fault.WatchFault.{WatchFault}
@@ -95,20 +95,20 @@ finish_aborts fault ps vl_table before rings a b capture ledger cut end_a end_b 
 
 -- ---- a ring was lost at the end
 
-pub lost_at_end : {W L : Type 0} (contents_w : W → Option (List ℕ)) (failures_w : W → ℕ) (contents_l : L → Option (List ℕ)) (failures_l : L → ℕ)
+pub lost_at_end : {W L : Type 0} (w : SinkMembers W) (l : SinkMembers L)
     (ps : List (List Packed)) (vl_table : VlTable) (capture ledger : SinkView) (rings : Rings) (outputs : Outputs W L) →
-    IsRunning contents_w failures_w contents_l failures_l ps vl_table capture ledger rings outputs →
-    StopsRunning watch.RingLost ps vl_table capture ledger rings.a rings.b (sink_view contents_w failures_w (sink_of outputs.capture)) (sink_view contents_l failures_l (ledger_sink outputs.ledger))
-lost_at_end contents_w failures_w contents_l failures_l ps vl_table capture ledger rings outputs w = record {
-  cut = w.cut;
-  taken = stops_with vl_table.late w.cut rings rings.a rings.b w.taken (takes_none rings.a) (takes_none rings.b);
+    IsRunning w l ps vl_table capture ledger rings outputs →
+    StopsRunning watch.RingLost ps vl_table capture ledger rings.a rings.b (sink_at w (sink_of outputs.capture)) (sink_at l (ledger_sink outputs.ledger))
+lost_at_end w l ps vl_table capture ledger rings outputs running = record {
+  cut = running.cut;
+  taken = stops_with vl_table.late running.cut rings rings.a rings.b running.taken (takes_none rings.a) (takes_none rings.b);
   why = inl (
     (A, tt),
     record {
-      packets = w.written.packets;
-      lines = w.written.lines;
-      capture_failures = w.written.capture_failures;
-      ledger_failures = w.written.ledger_failures;
+      packets = running.written.packets;
+      lines = running.written.lines;
+      capture_failures = running.written.capture_failures;
+      ledger_failures = running.written.ledger_failures;
     },
   );
 }

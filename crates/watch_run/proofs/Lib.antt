@@ -5,6 +5,7 @@ pub mod Returned
 pub mod RingItems
 pub mod Rounds
 pub mod RoundsTaken
+pub mod SameBytes
 pub mod Sharing
 pub mod Starting
 pub mod TwoTaps

@@ -27,7 +27,7 @@ use Rattle.watch_run.specs.Rings.{HasEnding}
 use Rattle.watch_run.specs.Taps.{Agree, Agrees, Fits, HasMerged, HasRead}
 use Rattle.watch_run.specs.declared.taps.Taps.{Taps}
 use Rattle.watch_run.specs.Running.{AbortsBegun, HasWholeRounds, IsRunning, IsSettled, IsStarted, StopsRunning}
-use Rattle.run_outcome.specs.Device.{SinkView, SourceView, sink_view, source_view}
+use Rattle.run_outcome.specs.Device.{SourceMembers, SinkMembers, SinkView, SourceView, sink_at, source_at}
 use Rattle.run_outcome.specs.Recording.{WasOpened, most_frames}
 use Rattle.watch_run.specs.Watch.{WatchDevices}
 use Rattle.run_outcome.specs.declared.fault.WatchFault.TheVariants as watch
@@ -49,32 +49,32 @@ still_opened network late before after end reading ahead has none empty left =
     (read.read.layout, subst (λ (l : Option (List ℕ)). Opens before.remaining l read.read.layout) (here ∙ left ∙ nothing_ahead ahead after.remaining empty) read.read.opens)
 
 -- a reader that was opened, and has read nothing ahead, gives its source back
-pub opened_back : {S : Type 0} (remaining : S → Option (List ℕ)) (failures : S → ℕ) (network : Network) (late : ℕ) (before : SourceView) (reader : TapReader S) (source : S) →
-    IsStarted network late before (reading_of remaining failures reader) → unread_of reader ≡ [] → source ≡ source_of reader →
-    WasOpened before (source_view remaining failures source) × (failures source ≡ before.failures)
-opened_back remaining failures network late before reader source started none is = (
-  still_opened network late before (source_view remaining failures source) None (reading_of remaining failures reader) (unread_of reader) started.read refl none
-      (ap (λ left. prepend_known (unread_of reader) left) (ap remaining (sym is))),
-  ap failures is ∙ started.read.failures,
+pub opened_back : {S : Type 0} (s : SourceMembers S) (network : Network) (late : ℕ) (before : SourceView) (reader : TapReader S) (source : S) →
+    IsStarted network late before (reading_of s.remaining s.failures reader) → unread_of reader ≡ [] → source ≡ source_of reader →
+    WasOpened before (source_at s source) × (s.failures source ≡ before.failures)
+opened_back s network late before reader source started none is = (
+  still_opened network late before (source_at s source) None (reading_of s.remaining s.failures reader) (unread_of reader) started.read refl none
+      (ap (λ left. prepend_known (unread_of reader) left) (ap s.remaining (sym is))),
+  ap s.failures is ∙ started.read.failures,
 )
 
 -- the outputs have what they begin with
-pub beginnings : {W L : Type 0} (contents_w : W → Option (List ℕ)) (failures_w : W → ℕ) (contents_l : L → Option (List ℕ)) (failures_l : L → ℕ)
+pub beginnings : {W L : Type 0} (w : SinkMembers W) (l : SinkMembers L)
     (ps : List (List Packed)) (vl_table : VlTable) (capture ledger : SinkView) (outputs : Outputs W L) →
-    HasWritten contents_w failures_w contents_l failures_l ps vl_table capture ledger [] outputs →
-    HasWholeRounds ps vl_table [] capture ledger (sink_view contents_w failures_w (sink_of outputs.capture)) (sink_view contents_l failures_l (ledger_sink outputs.ledger))
-beginnings contents_w failures_w contents_l failures_l ps vl_table capture ledger outputs h = record {
+    HasWritten w l ps vl_table capture ledger [] outputs →
+    HasWholeRounds ps vl_table [] capture ledger (sink_at w (sink_of outputs.capture)) (sink_at l (ledger_sink outputs.ledger))
+beginnings w l ps vl_table capture ledger outputs h = record {
   packets = h.packets;
   lines = h.lines;
   capture_failures = h.capture_failures;
   ledger_failures = h.ledger_failures;
 }
 
-pub ready_runs : {S T W L : Type 0} (rs : S → Option (List ℕ)) (fs : S → ℕ) (rt : T → Option (List ℕ)) (ft : T → ℕ)
-    (cw : W → Option (List ℕ)) (fw : W → ℕ) (cl : L → Option (List ℕ)) (fl : L → ℕ)
-    (ps : List (List Packed)) (vl_table : VlTable) (before : WatchDevices) (ready : Ready S T W L) → IsReady rs fs rt ft cw fw cl fl ps vl_table before ready →
-    IsRunning cw fw cl fl ps vl_table before.capture before.ledger ready.rings ready.outputs
-ready_runs rs fs rt ft cw fw cl fl ps vl_table before ready h = record {
+pub ready_runs : {S T W L : Type 0} (s : SourceMembers S) (t : SourceMembers T)
+    (w : SinkMembers W) (l : SinkMembers L)
+    (ps : List (List Packed)) (vl_table : VlTable) (before : WatchDevices) (ready : Ready S T W L) → IsReady s t w l ps vl_table before ready →
+    IsRunning w l ps vl_table before.capture before.ledger ready.rings ready.outputs
+ready_runs s t w l ps vl_table before ready h = record {
   cut = [];
   taken = h.taken;
   written = h.written;
@@ -83,21 +83,21 @@ ready_runs rs fs rt ft cw fw cl fl ps vl_table before ready h = record {
 }
 
 -- the thread of B couldn't be started
-pub without_b : {S : Type 0} (remaining : S → Option (List ℕ)) (failures : S → ℕ) (ps : List (List Packed)) (vl_table : VlTable) (before : WatchDevices) (reader : TapReader S)
-    (a b end : TapEnd) (back : Option S) (capture ledger : SinkView) → IsStarted A vl_table.late before.a (reading_of remaining failures reader) →
-    IfSome back (IsSettled remaining failures reader end) → HasWholeRounds ps vl_table [] before.capture before.ledger capture ledger →
+pub without_b : {S : Type 0} (s : SourceMembers S) (ps : List (List Packed)) (vl_table : VlTable) (before : WatchDevices) (reader : TapReader S)
+    (a b end : TapEnd) (back : Option S) (capture ledger : SinkView) → IsStarted A vl_table.late before.a (reading_of s.remaining s.failures reader) →
+    IfSome back (IsSettled s reader end) → HasWholeRounds ps vl_table [] before.capture before.ledger capture ledger →
     StopsRunning watch.RingLost ps vl_table before.capture before.ledger a b capture ledger →
-    AbortsBegun (if is_some back then watch.Spawn else watch.RingLost) ps vl_table before (option_map (source_view remaining failures) back) None capture ledger
-without_b remaining failures ps vl_table before reader a b end None capture ledger started settled whole stops =
+    AbortsBegun (if is_some back then watch.Spawn else watch.RingLost) ps vl_table before (option_map (source_at s) back) None capture ledger
+without_b s ps vl_table before reader a b end None capture ledger started settled whole stops =
     begun_loses watch.RingLost ps vl_table before a b None None capture ledger stops
-without_b remaining failures ps vl_table before reader a b end (Some source) capture ledger started settled whole stops =
-    let s = settled_of remaining failures A vl_table.late before.a reader end source started settled in
+without_b s ps vl_table before reader a b end (Some source) capture ledger started settled whole stops =
+    let back = settled_of s A vl_table.late before.a reader end source started settled in
     inr (inl (
       refl,
       (
         frames_in (taken_items end),
-        part_back A vl_table.late before.a (source_view remaining failures source) end s,
-        may_fail_back A vl_table.late before.a (source_view remaining failures source) end s,
+        part_back A vl_table.late before.a (source_at s source) end back,
+        may_fail_back A vl_table.late before.a (source_at s source) end back,
       ),
       whole,
     ))
@@ -107,16 +107,16 @@ pub both_ways : {X E : Type 0} {P : X → Type 0} {Q : E → Type 0} {P' : X →
 both_ways (Ok x) p q f g = f x p
 both_ways (Err e) p q f g = g e q
 
-pub same_start : {S : Type 0} (remaining : S → Option (List ℕ)) (failures : S → ℕ) (network : Network) (late : ℕ) (before : SourceView) (reader there : TapReader S) → there ≡ reader →
-    IsStarted network late before (reading_of remaining failures reader) → IsStarted network late before (reading_of remaining failures there)
-same_start {S = S} remaining failures network late before reader there same h = subst (λ (r : TapReader S). IsStarted network late before (reading_of remaining failures r)) (sym same) h
+pub same_start : {S : Type 0} (s : SourceMembers S) (network : Network) (late : ℕ) (before : SourceView) (reader there : TapReader S) → there ≡ reader →
+    IsStarted network late before (reading_of s.remaining s.failures reader) → IsStarted network late before (reading_of s.remaining s.failures there)
+same_start {S = S} s network late before reader there same h = subst (λ (r : TapReader S). IsStarted network late before (reading_of s.remaining s.failures r)) (sym same) h
 
-pub same_run : {W L : Type 0} (cw : W → Option (List ℕ)) (fw : W → ℕ) (cl : L → Option (List ℕ)) (fl : L → ℕ) (ps : List (List Packed)) (vl_table : VlTable)
+pub same_run : {W L : Type 0} (w : SinkMembers W) (l : SinkMembers L) (ps : List (List Packed)) (vl_table : VlTable)
     (capture ledger : SinkView) (rings rings' : Rings) (outputs outputs' : Outputs W L) → rings' ≡ rings → outputs' ≡ outputs →
-    IsRunning cw fw cl fl ps vl_table capture ledger rings outputs → IsRunning cw fw cl fl ps vl_table capture ledger rings' outputs'
-same_run {W = W} {L = L} cw fw cl fl ps vl_table capture ledger rings rings' outputs outputs' same same_outputs h =
-    subst (λ (r : Rings). IsRunning cw fw cl fl ps vl_table capture ledger r outputs') (sym same)
-    (subst (λ (o : Outputs W L). IsRunning cw fw cl fl ps vl_table capture ledger rings o) (sym same_outputs) h)
+    IsRunning w l ps vl_table capture ledger rings outputs → IsRunning w l ps vl_table capture ledger rings' outputs'
+same_run {W = W} {L = L} w l ps vl_table capture ledger rings rings' outputs outputs' same same_outputs h =
+    subst (λ (r : Rings). IsRunning w l ps vl_table capture ledger r outputs') (sym same)
+    (subst (λ (o : Outputs W L). IsRunning w l ps vl_table capture ledger rings o) (sym same_outputs) h)
 
 pub ok_of : {X E : Type 0} {P' : X → Type 0} (r : Result X E) (P : X → Type 0) (Q : E → Type 0) → MatchResult r P Q → ((x : X) → P x → P' x) → IfOk r P'
 ok_of (Ok x) P Q m f = f x m
@@ -135,24 +135,24 @@ none_goes network end q m agrees none = subst (λ (e : Option Ending). Agrees ne
 none_are_few : (taken : List TapItem) → taken ≡ [] → length (frames_in taken) ≤ most_frames
 none_are_few taken none = subst (λ (l : List TapItem). length (frames_in l) ≤ most_frames) (sym none) (omega arith)
 
-pub ready_made : {S T W L : Type 0} (rs : S → Option (List ℕ)) (fs : S → ℕ) (rt : T → Option (List ℕ)) (ft : T → ℕ)
-    (cw : W → Option (List ℕ)) (fw : W → ℕ) (cl : L → Option (List ℕ)) (fl : L → ℕ)
+pub ready_made : {S T W L : Type 0} (s : SourceMembers S) (t : SourceMembers T)
+    (w : SinkMembers W) (l : SinkMembers L)
     (ps : List (List Packed)) (vl_table : VlTable) (before : WatchDevices) (ends : (TapPut × TapEnd) × (TapPut × TapEnd)) (taps : Taps S T) (outputs : Outputs W L) (late : ℕ) →
-    late ≡ vl_table.late → HasMerged rs fs rt ft late before.a before.b [] [] [] taps → Agree taps → taps.merger ≡ new_state late → (taps.end_a ≡ None) × (taps.end_b ≡ None) →
-    (unread_of taps.a ≡ []) × (unread_of taps.b ≡ []) → AreTwoRings late ends → HasWritten cw fw cl fl ps vl_table before.capture before.ledger [] outputs → has_failed outputs.capture ≡ false →
-    ledger_has_failed outputs.ledger ≡ false → IsReady rs fs rt ft cw fw cl fl ps vl_table before (ready_of ends.0.0 ends.0.1 ends.1.0 ends.1.1 taps outputs)
-ready_made rs fs rt ft cw fw cl fl ps vl_table before ends taps outputs late is merged agree merger none fresh rings written going ledger_going =
+    late ≡ vl_table.late → HasMerged s t late before.a before.b [] [] [] taps → Agree taps → taps.merger ≡ new_state late → (taps.end_a ≡ None) × (taps.end_b ≡ None) →
+    (unread_of taps.a ≡ []) × (unread_of taps.b ≡ []) → AreTwoRings late ends → HasWritten w l ps vl_table before.capture before.ledger [] outputs → has_failed outputs.capture ≡ false →
+    ledger_has_failed outputs.ledger ≡ false → IsReady s t w l ps vl_table before (ready_of ends.0.0 ends.0.1 ends.1.0 ends.1.1 taps outputs)
+ready_made s t w l ps vl_table before ends taps outputs late is merged agree merger none fresh rings written going ledger_going =
     let (stage_a, fits_a) = none_goes A taps.end_a (position_of taps.a) taps.merger agree.0 none.0 in
     let (stage_b, fits_b) = none_goes B taps.end_b (position_of taps.b) taps.merger agree.1 none.1 in
     let merger_late : taps.merger.late ≡ late = ap (λ (m : MergerState). m.late) merger in
     record {
       a = record {
-        read = subst (λ n. HasRead A n before.a [] None (reading_of rs fs taps.a)) is (subst (λ (e : Option Ending). HasRead A late before.a [] e (reading_of rs fs taps.a)) none.0 merged.read_a);
+        read = subst (λ n. HasRead A n before.a [] None (reading_of s.remaining s.failures taps.a)) is (subst (λ (e : Option Ending). HasRead A late before.a [] e (reading_of s.remaining s.failures taps.a)) none.0 merged.read_a);
         going = stage_a;
         most = fits_a.most;
       };
       b = record {
-        read = subst (λ n. HasRead B n before.b [] None (reading_of rt ft taps.b)) is (subst (λ (e : Option Ending). HasRead B late before.b [] e (reading_of rt ft taps.b)) none.1 merged.read_b);
+        read = subst (λ n. HasRead B n before.b [] None (reading_of t.remaining t.failures taps.b)) is (subst (λ (e : Option Ending). HasRead B late before.b [] e (reading_of t.remaining t.failures taps.b)) none.1 merged.read_b);
         going = stage_b;
         most = fits_b.most;
       };

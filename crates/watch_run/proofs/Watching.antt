@@ -28,7 +28,7 @@ use Rattle.watch_run.specs.Run.{IsWatching, StopsWatching}
 use Rattle.watch_run.specs.declared.taps.Taps.{Taps}
 use Rattle.watch_run.specs.declared.outputs.Outputs.{Outputs}
 use Rattle.watch_run.specs.Taps.{Agree, HasMerged, ReadsPart, SourceFails, StopsMerging}
-use Rattle.run_outcome.specs.Device.{AppendsSome, SinkView, SourceView}
+use Rattle.run_outcome.specs.Device.{SourceMembers, SinkMembers, AppendsSome, SinkView, SourceView}
 use Rattle.run_outcome.specs.Recording.{HasReadTap, most_frames}
 use Rattle.watch_run.specs.Watch.{HasFirstOfAll, WatchDevices, ledger_by, lines_by}
 use Rattle.run_outcome.specs.declared.fault.Output.TheVariants as output
@@ -46,17 +46,17 @@ some_filters (suc n) empty e is = omega arith
 
 -- ---- a run has begun
 
-pub has_begun : {S T W L : Type 0} (rs : S → Option (List ℕ)) (fs : S → ℕ) (rt : T → Option (List ℕ)) (ft : T → ℕ)
-    (cw : W → Option (List ℕ)) (fw : W → ℕ) (cl : L → Option (List ℕ)) (fl : L → ℕ)
+pub has_begun : {S T W L : Type 0} (s : SourceMembers S) (t : SourceMembers T)
+    (w : SinkMembers W) (l : SinkMembers L)
     (ps : List (List Packed)) (vl_table : VlTable) (before : WatchDevices) (taps : Taps S T) (outputs : Outputs W L) (late : ℕ) → late ≡ vl_table.late →
-    HasMerged rs fs rt ft late before.a before.b [] [] [] taps → HasWritten cw fw cl fl ps vl_table before.capture before.ledger [] outputs →
+    HasMerged s t late before.a before.b [] [] [] taps → HasWritten w l ps vl_table before.capture before.ledger [] outputs →
     Agree taps → has_failed outputs.capture ≡ false → ledger_has_failed outputs.ledger ≡ false →
-    IsWatching rs fs rt ft cw fw cl fl ps vl_table before taps outputs
-has_begun rs fs rt ft cw fw cl fl ps vl_table before taps outputs late is merged written agree going ledger_going = record {
+    IsWatching s t w l ps vl_table before taps outputs
+has_begun s t w l ps vl_table before taps outputs late is merged written agree going ledger_going = record {
   frames_a = [];
   frames_b = [];
   cut = [];
-  merged = subst (λ n. HasMerged rs fs rt ft n before.a before.b [] [] [] taps) is merged;
+  merged = subst (λ n. HasMerged s t n before.a before.b [] [] [] taps) is merged;
   written = written;
   agree = agree;
   capture_going = going;
@@ -65,18 +65,18 @@ has_begun rs fs rt ft cw fw cl fl ps vl_table before taps outputs late is merged
 
 -- ---- the round that was cut
 
-pub some_round : {S T X : Type 0} (rs : S → Option (List ℕ)) (fs : S → ℕ) (rt : T → Option (List ℕ)) (ft : T → ℕ) (late : ℕ) (a b : SourceView) (fa fb cut : List Frame) (taps : Taps S T)
-    (items : X → List Frame) (o : Option X) (v : X) (round : List Frame) → HasMerged rs fs rt ft late a b fa fb (cut ++ option_map_or items o []) taps → o ≡ Some v → round ≡ items v →
-    HasMerged rs fs rt ft late a b fa fb (cut ++ round) taps
-some_round {X = X} rs fs rt ft late a b fa fb cut taps items o v round h some is =
-    subst (λ (l : List Frame). HasMerged rs fs rt ft late a b fa fb (cut ++ l) taps) (sym is) (subst (λ (p : Option X). HasMerged rs fs rt ft late a b fa fb (cut ++ option_map_or items p []) taps) some h)
+pub some_round : {S T X : Type 0} (s : SourceMembers S) (t : SourceMembers T) (late : ℕ) (a b : SourceView) (fa fb cut : List Frame) (taps : Taps S T)
+    (items : X → List Frame) (o : Option X) (v : X) (round : List Frame) → HasMerged s t late a b fa fb (cut ++ option_map_or items o []) taps → o ≡ Some v → round ≡ items v →
+    HasMerged s t late a b fa fb (cut ++ round) taps
+some_round {X = X} s t late a b fa fb cut taps items o v round h some is =
+    subst (λ (l : List Frame). HasMerged s t late a b fa fb (cut ++ l) taps) (sym is) (subst (λ (p : Option X). HasMerged s t late a b fa fb (cut ++ option_map_or items p []) taps) some h)
 
-pub no_round : {S T X : Type 0} (rs : S → Option (List ℕ)) (fs : S → ℕ) (rt : T → Option (List ℕ)) (ft : T → ℕ) (late : ℕ) (a b : SourceView) (fa fb cut : List Frame) (taps : Taps S T)
-    (items : X → List Frame) (o : Option X) → HasMerged rs fs rt ft late a b fa fb (cut ++ option_map_or items o []) taps → o ≡ None →
-    HasMerged rs fs rt ft late a b fa fb cut taps
-no_round {X = X} rs fs rt ft late a b fa fb cut taps items o h none =
-    subst (λ (l : List Frame). HasMerged rs fs rt ft late a b fa fb l taps) (append-nil cut)
-    (subst (λ (p : Option X). HasMerged rs fs rt ft late a b fa fb (cut ++ option_map_or items p []) taps) none h)
+pub no_round : {S T X : Type 0} (s : SourceMembers S) (t : SourceMembers T) (late : ℕ) (a b : SourceView) (fa fb cut : List Frame) (taps : Taps S T)
+    (items : X → List Frame) (o : Option X) → HasMerged s t late a b fa fb (cut ++ option_map_or items o []) taps → o ≡ None →
+    HasMerged s t late a b fa fb cut taps
+no_round {X = X} s t late a b fa fb cut taps items o h none =
+    subst (λ (l : List Frame). HasMerged s t late a b fa fb l taps) (append-nil cut)
+    (subst (λ (p : Option X). HasMerged s t late a b fa fb (cut ++ option_map_or items p []) taps) none h)
 
 -- ---- a round follows on what was cut before it
 

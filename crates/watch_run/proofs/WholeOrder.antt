@@ -21,7 +21,7 @@ use Rattle.pcap_io.specs.declared.recording.Ending.{Ending}
 use Rattle.pcap_io.proofs.Parse.{one_holds, reads_prefix}
 use Rattle.run_outcome.specs.Recording.{IsRecording}
 use Rattle.watch_run.specs.Taps.{Agree, Agrees, HasMerged, HasRead}
-use Rattle.run_outcome.specs.Device.{SourceView}
+use Rattle.run_outcome.specs.Device.{SourceMembers, SourceView}
 use Rattle.run_outcome.specs.Recording.{most_frames}
 use Rattle.watch_run.specs.declared.taps.Taps.{Taps}
 use Rattle.watch_run.proofs.TwoTaps.{high_after, in_time, is_ended}
@@ -108,9 +108,9 @@ IsFirst late a b cut =
     (bytes_a bytes_b : List ℕ) (whole_a whole_b whole : List Frame) (x y : Ending) → a.remaining ≡ Some bytes_a → b.remaining ≡ Some bytes_b →
     IsRecording A late bytes_a whole_a x → IsRecording B late bytes_b whole_b y → IsOrder whole_a whole_b whole → (rest : List Frame) × (whole ≡ cut ++ rest)
 
-pub cut_is_first : {S T : Type 0} (rs : S → Option (List ℕ)) (fs : S → ℕ) (rt : T → Option (List ℕ)) (ft : T → ℕ) (late : ℕ) (a b : SourceView) (fa fb cut : List Frame) (taps : Taps S T) →
-    HasMerged rs fs rt ft late a b fa fb cut taps → Agree taps → IsFirst late a b cut
-cut_is_first rs fs rt ft late a b fa fb cut taps h agree =
+pub cut_is_first : {S T : Type 0} (s : SourceMembers S) (t : SourceMembers T) (late : ℕ) (a b : SourceView) (fa fb cut : List Frame) (taps : Taps S T) →
+    HasMerged s t late a b fa fb cut taps → Agree taps → IsFirst late a b cut
+cut_is_first s t late a b fa fb cut taps h agree =
     λ bytes_a bytes_b whole_a whole_b whole x y known_a known_b r_a r_b order.
     (let on_a = goes_on A late a fa whole_a taps.end_a _ bytes_a x known_a h.read_a r_a in
     let on_b = goes_on B late b fb whole_b taps.end_b _ bytes_b y known_b h.read_b r_b in

@@ -1,4 +1,5 @@
 pub mod Filters
+pub mod Laws
 pub mod Outputs
 pub mod Ready
 pub mod Rings

@@ -16,7 +16,7 @@ use Rattle.vl_judge.specs.Lanes.{LanesState, StandsAfter}
 use Rattle.pcap_io.specs.declared.writer.CaptureWriter.{CaptureWriter}
 use Rattle.verdict_ledger.specs.declared.ledger.Ledger.{Ledger}
 use Rattle.watch_run.specs.Filters.{capture_by, entries_by}
-use Rattle.run_outcome.specs.Device.{AppendsSome, SinkView}
+use Rattle.run_outcome.specs.Device.{SinkMembers, AppendsSome, SinkView}
 use Rattle.watch_run.specs.Watch.{ledger_by, lines_by}
 use Rattle.run_outcome.specs.declared.fault.Output.TheVariants as output
 use Rattle.run_outcome.specs.declared.fault.WatchFault.{WatchFault}
@@ -39,14 +39,14 @@ effect_of watch.Spawn = watch.Memory
 effect_of fault = fault
 
 -- The capture and the ledger of these frames were written, and the lanes know them.
-pub record HasWritten {W L : Type 0} (contents_w : W → Option (List ℕ)) (failures_w : W → ℕ) (contents_l : L → Option (List ℕ)) (failures_l : L → ℕ)
+pub record HasWritten {W L : Type 0} (w : SinkMembers W) (l : SinkMembers L)
     (ps : List (List Packed)) (vl_table : VlTable) (capture ledger : SinkView) (frames : List Frame) (outputs : Outputs W L) : Type 0 where
   pub lanes : StandsAfter outputs.lanes vl_table frames
   pub tally : LedgerStandsAfter outputs.ledger vl_table (length ps) (entries_by ps vl_table frames)
-  pub packets : Appends capture.contents (contents_w (sink_of outputs.capture)) (capture_by ps frames)
-  pub lines : Appends ledger.contents (contents_l (ledger_sink outputs.ledger)) (lines_by ps vl_table frames)
-  pub capture_failures : failures_w (sink_of outputs.capture) ≡ capture.failures
-  pub ledger_failures : failures_l (ledger_sink outputs.ledger) ≡ ledger.failures
+  pub packets : Appends capture.contents (w.contents (sink_of outputs.capture)) (capture_by ps frames)
+  pub lines : Appends ledger.contents (l.contents (ledger_sink outputs.ledger)) (lines_by ps vl_table frames)
+  pub capture_failures : w.failures (sink_of outputs.capture) ≡ capture.failures
+  pub ledger_failures : l.failures (ledger_sink outputs.ledger) ≡ ledger.failures
 
 -- only the sink that the fault names failed, if it names one
 abbrev pub SinkFails : WatchFault → ℕ → ℕ → ℕ → ℕ → Type 0

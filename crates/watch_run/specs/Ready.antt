@@ -13,8 +13,8 @@ use Rattle.vl_config.specs.Document.{VlTable}
 use Rattle.watch_run.specs.Outputs.{HasWritten}
 use Rattle.watch_run.specs.Rings.{HasTaken}
 use Rattle.watch_run.specs.Running.{AbortsBegun, IsStarted}
-use Rattle.run_outcome.specs.Device.{sink_view, source_view}
-use Rattle.watch_run.specs.Watch.{IsNumber, IsWatched, WatchDevices, watch_devices}
+use Rattle.run_outcome.specs.Device.{SourceMembers, SinkMembers, sink_at, source_at}
+use Rattle.watch_run.specs.Watch.{IsNumber, IsWatched, WatchDevices, devices_at}
 use Rattle.run_outcome.specs.declared.refused.WatchRefused.{WatchRefused}
 use Rattle.watch_run.specs.declared.outputs.Outputs.{Outputs}
 use Rattle.watch_run.specs.declared.taps.Taps.{Taps}
@@ -29,31 +29,30 @@ pub record AreNew {S T W L : Type 0} (ready : Ready S T W L) : Type 0 where
   pub none_b : put_items ready.put_b ≡ []
 
 -- Both recordings were opened and both outputs begun; no frame was read.
-pub record IsReady {S T W L : Type 0} (remaining_s : S → Option (List ℕ)) (failures_s : S → ℕ) (remaining_t : T → Option (List ℕ)) (failures_t : T → ℕ)
-    (contents_w : W → Option (List ℕ)) (failures_w : W → ℕ) (contents_l : L → Option (List ℕ)) (failures_l : L → ℕ)
+pub record IsReady {S T W L : Type 0} (s : SourceMembers S) (t : SourceMembers T)
+    (w : SinkMembers W) (l : SinkMembers L)
     (ps : List (List Packed)) (vl_table : VlTable) (before : WatchDevices) (ready : Ready S T W L) : Type 0 where
-  pub a : IsStarted A vl_table.late before.a (reading_of remaining_s failures_s ready.a)
-  pub b : IsStarted B vl_table.late before.b (reading_of remaining_t failures_t ready.b)
+  pub a : IsStarted A vl_table.late before.a (reading_of s.remaining s.failures ready.a)
+  pub b : IsStarted B vl_table.late before.b (reading_of t.remaining t.failures ready.b)
   pub fresh : unread_of ready.b ≡ []
   pub taken : HasTaken vl_table.late [] ready.rings
-  pub written : HasWritten contents_w failures_w contents_l failures_l ps vl_table before.capture before.ledger [] ready.outputs
+  pub written : HasWritten w l ps vl_table before.capture before.ledger [] ready.outputs
   pub capture_going : has_failed ready.outputs.capture ≡ false
   pub ledger_going : ledger_has_failed ready.outputs.ledger ≡ false
 
 -- what a run that was ready comes to
-abbrev pub Runs : {S T W L : Type 0} → (S → Option (List ℕ)) → (S → ℕ) → (T → Option (List ℕ)) → (T → ℕ)
-    → (W → Option (List ℕ)) → (W → ℕ) → (L → Option (List ℕ)) → (L → ℕ)
+abbrev pub Runs : {S T W L : Type 0} → SourceMembers S → SourceMembers T
+    → SinkMembers W → SinkMembers L
     → List (List Packed) → Ready S T W L → Result (Watched S T W L) (WatchRefused S T W L) → Type 0
-Runs remaining_s failures_s remaining_t failures_t contents_w failures_w contents_l failures_l ps ready result =
+Runs s t w l ps ready result =
     (vl_table : VlTable) (before : WatchDevices) → IsNumber (length ps)
-    → IsReady remaining_s failures_s remaining_t failures_t contents_w failures_w contents_l failures_l ps vl_table before ready
+    → IsReady s t w l ps vl_table before ready
     → MatchResult result
     (λ done. IsWatched ps vl_table done.endings done.totals before
-    (watch_devices (source_view remaining_s failures_s done.a) (source_view remaining_t failures_t done.b)
-    (sink_view contents_w failures_w done.capture) (sink_view contents_l failures_l done.ledger)))
+    (devices_at s t w l done.a done.b done.capture done.ledger))
     (λ refused. AbortsBegun refused.fault ps vl_table before
-    (option_map (source_view remaining_s failures_s) refused.a) (option_map (source_view remaining_t failures_t) refused.b)
-    (sink_view contents_w failures_w refused.capture) (sink_view contents_l failures_l refused.ledger))
+    (option_map (source_at s) refused.a) (option_map (source_at t) refused.b)
+    (sink_at w refused.capture) (sink_at l refused.ledger))
 
 -- new rings of networks A and B
 pub record AreTwoRings (late : ℕ) (ends : (TapPut × TapEnd) × (TapPut × TapEnd)) : Type 0 where

@@ -11,21 +11,21 @@ use Rattle.vl_config.specs.Document.{VlTable}
 use Rattle.watch_run.specs.Filters.{capture_by}
 use Rattle.watch_run.specs.Outputs.{HasWritten}
 use Rattle.watch_run.specs.Taps.{Agree, HasMerged, ReadsPart}
-use Rattle.run_outcome.specs.Device.{AppendsSome, SinkView, SourceView}
+use Rattle.run_outcome.specs.Device.{SourceMembers, SinkMembers, AppendsSome, SinkView, SourceView}
 use Rattle.watch_run.specs.Watch.{FailsOnly, HasFirstOfAll, HasLines, HasWholes, IsRunFault, WatchDevices, watch_devices}
 use Rattle.run_outcome.specs.declared.fault.WatchFault.{WatchFault}
 use Rattle.watch_run.specs.declared.outputs.Outputs.{Outputs}
 use Rattle.watch_run.specs.declared.taps.Taps.{Taps}
 
 -- These frames were read, and those that were cut, the first in order, were judged, filtered and written.
-pub record IsWatching {S T W L : Type 0} (remaining_s : S → Option (List ℕ)) (failures_s : S → ℕ) (remaining_t : T → Option (List ℕ)) (failures_t : T → ℕ)
-    (contents_w : W → Option (List ℕ)) (failures_w : W → ℕ) (contents_l : L → Option (List ℕ)) (failures_l : L → ℕ)
+pub record IsWatching {S T W L : Type 0} (s : SourceMembers S) (t : SourceMembers T)
+    (w : SinkMembers W) (l : SinkMembers L)
     (ps : List (List Packed)) (vl_table : VlTable) (before : WatchDevices) (taps : Taps S T) (outputs : Outputs W L) : Type 0 where
   pub frames_a : List Frame
   pub frames_b : List Frame
   pub cut : List Frame
-  pub merged : HasMerged remaining_s failures_s remaining_t failures_t vl_table.late before.a before.b frames_a frames_b cut taps
-  pub written : HasWritten contents_w failures_w contents_l failures_l ps vl_table before.capture before.ledger cut outputs
+  pub merged : HasMerged s t vl_table.late before.a before.b frames_a frames_b cut taps
+  pub written : HasWritten w l ps vl_table before.capture before.ledger cut outputs
   pub agree : Agree taps
   pub capture_going : has_failed outputs.capture ≡ false
   pub ledger_going : ledger_has_failed outputs.ledger ≡ false

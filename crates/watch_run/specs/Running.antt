@@ -27,7 +27,7 @@ use Rattle.watch_run.specs.Filters.{capture_by}
 use Rattle.watch_run.specs.Outputs.{HasWritten, StopsWriting, effect_of}
 use Rattle.watch_run.specs.Rings.{HasTaken, RingsFault, StopsTaking}
 use Rattle.watch_run.specs.Taps.{HasRead}
-use Rattle.run_outcome.specs.Device.{AppendsSome, SinkView, SourceView}
+use Rattle.run_outcome.specs.Device.{SourceMembers, SinkMembers, AppendsSome, SinkView, SourceView}
 use Rattle.run_outcome.specs.Recording.{HasReadTap, IsReadPart, IsReadWhole, WasOpened, most_frames}
 use Rattle.watch_run.specs.Watch.{AbortsAtOpening, AbortsRun, IsNumber, StopsRun, WatchDevices, lines_by, watch_devices}
 use Rattle.run_outcome.specs.declared.fault.Output.TheVariants as output
@@ -45,28 +45,28 @@ pub record IsStarted (network : Network) (late : ℕ) (before : SourceView) (rea
   pub most : reading.position.most ≡ most_frames
 
 -- what the thread of a tap hands back: the reader's items were put into the ring
-abbrev pub IsReadInto : {S : Type 0} → (S → Option (List ℕ)) → (S → ℕ) → TapReader S → TapPut → Fed S → Type 0
-IsReadInto remaining failures reader put fed =
-    SamePut put (put_of fed) × IsFed (reading_of remaining failures reader) (put_items (put_of fed)) (reading_of remaining failures (reader_of fed))
+abbrev pub IsReadInto : {S : Type 0} → SourceMembers S → TapReader S → TapPut → Fed S → Type 0
+IsReadInto s reader put fed =
+    SamePut put (put_of fed) × IsFed (reading_of s.remaining s.failures reader) (put_items (put_of fed)) (reading_of s.remaining s.failures (reader_of fed))
 
 -- All items of a reader, up to an ending or a fault, were taken from the ring, and its source came back.
-pub record IsSettled {S : Type 0} (remaining : S → Option (List ℕ)) (failures : S → ℕ) (reader : TapReader S) (end : TapEnd) (source : S) : Type 0 where
+pub record IsSettled {S : Type 0} (s : SourceMembers S) (reader : TapReader S) (end : TapEnd) (source : S) : Type 0 where
   pub reading : Reading
   pub ahead : List ℕ
-  pub gives : Gives (reading_of remaining failures reader) (taken_items end) reading
+  pub gives : Gives (reading_of s.remaining s.failures reader) (taken_items end) reading
   pub over : is_over (taken_items end) ≡ true
   pub sound : has_lost end ≡ false
-  pub leaves : LeavesUnread ahead reading.remaining (remaining source)
-  pub same_failures : failures source ≡ reading.failures
+  pub leaves : LeavesUnread ahead reading.remaining (s.remaining source)
+  pub same_failures : s.failures source ≡ reading.failures
 
 -- ---- between the start of the threads and their end
 
 -- All frames that were taken of the rings were merged; those that were cut, the first in order, were judged, filtered and written.
-pub record IsRunning {W L : Type 0} (contents_w : W → Option (List ℕ)) (failures_w : W → ℕ) (contents_l : L → Option (List ℕ)) (failures_l : L → ℕ)
+pub record IsRunning {W L : Type 0} (w : SinkMembers W) (l : SinkMembers L)
     (ps : List (List Packed)) (vl_table : VlTable) (capture ledger : SinkView) (rings : Rings) (outputs : Outputs W L) : Type 0 where
   pub cut : List Frame
   pub taken : HasTaken vl_table.late cut rings
-  pub written : HasWritten contents_w failures_w contents_l failures_l ps vl_table capture ledger cut outputs
+  pub written : HasWritten w l ps vl_table capture ledger cut outputs
   pub capture_going : has_failed outputs.capture ≡ false
   pub ledger_going : ledger_has_failed outputs.ledger ≡ false
 

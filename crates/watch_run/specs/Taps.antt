@@ -14,7 +14,7 @@ use Rattle.pcap_io.specs.declared.record_header.TheConstants.{RECORD_HEADER_LEN}
 use Rattle.pcap_io.specs.declared.recording.Ending.{Ending}
 use Rattle.pcap_io.specs.declared.recording.Stage.TheVariants.{Going, Ended}
 use Rattle.run_outcome.specs.Recording.{HasReadTap, most_frames}
-use Rattle.run_outcome.specs.Device.{SourceView}
+use Rattle.run_outcome.specs.Device.{SourceMembers, SourceView}
 use Rattle.run_outcome.specs.declared.fault.WatchFault.{WatchFault}
 use Rattle.run_outcome.specs.declared.fault.WatchFault.TheVariants as watch
 use Rattle.watch_run.specs.declared.taps.Taps.{Taps}
@@ -71,10 +71,10 @@ pub record HasRead (network : Network) (late : ℕ) (before : SourceView) (frame
   pub failures : reading.failures ≡ before.failures
 
 -- What was read of both sources, merged and cut: these frames of each, and of them these in order.
-pub record HasMerged {S T : Type 0} (remaining_s : S → Option (List ℕ)) (failures_s : S → ℕ) (remaining_t : T → Option (List ℕ)) (failures_t : T → ℕ)
+pub record HasMerged {S T : Type 0} (s : SourceMembers S) (t : SourceMembers T)
     (late : ℕ) (a b : SourceView) (frames_a frames_b cut : List Frame) (taps : Taps S T) : Type 0 where
-  pub read_a : HasRead A late a frames_a taps.end_a (reading_of remaining_s failures_s taps.a)
-  pub read_b : HasRead B late b frames_b taps.end_b (reading_of remaining_t failures_t taps.b)
+  pub read_a : HasRead A late a frames_a taps.end_a (reading_of s.remaining s.failures taps.a)
+  pub read_b : HasRead B late b frames_b taps.end_b (reading_of t.remaining t.failures taps.b)
   pub follows : Follows taps.merger frames_a frames_b cut
 
 -- the readers of both networks agree with the merger

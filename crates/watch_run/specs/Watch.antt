@@ -25,7 +25,7 @@ use Rattle.watch_run.specs.Filters.{capture_by, entries_by}
 use Rattle.run_outcome.specs.declared.fault.Output.TheVariants as output
 use Rattle.run_outcome.specs.declared.fault.WatchFault.{WatchFault}
 use Rattle.run_outcome.specs.declared.fault.WatchFault.TheVariants as watch
-use Rattle.run_outcome.specs.Device.{SourceView, SinkView, AppendsSome}
+use Rattle.run_outcome.specs.Device.{AppendsSome, SinkMembers, SinkView, SourceMembers, SourceView, sink_at, source_at}
 use Rattle.run_outcome.specs.Recording.{IsReadPart, IsReadWhole, HasHeaderFault, FailsAtHeader, WasOpened}
 
 -- ---- what a run sees of its devices
@@ -38,6 +38,9 @@ pub record WatchDevices : Type 0 where
 
 abbrev pub watch_devices : SourceView → SourceView → SinkView → SinkView → WatchDevices
 watch_devices a b capture ledger = record { a = a; b = b; capture = capture; ledger = ledger }
+
+abbrev pub devices_at : {S T W L : Type 0} → SourceMembers S → SourceMembers T → SinkMembers W → SinkMembers L → S → T → W → L → WatchDevices
+devices_at s t w l a b capture ledger = watch_devices (source_at s a) (source_at t b) (sink_at w capture) (sink_at l ledger)
 
 -- ---- a whole run
 

@@ -6,6 +6,7 @@
 
 mod filters;
 mod gate;
+mod laws;
 mod one_thread;
 mod outputs;
 mod rings;
@@ -16,5 +17,6 @@ mod taps;
 mod threads;
 
 pub use gate::OpenGate;
+pub use laws::same_bytes_in_same_bytes_out;
 pub use one_thread::{Watched, watch_whole};
 pub use threads::watch;

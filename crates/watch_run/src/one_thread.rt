@@ -8,8 +8,8 @@ ghost use Rattle.pcap_io.specs.Writer.{sink_of};
 ghost use Rattle.verdict_ledger.specs.Ledger.{has_failed as ledger_has_failed, sink_of as ledger_sink};
 ghost use Rattle.watch_run.specs.Run.{IsWatching, StopsWatching};
 ghost use Rattle.watch_run.specs.Taps.{HasEnded};
-ghost use Rattle.run_outcome.specs.Device.{sink_view, source_view};
-ghost use Rattle.watch_run.specs.Watch.{AbortsRun, IsNumber, IsWatchAborted, IsWatched, WatchDevices, watch_devices};
+ghost use Rattle.run_outcome.specs.Device.{sink_at, source_at};
+ghost use Rattle.watch_run.specs.Watch.{AbortsRun, IsNumber, IsWatchAborted, IsWatched, WatchDevices, devices_at, watch_devices};
 
 use crate::outputs::{Outputs, Unwritten};
 use crate::taps::{Taps, Unopened};
@@ -47,26 +47,22 @@ fn write_rounds<S: TapSource, T: TapSource, W: OutSink, L: OutSink>(
 ) -> Result<(), WatchFault>
     requires few { length programs.now ≤ 8 }
     requires begun { (vl_table : VlTable) × (before : WatchDevices)
-        × IsWatching S.remaining S.failures T.remaining T.failures
-        W.contents W.failures L.contents L.failures
+        × IsWatching S.TapSource T.TapSource W.OutSink L.OutSink
         programs.now vl_table before taps.old outputs.old }
     ensures watching { OnOk result ((vl_table : VlTable) (before : WatchDevices)
-        → IsWatching S.remaining S.failures T.remaining T.failures
-        W.contents W.failures L.contents L.failures
+        → IsWatching S.TapSource T.TapSource W.OutSink L.OutSink
         programs.now vl_table before taps.old outputs.old
-        → IsWatching S.remaining S.failures T.remaining T.failures
-        W.contents W.failures L.contents L.failures
+        → IsWatching S.TapSource T.TapSource W.OutSink L.OutSink
         programs.now vl_table before taps.new outputs.new) }
     ensures ended { OnOk result (HasEnded taps.new × (taps.new.merger.pending ≡ [])) }
     ensures stopped { IfErr result (λ fault. (vl_table : VlTable) (before : WatchDevices)
-        → IsWatching S.remaining S.failures T.remaining T.failures
-        W.contents W.failures L.contents L.failures
+        → IsWatching S.TapSource T.TapSource W.OutSink L.OutSink
         programs.now vl_table before taps.old outputs.old
         → StopsWatching fault programs.now vl_table before
         (reading_of S.remaining S.failures taps.new.a)
         (reading_of T.remaining T.failures taps.new.b)
-        (sink_view W.contents W.failures (sink_of outputs.new.capture))
-        (sink_view L.contents L.failures (ledger_sink outputs.new.ledger))) }
+        (sink_at W.OutSink (sink_of outputs.new.capture))
+        (sink_at L.OutSink (ledger_sink outputs.new.ledger))) }
 {
     while let Some(round) = taps.next_round(alloc)? {
         outputs.write_round(alloc, programs, &round)?;
@@ -85,13 +81,11 @@ fn stopped<S: TapSource, T: TapSource, W: OutSink, L: OutSink>(
         → StopsWatching fault ps vl_table before
         (reading_of S.remaining S.failures taps.a)
         (reading_of T.remaining T.failures taps.b)
-        (sink_view W.contents W.failures (sink_of outputs.capture))
-        (sink_view L.contents L.failures (ledger_sink outputs.ledger))
+        (sink_at W.OutSink (sink_of outputs.capture))
+        (sink_at L.OutSink (ledger_sink outputs.ledger))
         → AbortsRun result.fault ps vl_table before
-        (watch_devices (source_view S.remaining S.failures a)
-        (source_view T.remaining T.failures b)
-        (sink_view W.contents W.failures result.capture)
-        (sink_view L.contents L.failures result.ledger)))) }
+        (devices_at S.TapSource T.TapSource W.OutSink L.OutSink
+        a b result.capture result.ledger))) }
     ensures back { IsSome result.a × IsSome result.b }
 {
     let (a, b) = taps.into_sources();
@@ -109,22 +103,16 @@ fn finish<S: TapSource, T: TapSource, W: OutSink, L: OutSink>(
     requires going { ledger_has_failed outputs.ledger ≡ false }
     ensures watched { IfOk result (λ done.
         (ps : List (List Packed)) (vl_table : VlTable) (before : WatchDevices)
-        → IsWatching S.remaining S.failures T.remaining T.failures
-        W.contents W.failures L.contents L.failures ps vl_table before taps outputs
+        → IsWatching S.TapSource T.TapSource W.OutSink L.OutSink ps vl_table before taps outputs
         → IsNumber (length ps) → IsWatched ps vl_table done.endings done.totals before
-        (watch_devices (source_view S.remaining S.failures done.a)
-        (source_view T.remaining T.failures done.b)
-        (sink_view W.contents W.failures done.capture)
-        (sink_view L.contents L.failures done.ledger))) }
+        (devices_at S.TapSource T.TapSource W.OutSink L.OutSink
+        done.a done.b done.capture done.ledger)) }
     ensures aborted { IfErr result (λ refused. IfSome refused.a (λ a. IfSome refused.b (λ b.
         (ps : List (List Packed)) (vl_table : VlTable) (before : WatchDevices)
-        → IsWatching S.remaining S.failures T.remaining T.failures
-        W.contents W.failures L.contents L.failures ps vl_table before taps outputs
+        → IsWatching S.TapSource T.TapSource W.OutSink L.OutSink ps vl_table before taps outputs
         → AbortsRun refused.fault ps vl_table before
-        (watch_devices (source_view S.remaining S.failures a)
-        (source_view T.remaining T.failures b)
-        (sink_view W.contents W.failures refused.capture)
-        (sink_view L.contents L.failures refused.ledger))))) }
+        (devices_at S.TapSource T.TapSource W.OutSink L.OutSink
+        a b refused.capture refused.ledger)))) }
     ensures back { IfErr result (λ refused. IsSome refused.a × IsSome refused.b) }
 {
     let (Some(end_a), Some(end_b)) = (taps.end_a, taps.end_b) else {
@@ -176,24 +164,14 @@ pub fn watch_whole<S: TapSource, T: TapSource, W: OutSink, L: OutSink>(
 ) -> Result<Watched<S, T, W, L>, WatchRefused<S, T, W, L>>
     ensures watched { IfOk result (λ done. IsWatched programs.now config.now
         done.endings done.totals
-        (watch_devices (source_view S.remaining S.failures a)
-        (source_view T.remaining T.failures b)
-        (sink_view W.contents W.failures capture)
-        (sink_view L.contents L.failures ledger))
-        (watch_devices (source_view S.remaining S.failures done.a)
-        (source_view T.remaining T.failures done.b)
-        (sink_view W.contents W.failures done.capture)
-        (sink_view L.contents L.failures done.ledger))) }
+        (devices_at S.TapSource T.TapSource W.OutSink L.OutSink a b capture ledger)
+        (devices_at S.TapSource T.TapSource W.OutSink L.OutSink
+        done.a done.b done.capture done.ledger)) }
     ensures aborted { IfErr result (λ refused. IfSome refused.a (λ a'. IfSome refused.b (λ b'.
         IsWatchAborted programs.now config.now refused.fault
-        (watch_devices (source_view S.remaining S.failures a)
-        (source_view T.remaining T.failures b)
-        (sink_view W.contents W.failures capture)
-        (sink_view L.contents L.failures ledger))
-        (watch_devices (source_view S.remaining S.failures a')
-        (source_view T.remaining T.failures b')
-        (sink_view W.contents W.failures refused.capture)
-        (sink_view L.contents L.failures refused.ledger))))) }
+        (devices_at S.TapSource T.TapSource W.OutSink L.OutSink a b capture ledger)
+        (devices_at S.TapSource T.TapSource W.OutSink L.OutSink
+        a' b' refused.capture refused.ledger)))) }
     ensures back { IfErr result (λ refused. IsSome refused.a × IsSome refused.b) }
 {
     if programs.is_empty() || programs.len() > MAX_FILTERS {

@@ -14,7 +14,7 @@ ghost use Rattle.bpf_isa.specs.declared.packed.Packed.{Packed};
 ghost use Rattle.verdict_ledger.specs.Ledger.{has_failed as ledger_has_failed, totals_in};
 ghost use Rattle.verdict_ledger.specs.Ledger.{sink_of as ledger_sink};
 ghost use Rattle.watch_run.specs.Outputs.{HasWritten, IsFinished, StopsFinishing, StopsWriting, effect_of, ledger_fault, outputs_of};
-ghost use Rattle.run_outcome.specs.Device.{SinkView, sink_view};
+ghost use Rattle.run_outcome.specs.Device.{SinkView, sink_at};
 ghost use Rattle.watch_run.specs.Round.{AreKept, AreSaid, IsShared, packets_kept};
 ghost use Rattle.vl_judge.specs.Lanes.{FollowsOn, LanesState};
 
@@ -116,23 +116,23 @@ fn write_entries<W: OutSink, L: OutSink>(
     requires ledger_going { ledger_has_failed ledger.old ≡ false }
     ensures written { OnOk result ((ps : List (List Packed)) (vl_table : VlTable)
         (capture_view ledger_view : SinkView) (frames : List Frame) (before after : LanesState)
-        → HasWritten W.contents W.failures L.contents L.failures
+        → HasWritten W.OutSink L.OutSink
         ps vl_table capture_view ledger_view frames (outputs_of before capture.old ledger.old)
         → AreSaid ps vl_table frames round.now verdicts.now keeps.now masks.now
         → StandsAfter after vl_table (frames ++ round.now)
-        → HasWritten W.contents W.failures L.contents L.failures
+        → HasWritten W.OutSink L.OutSink
         ps vl_table capture_view ledger_view (frames ++ round.now)
         (outputs_of after capture.new ledger.new)) }
     ensures capture_going { OnOk result (has_failed capture.new ≡ false) }
     ensures ledger_going { OnOk result (ledger_has_failed ledger.new ≡ false) }
     ensures stopped { IfErr result (λ fault. (ps : List (List Packed)) (vl_table : VlTable)
         (capture_view ledger_view : SinkView) (frames : List Frame) (before : LanesState)
-        → HasWritten W.contents W.failures L.contents L.failures
+        → HasWritten W.OutSink L.OutSink
         ps vl_table capture_view ledger_view frames (outputs_of before capture.old ledger.old)
         → AreSaid ps vl_table frames round.now verdicts.now keeps.now masks.now
         → StopsWriting fault ps vl_table capture_view ledger_view
-        (sink_view W.contents W.failures (sink_of capture.new))
-        (sink_view L.contents L.failures (ledger_sink ledger.new)) (frames ++ round.now)) }
+        (sink_at W.OutSink (sink_of capture.new))
+        (sink_at L.OutSink (ledger_sink ledger.new)) (frames ++ round.now)) }
 {
     write_packets(capture, round, keeps)?;
     match ledger.round(round, verdicts, keeps, masks) {
@@ -158,23 +158,23 @@ impl Said {
         ensures lanes { IfOk result (λ lanes. lanes ≡ self.lanes) }
         ensures written { OnOk result ((ps : List (List Packed)) (vl_table : VlTable)
             (capture_view ledger_view : SinkView) (frames : List Frame) (before after : LanesState)
-            → HasWritten W.contents W.failures L.contents L.failures
+            → HasWritten W.OutSink L.OutSink
             ps vl_table capture_view ledger_view frames (outputs_of before capture.old ledger.old)
             → AreSaid ps vl_table frames round.now self.verdicts.items self.keeps.items self.masks.items
             → StandsAfter after vl_table (frames ++ round.now)
-            → HasWritten W.contents W.failures L.contents L.failures
+            → HasWritten W.OutSink L.OutSink
             ps vl_table capture_view ledger_view (frames ++ round.now)
             (outputs_of after capture.new ledger.new)) }
         ensures capture_going { OnOk result (has_failed capture.new ≡ false) }
         ensures ledger_going { OnOk result (ledger_has_failed ledger.new ≡ false) }
         ensures stopped { IfErr result (λ fault. (ps : List (List Packed)) (vl_table : VlTable)
             (capture_view ledger_view : SinkView) (frames : List Frame) (before : LanesState)
-            → HasWritten W.contents W.failures L.contents L.failures
+            → HasWritten W.OutSink L.OutSink
             ps vl_table capture_view ledger_view frames (outputs_of before capture.old ledger.old)
             → AreSaid ps vl_table frames round.now self.verdicts.items self.keeps.items self.masks.items
             → StopsWriting fault ps vl_table capture_view ledger_view
-            (sink_view W.contents W.failures (sink_of capture.new))
-            (sink_view L.contents L.failures (ledger_sink ledger.new)) (frames ++ round.now)) }
+            (sink_at W.OutSink (sink_of capture.new))
+            (sink_at L.OutSink (ledger_sink ledger.new)) (frames ++ round.now)) }
     {
         let Said {
             lanes,
@@ -244,16 +244,16 @@ impl<W: OutSink, L: OutSink> Outputs<W, L> {
         requires some { 1 ≤ filters }
         requires few { filters ≤ 8 }
         ensures written { IfOk result (λ outputs. (ps : List (List Packed)) → length ps ≡ filters
-            → HasWritten W.contents W.failures L.contents L.failures ps config.now
-            (sink_view W.contents W.failures capture) (sink_view L.contents L.failures ledger)
+            → HasWritten W.OutSink L.OutSink ps config.now
+            (sink_at W.OutSink capture) (sink_at L.OutSink ledger)
             [] outputs) }
         ensures capture_going { IfOk result (λ outputs. has_failed outputs.capture ≡ false) }
         ensures ledger_going { IfOk result (λ outputs. ledger_has_failed outputs.ledger ≡ false) }
         ensures stopped { IfErr result (λ e. (ps : List (List Packed))
             → StopsWriting e.fault ps config.now
-            (sink_view W.contents W.failures capture) (sink_view L.contents L.failures ledger)
-            (sink_view W.contents W.failures e.capture)
-            (sink_view L.contents L.failures e.ledger) []) }
+            (sink_at W.OutSink capture) (sink_at L.OutSink ledger)
+            (sink_at W.OutSink e.capture)
+            (sink_at L.OutSink e.ledger) []) }
     {
         let lanes = match Lanes::new(alloc, config) {
             Ok(lanes) => lanes,
@@ -294,17 +294,17 @@ impl<W: OutSink, L: OutSink> Outputs<W, L> {
         requires going { ledger_has_failed self.ledger ≡ false }
         ensures finished { IfOk result (λ done. (ps : List (List Packed)) (vl_table : VlTable)
             (capture ledger : SinkView) (frames : List Frame)
-            → HasWritten W.contents W.failures L.contents L.failures
+            → HasWritten W.OutSink L.OutSink
             ps vl_table capture ledger frames self
-            → IsFinished ps vl_table capture ledger (sink_view W.contents W.failures done.0)
-            (sink_view L.contents L.failures done.1) frames a b done.2) }
+            → IsFinished ps vl_table capture ledger (sink_at W.OutSink done.0)
+            (sink_at L.OutSink done.1) frames a b done.2) }
         ensures stopped { IfErr result (λ e. (ps : List (List Packed)) (vl_table : VlTable)
             (capture ledger : SinkView) (frames : List Frame)
-            → HasWritten W.contents W.failures L.contents L.failures
+            → HasWritten W.OutSink L.OutSink
             ps vl_table capture ledger frames self
             → StopsFinishing e.fault ps vl_table capture ledger
-            (sink_view W.contents W.failures e.capture)
-            (sink_view L.contents L.failures e.ledger) frames a b) }
+            (sink_at W.OutSink e.capture)
+            (sink_at L.OutSink e.ledger) frames a b) }
     {
         let Outputs {
             lanes: _,
@@ -365,19 +365,19 @@ impl<W: OutSink, L: OutSink> Outputs<W, L> {
         requires ledger_going { ledger_has_failed self.old.ledger ≡ false }
         ensures written { OnOk result ((vl_table : VlTable) (capture ledger : SinkView)
             (frames : List Frame)
-            → HasWritten W.contents W.failures L.contents L.failures
+            → HasWritten W.OutSink L.OutSink
             programs.now vl_table capture ledger frames self.old
-            → HasWritten W.contents W.failures L.contents L.failures
+            → HasWritten W.OutSink L.OutSink
             programs.now vl_table capture ledger (frames ++ round.now) self.new) }
         ensures capture_going { OnOk result (has_failed self.new.capture ≡ false) }
         ensures ledger_going { OnOk result (ledger_has_failed self.new.ledger ≡ false) }
         ensures stopped { IfErr result (λ fault. (vl_table : VlTable) (capture ledger : SinkView)
             (frames : List Frame)
-            → HasWritten W.contents W.failures L.contents L.failures
+            → HasWritten W.OutSink L.OutSink
             programs.now vl_table capture ledger frames self.old
             → StopsWriting fault programs.now vl_table capture ledger
-            (sink_view W.contents W.failures (sink_of self.new.capture))
-            (sink_view L.contents L.failures (ledger_sink self.new.ledger))
+            (sink_at W.OutSink (sink_of self.new.capture))
+            (sink_at L.OutSink (ledger_sink self.new.ledger))
             (frames ++ round.now)) }
     {
         let verdicts = judge_round(alloc, &mut self.lanes, round)?;
@@ -409,19 +409,19 @@ impl<W: OutSink, L: OutSink> Outputs<W, L> {
         requires ledger_going { ledger_has_failed self.ledger ≡ false }
         ensures written { IfOk result (λ outputs. (vl_table : VlTable) (capture ledger : SinkView)
             (frames : List Frame)
-            → HasWritten W.contents W.failures L.contents L.failures
+            → HasWritten W.OutSink L.OutSink
             sharing.now.programs.now vl_table capture ledger frames self
-            → HasWritten W.contents W.failures L.contents L.failures
+            → HasWritten W.OutSink L.OutSink
             sharing.now.programs.now vl_table capture ledger (frames ++ round.now) outputs) }
         ensures capture_going { IfOk result (λ outputs. has_failed outputs.capture ≡ false) }
         ensures ledger_going { IfOk result (λ outputs. ledger_has_failed outputs.ledger ≡ false) }
         ensures stopped { IfErr result (λ e. (vl_table : VlTable) (capture ledger : SinkView)
             (frames : List Frame)
-            → HasWritten W.contents W.failures L.contents L.failures
+            → HasWritten W.OutSink L.OutSink
             sharing.now.programs.now vl_table capture ledger frames self
             → StopsWriting (effect_of e.fault) sharing.now.programs.now vl_table capture ledger
-            (sink_view W.contents W.failures e.capture)
-            (sink_view L.contents L.failures e.ledger) (frames ++ round.now)) }
+            (sink_at W.OutSink e.capture)
+            (sink_at L.OutSink e.ledger) (frames ++ round.now)) }
     {
         let Outputs {
             lanes,

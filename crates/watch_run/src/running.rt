@@ -9,8 +9,8 @@ ghost use Rattle.tap_queue.specs.Ring.{SameEnd};
 ghost use Rattle.watch_run.specs.Running.{AbortsBegun, IsRunning, IsStarted, StopsRunning};
 ghost use Rattle.watch_run.specs.Outputs.{HasWritten, IsFinished, StopsFinishing};
 ghost use Rattle.run_outcome.specs.Device.{SinkView};
-ghost use Rattle.watch_run.specs.Watch.{IsNumber, IsWatched, WatchDevices};
-ghost use Rattle.run_outcome.specs.Device.{sink_view, source_view};
+ghost use Rattle.watch_run.specs.Watch.{IsNumber, IsWatched, WatchDevices, devices_at};
+ghost use Rattle.run_outcome.specs.Device.{sink_at, source_at};
 ghost use Rattle.watch_run.specs.Watch.{watch_devices};
 ghost use Rattle.verdict_ledger.specs.Ledger.{has_failed as ledger_has_failed};
 ghost use Rattle.afdx_frame.specs.Frame.{Frame};
@@ -39,23 +39,23 @@ pub fn write_rounds<R: Threads + Wait + Sync, W: OutSink, L: OutSink, G: RunGate
 ) -> Result<Outputs<W, L>, Unwritten<W, L>>
     requires shared { IsShared sharing.now.programs.now sharing.now.workers }
     requires begun { (vl_table : VlTable) × (capture : SinkView) × (ledger : SinkView)
-        × IsRunning W.contents W.failures L.contents L.failures
+        × IsRunning W.OutSink L.OutSink
         sharing.now.programs.now vl_table capture ledger rings.old outputs }
     ensures a { SameEnd rings.old.a rings.new.a }
     ensures b { SameEnd rings.old.b rings.new.b }
     ensures running { IfOk result (λ written. (vl_table : VlTable) (capture ledger : SinkView)
-        → IsRunning W.contents W.failures L.contents L.failures
+        → IsRunning W.OutSink L.OutSink
         sharing.now.programs.now vl_table capture ledger rings.old outputs
-        → IsRunning W.contents W.failures L.contents L.failures
+        → IsRunning W.OutSink L.OutSink
         sharing.now.programs.now vl_table capture ledger rings.new written) }
     ensures ended { IfOk result (λ _. (is_some rings.new.end_a ≡ true)
         × (is_some rings.new.end_b ≡ true) × (rings.new.merger.pending ≡ [])) }
     ensures stopped { IfErr result (λ e. (vl_table : VlTable) (capture ledger : SinkView)
-        → IsRunning W.contents W.failures L.contents L.failures
+        → IsRunning W.OutSink L.OutSink
         sharing.now.programs.now vl_table capture ledger rings.old outputs
         → StopsRunning e.fault sharing.now.programs.now vl_table capture ledger
         rings.new.a rings.new.b
-        (sink_view W.contents W.failures e.capture) (sink_view L.contents L.failures e.ledger)) }
+        (sink_at W.OutSink e.capture) (sink_at L.OutSink e.ledger)) }
 {
     let mut outputs = outputs;
     for _ in rt.forever() {
@@ -87,17 +87,17 @@ fn finish_outputs<S, T, W: OutSink, L: OutSink>(
     ensures back { IfErr result (λ refused. (refused.a ≡ Some a) × (refused.b ≡ Some b)) }
     ensures finished { IfOk result (λ done. (ps : List (List Packed)) (vl_table : VlTable)
         (capture ledger : SinkView) (frames : List Frame)
-        → HasWritten W.contents W.failures L.contents L.failures
+        → HasWritten W.OutSink L.OutSink
         ps vl_table capture ledger frames outputs
-        → IsFinished ps vl_table capture ledger (sink_view W.contents W.failures done.capture)
-        (sink_view L.contents L.failures done.ledger) frames end_a end_b done.totals) }
+        → IsFinished ps vl_table capture ledger (sink_at W.OutSink done.capture)
+        (sink_at L.OutSink done.ledger) frames end_a end_b done.totals) }
     ensures stopped { IfErr result (λ refused. (ps : List (List Packed)) (vl_table : VlTable)
         (capture ledger : SinkView) (frames : List Frame)
-        → HasWritten W.contents W.failures L.contents L.failures
+        → HasWritten W.OutSink L.OutSink
         ps vl_table capture ledger frames outputs
         → StopsFinishing refused.fault ps vl_table capture ledger
-        (sink_view W.contents W.failures refused.capture)
-        (sink_view L.contents L.failures refused.ledger) frames end_a end_b) }
+        (sink_at W.OutSink refused.capture)
+        (sink_at L.OutSink refused.ledger) frames end_a end_b) }
 {
     match outputs.finish(end_a, end_b) {
         Ok((capture, ledger, totals)) => Ok(Watched {
@@ -147,26 +147,24 @@ impl<S: TapSource + Drop, T: TapSource + Drop> Running<S, T> {
             (reading_of S.remaining S.failures self.a.promise.reader.value)
             → IsStarted Network.B vl_table.late before.b
             (reading_of T.remaining T.failures self.b.promise.reader.value)
-            → IsRunning W.contents W.failures L.contents L.failures
+            → IsRunning W.OutSink L.OutSink
             ps vl_table before.capture before.ledger self.rings outputs
             → IsNumber (length ps) → IsWatched ps vl_table done.endings done.totals before
-            (watch_devices (source_view S.remaining S.failures done.a)
-            (source_view T.remaining T.failures done.b)
-            (sink_view W.contents W.failures done.capture)
-            (sink_view L.contents L.failures done.ledger))) }
+            (devices_at S.TapSource T.TapSource W.OutSink L.OutSink
+            done.a done.b done.capture done.ledger)) }
         ensures aborted { IfErr result (λ refused.
             (ps : List (List Packed)) (vl_table : VlTable) (before : WatchDevices)
             → IsStarted Network.A vl_table.late before.a
             (reading_of S.remaining S.failures self.a.promise.reader.value)
             → IsStarted Network.B vl_table.late before.b
             (reading_of T.remaining T.failures self.b.promise.reader.value)
-            → IsRunning W.contents W.failures L.contents L.failures
+            → IsRunning W.OutSink L.OutSink
             ps vl_table before.capture before.ledger self.rings outputs
             → AbortsBegun refused.fault ps vl_table before
-            (option_map (source_view S.remaining S.failures) refused.a)
-            (option_map (source_view T.remaining T.failures) refused.b)
-            (sink_view W.contents W.failures refused.capture)
-            (sink_view L.contents L.failures refused.ledger)) }
+            (option_map (source_at S.TapSource) refused.a)
+            (option_map (source_at T.TapSource) refused.b)
+            (sink_at W.OutSink refused.capture)
+            (sink_at L.OutSink refused.ledger)) }
     {
         let Running { rings, a, b } = self;
         let (Some(end_a), Some(end_b)) = (rings.end_a, rings.end_b) else {
@@ -209,13 +207,13 @@ impl<S: TapSource + Drop, T: TapSource + Drop> Running<S, T> {
             (reading_of T.remaining T.failures self.b.promise.reader.value)
             → StopsRunning unwritten.fault ps vl_table before.capture before.ledger
             self.rings.a self.rings.b
-            (sink_view W.contents W.failures unwritten.capture)
-            (sink_view L.contents L.failures unwritten.ledger)
+            (sink_at W.OutSink unwritten.capture)
+            (sink_at L.OutSink unwritten.ledger)
             → AbortsBegun result.fault ps vl_table before
-            (option_map (source_view S.remaining S.failures) result.a)
-            (option_map (source_view T.remaining T.failures) result.b)
-            (sink_view W.contents W.failures result.capture)
-            (sink_view L.contents L.failures result.ledger) }
+            (option_map (source_at S.TapSource) result.a)
+            (option_map (source_at T.TapSource) result.b)
+            (sink_at W.OutSink result.capture)
+            (sink_at L.OutSink result.ledger) }
     {
         let Running { mut rings, a, b } = self;
         drain(rt, &mut rings.a);

@@ -18,7 +18,7 @@ pub struct Feeding<S> {
 }
 
 impl<S: TapSource> Promise<Fed<S>> for Feeding<S> {
-    ghost kept_by = { λ p fed. IsReadInto S.remaining S.failures p.reader.value p.put.value fed };
+    ghost kept_by = { λ p fed. IsReadInto S.TapSource p.reader.value p.put.value fed };
 }
 
 /// A tap's thread.
@@ -45,7 +45,7 @@ pub fn start_tap<'s, E, R: Wait + Sync, S: TapSource + Drop + Send + 's, G: TapG
     let mut slot = Some((reader, put));
     let read = move || -> Fed<S>
         requires { IsSome slot × IfSome slot (λ ends. put_items ends.1 ≡ []) }
-        ensures { IfSome slot.entry (λ ends. IsReadInto S.remaining S.failures ends.0 ends.1 result) }
+        ensures { IfSome slot.entry (λ ends. IsReadInto S.TapSource ends.0 ends.1 result) }
     {
         let (reader, put) = slot.take().unwrap();
         feed(rt, alloc, reader, put, gate)
@@ -60,7 +60,7 @@ pub fn settle_tap<R: Threads, S: TapSource + Drop>(
     thread: TapThread<S>,
 ) -> Option<S>
     requires { IsRing thread.promise.put.value end }
-    ensures { IfSome result (IsSettled S.remaining S.failures thread.promise.reader.value end) }
+    ensures { IfSome result (IsSettled S.TapSource thread.promise.reader.value end) }
 {
     match end.settle(thread.join(rt)) {
         Ok(source) => Some(source),

@@ -73,15 +73,15 @@ impl<S: TapSource, T: TapSource> Taps<S, T> {
     ghost use Rattle.pcap_io.specs.Reader.{remaining_of, unread_of};
     ghost use Rattle.run_outcome.specs.Recording.{LeavesUnread};
     ghost use Rattle.watch_run.specs.Taps.{Agree, HasEnded, HasMerged, StopsMerging, work_left};
-    ghost use Rattle.run_outcome.specs.Device.{SinkView, source_view};
+    ghost use Rattle.run_outcome.specs.Device.{SinkView, source_at};
     ghost use Rattle.watch_run.specs.Watch.{AbortsAtOpening, watch_devices};
 
     /// Opens the recordings of networks A and B, in this order. A stamp may lie by `late` nanoseconds
     /// below the greatest one of its recording before it. A refusal gives both back.
     pub fn open(alloc: Global, late: u64, a: S, b: T) -> Result<Taps<S, T>, Unopened<S, T>>
         ensures opened { IfOk result (λ taps.
-            HasMerged S.remaining S.failures T.remaining T.failures
-            late (source_view S.remaining S.failures a) (source_view T.remaining T.failures b)
+            HasMerged S.TapSource T.TapSource
+            late (source_at S.TapSource a) (source_at T.TapSource b)
             [] [] [] taps) }
         ensures agree { IfOk result Agree }
         ensures merger { IfOk result (λ taps. taps.merger ≡ new_state late) }
@@ -89,10 +89,10 @@ impl<S: TapSource, T: TapSource> Taps<S, T> {
         ensures ends { IfOk result (λ taps. (taps.end_a ≡ None) × (taps.end_b ≡ None)) }
         ensures refused { IfErr result (λ e. (capture ledger : SinkView)
             → AbortsAtOpening e.fault
-            (watch_devices (source_view S.remaining S.failures a)
-            (source_view T.remaining T.failures b) capture ledger)
-            (watch_devices (source_view S.remaining S.failures e.a)
-            (source_view T.remaining T.failures e.b) capture ledger)) }
+            (watch_devices (source_at S.TapSource a)
+            (source_at T.TapSource b) capture ledger)
+            (watch_devices (source_at S.TapSource e.a)
+            (source_at T.TapSource e.b) capture ledger)) }
     {
         let a = match TapReader::open(a, Network::A, MAX_FRAMES, late) {
             Ok(reader) => reader,
@@ -148,16 +148,16 @@ impl<S: TapSource, T: TapSource> Taps<S, T> {
         ensures agree { OnOk result (Agree self.new) }
         ensures merged { OnOk result ((late : ℕ) (a b : SourceView)
             (frames_a frames_b cut : List Frame)
-            → HasMerged S.remaining S.failures T.remaining T.failures
+            → HasMerged S.TapSource T.TapSource
             late a b frames_a frames_b cut self.old
             → (more_a : List Frame) × (more_b : List Frame)
-            × HasMerged S.remaining S.failures T.remaining T.failures
+            × HasMerged S.TapSource T.TapSource
             late a b more_a more_b cut self.new) }
         ensures goes_on { result ≡ Ok true → work_left self.new < work_left self.old }
         ensures ended { result ≡ Ok false → HasEnded self.new × (self.new ≡ self.old) }
         ensures stopped { IfErr result (λ fault. (late : ℕ) (a b : SourceView)
             (frames_a frames_b cut : List Frame)
-            → HasMerged S.remaining S.failures T.remaining T.failures
+            → HasMerged S.TapSource T.TapSource
             late a b frames_a frames_b cut self.old
             → StopsMerging fault late a b cut
             (reading_of S.remaining S.failures self.new.a)
@@ -183,16 +183,16 @@ impl<S: TapSource, T: TapSource> Taps<S, T> {
         ensures agree { OnOk result (Agree self.new) }
         ensures merged { OnOk result ((late : ℕ) (a b : SourceView)
             (frames_a frames_b cut : List Frame)
-            → HasMerged S.remaining S.failures T.remaining T.failures
+            → HasMerged S.TapSource T.TapSource
             late a b frames_a frames_b cut self.old
             → (more_a : List Frame) × (more_b : List Frame)
-            × HasMerged S.remaining S.failures T.remaining T.failures
+            × HasMerged S.TapSource T.TapSource
             late a b more_a more_b cut self.new) }
         ensures goes_on { result ≡ Ok true → work_left self.new < work_left self.old }
         ensures ended { result ≡ Ok false → HasEnded self.new × (self.new ≡ self.old) }
         ensures stopped { IfErr result (λ fault. (late : ℕ) (a b : SourceView)
             (frames_a frames_b cut : List Frame)
-            → HasMerged S.remaining S.failures T.remaining T.failures
+            → HasMerged S.TapSource T.TapSource
             late a b frames_a frames_b cut self.old
             → StopsMerging fault late a b cut
             (reading_of S.remaining S.failures self.new.a)
@@ -215,9 +215,9 @@ impl<S: TapSource, T: TapSource> Taps<S, T> {
         ensures agree { OnOk result (Agree self.new) }
         ensures merged { IfOk result (λ round. (late : ℕ) (a b : SourceView)
             (frames_a frames_b cut : List Frame)
-            → HasMerged S.remaining S.failures T.remaining T.failures
+            → HasMerged S.TapSource T.TapSource
             late a b frames_a frames_b cut self.old
-            → HasMerged S.remaining S.failures T.remaining T.failures
+            → HasMerged S.TapSource T.TapSource
             late a b frames_a frames_b (cut ++ round.items) self.new) }
         ensures work { IfOk result (λ round.
             length round.items + work_left self.new ≡ work_left self.old) }
@@ -225,7 +225,7 @@ impl<S: TapSource, T: TapSource> Taps<S, T> {
             → HasEnded self.new × (self.new.merger.pending ≡ [])) }
         ensures stopped { IfErr result (λ fault. (late : ℕ) (a b : SourceView)
             (frames_a frames_b cut : List Frame)
-            → HasMerged S.remaining S.failures T.remaining T.failures
+            → HasMerged S.TapSource T.TapSource
             late a b frames_a frames_b cut self.old
             → StopsMerging fault late a b cut
             (reading_of S.remaining S.failures self.new.a)
@@ -244,10 +244,10 @@ impl<S: TapSource, T: TapSource> Taps<S, T> {
         ensures agree { OnOk result (Agree self.new) }
         ensures merged { IfOk result (λ round. (late : ℕ) (a b : SourceView)
             (frames_a frames_b cut : List Frame)
-            → HasMerged S.remaining S.failures T.remaining T.failures
+            → HasMerged S.TapSource T.TapSource
             late a b frames_a frames_b cut self.old
             → (more_a : List Frame) × (more_b : List Frame)
-            × HasMerged S.remaining S.failures T.remaining T.failures
+            × HasMerged S.TapSource T.TapSource
             late a b more_a more_b (cut ++ option_map_or (λ frames. frames.items) round []) self.new) }
         ensures goes_on { IfOk result (λ round. is_some round ≡ true
             → work_left self.new < work_left self.old) }
@@ -255,7 +255,7 @@ impl<S: TapSource, T: TapSource> Taps<S, T> {
             → HasEnded self.new × (self.new.merger.pending ≡ []) }
         ensures stopped { IfErr result (λ fault. (late : ℕ) (a b : SourceView)
             (frames_a frames_b cut : List Frame)
-            → HasMerged S.remaining S.failures T.remaining T.failures
+            → HasMerged S.TapSource T.TapSource
             late a b frames_a frames_b cut self.old
             → StopsMerging fault late a b cut
             (reading_of S.remaining S.failures self.new.a)

@@ -9,8 +9,8 @@ ghost use Rattle.vl_config.specs.Document.{VlTable};
 ghost use Rattle.watch_run.specs.Round.{IsShared};
 ghost use Rattle.watch_run.specs.Ready.{AreNew, AreTwoRings, IsReady, Runs, ready_of};
 ghost use Rattle.watch_run.specs.Running.{AbortsBegun, IsNotBegun, IsRunningAborted};
-ghost use Rattle.watch_run.specs.Watch.{IsNumber, IsWatched, WatchDevices};
-ghost use Rattle.run_outcome.specs.Device.{sink_view, source_view};
+ghost use Rattle.watch_run.specs.Watch.{IsNumber, IsWatched, WatchDevices, devices_at};
+ghost use Rattle.run_outcome.specs.Device.{sink_at, source_at};
 ghost use Rattle.watch_run.specs.Watch.{watch_devices};
 
 use crate::one_thread::Watched;
@@ -97,13 +97,12 @@ impl<S: TapSource + Drop + Send, T: TapSource + Drop + Send, W: OutSink, L: OutS
         ensures put_b { IfOk result (λ started. started.0.b.promise.put.value ≡ self.put_b) }
         ensures lost { IfErr result (λ refused.
             (ps : List (List Packed)) (vl_table : VlTable) (before : WatchDevices)
-            → IsReady S.remaining S.failures T.remaining T.failures
-            W.contents W.failures L.contents L.failures ps vl_table before self
+            → IsReady S.TapSource T.TapSource W.OutSink L.OutSink ps vl_table before self
             → AbortsBegun refused.fault ps vl_table before
-            (option_map (source_view S.remaining S.failures) refused.a)
-            (option_map (source_view T.remaining T.failures) refused.b)
-            (sink_view W.contents W.failures refused.capture)
-            (sink_view L.contents L.failures refused.ledger)) }
+            (option_map (source_at S.TapSource) refused.a)
+            (option_map (source_at T.TapSource) refused.b)
+            (sink_at W.OutSink refused.capture)
+            (sink_at L.OutSink refused.ledger)) }
     {
         let Ready {
             a,
@@ -150,11 +149,9 @@ where
     requires shared { IsShared sharing.now.programs.now sharing.now.workers }
     requires new { AreNew ready }
     requires ready { (vl_table : VlTable) × (before : WatchDevices)
-        × IsReady S.remaining S.failures T.remaining T.failures
-        W.contents W.failures L.contents L.failures
+        × IsReady S.TapSource T.TapSource W.OutSink L.OutSink
         sharing.now.programs.now vl_table before ready }
-    ensures { Runs S.remaining S.failures T.remaining T.failures
-        W.contents W.failures L.contents L.failures sharing.now.programs.now ready result }
+    ensures { Runs S.TapSource T.TapSource W.OutSink L.OutSink sharing.now.programs.now ready result }
 {
     let (mut running, outputs) = match ready.start(scope, rt, alloc, gate) {
         Ok(started) => started,
@@ -178,22 +175,13 @@ fn prepare<S: TapSource, T: TapSource, W: OutSink, L: OutSink>(
 ) -> Result<Ready<S, T, W, L>, WatchRefused<S, T, W, L>>
     requires number { IsNumber (length programs.now) }
     ensures new { IfOk result AreNew }
-    ensures ready { IfOk result (IsReady S.remaining S.failures T.remaining T.failures
-        W.contents W.failures L.contents L.failures programs.now config.now
-        (watch_devices (source_view S.remaining S.failures a)
-        (source_view T.remaining T.failures b)
-        (sink_view W.contents W.failures capture)
-        (sink_view L.contents L.failures ledger))) }
+    ensures ready { IfOk result (IsReady S.TapSource T.TapSource W.OutSink L.OutSink programs.now config.now
+        (devices_at S.TapSource T.TapSource W.OutSink L.OutSink a b capture ledger)) }
     ensures refused { IfErr result (λ refused. IfSome refused.a (λ a'. IfSome refused.b (λ b'.
         IsNotBegun programs.now config.now refused.fault
-        (watch_devices (source_view S.remaining S.failures a)
-        (source_view T.remaining T.failures b)
-        (sink_view W.contents W.failures capture)
-        (sink_view L.contents L.failures ledger))
-        (watch_devices (source_view S.remaining S.failures a')
-        (source_view T.remaining T.failures b')
-        (sink_view W.contents W.failures refused.capture)
-        (sink_view L.contents L.failures refused.ledger))))) }
+        (devices_at S.TapSource T.TapSource W.OutSink L.OutSink a b capture ledger)
+        (devices_at S.TapSource T.TapSource W.OutSink L.OutSink
+        a' b' refused.capture refused.ledger)))) }
     ensures back { IfErr result (λ refused. IsSome refused.a × IsSome refused.b) }
 {
     let late = config.late();
@@ -315,24 +303,16 @@ where
     G: RunGate + TapGate + Sync,
     ensures watched { IfOk result (λ done. IsNumber workers × IsWatched programs.now config.now
         done.endings done.totals
-        (watch_devices (source_view S.remaining S.failures a)
-        (source_view T.remaining T.failures b)
-        (sink_view W.contents W.failures capture)
-        (sink_view L.contents L.failures ledger))
-        (watch_devices (source_view S.remaining S.failures done.a)
-        (source_view T.remaining T.failures done.b)
-        (sink_view W.contents W.failures done.capture)
-        (sink_view L.contents L.failures done.ledger))) }
+        (devices_at S.TapSource T.TapSource W.OutSink L.OutSink a b capture ledger)
+        (devices_at S.TapSource T.TapSource W.OutSink L.OutSink
+        done.a done.b done.capture done.ledger)) }
     ensures aborted { IfErr result (λ refused.
         IsRunningAborted workers programs.now config.now refused.fault
-        (watch_devices (source_view S.remaining S.failures a)
-        (source_view T.remaining T.failures b)
-        (sink_view W.contents W.failures capture)
-        (sink_view L.contents L.failures ledger))
-        (option_map (source_view S.remaining S.failures) refused.a)
-        (option_map (source_view T.remaining T.failures) refused.b)
-        (sink_view W.contents W.failures refused.capture)
-        (sink_view L.contents L.failures refused.ledger)) }
+        (devices_at S.TapSource T.TapSource W.OutSink L.OutSink a b capture ledger)
+        (option_map (source_at S.TapSource) refused.a)
+        (option_map (source_at T.TapSource) refused.b)
+        (sink_at W.OutSink refused.capture)
+        (sink_at L.OutSink refused.ledger)) }
 {
     if workers == 0 || workers > MAX_WORKERS {
         return Err(WatchRefused::new(WatchFault::Workers, a, b, capture, ledger));
@@ -369,11 +349,9 @@ where
     requires shared { IsShared sharing.now.programs.now sharing.now.workers }
     requires new { AreNew ready }
     requires ready { (vl_table : VlTable) × (before : WatchDevices)
-        × IsReady S.remaining S.failures T.remaining T.failures
-        W.contents W.failures L.contents L.failures
+        × IsReady S.TapSource T.TapSource W.OutSink L.OutSink
         sharing.now.programs.now vl_table before ready }
-    ensures { Runs S.remaining S.failures T.remaining T.failures
-        W.contents W.failures L.contents L.failures sharing.now.programs.now ready result }
+    ensures { Runs S.TapSource T.TapSource W.OutSink L.OutSink sharing.now.programs.now ready result }
 {
     let gate = sharing.gate;
     let mut slot = Some(ready);
@@ -383,11 +361,9 @@ where
         |scope| -> Result<Watched<S, T, W, L>, WatchRefused<S, T, W, L>>
             requires { IsSome slot × IsShared sharing.now.programs.now sharing.now.workers
                 × IfSome slot (λ ready. AreNew ready × ((vl_table : VlTable) × (before : WatchDevices)
-                × IsReady S.remaining S.failures T.remaining T.failures
-                W.contents W.failures L.contents L.failures
+                × IsReady S.TapSource T.TapSource W.OutSink L.OutSink
                 sharing.now.programs.now vl_table before ready)) }
-            ensures { IfSome slot.entry (λ ready. Runs S.remaining S.failures T.remaining T.failures
-                W.contents W.failures L.contents L.failures
+            ensures { IfSome slot.entry (λ ready. Runs S.TapSource T.TapSource W.OutSink L.OutSink
                 sharing.entry.now.programs.now ready result) }
         { run_ready(scope, rt, alloc, sharing, gate, slot.take().unwrap()) },
     )

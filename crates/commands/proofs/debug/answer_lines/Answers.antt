@@ -2,7 +2,7 @@ use Rattle.std.proofs.Common.{[], ap, refl}
 use Rattle.std.proofs.KnownBytes.{Appends-nil}
 use Rattle.std.proofs.lemmas.Result.{err_from_is_err_and}
 use Rattle.commands.specs.Sessions.{lines_left, lines_of}
-use Rattle.run_outcome.specs.Device.{sink_view}
+use Rattle.run_outcome.specs.Device.{sink_at}
 use Rattle.commands.proofs.Answering.{all_answered, at_start, last_answered, line_answered, not_answered}
 use Rattle.commands.proofs.debug.answer_lines.Goals as goal
 
@@ -11,7 +11,7 @@ loop-left-init g c = record { printed = []; taken = (Appends-nil (g.W.OutSink.co
 
 pub returns-in_err-answer_line : goal.returns-in_err-answer_line
 returns-in_err-answer_line g c =
-    let sink = sink_view g.W.OutSink.contents g.W.OutSink.failures in
+    let sink = sink_at g.W.OutSink in
     let at = c.loop-left.invariant in
     let p = err_from_is_err_and c.from_residual.result c.from_residual.ensures.1 in
     rw (p.1, p.2) (not_answered c.args.session.now c.loop-left.session c.answer_line.new.session (lines_of c.args.text.now) (lines_of c.in-Some.text.now)
@@ -20,7 +20,7 @@ returns-in_err-answer_line g c =
 
 pub returns-then-not-branch : goal.returns-then-not-branch
 returns-then-not-branch g c =
-    let sink = sink_view g.W.OutSink.contents g.W.OutSink.failures in
+    let sink = sink_at g.W.OutSink in
     let at = c.loop-left.invariant in
     last_answered c.args.session.now c.loop-left.session c.answer_line.new.session (lines_of c.args.text.now) (lines_of c.in-Some.text.now)
     (lines_left c.next_line.result.1) c.next_line.result.0.now at.printed (sink c.args.sink.now) (sink c.loop-left.sink) (sink c.answer_line.new.sink)
@@ -28,7 +28,7 @@ returns-then-not-branch g c =
 
 pub loop-left-preserved : goal.loop-left-preserved
 loop-left-preserved g c =
-    let sink = sink_view g.W.OutSink.contents g.W.OutSink.failures in
+    let sink = sink_at g.W.OutSink in
     let at = c.loop-left.invariant in
     let more = line_answered c.args.session.now c.loop-left.session c.answer_line.new.session (lines_of c.args.text.now) (lines_of c.in-Some.text.now)
     (lines_left c.next_line.result.1) c.next_line.result.0.now at.printed (sink c.args.sink.now) (sink c.loop-left.sink) (sink c.answer_line.new.sink)
@@ -37,7 +37,7 @@ loop-left-preserved g c =
 
 pub returns : goal.returns
 returns g c =
-    let sink = sink_view g.W.OutSink.contents g.W.OutSink.failures in
+    let sink = sink_at g.W.OutSink in
     let at = c.loop-left.invariant in
     all_answered c.args.session.now c.loop-left.session (lines_of c.args.text.now) (lines_left c.loop-left.left) at.printed (sink c.args.sink.now) (sink c.loop-left.sink)
     at.on at.taken (ap lines_left c.in_default.is)

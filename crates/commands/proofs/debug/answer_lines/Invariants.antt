@@ -3,14 +3,14 @@ use Rattle.std.proofs.Common.{ℕ, suc, List, length}
 use Rattle.std.specs.Borrow.{Bor}
 use Rattle.std.specs.Option.{option_map_or}
 use Rattle.commands.specs.Sessions.{Takes, lines_left, lines_of}
-use Rattle.run_outcome.specs.Device.{sink_view}
+use Rattle.run_outcome.specs.Device.{sink_at}
 use Rattle.commands.proofs.Answering.{GoesOn}
 use Rattle.commands.proofs.debug.answer_lines.Given as goal
 
 abbrev pub invariant-loop-left : goal.invariant-loop-left
 invariant-loop-left g l = record {
   printed : List ℕ;
-  taken : Takes (sink_view g.W.OutSink.contents g.W.OutSink.failures l.fn.sink) (sink_view g.W.OutSink.contents g.W.OutSink.failures l.sink) printed;
+  taken : Takes (sink_at g.W.OutSink l.fn.sink) (sink_at g.W.OutSink l.sink) printed;
   on : GoesOn l.fn.session (lines_of l.fn.text) printed l.session (lines_left l.left);
 }
 

@@ -1,6 +1,6 @@
 use Rattle.std.proofs.Common.{◌≡◌, string_bytes, sym}
 use Rattle.std.proofs.lemmas.Result.{err_from_is_err_and}
-use Rattle.run_outcome.specs.Device.{sink_view}
+use Rattle.run_outcome.specs.Device.{sink_at}
 use Rattle.commands.proofs.SessionRuns.{not_begun, session_run}
 use Rattle.commands.proofs.debug.run_session.Goals as goal
 
@@ -11,7 +11,7 @@ returns-in_err-session g c =
 
 pub returns : goal.returns
 returns g c =
-    let sink = sink_view g.W.OutSink.contents g.W.OutSink.failures in
+    let sink = sink_at g.W.OutSink in
     let lines : string_bytes c.in-Ok.text ≡ c.deref.result.now = sym c.deref.ensures in
     session_run c.args.program c.args.frames.items _ _ (string_bytes c.in-Ok.text) (c.in-Ok.ensures.whole, c.in-Ok.ensures.no_failure) c.answer_lines.result c.in_ok-session.session c.answer_lines.new.session (sink c.args.sink.now) (sink c.begin_session.new.sink) (sink c.answer_lines.new.sink)
     c.in_ok-session.ensures (rw lines c.answer_lines.ensures)

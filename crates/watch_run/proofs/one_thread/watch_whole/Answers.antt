@@ -1,6 +1,6 @@
 use Rattle.std.proofs.Common.{inr, [], subst, rules}
 use Rattle.watch_run.specs.Taps.{HasMerged}
-use Rattle.run_outcome.specs.Device.{sink_view, source_view}
+use Rattle.run_outcome.specs.Device.{sink_at, source_at}
 use Rattle.watch_run.specs.Watch.{watch_devices}
 use Rattle.watch_run.proofs.Returned.{aborted, with_both, with_ok}
 use Rattle.watch_run.proofs.TwoTaps.{part_of}
@@ -9,9 +9,9 @@ use Rattle.watch_run.proofs.one_thread.watch_whole.Goals as goal
 
 pub returns-in-Err-begin-clause-aborted : goal.returns-in-Err-begin-clause-aborted
 returns-in-Err-begin-clause-aborted g c = rw c.new-in-Err-begin.ensures
-    (let before = watch_devices (source_view g.S.TapSource.remaining g.S.TapSource.failures c.args.a) (source_view g.T.TapSource.remaining g.T.TapSource.failures c.args.b)
-    (sink_view g.W.OutSink.contents g.W.OutSink.failures c.args.capture) (sink_view g.L.OutSink.contents g.L.OutSink.failures c.args.ledger) in
-    let merged = subst (λ late. HasMerged g.S.TapSource.remaining g.S.TapSource.failures g.T.TapSource.remaining g.T.TapSource.failures late before.a before.b [] [] [] c.in-Ok.taps)
+    (let before = watch_devices (source_at g.S.TapSource c.args.a) (source_at g.T.TapSource c.args.b)
+    (sink_at g.W.OutSink c.args.capture) (sink_at g.L.OutSink c.args.ledger) in
+    let merged = subst (λ late. HasMerged g.S.TapSource g.T.TapSource late before.a before.b [] [] [] c.in-Ok.taps)
     c.late.ensures.value c.in-Ok.ensures.opened in
     inr (
       (some_filters _ _ c.is_empty.ensures c.if-is_empty.false, search rules),
@@ -28,36 +28,36 @@ returns-in-Err-begin-clause-aborted g c = rw c.new-in-Err-begin.ensures
 
 pub write_rounds-requires-clause-begun : goal.write_rounds-requires-clause-begun
 write_rounds-requires-clause-begun g c =
-    let before = watch_devices (source_view g.S.TapSource.remaining g.S.TapSource.failures c.args.a) (source_view g.T.TapSource.remaining g.T.TapSource.failures c.args.b)
-    (sink_view g.W.OutSink.contents g.W.OutSink.failures c.args.capture) (sink_view g.L.OutSink.contents g.L.OutSink.failures c.args.ledger) in (
+    let before = watch_devices (source_at g.S.TapSource c.args.a) (source_at g.T.TapSource c.args.b)
+    (sink_at g.W.OutSink c.args.capture) (sink_at g.L.OutSink c.args.ledger) in (
       c.args.config.now,
       before,
-      has_begun _ _ _ _ _ _ _ _ _ c.args.config.now before c.in-Ok.taps c.in-Ok-begin.outputs _ c.late.ensures.value c.in-Ok.ensures.opened
+      has_begun _ _ _ _ _ c.args.config.now before c.in-Ok.taps c.in-Ok-begin.outputs _ c.late.ensures.value c.in-Ok.ensures.opened
           (c.in-Ok-begin.ensures.written c.args.programs.now (search rules)) c.in-Ok.ensures.agree c.in-Ok-begin.ensures.capture_going c.in-Ok-begin.ensures.ledger_going,
     )
 
 pub finish-requires-clause-going : goal.finish-requires-clause-going
 finish-requires-clause-going g c =
-    let before = watch_devices (source_view g.S.TapSource.remaining g.S.TapSource.failures c.args.a) (source_view g.T.TapSource.remaining g.T.TapSource.failures c.args.b)
-    (sink_view g.W.OutSink.contents g.W.OutSink.failures c.args.capture) (sink_view g.L.OutSink.contents g.L.OutSink.failures c.args.ledger) in
+    let before = watch_devices (source_at g.S.TapSource c.args.a) (source_at g.T.TapSource c.args.b)
+    (sink_at g.W.OutSink c.args.capture) (sink_at g.L.OutSink c.args.ledger) in
     (c.in-Ok-write_rounds.ensures.watching c.args.config.now before
-    (has_begun _ _ _ _ _ _ _ _ _ c.args.config.now before c.in-Ok.taps c.in-Ok-begin.outputs _ c.late.ensures.value c.in-Ok.ensures.opened
+    (has_begun _ _ _ _ _ c.args.config.now before c.in-Ok.taps c.in-Ok-begin.outputs _ c.late.ensures.value c.in-Ok.ensures.opened
     (c.in-Ok-begin.ensures.written c.args.programs.now (search rules)) c.in-Ok.ensures.agree c.in-Ok-begin.ensures.capture_going c.in-Ok-begin.ensures.ledger_going)).ledger_going
 
 pub returns-in-Err-write_rounds-clause-aborted : goal.returns-in-Err-write_rounds-clause-aborted
 returns-in-Err-write_rounds-clause-aborted g c =
-    let before = watch_devices (source_view g.S.TapSource.remaining g.S.TapSource.failures c.args.a) (source_view g.T.TapSource.remaining g.T.TapSource.failures c.args.b)
-    (sink_view g.W.OutSink.contents g.W.OutSink.failures c.args.capture) (sink_view g.L.OutSink.contents g.L.OutSink.failures c.args.ledger) in
-    let begun = has_begun _ _ _ _ _ _ _ _ _ c.args.config.now before c.in-Ok.taps c.in-Ok-begin.outputs _ c.late.ensures.value c.in-Ok.ensures.opened
+    let before = watch_devices (source_at g.S.TapSource c.args.a) (source_at g.T.TapSource c.args.b)
+    (sink_at g.W.OutSink c.args.capture) (sink_at g.L.OutSink c.args.ledger) in
+    let begun = has_begun _ _ _ _ _ c.args.config.now before c.in-Ok.taps c.in-Ok-begin.outputs _ c.late.ensures.value c.in-Ok.ensures.opened
     (c.in-Ok-begin.ensures.written c.args.programs.now (search rules)) c.in-Ok.ensures.agree c.in-Ok-begin.ensures.capture_going c.in-Ok-begin.ensures.ledger_going in
     with_both c.stopped.result.a c.stopped.result.b _ _
     (λ a b f. inr ((some_filters _ _ c.is_empty.ensures c.if-is_empty.false, search rules), inr (f c.args.programs.now c.args.config.now before (c.in-Err-write_rounds.ensures.stopped c.args.config.now before begun)))) c.stopped.ensures.aborted
 
 pub returns-in-Ok-write_rounds-clause-watched : goal.returns-in-Ok-write_rounds-clause-watched
 returns-in-Ok-write_rounds-clause-watched g c =
-    let before = watch_devices (source_view g.S.TapSource.remaining g.S.TapSource.failures c.args.a) (source_view g.T.TapSource.remaining g.T.TapSource.failures c.args.b)
-    (sink_view g.W.OutSink.contents g.W.OutSink.failures c.args.capture) (sink_view g.L.OutSink.contents g.L.OutSink.failures c.args.ledger) in
-    let begun = has_begun _ _ _ _ _ _ _ _ _ c.args.config.now before c.in-Ok.taps c.in-Ok-begin.outputs _ c.late.ensures.value c.in-Ok.ensures.opened
+    let before = watch_devices (source_at g.S.TapSource c.args.a) (source_at g.T.TapSource c.args.b)
+    (sink_at g.W.OutSink c.args.capture) (sink_at g.L.OutSink c.args.ledger) in
+    let begun = has_begun _ _ _ _ _ c.args.config.now before c.in-Ok.taps c.in-Ok-begin.outputs _ c.late.ensures.value c.in-Ok.ensures.opened
     (c.in-Ok-begin.ensures.written c.args.programs.now (search rules)) c.in-Ok.ensures.agree c.in-Ok-begin.ensures.capture_going c.in-Ok-begin.ensures.ledger_going in
     with_ok c.finish.result _ _
     (λ done f. f c.args.programs.now c.args.config.now before (c.in-Ok-write_rounds.ensures.watching c.args.config.now before begun)

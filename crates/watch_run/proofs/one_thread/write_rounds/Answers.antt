@@ -16,7 +16,7 @@ returns-in_err-round-clause-stopped g c =
     rw (p.1, p.2) (λ vl_table before h.
     (let w = c.loop-round.invariant.watching vl_table before h in
     stops_by_merging _ c.args.programs.now vl_table before w.cut _ _ _ _
-    (cut_is_first _ _ _ _ vl_table.late before.a before.b w.frames_a w.frames_b w.cut c.loop-round.taps w.merged w.agree)
+    (cut_is_first _ _ vl_table.late before.a before.b w.frames_a w.frames_b w.cut c.loop-round.taps w.merged w.agree)
     (c.in_err-round.ensures.stopped vl_table.late before.a before.b w.frames_a w.frames_b w.cut w.merged)
     w.written.packets w.written.lines w.written.capture_failures w.written.ledger_failures))
 
@@ -25,7 +25,7 @@ write_round-requires-clause-follows g c =
     let begun = c.requires.begun in
     let w = c.loop-round.invariant.watching begun.0 begun.1 begun.2 in
     let m = c.in_ok-round.ensures.merged (begun.0).late (begun.1).a (begun.1).b w.frames_a w.frames_b w.cut w.merged in
-    let cut = some_round _ _ _ _ _ _ _ _ _ w.cut _ _ _ c.in-Some.round c.deref.result.now m.2 c.in-Some.is c.deref.ensures.value in
+    let cut = some_round _ _ _ _ _ _ _ w.cut _ _ _ c.in-Some.round c.deref.result.now m.2 c.in-Some.is c.deref.ensures.value in
     rw w.written.lanes.last (round_follows m.0 m.1 w.cut c.deref.result.now c.next_round.new.self.merger.pending cut.follows.order)
 
 pub write_round-requires-clause-room : goal.write_round-requires-clause-room
@@ -33,7 +33,7 @@ write_round-requires-clause-room g c =
     let begun = c.requires.begun in
     let w = c.loop-round.invariant.watching begun.0 begun.1 begun.2 in
     let m = c.in_ok-round.ensures.merged (begun.0).late (begun.1).a (begun.1).b w.frames_a w.frames_b w.cut w.merged in
-    let cut = some_round _ _ _ _ _ _ _ _ _ w.cut _ _ _ c.in-Some.round c.deref.result.now m.2 c.in-Some.is c.deref.ensures.value in
+    let cut = some_round _ _ _ _ _ _ _ w.cut _ _ _ c.in-Some.round c.deref.result.now m.2 c.in-Some.is c.deref.ensures.value in
     (room_left (begun.0).late (begun.1).a (begun.1).b m.0 m.1 w.cut c.deref.result.now c.next_round.new.self.merger.pending _ _ _ _ _
     cut.read_a.read cut.read_b.read cut.follows.order
     (frames_counted c.args.programs.now begun.0 w.cut _ w.written.tally.tally.totals))
@@ -54,9 +54,9 @@ returns-in_err-write_round-clause-stopped g c =
     rw (p.1, p.2) (λ vl_table before h.
     (let w = c.loop-round.invariant.watching vl_table before h in
     let m = c.in_ok-round.ensures.merged vl_table.late before.a before.b w.frames_a w.frames_b w.cut w.merged in
-    let cut = some_round _ _ _ _ _ _ _ _ _ w.cut _ _ _ c.in-Some.round c.deref.result.now m.2 c.in-Some.is c.deref.ensures.value in
+    let cut = some_round _ _ _ _ _ _ _ w.cut _ _ _ c.in-Some.round c.deref.result.now m.2 c.in-Some.is c.deref.ensures.value in
     stops_by_writing _ c.args.programs.now vl_table before m.0 m.1 (w.cut ++ c.deref.result.now) c.next_round.new.self.merger.pending _ _ _ _
-    (cut_is_first _ _ _ _ vl_table.late before.a before.b m.0 m.1 (w.cut ++ c.deref.result.now) c.next_round.new.self cut c.in_ok-round.ensures.agree)
+    (cut_is_first _ _ vl_table.late before.a before.b m.0 m.1 (w.cut ++ c.deref.result.now) c.next_round.new.self cut c.in_ok-round.ensures.agree)
     (part_of _ _ _ _ _ _ cut.read_a) (part_of _ _ _ _ _ _ cut.read_b) cut.follows.order cut.read_a.failures cut.read_b.failures
     (c.in_err-write_round.ensures.stopped vl_table before.capture before.ledger w.cut w.written)))
 
@@ -69,7 +69,7 @@ loop-round-preserved g c = record {
         frames_a = m.0;
         frames_b = m.1;
         cut = w.cut ++ c.deref.result.now;
-        merged = some_round _ _ _ _ _ _ _ _ _ w.cut _ _ _ c.in-Some.round c.deref.result.now m.2 c.in-Some.is c.deref.ensures.value;
+        merged = some_round _ _ _ _ _ _ _ w.cut _ _ _ c.in-Some.round c.deref.result.now m.2 c.in-Some.is c.deref.ensures.value;
         written = c.in_ok-write_round.ensures.written vl_table before.capture before.ledger w.cut w.written;
         agree = c.in_ok-round.ensures.agree;
         capture_going = c.in_ok-write_round.ensures.capture_going;
@@ -85,7 +85,7 @@ returns-clause-watching g c = λ vl_table before h.
       frames_a = m.0;
       frames_b = m.1;
       cut = w.cut;
-      merged = no_round _ _ _ _ _ _ _ _ _ w.cut _ _ c.in_ok-round.field-0 m.2 (search rules);
+      merged = no_round _ _ _ _ _ _ _ w.cut _ _ c.in_ok-round.field-0 m.2 (search rules);
       written = w.written;
       agree = c.in_ok-round.ensures.agree;
       capture_going = w.capture_going;

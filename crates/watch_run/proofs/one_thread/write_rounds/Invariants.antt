@@ -8,10 +8,10 @@ use Rattle.watch_run.proofs.one_thread.write_rounds.Given as goal
 abbrev pub invariant-loop-round : goal.invariant-loop-round
 invariant-loop-round g l = record {
   watching : (vl_table : VlTable) (before : WatchDevices) →
-      IsWatching g.S.TapSource.remaining g.S.TapSource.failures g.T.TapSource.remaining g.T.TapSource.failures
-      g.W.OutSink.contents g.W.OutSink.failures g.L.OutSink.contents g.L.OutSink.failures l.programs vl_table before l.fn.taps l.fn.outputs →
-      IsWatching g.S.TapSource.remaining g.S.TapSource.failures g.T.TapSource.remaining g.T.TapSource.failures
-      g.W.OutSink.contents g.W.OutSink.failures g.L.OutSink.contents g.L.OutSink.failures l.programs vl_table before l.taps l.outputs;
+      IsWatching g.S.TapSource g.T.TapSource
+      g.W.OutSink g.L.OutSink l.programs vl_table before l.fn.taps l.fn.outputs →
+      IsWatching g.S.TapSource g.T.TapSource
+      g.W.OutSink g.L.OutSink l.programs vl_table before l.taps l.outputs;
 }
 
 abbrev pub decreases-loop-round : goal.decreases-loop-round

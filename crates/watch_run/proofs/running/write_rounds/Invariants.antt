@@ -10,6 +10,6 @@ invariant-loop g l = record {
   a : SameEnd l.fn.rings.a l.rings.a;
   b : SameEnd l.fn.rings.b l.rings.b;
   running : (vl_table : VlTable) (capture ledger : SinkView) →
-      IsRunning g.W.OutSink.contents g.W.OutSink.failures g.L.OutSink.contents g.L.OutSink.failures l.sharing.programs.now vl_table capture ledger l.fn.rings l.fn.outputs →
-      IsRunning g.W.OutSink.contents g.W.OutSink.failures g.L.OutSink.contents g.L.OutSink.failures l.sharing.programs.now vl_table capture ledger l.rings l.outputs;
+      IsRunning g.W.OutSink g.L.OutSink l.sharing.programs.now vl_table capture ledger l.fn.rings l.fn.outputs →
+      IsRunning g.W.OutSink g.L.OutSink l.sharing.programs.now vl_table capture ledger l.rings l.outputs;
 }

@@ -1,7 +1,7 @@
 use Rattle.std.proofs.Common.{inr, [], subst, rules}
 use Rattle.afdx_frame.specs.declared.key.Network.TheVariants.{A, B}
 use Rattle.watch_run.specs.Taps.{HasMerged}
-use Rattle.run_outcome.specs.Device.{sink_view, source_view}
+use Rattle.run_outcome.specs.Device.{sink_at, source_at}
 use Rattle.watch_run.specs.Watch.{watch_devices}
 use Rattle.run_outcome.specs.declared.fault.WatchFault.TheVariants.{Memory}
 use Rattle.watch_run.proofs.Returned.{aborted}
@@ -13,13 +13,13 @@ use Rattle.watch_run.proofs.threads.prepare.Goals as goal
 
 pub returns-in-Err-begin-clause-refused : goal.returns-in-Err-begin-clause-refused
 returns-in-Err-begin-clause-refused g c = rw c.new-in-Err-begin.ensures
-    (let before = watch_devices (source_view g.S.TapSource.remaining g.S.TapSource.failures c.args.a) (source_view g.T.TapSource.remaining g.T.TapSource.failures c.args.b)
-    (sink_view g.W.OutSink.contents g.W.OutSink.failures c.args.capture) (sink_view g.L.OutSink.contents g.L.OutSink.failures c.args.ledger) in
-    let merged = subst (λ late. HasMerged g.S.TapSource.remaining g.S.TapSource.failures g.T.TapSource.remaining g.T.TapSource.failures late before.a before.b [] [] [] c.in-Ok.taps)
+    (let before = watch_devices (source_at g.S.TapSource c.args.a) (source_at g.T.TapSource c.args.b)
+    (sink_at g.W.OutSink c.args.capture) (sink_at g.L.OutSink c.args.ledger) in
+    let merged = subst (λ late. HasMerged g.S.TapSource g.T.TapSource late before.a before.b [] [] [] c.in-Ok.taps)
     c.late-late.ensures.value c.in-Ok.ensures.opened in
     inr (
-      still_opened A c.args.config.now.late before.a (source_view g.S.TapSource.remaining g.S.TapSource.failures c.into_sources-a.result.0) _ _ _ merged.read_a c.in-Ok.ensures.ends.0 c.in-Ok.ensures.fresh.0 c.into_sources-a.ensures.a.1,
-      still_opened B c.args.config.now.late before.b (source_view g.T.TapSource.remaining g.T.TapSource.failures c.into_sources-a.result.1) _ _ _ merged.read_b c.in-Ok.ensures.ends.1 c.in-Ok.ensures.fresh.1 c.into_sources-a.ensures.b.1,
+      still_opened A c.args.config.now.late before.a (source_at g.S.TapSource c.into_sources-a.result.0) _ _ _ merged.read_a c.in-Ok.ensures.ends.0 c.in-Ok.ensures.fresh.0 c.into_sources-a.ensures.a.1,
+      still_opened B c.args.config.now.late before.b (source_at g.T.TapSource c.into_sources-a.result.1) _ _ _ merged.read_b c.in-Ok.ensures.ends.1 c.in-Ok.ensures.fresh.1 c.into_sources-a.ensures.b.1,
       aborted c.in-Err-begin.field-0.fault c.args.programs.now c.args.config.now before _ _ _ _ _ (record {
         a_left = c.into_sources-a.ensures.a;
         b_left = c.into_sources-a.ensures.b;
@@ -35,15 +35,15 @@ pub returns-in-Err-two_rings-clause-refused : goal.returns-in-Err-two_rings-clau
 returns-in-Err-two_rings-clause-refused g c = rw (c.new-in-Err-two_rings.ensures, c.into_sinks-capture.ensures)
     (let ps = c.args.programs.now in
     let vl_table = c.args.config.now in
-    let before = watch_devices (source_view g.S.TapSource.remaining g.S.TapSource.failures c.args.a) (source_view g.T.TapSource.remaining g.T.TapSource.failures c.args.b)
-    (sink_view g.W.OutSink.contents g.W.OutSink.failures c.args.capture) (sink_view g.L.OutSink.contents g.L.OutSink.failures c.args.ledger) in
-    let merged = subst (λ late. HasMerged g.S.TapSource.remaining g.S.TapSource.failures g.T.TapSource.remaining g.T.TapSource.failures late before.a before.b [] [] [] c.in-Ok.taps)
+    let before = watch_devices (source_at g.S.TapSource c.args.a) (source_at g.T.TapSource c.args.b)
+    (sink_at g.W.OutSink c.args.capture) (sink_at g.L.OutSink c.args.ledger) in
+    let merged = subst (λ late. HasMerged g.S.TapSource g.T.TapSource late before.a before.b [] [] [] c.in-Ok.taps)
     c.late-late.ensures.value c.in-Ok.ensures.opened in
     let written = c.in-Ok-begin.ensures.written ps (search rules) in
     let back = c.into_sources-a-in-Err-two_rings.ensures in
     inr (
-      still_opened A vl_table.late before.a (source_view g.S.TapSource.remaining g.S.TapSource.failures c.into_sources-a-in-Err-two_rings.result.0) _ _ _ merged.read_a c.in-Ok.ensures.ends.0 c.in-Ok.ensures.fresh.0 back.a.1,
-      still_opened B vl_table.late before.b (source_view g.T.TapSource.remaining g.T.TapSource.failures c.into_sources-a-in-Err-two_rings.result.1) _ _ _ merged.read_b c.in-Ok.ensures.ends.1 c.in-Ok.ensures.fresh.1 back.b.1,
+      still_opened A vl_table.late before.a (source_at g.S.TapSource c.into_sources-a-in-Err-two_rings.result.0) _ _ _ merged.read_a c.in-Ok.ensures.ends.0 c.in-Ok.ensures.fresh.0 back.a.1,
+      still_opened B vl_table.late before.b (source_at g.T.TapSource c.into_sources-a-in-Err-two_rings.result.1) _ _ _ merged.read_b c.in-Ok.ensures.ends.1 c.in-Ok.ensures.fresh.1 back.b.1,
       aborted Memory ps vl_table before _ _ _ _ _ (record { a_left = back.a; b_left = back.b; a_failures = back.a_failures; b_failures = back.b_failures })
           (stops_by_writing Memory ps vl_table before [] [] [] c.in-Ok.taps.merger.pending _ _ _ _
           (none_first vl_table.late before.a before.b) (part_of _ _ _ _ _ _ merged.read_a) (part_of _ _ _ _ _ _ merged.read_b) merged.follows.order
@@ -56,9 +56,9 @@ returns-in-Err-two_rings-clause-refused g c = rw (c.new-in-Err-two_rings.ensures
 
 pub returns-in-Ok-two_rings-clause-ready : goal.returns-in-Ok-two_rings-clause-ready
 returns-in-Ok-two_rings-clause-ready g c = rw c.of.ensures
-    (let before = watch_devices (source_view g.S.TapSource.remaining g.S.TapSource.failures c.args.a) (source_view g.T.TapSource.remaining g.T.TapSource.failures c.args.b)
-    (sink_view g.W.OutSink.contents g.W.OutSink.failures c.args.capture) (sink_view g.L.OutSink.contents g.L.OutSink.failures c.args.ledger) in
+    (let before = watch_devices (source_at g.S.TapSource c.args.a) (source_at g.T.TapSource c.args.b)
+    (sink_at g.W.OutSink c.args.capture) (sink_at g.L.OutSink c.args.ledger) in
     let opened = c.in-Ok.ensures in
     let begun = c.in-Ok-begin.ensures in
-    ready_made _ _ _ _ _ _ _ _ c.args.programs.now c.args.config.now before c.in-Ok-two_rings.ends c.in-Ok.taps c.in-Ok-begin.outputs c.late-late.result c.late-late.ensures.value
+    ready_made _ _ _ _ c.args.programs.now c.args.config.now before c.in-Ok-two_rings.ends c.in-Ok.taps c.in-Ok-begin.outputs c.late-late.result c.late-late.ensures.value
     opened.opened opened.agree opened.merger opened.ends opened.fresh c.in-Ok-two_rings.ensures (begun.written c.args.programs.now (search rules)) begun.capture_going begun.ledger_going)

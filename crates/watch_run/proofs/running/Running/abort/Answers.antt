@@ -7,8 +7,8 @@ returns-in-Some-Some g c = rw c.new.ensures (λ ps vl_table before started_a sta
     (let a = c.in-Some-Some.ensures in
     let b = c.in-Some-Some.ensures' in
     begun_aborts c.args.unwritten.fault ps vl_table before c.drain.new.end c.drain-2.new.end _ _ _ _
-    (settled_of g.S.TapSource.remaining g.S.TapSource.failures A vl_table.late before.a _ c.drain.new.end c.in-Some-Some.a started_a a)
-    (settled_of g.T.TapSource.remaining g.T.TapSource.failures B vl_table.late before.b _ c.drain-2.new.end c.in-Some-Some.b started_b b)
+    (settled_of g.S.TapSource A vl_table.late before.a _ c.drain.new.end c.in-Some-Some.a started_a a)
+    (settled_of g.T.TapSource B vl_table.late before.b _ c.drain-2.new.end c.in-Some-Some.b started_b b)
     (runs_on c.args.unwritten.fault ps vl_table _ _ _ _ c.args.self.rings.a c.args.self.rings.b c.drain.new.end c.drain-2.new.end s
     c.drain.ensures c.drain-2.ensures a.sound b.sound)))
 

@@ -9,8 +9,8 @@ abbrev pub invariant-loop-more : goal.invariant-loop-more
 invariant-loop-more g l = record {
   agree : Agree l.self;
   merged : (late : ℕ) (a b : SourceView) (frames_a frames_b cut : List Frame) →
-      HasMerged g.S.TapSource.remaining g.S.TapSource.failures g.T.TapSource.remaining g.T.TapSource.failures late a b frames_a frames_b cut l.fn.self →
+      HasMerged g.S.TapSource g.T.TapSource late a b frames_a frames_b cut l.fn.self →
       (more_a : List Frame) × (more_b : List Frame)
-      × HasMerged g.S.TapSource.remaining g.S.TapSource.failures g.T.TapSource.remaining g.T.TapSource.failures late a b more_a more_b cut l.self;
+      × HasMerged g.S.TapSource g.T.TapSource late a b more_a more_b cut l.self;
   less : work_left l.self < work_left l.fn.self;
 }

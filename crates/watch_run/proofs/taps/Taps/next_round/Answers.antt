@@ -23,7 +23,7 @@ returns-then-is_empty-clause-merged g c = λ late a b frames_a frames_b cut h.
     let none : c.in_ok-round.round.items ≡ [] = no_frames _ c.in_ok-round.round.items (sym c.if-is_empty.ensures) (search rules) in (
       m.0,
       m.1,
-      subst (λ (round : List Frame). HasMerged g.S.TapSource.remaining g.S.TapSource.failures g.T.TapSource.remaining g.T.TapSource.failures late a b m.0 m.1 (cut ++ round) c.cut_round.new.self)
+      subst (λ (round : List Frame). HasMerged g.S.TapSource g.T.TapSource late a b m.0 m.1 (cut ++ round) c.cut_round.new.self)
           none (c.in_ok-round.ensures.merged late a b m.0 m.1 cut m.2),
     ))
 

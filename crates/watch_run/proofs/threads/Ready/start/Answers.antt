@@ -8,15 +8,15 @@ pub returns-in_default-clause-lost : goal.returns-in_default-clause-lost
 returns-in_default-clause-lost g c = rw c.into_sinks-capture.ensures (λ ps vl_table before h.
     inr (inl (
       refl,
-      opened_back g.T.TapSource.remaining g.T.TapSource.failures B vl_table.late before.b c.args.self.b c.into_source.result h.b h.fresh c.into_source.ensures.source,
-      beginnings _ _ _ _ ps vl_table before.capture before.ledger c.args.self.outputs h.written,
+      opened_back g.T.TapSource B vl_table.late before.b c.args.self.b c.into_source.result h.b h.fresh c.into_source.ensures.source,
+      beginnings _ _ ps vl_table before.capture before.ledger c.args.self.outputs h.written,
     )))
 
 pub returns-in_default-start_tap-clause-lost : goal.returns-in_default-start_tap-clause-lost
 returns-in_default-start_tap-clause-lost g c =
     let told = c.not_started.ensures in
     rw (told.fault, told.a, told.b, told.capture, told.ledger) (λ ps vl_table before h.
-    without_b g.S.TapSource.remaining g.S.TapSource.failures ps vl_table before c.args.self.a c.args.self.rings.a c.args.self.rings.b c.drain.new.end c.settle_tap.result _ _ h.a
+    without_b g.S.TapSource ps vl_table before c.args.self.a c.args.self.rings.a c.args.self.rings.b c.drain.new.end c.settle_tap.result _ _ h.a
     (rw c.in-Some.ensures.reader at c.settle_tap.ensures)
-    (beginnings _ _ _ _ ps vl_table before.capture before.ledger c.args.self.outputs h.written)
-    (lost_at_end _ _ _ _ ps vl_table before.capture before.ledger c.args.self.rings c.args.self.outputs (ready_runs _ _ _ _ _ _ _ _ ps vl_table before c.args.self h)))
+    (beginnings _ _ ps vl_table before.capture before.ledger c.args.self.outputs h.written)
+    (lost_at_end _ _ ps vl_table before.capture before.ledger c.args.self.rings c.args.self.outputs (ready_runs _ _ _ _ ps vl_table before c.args.self h)))
