@@ -93,17 +93,19 @@ fn load_table_filters(
 }
 
 /// The filters of a run: that of the command line, and those of the table. The first text that holds
-/// no filter is the fault.
+/// no filter is the fault. `Watch(Memory)`, for the list of them, comes only where the command line's
+/// text holds one.
 pub fn load_filters(alloc: Global, code: &str, config: &Config) -> Result<Vec<Program>, Fault>
     ensures filters { IfOk result (λ programs.
         AreFilters (code.now ∷ config.now.filters) programs.items) }
     ensures fault { IfErr result (IsFiltersFault code.now config.now.filters) }
 {
     let texts = config.filters();
+    let first = filter_of(alloc, code, None)?;
     let Ok(mut programs) = Vec::with_capacity(alloc, texts.len() + 1) else {
         return Err(Fault::Watch(WatchFault::Memory));
     };
-    programs.push_reserved(filter_of(alloc, code, None)?);
+    programs.push_reserved(first);
     load_table_filters(alloc, texts, &mut programs)?;
     Ok(programs)
 }

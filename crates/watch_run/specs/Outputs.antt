@@ -17,7 +17,7 @@ use Rattle.pcap_io.specs.declared.writer.CaptureWriter.{CaptureWriter}
 use Rattle.verdict_ledger.specs.declared.ledger.Ledger.{Ledger}
 use Rattle.watch_run.specs.Filters.{capture_by, entries_by}
 use Rattle.run_outcome.specs.Device.{SinkMembers, AppendsSome, SinkView}
-use Rattle.watch_run.specs.Watch.{ledger_by, lines_by}
+use Rattle.watch_run.specs.Watch.{CaptureSink, Fails, LedgerSink, ledger_by, lines_by}
 use Rattle.run_outcome.specs.declared.fault.Output.TheVariants as output
 use Rattle.run_outcome.specs.declared.fault.WatchFault.{WatchFault}
 use Rattle.run_outcome.specs.declared.fault.WatchFault.TheVariants as watch
@@ -48,12 +48,15 @@ pub record HasWritten {W L : Type 0} (w : SinkMembers W) (l : SinkMembers L)
   pub capture_failures : w.failures (sink_of outputs.capture) ≡ capture.failures
   pub ledger_failures : l.failures (ledger_sink outputs.ledger) ≡ ledger.failures
 
+-- a fault that writing finds, and this
+abbrev pub OfWriting : WatchFault → Type 0 → Type 0
+OfWriting (watch.Write out) P = P
+OfWriting watch.Memory P = P
+OfWriting fault P = ⊥
+
 -- only the sink that the fault names failed, if it names one
 abbrev pub SinkFails : WatchFault → ℕ → ℕ → ℕ → ℕ → Type 0
-SinkFails (watch.Write output.Capture) c c' l l' = CountsFailure c c' × (l' ≡ l)
-SinkFails (watch.Write output.Ledger) c c' l l' = (c' ≡ c) × CountsFailure l l'
-SinkFails watch.Memory c c' l l' = (c' ≡ c) × (l' ≡ l)
-SinkFails fault c c' l l' = ⊥
+SinkFails fault c c' l l' = OfWriting fault (Fails fault CaptureSink c c' × Fails fault LedgerSink l l')
 
 -- Each sink has a prefix of what belongs to these frames.
 pub record StopsWriting (fault : WatchFault) (ps : List (List Packed)) (vl_table : VlTable) (capture ledger capture' ledger' : SinkView) (frames : List Frame) : Type 0 where

@@ -1,5 +1,5 @@
 -- A run whose recordings are read by threads of their own: why it was aborted, and what it leaves.
-use Rattle.std.specs.Prelude.{◌≡◌, ◌⊎◌, ℕ, true, false, List, [], length, Option, Some, None, ⊤}
+use Rattle.std.specs.Prelude.{◌≡◌, ◌⊎◌, ℕ, Bool, true, false, List, [], length, Option, Some, None, ⊤}
 use Rattle.std.specs.Io.KnownBytes.{Appends}
 use Rattle.afdx_frame.specs.Frame.{Frame}
 use Rattle.afdx_frame.specs.declared.key.Network.{Network}
@@ -29,8 +29,7 @@ use Rattle.watch_run.specs.Rings.{HasTaken, RingsFault, StopsTaking}
 use Rattle.watch_run.specs.Taps.{HasRead}
 use Rattle.run_outcome.specs.Device.{SourceMembers, SinkMembers, AppendsSome, SinkView, SourceView}
 use Rattle.run_outcome.specs.Recording.{HasReadTap, IsReadPart, IsReadWhole, WasOpened, most_frames}
-use Rattle.watch_run.specs.Watch.{AbortsAtOpening, AbortsRun, IsNumber, StopsRun, WatchDevices, lines_by, watch_devices}
-use Rattle.run_outcome.specs.declared.fault.Output.TheVariants as output
+use Rattle.watch_run.specs.Watch.{CaptureSink, Fails, LedgerSink, SourceA, SourceB, names, AbortsAtOpening, AbortsRun, IsNumber, StopsRun, WatchDevices, lines_by, watch_devices}
 use Rattle.run_outcome.specs.declared.fault.WatchFault.{WatchFault}
 use Rattle.run_outcome.specs.declared.fault.WatchFault.TheVariants as watch
 use Rattle.watch_run.specs.declared.outputs.Outputs.{Outputs}
@@ -90,23 +89,16 @@ pub record StopsRunning (fault : WatchFault) (ps : List (List Packed)) (vl_table
 abbrev pub MayFail : ℕ → ℕ → Type 0
 MayFail old new = (new ≡ old) ⊎ CountsFailure old new
 
+-- a source that is named failed once, and another may have
+abbrev pub MayFailWhere : Bool → ℕ → ℕ → Type 0
+MayFailWhere true old new = CountsFailure old new
+MayFailWhere false old new = MayFail old new
+
 -- The device that the fault names failed once, if it names one. No other sink did; a source may have, since of several faults one is told.
 abbrev pub FailsAmong : WatchFault → WatchDevices → WatchDevices → Type 0
-FailsAmong (watch.Read A) before after =
-    CountsFailure before.a.failures after.a.failures × MayFail before.b.failures after.b.failures
-    × (after.capture.failures ≡ before.capture.failures) × (after.ledger.failures ≡ before.ledger.failures)
-FailsAmong (watch.Read B) before after =
-    MayFail before.a.failures after.a.failures × CountsFailure before.b.failures after.b.failures
-    × (after.capture.failures ≡ before.capture.failures) × (after.ledger.failures ≡ before.ledger.failures)
-FailsAmong (watch.Write output.Capture) before after =
-    MayFail before.a.failures after.a.failures × MayFail before.b.failures after.b.failures
-    × CountsFailure before.capture.failures after.capture.failures × (after.ledger.failures ≡ before.ledger.failures)
-FailsAmong (watch.Write output.Ledger) before after =
-    MayFail before.a.failures after.a.failures × MayFail before.b.failures after.b.failures
-    × (after.capture.failures ≡ before.capture.failures) × CountsFailure before.ledger.failures after.ledger.failures
 FailsAmong fault before after =
-    MayFail before.a.failures after.a.failures × MayFail before.b.failures after.b.failures
-    × (after.capture.failures ≡ before.capture.failures) × (after.ledger.failures ≡ before.ledger.failures)
+    MayFailWhere (names fault SourceA) before.a.failures after.a.failures × MayFailWhere (names fault SourceB) before.b.failures after.b.failures
+    × Fails fault CaptureSink before.capture.failures after.capture.failures × Fails fault LedgerSink before.ledger.failures after.ledger.failures
 
 -- the faults of a run whose threads were started and whose sources came back
 abbrev pub IsRunningFault : WatchFault → Type 0

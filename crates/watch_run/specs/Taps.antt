@@ -19,6 +19,7 @@ use Rattle.run_outcome.specs.declared.fault.WatchFault.{WatchFault}
 use Rattle.run_outcome.specs.declared.fault.WatchFault.TheVariants as watch
 use Rattle.watch_run.specs.declared.taps.Taps.{Taps}
 use Rattle.run_outcome.specs.Recording.{TakesAPacket, Ends}
+use Rattle.watch_run.specs.Watch.{Fails, SourceA, SourceB}
 
 -- ---- one tap
 
@@ -98,12 +99,15 @@ pub record ReadsPart (network : Network) (late : ℕ) (before : SourceView) (fra
   pub read : HasReadTap network late before.remaining frames position left
   pub gone : TakesAPacket left reading.remaining
 
+-- a fault that merging finds, and this
+abbrev pub OfMerging : WatchFault → Type 0 → Type 0
+OfMerging (watch.Read network) P = P
+OfMerging watch.Memory P = P
+OfMerging fault P = ⊥
+
 -- only the source that the fault names failed, if it names one
 abbrev pub SourceFails : WatchFault → ℕ → ℕ → ℕ → ℕ → Type 0
-SourceFails (watch.Read A) a a' b b' = CountsFailure a a' × (b' ≡ b)
-SourceFails (watch.Read B) a a' b b' = (a' ≡ a) × CountsFailure b b'
-SourceFails watch.Memory a a' b b' = (a' ≡ a) × (b' ≡ b)
-SourceFails fault a a' b b' = ⊥
+SourceFails fault a a' b b' = OfMerging fault (Fails fault SourceA a a' × Fails fault SourceB b b')
 
 -- both recordings have ended
 abbrev pub HasEnded : {S T : Type 0} → Taps S T → Type 0

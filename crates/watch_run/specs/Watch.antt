@@ -1,5 +1,5 @@
 -- What a whole run over two recordings leaves, and why it was aborted (this project's profile).
-use Rattle.std.specs.Prelude.{◌≡◌, ◌⊎◌, ℕ, ◌+◌, ◌^◌, ◌≤◌, List, [], ◌∷◌, ◌++◌, length, take, Option, Some, Err, IfSome, ⊤}
+use Rattle.std.specs.Prelude.{Bool, true, false, ◌≡◌, ◌⊎◌, ℕ, ◌+◌, ◌^◌, ◌≤◌, List, [], ◌∷◌, ◌++◌, length, take, Option, Some, Err, IfSome, ⊤}
 use Rattle.std.specs.Io.KnownBytes.{Appends}
 use Rattle.afdx_frame.specs.Frame.{Frame}
 use Rattle.afdx_frame.specs.declared.bounds.TheConstants.{MAX_SNAPLEN}
@@ -77,23 +77,35 @@ pub record IsWatched (ps : List (List Packed)) (vl_table : VlTable) (endings : L
 
 -- ---- an aborted run
 
+-- the devices of a run
+pub data Device : Type 0 where
+  SourceA : Device
+  SourceB : Device
+  CaptureSink : Device
+  LedgerSink : Device
+
+-- which device a fault names, if it names one
+abbrev pub names : WatchFault → Device → Bool
+names (watch.Read A) SourceA = true
+names (watch.Read B) SourceB = true
+names (watch.Write output.Capture) CaptureSink = true
+names (watch.Write output.Ledger) LedgerSink = true
+names _ _ = false
+
+-- a device that is named failed, just once, and another didn't
+abbrev pub FailsWhere : Bool → ℕ → ℕ → Type 0
+FailsWhere true old new = CountsFailure old new
+FailsWhere false old new = new ≡ old
+
+-- the device failed where the fault names it
+abbrev pub Fails : WatchFault → Device → ℕ → ℕ → Type 0
+Fails fault device old new = FailsWhere (names fault device) old new
+
 -- Only the device that the fault names failed, if it names one, and just once.
 abbrev pub FailsOnly : WatchFault → WatchDevices → WatchDevices → Type 0
-FailsOnly (watch.Read A) before after =
-    CountsFailure before.a.failures after.a.failures × (after.b.failures ≡ before.b.failures)
-    × (after.capture.failures ≡ before.capture.failures) × (after.ledger.failures ≡ before.ledger.failures)
-FailsOnly (watch.Read B) before after =
-    (after.a.failures ≡ before.a.failures) × CountsFailure before.b.failures after.b.failures
-    × (after.capture.failures ≡ before.capture.failures) × (after.ledger.failures ≡ before.ledger.failures)
-FailsOnly (watch.Write output.Capture) before after =
-    (after.a.failures ≡ before.a.failures) × (after.b.failures ≡ before.b.failures)
-    × CountsFailure before.capture.failures after.capture.failures × (after.ledger.failures ≡ before.ledger.failures)
-FailsOnly (watch.Write output.Ledger) before after =
-    (after.a.failures ≡ before.a.failures) × (after.b.failures ≡ before.b.failures)
-    × (after.capture.failures ≡ before.capture.failures) × CountsFailure before.ledger.failures after.ledger.failures
-FailsOnly _ before after =
-    (after.a.failures ≡ before.a.failures) × (after.b.failures ≡ before.b.failures)
-    × (after.capture.failures ≡ before.capture.failures) × (after.ledger.failures ≡ before.ledger.failures)
+FailsOnly fault before after =
+    Fails fault SourceA before.a.failures after.a.failures × Fails fault SourceB before.b.failures after.b.failures
+    × Fails fault CaptureSink before.capture.failures after.capture.failures × Fails fault LedgerSink before.ledger.failures after.ledger.failures
 
 abbrev pub OutputsUntouched : WatchDevices → WatchDevices → Type 0
 OutputsUntouched before after = (after.capture ≡ before.capture) × (after.ledger ≡ before.ledger)
