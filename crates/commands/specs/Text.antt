@@ -1,5 +1,5 @@
 -- A text that is read whole from a source (this project's profile).
-use Rattle.std.specs.Prelude.{◌≡◌, ℕ, ◌+◌, ◌<◌, ◌≤◌, List, length, Option}
+use Rattle.std.specs.Prelude.{◌≡◌, ℕ, ◌+◌, ◌≤◌, List, length, Option}
 use Rattle.std.specs.Str.{IsUtf8}
 use Rattle.std.specs.Io.KnownBytes.{Consumes, IsAtEnd}
 use Rattle.pcap_io.specs.Device.{CountsFailure}
@@ -19,9 +19,9 @@ abbrev pub IsWholeText : Option (List ℕ) → Option (List ℕ) → List ℕ �
 IsWholeText before after text = IsWhole before after text × IsUtf8 text
 
 -- why a text wasn't read: the source failed, or gave one byte more than a text may have, or other
--- bytes than UTF-8, or there was no memory for the bytes that it had given, at least one
+-- bytes than UTF-8
 abbrev pub IsTextRefusal : Option (List ℕ) → Option (List ℕ) → ℕ → ℕ → TextRefusal → Type 0
 IsTextRefusal before after old new Device = CountsFailure old new
 IsTextRefusal before after old new TooLong = ((bytes : List ℕ) × Consumes before after bytes × (length bytes ≡ max_text + 1)) × (new ≡ old)
 IsTextRefusal before after old new NotUtf8 = ((bytes : List ℕ) × IsWhole before after bytes × (IsUtf8 bytes → ⊥)) × (new ≡ old)
-IsTextRefusal before after old new Memory = ((bytes : List ℕ) × Consumes before after bytes × (0 < length bytes)) × (new ≡ old)
+IsTextRefusal before after old new Memory = new ≡ old

@@ -9,10 +9,7 @@ use std::alloc::{AllocError, Global};
 /// The most bytes of a text: 16 MiB.
 pub const MAX_TEXT: usize = 16_777_216;
 
-/// How many bytes are read before any memory is taken, so that an empty text needs none.
-const HEAD: usize = 256;
-
-/// The least room that is made for a longer text.
+/// How many bytes are asked for first.
 const FIRST: usize = 65_536;
 
 /// Why a text wasn't read.
@@ -24,7 +21,7 @@ pub enum TextRefusal {
     TooLong,
     /// The bytes are not UTF-8.
     NotUtf8,
-    /// Out of memory for a text of at least one byte.
+    /// Out of memory for the text.
     Memory,
 }
 
@@ -54,15 +51,7 @@ fn read_bytes<S: TapSource>(alloc: Global, source: &mut S) -> Result<Vec<u8>, Te
         (S.failures source.old) (S.failures source.new)) }
 {
     let mut bytes = Vec::new(alloc);
-    let mut head = [0; HEAD];
-    let mut len = fill(source, &mut head)?;
-    if len == 0 {
-        return Ok(bytes);
-    }
-    bytes.extend_from_slice(&head[..len])?;
-    if len < HEAD {
-        return Ok(bytes);
-    }
+    let mut len = 0;
     while len <= MAX_TEXT {
         // The room doubles, so that each byte is moved a few times at most.
         let room = (2 * len).max(FIRST).min(MAX_TEXT + 1);
@@ -76,7 +65,8 @@ fn read_bytes<S: TapSource>(alloc: Global, source: &mut S) -> Result<Vec<u8>, Te
     Err(TextRefusal::TooLong)
 }
 
-/// Reads a text of at most [`MAX_TEXT`] bytes, which is all that is left of the source.
+/// Reads a text of at most [`MAX_TEXT`] bytes, which is all that is left of the source. Room is made
+/// before anything is read, so there may be no memory even for an empty text.
 pub fn read_text<S: TapSource>(alloc: Global, source: &mut S) -> Result<String, TextRefusal>
     ensures whole { IfOk result (λ text.
         IsWholeText (S.remaining source.old) (S.remaining source.new) (string_bytes text)) }

@@ -1,5 +1,5 @@
 -- The bytes so far are all that is gone.
-use Rattle.std.proofs.Common.{◌≡◌, ◌+◌, ◌-◌, ◌<◌, ◌≤◌, length}
+use Rattle.std.proofs.Common.{◌≡◌, ◌+◌, ◌-◌, ◌≤◌, length}
 use Rattle.std.specs.Io.KnownBytes.{Consumes}
 use Rattle.commands.specs.Text.{max_text}
 use Rattle.commands.proofs.text.read_bytes.Given as goal
@@ -8,7 +8,6 @@ abbrev pub invariant-loop-len : goal.invariant-loop-len
 invariant-loop-len g l = record {
   bytes : Consumes (g.S.TapSource.remaining l.fn.source) (g.S.TapSource.remaining l.source) l.bytes.items;
   len : length l.bytes.items ≡ l.len;
-  some : 0 < l.len;
   few : l.len ≤ max_text + 1;
   failures : g.S.TapSource.failures l.source ≡ g.S.TapSource.failures l.fn.source;
 }
