@@ -1,4 +1,4 @@
-//! Why a command is refused.
+//! A refusal is a line of its own to the person, and a value to the program.
 
 ghost use Rattle.std.specs.Prelude.{◌≡◌};
 ghost use Rattle.bpf_debugger.specs.Texts.{bad_command_text, fault_text};

@@ -1,4 +1,4 @@
-//! A session of the debugger.
+//! The debugger as its caller sees it: commands in, replies out, and a state that a refusal leaves alone.
 
 ghost use Rattle.std.specs.Prelude.{◌≡◌, ◌<◌, length, count_by, IfOk, IfErr};
 ghost use Rattle.bpf_isa.specs.declared.packed.Packed.{Packed};
@@ -57,7 +57,7 @@ impl Session {
         ensures program { IfErr result (λ refused. refused.program ≡ program) }
         ensures frames { IfErr result (λ refused. refused.frames ≡ frames) }
     {
-        match vec![in alloc; false; program.words().len()] {
+        match vec![in alloc; false; program.insns().len()] {
             Ok(breakpoints) => Ok(Session {
                 alloc,
                 program,

@@ -15,8 +15,8 @@ use Rattle.bpf_text.specs.Meaning.{statement_of}
 use Rattle.bpf_text.specs.declared.statement.Statement as text
 use Rattle.std.proofs.Common.{map, option_map}
 use Rattle.std.proofs.lemmas.Option.{slice_get-map, slice_get-get_or}
-use Rattle.bpf_asm.specs.Assembly.{carries, place_of, is_twice}
-use Rattle.bpf_asm.specs.Typed.{known_place, Knows}
+use Rattle.bpf_asm.specs.Assembly.{carries, index_of, is_twice}
+use Rattle.bpf_asm.specs.Typed.{known_index, Knows}
 
 lookup_push : {K X : Type 0} (test : K → Bool) (es : List (K × X)) (e : K × X) →
     lookup test (es ++ e ∷ []) ≡ option_or (lookup test es) (cond (test e.0) (Some e.1) None)
@@ -48,10 +48,10 @@ position_push test i (x ∷ xs) y = by (test x) (position_push test (i + 1) xs y
     by true h = refl
     by false h = h ∙ ap (option_or (position_from test (i + 1) xs)) (shift (test y))
 
--- from place 0 on
-place_push : (ss : List Statement) (s : Statement) (name : List ℕ) →
-    place_of (ss ++ s ∷ []) name ≡ option_or (place_of ss name) (cond (carries name s) (Some (length ss)) None)
-place_push ss s name = position_push (carries name) 0 ss s ∙ ap (λ n. option_or (place_of ss name) (cond (carries name s) (Some n) None)) (zero_plus (length ss))
+-- from index 0 on
+index_push : (ss : List Statement) (s : Statement) (name : List ℕ) →
+    index_of (ss ++ s ∷ []) name ≡ option_or (index_of ss name) (cond (carries name s) (Some (length ss)) None)
+index_push ss s name = position_push (carries name) 0 ss s ∙ ap (λ n. option_or (index_of ss name) (cond (carries name s) (Some n) None)) (zero_plus (length ss))
   where
     zero_plus : (n : ℕ) → 0 + n ≡ n
     zero_plus n = grind arith
@@ -63,17 +63,17 @@ or_none (Some x) = refl
 -- a statement without a label adds none
 pub knows_same : (entries : List (Bor (List ℕ) × ℕ)) (ss : List Statement) (s : Statement) → s.label ≡ None → Knows entries ss → Knows entries (ss ++ s ∷ [])
 knows_same entries ss s none knows name =
-    knows name ∙ sym (or_none (place_of ss name)) ∙ ap (λ label. option_or (place_of ss name) (cond (option_map_or (bytes_eq name) label false) (Some (length ss)) None)) (sym none)
-    ∙ sym (place_push ss s name)
+    knows name ∙ sym (or_none (index_of ss name)) ∙ ap (λ label. option_or (index_of ss name) (cond (option_map_or (bytes_eq name) label false) (Some (length ss)) None)) (sym none)
+    ∙ sym (index_push ss s name)
 
--- a new label is added with the place of its statement
+-- a new label is added with the index of its statement
 pub knows_more : (entries : List (Bor (List ℕ) × ℕ)) (ss : List Statement) (s : Statement) (label : Bor (List ℕ)) → s.label ≡ Some label.now →
     Knows entries ss → Knows (entries ++ (label, length ss) ∷ []) (ss ++ s ∷ [])
 knows_more entries ss s label is knows name =
     lookup_push (λ known. bytes_eq name known.now) entries (label, length ss)
     ∙ ap (λ p. option_or p (cond (bytes_eq name label.now) (Some (length ss)) None)) (knows name)
-    ∙ ap (λ l. option_or (place_of ss name) (cond (option_map_or (bytes_eq name) l false) (Some (length ss)) None)) (sym is)
-    ∙ sym (place_push ss s name)
+    ∙ ap (λ l. option_or (index_of ss name) (cond (option_map_or (bytes_eq name) l false) (Some (length ss)) None)) (sym is)
+    ∙ sym (index_push ss s name)
 
 -- ---- a loop over the statements
 
@@ -110,14 +110,14 @@ progress_same entries ss at s here none progress = record {
 }
   where
     twice_label : Option (List ℕ) → Bool
-    twice_label label = option_map_or (λ name. is_some (place_of (take at ss) name)) label false
+    twice_label label = option_map_or (λ name. is_some (index_of (take at ss) name)) label false
 
     twice_by : Option Statement → Bool
     twice_by found = twice_label (option_and_then (λ t. t.label) found)
 
 -- a statement with a label that is not known
 pub progress_more : (entries : List (Bor (List ℕ) × ℕ)) (ss : List Statement) (at : ℕ) (s : Statement) (label : Bor (List ℕ)) →
-    slice_get ss at ≡ Some s → s.label ≡ Some label.now → known_place entries label.now ≡ None →
+    slice_get ss at ≡ Some s → s.label ≡ Some label.now → known_index entries label.now ≡ None →
     Progress entries ss at → Progress (entries ++ (label, at) ∷ []) ss (at + 1)
 progress_more entries ss at s label here is none progress = record {
   knows = subst (λ n. Knows (entries ++ (label, n) ∷ []) (take (at + 1) ss)) (take_len ss at s here)
@@ -126,7 +126,7 @@ progress_more entries ss at s label here is none progress = record {
 }
   where
     twice_label : Option (List ℕ) → Bool
-    twice_label l = option_map_or (λ name. is_some (place_of (take at ss) name)) l false
+    twice_label l = option_map_or (λ name. is_some (index_of (take at ss) name)) l false
 
     twice_by : Option Statement → Bool
     twice_by found = twice_label (option_and_then (λ t. t.label) found)
@@ -143,7 +143,7 @@ progress_none entries xs at d less none progress =
     progress_same entries (map statement_of xs) at (statement_of (get_or xs at d)) (at_statement xs at d less) (ap (option_map (λ name. name.now)) none) progress
 
 pub progress_some : (entries : List (Bor (List ℕ) × ℕ)) (xs : List text.Statement) (at : ℕ) (d : text.Statement) (label : Bor (List ℕ)) → at < length xs →
-    (get_or xs at d).label ≡ Some label → known_place entries label.now ≡ None →
+    (get_or xs at d).label ≡ Some label → known_index entries label.now ≡ None →
     Progress entries (map statement_of xs) at → Progress (entries ++ (label, at) ∷ []) (map statement_of xs) (at + 1)
 progress_some entries xs at d label less is none progress =
     progress_more entries (map statement_of xs) at (statement_of (get_or xs at d)) label (at_statement xs at d less)

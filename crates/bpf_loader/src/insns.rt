@@ -1,8 +1,8 @@
-//! The faults of single instructions.
+//! The faults that an instruction has by itself, at its pc. They are checked before any path is.
 
 ghost use Rattle.std.specs.Prelude.{◌≡◌, ◌<◌, MatchResult};
 ghost use Rattle.bpf_isa.specs.Table.{returns_answer};
-ghost use Rattle.bpf_loader.specs.Faults.{fault_of_word, HasNoWordFault, IsFirstWordFault};
+ghost use Rattle.bpf_loader.specs.Faults.{fault_of_packed, HasNoInsnFault, IsFirstInsnFault};
 ghost use Rattle.bpf_loader.specs.Faults.{ends_in_return};
 ghost use Rattle.bpf_loader.specs.Typed.{fault_of_load, fault_of_load_x, fault_of_store};
 ghost use Rattle.bpf_loader.specs.Typed.{fault_of_alu, fault_of_jump, fault_of_insn};
@@ -74,11 +74,11 @@ fn jump_fault(len: usize, pc: usize, jump: Jump) -> Option<LoadFault>
 }
 
 /// The first fault of an instruction at its pc in a program of this length.
-pub(crate) fn word_fault(len: usize, pc: usize, word: Packed) -> Option<LoadFault>
+pub(crate) fn insn_fault(len: usize, pc: usize, packed: Packed) -> Option<LoadFault>
     requires { pc < len }
-    ensures { result ≡ fault_of_word len pc word }
+    ensures { result ≡ fault_of_packed len pc packed }
 {
-    let Some(insn) = Insn::decode(&word) else {
+    let Some(insn) = Insn::decode(&packed) else {
         return Some(LoadFault::UnknownCode { at: pc });
     };
     match insn {
@@ -92,34 +92,34 @@ pub(crate) fn word_fault(len: usize, pc: usize, word: Packed) -> Option<LoadFaul
 }
 
 /// Refuses the first instruction that has a fault of its own.
-pub(crate) fn check_words(words: &[Packed]) -> Result<(), LoadFault>
+pub(crate) fn check_insns(insns: &[Packed]) -> Result<(), LoadFault>
     ensures { MatchResult result
-        (λ _. HasNoWordFault words.now)
-        (λ fault. IsFirstWordFault words.now fault) }
+        (λ _. HasNoInsnFault insns.now)
+        (λ fault. IsFirstInsnFault insns.now fault) }
 {
-    for (pc, word) in words.iter().enumerate() {
-        if let Some(fault) = word_fault(words.len(), pc, *word) {
+    for (pc, packed) in insns.iter().enumerate() {
+        if let Some(fault) = insn_fault(insns.len(), pc, *packed) {
             return Err(fault);
         }
     }
     Ok(())
 }
 
-fn is_return(word: Packed) -> bool
-    ensures { result ≡ returns_answer word.code }
+fn is_return(packed: Packed) -> bool
+    ensures { result ≡ returns_answer packed.code }
 {
-    match Insn::decode(&word) {
+    match Insn::decode(&packed) {
         Some(insn) => matches!(insn, Insn::Return(_)),
         None => false,
     }
 }
 
 /// Whether the last instruction is a return.
-pub(crate) fn ends_in_return(words: &[Packed]) -> bool
-    ensures { result ≡ ends_in_return words.now }
+pub(crate) fn ends_in_return(insns: &[Packed]) -> bool
+    ensures { result ≡ ends_in_return insns.now }
 {
-    match words.last() {
-        Some(word) => is_return(*word),
+    match insns.last() {
+        Some(last) => is_return(*last),
         None => false,
     }
 }
