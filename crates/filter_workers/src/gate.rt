@@ -1,4 +1,4 @@
-//! What is told of each frame before its filters run.
+//! A way for a test to see the threads: the decisions are the same whatever the schedule.
 
 /// What is told of each frame before its filters run. A test sees by it that workers run at the same
 /// time, and that no frame is left out or taken twice.

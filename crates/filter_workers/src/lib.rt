@@ -37,8 +37,8 @@ mod rule;
 mod view;
 mod worker;
 
-pub use decision::{Decision, MAX_FILTERS, decide};
-pub use desk::{ClaimDesk, DeskSeat};
+pub use decision::{Decision, MAX_FILTERS, answer_for, filter_frame, filter_frames};
+pub use desk::{ClaimDesk, DESK_SEATS, DeskSeat, MAX_NUMBERS};
 pub use fault::RoundFault;
 pub use gate::RunGate;
 pub use round::{MAX_WORKERS, filter_round};

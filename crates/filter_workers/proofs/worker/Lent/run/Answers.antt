@@ -23,5 +23,5 @@ loop-number-preserved g c =
           c.loop-number.invariant.numbers c.in_ok-push.ensures.items claim;
       decided = decided_more c.args.self.now.programs.now c.args.self.now.frames.now c.loop-number.decisions.items c.push.new.self.items _ _
           _ c.loop-number.invariant.decided c.in_ok-push.ensures.items (omega (arith, within, c.requires.size))
-          (decided_at c.args.self.now.programs.now c.args.self.now.frames.now _ c.in-Some.number _ _ c.decide-decision.ensures (omega arith));
+          (decided_at c.args.self.now.programs.now c.args.self.now.frames.now _ c.in-Some.number _ _ c.filter_frame-decision.ensures (omega arith));
     }
