@@ -25,7 +25,7 @@ pub enum DebugFault {
 }
 
 impl DebugFault {
-    /// The line that tells of the fault, which ends with a newline. Allocates nothing.
+    /// The line that reports the fault, which ends with a newline. Allocates nothing.
     pub fn line(self) -> &'static str
         ensures { result.now ≡ fault_text self }
     {

@@ -16,7 +16,7 @@ IsDecided all d = slice_get all d.number ≡ Some d.decision
 abbrev pub numbers_of : List Numbered → List ℕ
 numbers_of decisions = map (λ (d : Numbered). d.number) decisions
 
--- A seat of this desk with this room, which was told that no number is left, and the decision for each number that it drew.
+-- A seat of this desk with this room, which has found no number left, and the decision for each number that it drew.
 pub record IsBatch (desk : DeskId) (room : ℕ) (all : List Decision) (b : Batch) : Type 0 where
   pub of_desk : b.seat.desk ≡ desk
   pub room_is : b.seat.room ≡ room

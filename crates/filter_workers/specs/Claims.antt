@@ -19,7 +19,7 @@ times k = total (λ x. if x == k then 1 else 0)
 abbrev pub once_below : ℕ → ℕ → ℕ
 once_below n k = if nat_lt k n then 1 else 0
 
--- the room of a seat that was told that no number is left
+-- the room of a seat that has found no number left
 abbrev pub through_room : SeatView → ℕ
 through_room v = if v.through then v.room else 0
 

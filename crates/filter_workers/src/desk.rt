@@ -36,7 +36,7 @@ impl Model for ClaimDesk {
 }
 
 /// A seat at a desk, for one thread at a time. Contracts see its desk, the numbers that it drew, its
-/// room, and whether it was told that no number is left.
+/// room, and whether it has found that no number is left.
 #[derive(Drop)]
 pub struct DeskSeat {
     seat: Seat<(), SeatView>,

@@ -10,7 +10,7 @@ use crate::decision::Decision;
 use crate::desk::{ClaimDesk, DeskSeat};
 use crate::fault::RoundFault;
 use crate::gate::RunGate;
-use crate::worker::{Batch, Lent, Numbered};
+use crate::worker::{Batch, BorrowedRound, Numbered};
 use afdx_frame::TapFrame;
 use bpf_loader::Program;
 use std::alloc::Global;
@@ -42,7 +42,7 @@ fn share<'s, E, R: Threads + Sync, G: RunGate + Sync>(
     scope: &'s Scope<'s, E>,
     rt: &'s R,
     alloc: Global,
-    round: &'s Lent<'s, G>,
+    round: &'s BorrowedRound<'s, G>,
     seat: DeskSeat,
     worker: u32,
     count: u32,
@@ -88,7 +88,7 @@ fn share<'s, E, R: Threads + Sync, G: RunGate + Sync>(
 fn run_workers<R: Threads + Wait + Sync, G: RunGate + Sync>(
     rt: &R,
     alloc: Global,
-    round: &Lent<'_, G>,
+    round: &BorrowedRound<'_, G>,
     seat: DeskSeat,
     count: u32,
 ) -> Result<Batch, RoundFault>
@@ -130,11 +130,11 @@ fn worker_count(workers: u32, frames: usize) -> u32
     (workers as usize).min(frames).max(1) as u32
 }
 
-/// Runs up to eight filters on each frame of a round, by so many workers, of which worker 0 is the
-/// caller and each other a thread that is started for the round. A worker claims frames at a desk
-/// until none is left; before the filters run on a frame the gate is told. No more workers run than
-/// there are frames, and of an empty round the gate isn't told. Each worker reads the borrowed frames
-/// where they are, and has ended when the call returns.
+/// Runs 1 to [`MAX_FILTERS`](crate::MAX_FILTERS) filters on each frame of a round, by 1 to
+/// [`MAX_WORKERS`] workers, of which worker 0 is the caller and each other a thread that is started for
+/// the round. A worker claims frames at a desk until none is left; before the filters run on a frame
+/// the gate is called. No more workers run than there are frames, and for an empty round the gate isn't
+/// called. Each worker reads the borrowed frames where they are, and has ended when the call returns.
 ///
 /// The decision at index i is that on frame i.
 pub fn filter_round<R: Threads + Wait + Sync, G: RunGate + Sync>(
@@ -158,7 +158,7 @@ pub fn filter_round<R: Threads + Wait + Sync, G: RunGate + Sync>(
     let nothing = Decision { mask: 0, answer: 0 };
     let mut decisions = vec![in alloc; nothing; frames.len()]?;
     let (desk, seat) = ClaimDesk::new(alloc, frames.len() as u64)?;
-    let round = Lent {
+    let round = BorrowedRound {
         desk: &desk,
         programs,
         frames,

@@ -24,16 +24,16 @@ pub(crate) struct Batch {
     pub(crate) decisions: Vec<Numbered>,
 }
 
-/// A round that is lent to its workers.
+/// A round, as its workers borrow it.
 #[derive(Drop)]
-pub(crate) struct Lent<'a, G> {
+pub(crate) struct BorrowedRound<'a, G> {
     pub(crate) desk: &'a ClaimDesk,
     pub(crate) programs: &'a [Program],
     pub(crate) frames: &'a [TapFrame],
     pub(crate) gate: &'a G,
 }
 
-impl<'a, G: RunGate> Lent<'a, G> {
+impl<'a, G: RunGate> BorrowedRound<'a, G> {
     ghost use Rattle.filter_workers.specs.Batches.{IsBatch};
 
     /// Claims frames until none is left, and runs the filters on each.

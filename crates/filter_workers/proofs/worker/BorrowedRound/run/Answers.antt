@@ -1,7 +1,7 @@
 use Rattle.std.proofs.Common.{◌<◌, ℕ, Option, subst, ap, ◌∙◌, arith}
 use Rattle.filter_workers.specs.Seats.{DeskId, SeatState, Claims}
 use Rattle.filter_workers.proofs.Batching.{claim_is_nearer, decided_at, decided_more, numbers_more}
-use Rattle.filter_workers.proofs.worker.Lent.run.Goals as goal
+use Rattle.filter_workers.proofs.worker.BorrowedRound.run.Goals as goal
 
 -- src/worker.rt:58:9
 pub loop-number-smaller : goal.loop-number-smaller

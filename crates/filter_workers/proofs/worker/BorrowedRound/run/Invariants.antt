@@ -3,7 +3,7 @@ use Rattle.std.specs.Prelude.{All}
 use Rattle.filter_workers.specs.Filters.{decisions_by}
 use Rattle.filter_workers.specs.Batches.{IsDecided, numbers_of}
 use Rattle.filter_workers.proofs.Drawing.{next_after}
-use Rattle.filter_workers.proofs.worker.Lent.run.Given as goal
+use Rattle.filter_workers.proofs.worker.BorrowedRound.run.Given as goal
 
 abbrev pub invariant-loop-number : goal.invariant-loop-number
 invariant-loop-number g l = record {
