@@ -1,13 +1,12 @@
 -- A text is source of one program at most.
-use Rattle.std.proofs.Common.{zero, suc, ap₂, ◌≡◌, ◌⊎◌, inl, inr, ℕ, ◌+◌, ◌<◌, ◌≤◌, List, [], ◌∷◌, length, get_or, slice_get, Option, Some, None, refl, sym, subst, ap, ◌∙◌, arith}
+use Rattle.std.proofs.Common.{suc, ap₂, ◌≡◌, ◌⊎◌, inl, inr, ℕ, ◌+◌, ◌<◌, ◌≤◌, List, [], ◌∷◌, length, get_or, slice_get, Some, None, refl, sym, subst, ap, ◌∙◌, arith}
 use Rattle.std.proofs.lemmas.Option.{slice_get_cases, slice_get_within}
 use Rattle.bpf_isa.specs.declared.packed.Packed.{Packed}
 use Rattle.bpf_isa.specs.Families.{packed_k}
 use Rattle.bpf_text.specs.declared.keyword.Mnemonic.{Mnemonic}
-use Rattle.bpf_text.specs.Grammar.{Statement, Operand, Nothing, Immediate, Absolute, Indirect, Scratch, HeaderLength, Len, Value, A, Target, Branch}
-use Rattle.bpf_text.specs.Meaning.{Sources}
+use Rattle.bpf_text.specs.Grammar.{Statement, Operand, Target, Branch}
 use Rattle.bpf_text.proofs.Texts.{one_reading}
-use Rattle.bpf_asm.specs.Assembly.{Assembles, IsAtDistance, IsRow, IsSourceOf, index_of}
+use Rattle.bpf_asm.specs.Assembly.{Assembles, IsAtDistance, IsRow}
 use Rattle.bpf_asm.specs.Laws.{OneProgram}
 use Rattle.bpf_asm.specs.Rows.{one_way_packed, two_way_packed}
 use Rattle.bpf_asm.proofs.Indices.{some_is}

@@ -1,5 +1,5 @@
 use Rattle.std.proofs.Common.{◌≡◌, ℕ, min, sym, ap, ◌∙◌, arith}
-use Rattle.filter_workers.specs.Seats.{DeskId, SeatState, DrewAll}
+use Rattle.filter_workers.specs.Seats.{DeskId, SeatState}
 use Rattle.filter_workers.proofs.Closing.{closes, counted}
 use Rattle.filter_workers.proofs.desk.ClaimDesk.close.Goals as goal
 
