@@ -212,7 +212,7 @@ fn insn_of(packed: Packed) -> Option<Insn>
 ///
 /// # Errors
 ///
-/// `AllocError` if there is no memory for the text.
+/// `AllocError` if there is no memory for the text. Every program needs some: each has a line.
 #[tactic(auto, using(crate::proofs::Lines::all_listed))]
 pub fn listing(alloc: Global, program: &Program) -> Result<String, AllocError>
     ensures listing { IfOk result (λ text. IsListing program.now (string_bytes text)) }

@@ -41,7 +41,7 @@ pub enum Reply {
 ///
 /// # Errors
 ///
-/// `AllocError` if there is no memory for the text.
+/// `AllocError` if there is no memory for the text. Every reply needs some but an empty `Listing`.
 pub fn render(alloc: Global, reply: &Reply) -> Result<String, AllocError>
     ensures { IfOk result (λ text. string_bytes text ≡ reply_text reply.now) }
 {

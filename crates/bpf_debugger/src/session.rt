@@ -47,7 +47,8 @@ impl Session {
     ///
     /// # Errors
     ///
-    /// There is no memory for the breakpoints. The program and the frames are returned.
+    /// There is no memory for the breakpoints, one for each instruction. The program and the frames are
+    /// returned.
     pub fn new(
         alloc: Global,
         program: Program,

@@ -20,6 +20,10 @@ fn push_insn(text: &mut String, insn: &Packed) -> Result<(), AllocError>
 
 /// Writes a program in the numeric form: the count and a comma, then `code jt jf k,` for each
 /// instruction, in decimal with single spaces and without a newline.
+///
+/// # Errors
+///
+/// `AllocError` if there is no memory for the text. Every list needs some: none has an empty text.
 pub fn write_numeric(alloc: Global, insns: &[Packed]) -> Result<String, AllocError>
     ensures text { IfOk result (λ s. string_bytes s ≡ numeric_text insns.now) }
     // It reads back as the same instructions, if a program may have as many.
