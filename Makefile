@@ -4,12 +4,13 @@
 #   make test      the gate: proves every crate from nothing, tries the must-fail edits, runs the tests, and the program
 #                  as a program
 #   make build     leaves the program at bin/afdxmon
-#   make check     every check there is: test, and with it allocations, devices' failures and borrows
+#   make check     every check there is: test, and with it mutants, allocations, devices' failures and borrows
 #   make bench     beside tcpdump, mergecap and libpcap (needs tcpdump, wireshark-common, libpcap-dev, gcc and python3; not
 #                  part of the gate)
 #
 # The parts of make check:
 #   make program      the built program's status, lines and files, on bin/afdxmon (needs python3)
+#   make mutants      tries the edits of crates/*/mutants/, which the prover must refuse as it refuses the must-fail edits
 #   make allocations  refuses each allocation of the tests in turn
 #   make borrows      shows that what a frame lends can't outlive it
 
@@ -21,7 +22,7 @@ LIBRARIES := $(filter-out afdxmon system_tests,$(CRATES))
 NEEDED := $(filter $(LIBRARIES),$(shell sed -n 's/^afdxmon[ a-z=+_A-Z0-9]*://p' crates.txt))
 JOBS := $(shell nproc)
 
-.PHONY: demo test build check bench program allocations borrows toolchain begin $(LIBRARIES:%=proved-%)
+.PHONY: demo test build check bench program mutants allocations borrows toolchain begin $(LIBRARIES:%=proved-%)
 
 build: toolchain begin
 	@$(MAKE) --no-print-directory -j$(JOBS) proved-all
@@ -52,13 +53,16 @@ demo: build
 test: toolchain
 	@tests/gate
 
-check: test allocations borrows
+check: test mutants allocations borrows
 
 bench: build
 	@bench/run
 
 program: build
 	@tests/program
+
+mutants: toolchain
+	@tests/edits
 
 allocations: toolchain
 	@tests/allocations.sh

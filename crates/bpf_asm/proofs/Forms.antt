@@ -9,7 +9,7 @@ use Rattle.bpf_text.specs.Tokens.{Token, Lexeme}
 use Rattle.bpf_text.specs.Meaning.{Sources}
 use Rattle.bpf_asm.specs.Rows.{takes}
 use Rattle.bpf_asm.specs.Typed.{AllTake}
-use Rattle.bpf_asm.proofs.Places.{some_is}
+use Rattle.bpf_asm.proofs.Indices.{some_is}
 
 -- each statement that the form gives has this
 abbrev All : (Statement → Type 0) → Form → Type 0

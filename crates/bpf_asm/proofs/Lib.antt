@@ -1,4 +1,4 @@
-pub mod Places
+pub mod Indices
 pub mod Forms
 pub mod Program
 pub mod Stepping

@@ -19,7 +19,7 @@ use Rattle.bpf_isa.specs.declared.returns.Return.TheVariants as return
 use Rattle.bpf_isa.specs.declared.moves.Move.TheVariants as move
 use Rattle.bpf_isa.specs.declared.insn.Insn.{Insn}
 use Rattle.bpf_isa.specs.declared.insn.Insn.TheVariants as insn
-use Rattle.bpf_isa.specs.Insns.{insn_word}
+use Rattle.bpf_isa.specs.Insns.{packed_insn}
 use Rattle.bpf_isa.specs.Numeric.{IsPacked}
 use Rattle.bpf_text.specs.declared.keyword.Mnemonic.{Mnemonic}
 use Rattle.bpf_text.specs.declared.keyword.Mnemonic.TheVariants.{Ld, Ldh, Ldb, Ldx, Ldxb, St, Stx, Ja, Jeq, Jgt, Jge, Jset, Add, Sub, Mul, Div, Mod, Neg, And, Or, Xor, Lsh, Rsh, Tax, Txa, Ret}
@@ -37,7 +37,7 @@ abbrev pub number_part : ℕ → Part
 number_part k = Spelt (decimal k) (Num k)
 
 abbrev pub label_part : ℕ → Part
-label_part place = Spelt (label_text place) (Name (label_text place))
+label_part index = Spelt (label_text index) (Name (label_text index))
 
 abbrev pub key_part : List ℕ → Part
 key_part word = Spelt word (name_token word)
@@ -211,8 +211,8 @@ immediate_sound k small = (refl, (number_sound k small, tt))
 header_length_sound : (k : ℕ) → k < 2 ^ 32 → AreSound (header_length_parts k)
 header_length_sound k small = (four, (refl, (refl, (refl, (number_sound k small, (refl, (refl, (fifteen, (refl, tt)))))))))
 
-label_sound : (place : ℕ) → place < 2 ^ 32 → IsSound (label_part place)
-label_sound place small = label_spelt place small
+label_sound : (index : ℕ) → index < 2 ^ 32 → IsSound (label_part index)
+label_sound index small = label_spelt index small
 
 targets_sound : (first second : ℕ) → first < 2 ^ 32 → second < 2 ^ 32 → AreSound (targets_parts first second)
 targets_sound first second a b = (refl, (refl, (label_sound first a, (refl, (refl, (label_sound second b, tt))))))
@@ -235,7 +235,7 @@ condition_sound condition.Greater = name_spelt (codes "jgt") refl refl refl
 condition_sound condition.AtLeast = name_spelt (codes "jge") refl refl refl
 condition_sound condition.SharesBits = name_spelt (codes "jset") refl refl refl
 
-pub insn_sound : (len at : ℕ) (i : Insn) → len ≤ 4096 → Reaches len at i → IsPacked (insn_word i) → AreSound (insn_parts at i)
+pub insn_sound : (len at : ℕ) (i : Insn) → len ≤ 4096 → Reaches len at i → IsPacked (packed_insn i) → AreSound (insn_parts at i)
 insn_sound len at (insn.Load (load.Immediate k)) few reach packed = (name_spelt (codes "ld") refl refl refl, (refl, (immediate_sound k packed.k)))
 insn_sound len at (insn.Load (load.Absolute Word k)) few reach packed = (name_spelt (codes "ld") refl refl refl, (refl, (absolute_sound k packed.k)))
 insn_sound len at (insn.Load (load.Absolute Half k)) few reach packed = (name_spelt (codes "ldh") refl refl refl, (refl, (absolute_sound k packed.k)))
@@ -347,11 +347,11 @@ abbrev k_of : Source → ℕ
 k_of (K k) = k
 k_of X = 0
 
-alu_k : (o : Operator) (s : Source) → IsPacked (insn_word (insn.Alu (alu.Binary o s))) → k_of s < 2 ^ 32
+alu_k : (o : Operator) (s : Source) → IsPacked (packed_insn (insn.Alu (alu.Binary o s))) → k_of s < 2 ^ 32
 alu_k o (K k) packed = packed.k
 alu_k o X packed = packed.k
 
-jump_k : (c : Condition) (s : Source) (jt jf : ℕ) → IsPacked (insn_word (insn.Jump (jump.If c s jt jf))) → k_of s < 2 ^ 32
+jump_k : (c : Condition) (s : Source) (jt jf : ℕ) → IsPacked (packed_insn (insn.Jump (jump.If c s jt jf))) → k_of s < 2 ^ 32
 jump_k c (K k) jt jf packed = packed.k
 jump_k c X jt jf packed = packed.k
 
@@ -434,7 +434,7 @@ module _ (offset at : ℕ) where
   abbrev gives : Mnemonic → Operand → Form
   gives m o = Gives (record { at = offset; label = Some (label_text at); mnemonic = m; operand = o })
 
-  pub insn_spells : (i : Insn) → IsPacked (insn_word i) → Spells (instruction offset (Some (label_text at))) (tokens_of (insn_parts at i)) (listed offset at i)
+  pub insn_spells : (i : Insn) → IsPacked (packed_insn i) → Spells (instruction offset (Some (label_text at))) (tokens_of (insn_parts at i)) (listed offset at i)
   unfolding keyword_of keywords
   insn_spells (insn.Load (load.Immediate k)) packed = (Ld, refl, inr (inl (spells_immediate_or_length (gives Ld) _ k packed.k refl)))
   insn_spells (insn.Load (load.Absolute Word k)) packed = (Ld, refl, inl (spells_absolute (gives Ld) _ k packed.k refl))

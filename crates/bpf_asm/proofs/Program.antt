@@ -1,4 +1,4 @@
--- The words of the first statements, as they grow by one.
+-- The instructions of the first statements, as they grow by one.
 use Rattle.std.proofs.Common.{◌≡◌, ◌⊎◌, inl, inr, ℕ, ◌+◌, ◌<◌, true, List, [], ◌∷◌, ◌++◌, length, map, get_or, slice_get, Some, None, sym, subst, ap, ◌∙◌, arith}
 use Rattle.std.proofs.Math.Nat.{eq-or-lt_of_le}
 use Rattle.std.proofs.Math.Seq.{get_or-append_seam}
@@ -14,7 +14,7 @@ use Rattle.bpf_asm.specs.Rows.{takes}
 use Rattle.bpf_asm.specs.Assembly.{IsRow, IsFirstTargetFault, operand_fault, fault_at}
 use Rattle.bpf_asm.specs.Typed.{AllTake, AreRows}
 use Rattle.bpf_asm.specs.declared.fault.AsmFault.{AsmFault}
-use Rattle.bpf_asm.proofs.Places.{at_statement, slice_get_unique}
+use Rattle.bpf_asm.proofs.Indices.{at_statement, slice_get_unique}
 
 -- an element of a list that grew by one
 push_cases : {X : Type 0} (xs : List X) (y : X) (at : ℕ) (x : X) → slice_get (xs ++ y ∷ []) at ≡ Some x →

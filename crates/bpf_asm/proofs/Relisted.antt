@@ -26,7 +26,7 @@ use Rattle.bpf_isa.specs.declared.returns.Return.TheVariants as return
 use Rattle.bpf_isa.specs.declared.moves.Move.TheVariants as move
 use Rattle.bpf_isa.specs.declared.insn.Insn.{Insn}
 use Rattle.bpf_isa.specs.declared.insn.Insn.TheVariants as insn
-use Rattle.bpf_isa.specs.Insns.{insn_word}
+use Rattle.bpf_isa.specs.Insns.{packed_insn}
 use Rattle.bpf_isa.specs.Numeric.{IsPacked}
 use Rattle.bpf_loader.specs.Faults.{IsLoaded, jumps_outside}
 use Rattle.bpf_loader.proofs.Laws.{faultless_at}
@@ -34,11 +34,11 @@ use Rattle.bpf_text.specs.Tokens.{Token, Name, Mark}
 use Rattle.bpf_text.specs.Grammar.{Statement, Spells, AreStatements, IsStatement, statement, token_of}
 use Rattle.bpf_text.specs.Meaning.{Sources}
 use Rattle.bpf_asm.specs.Listing.{label_text, insn_text, line_text, lines_text, IsListing}
-use Rattle.bpf_isa.specs.Machine.{max_insns}
-use Rattle.bpf_asm.specs.Rows.{two_way_word, plain_word}
-use Rattle.bpf_asm.specs.Assembly.{farthest, carries, place_of, HasDistinctLabels, IsRow, Assembles, IsSourceOf}
+use Rattle.bpf_isa.specs.declared.state.TheConstants.{MAX_INSNS}
+use Rattle.bpf_asm.specs.Rows.{two_way_packed, plain_packed}
+use Rattle.bpf_asm.specs.Assembly.{farthest, carries, index_of, HasDistinctLabels, IsRow, Assembles, IsSourceOf}
 use Rattle.bpf_asm.specs.Laws.{ArePacked}
-use Rattle.bpf_asm.proofs.Places.{some_is, slice_get_unique}
+use Rattle.bpf_asm.proofs.Indices.{some_is, slice_get_unique}
 use Rattle.bpf_asm.proofs.Parts.{Part, Space, Point, text_of, tokens_of, part_tokens, lexemes_of, AreSound, laid, label_spelt, parts_items, text_append, sound_append, lexemes_append, tokens_are}
 use Rattle.bpf_asm.proofs.Listed.{label_part, insn_parts, insn_text_is, insn_laid, insn_sound, insn_spells, Reaches, text_source_of, mnemonic_of, operand_at, listed}
 
@@ -74,7 +74,7 @@ lines_laid before at (i ∷ is) =
 -- the numbers of the instructions fit their fields, and their targets lie before the end
 abbrev AllFit : ℕ → ℕ → List Insn → Type 0
 AllFit len at [] = Unit {0}
-AllFit len at (i ∷ is) = (at < len) × Reaches len at i × IsPacked (insn_word i) × AllFit len (at + 1) is
+AllFit len at (i ∷ is) = (at < len) × Reaches len at i × IsPacked (packed_insn i) × AllFit len (at + 1) is
 
 lines_sound : (len at : ℕ) (is : List Insn) → len ≤ 4096 → AllFit len at is → AreSound (lines_parts at is)
 lines_sound len at [] few fit = tt
@@ -105,7 +105,7 @@ line_tokens offset at i =
     tokens_are offset (line_parts at i)
     ∙ ap (λ (ts : List Token). Name (label_text at) ∷ Mark 58 ∷ ts) (tokens_append (insn_parts at i) (Space 10 ∷ []) ∙ append-nil (tokens_of (insn_parts at i)))
 
-line_spells : (offset at : ℕ) (i : Insn) → IsPacked (insn_word i) → IsStatement (lexemes_of offset (line_parts at i)) (listed offset at i)
+line_spells : (offset at : ℕ) (i : Insn) → IsPacked (packed_insn i) → IsStatement (lexemes_of offset (line_parts at i)) (listed offset at i)
 line_spells offset at i packed =
     subst (λ ts. Spells (statement offset) ts (listed offset at i)) (sym (line_tokens offset at i)) (inl (label_text at, refl, (tt, refl, insn_spells offset at i packed)))
 
@@ -144,42 +144,42 @@ other_label a b small also other = by (bytes_eq (label_text a) (label_text b)) (
         tails xs ys e = cc
     by false same = refl
 
--- a place among the statements is that of its label
-found : (is : List Insn) (offset base place j : ℕ) → base ≤ place → place < base + length is → base + length is ≤ 4096 →
-    position_from (carries (label_text place)) j (statements_of offset base is) ≡ Some (j + (place - base))
-found [] offset base place j low high few = absurd (omega (arith, low, high))
-found (i ∷ is) offset base place j low high few =
-    by (λ above. found is (offset + length (text_of (line_parts base i))) (base + 1) place (j + 1) above (omega (arith, high)) (omega (arith, few))) (cases_Bool (place == base))
+-- an index among the statements is that of its label
+found : (is : List Insn) (offset base index j : ℕ) → base ≤ index → index < base + length is → base + length is ≤ 4096 →
+    position_from (carries (label_text index)) j (statements_of offset base is) ≡ Some (j + (index - base))
+found [] offset base index j low high few = absurd (omega (arith, low, high))
+found (i ∷ is) offset base index j low high few =
+    by (λ above. found is (offset + length (text_of (line_parts base i))) (base + 1) index (j + 1) above (omega (arith, high)) (omega (arith, few))) (cases_Bool (index == base))
   where
     next : ℕ
     next = offset + length (text_of (line_parts base i))
 
-    by : (base + 1 ≤ place → position_from (carries (label_text place)) (j + 1) (statements_of next (base + 1) is) ≡ Some (j + 1 + (place - (base + 1)))) →
-        ((place == base) ≡ true) ⊎ ((place == base) ≡ false) → position_from (carries (label_text place)) j (statements_of offset base (i ∷ is)) ≡ Some (j + (place - base))
+    by : (base + 1 ≤ index → position_from (carries (label_text index)) (j + 1) (statements_of next (base + 1) is) ≡ Some (j + 1 + (index - (base + 1)))) →
+        ((index == base) ≡ true) ⊎ ((index == base) ≡ false) → position_from (carries (label_text index)) j (statements_of offset base (i ∷ is)) ≡ Some (j + (index - base))
     by later (inl e) =
-        let same : place ≡ base = eqb-true place base e in
-        ap (λ (t : Bool). cond t (Some j) (position_from (carries (label_text place)) (j + 1) (statements_of next (base + 1) is))) (same_label place base same)
-        ∙ ap (λ (n : ℕ). Some n) (let sum : j ≡ j + (place - base) = omega (arith, same) in sum)
+        let same : index ≡ base = eqb-true index base e in
+        ap (λ (t : Bool). cond t (Some j) (position_from (carries (label_text index)) (j + 1) (statements_of next (base + 1) is))) (same_label index base same)
+        ∙ ap (λ (n : ℕ). Some n) (let sum : j ≡ j + (index - base) = omega (arith, same) in sum)
     by later (inr e) =
-        let different : place ≡ base → ⊥ = eqb-false place base e in
-        let above : base + 1 ≤ place = grind (arith, nat_tests, low, e) in
-        ap (λ (t : Bool). cond t (Some j) (position_from (carries (label_text place)) (j + 1) (statements_of next (base + 1) is)))
-        (other_label place base (omega (arith, high, few)) (omega (arith, low, high, few)) different)
+        let different : index ≡ base → ⊥ = eqb-false index base e in
+        let above : base + 1 ≤ index = grind (arith, nat_tests, low, e) in
+        ap (λ (t : Bool). cond t (Some j) (position_from (carries (label_text index)) (j + 1) (statements_of next (base + 1) is)))
+        (other_label index base (omega (arith, high, few)) (omega (arith, low, high, few)) different)
         ∙ later above
-        ∙ ap (λ (n : ℕ). Some n) (let sum : j + 1 + (place - (base + 1)) ≡ j + (place - base) = omega (arith, above) in sum)
+        ∙ ap (λ (n : ℕ). Some n) (let sum : j + 1 + (index - (base + 1)) ≡ j + (index - base) = omega (arith, above) in sum)
 
 -- and no statement before it carries it
-missed : (n : ℕ) (is : List Insn) (offset base place j : ℕ) → base + n ≤ place → place < 4096 →
-    position_from (carries (label_text place)) j (take n (statements_of offset base is)) ≡ None
-missed zero is offset base place j low high = refl
-missed (suc n) [] offset base place j low high = refl
-missed (suc n) (i ∷ is) offset base place j low high =
+missed : (n : ℕ) (is : List Insn) (offset base index j : ℕ) → base + n ≤ index → index < 4096 →
+    position_from (carries (label_text index)) j (take n (statements_of offset base is)) ≡ None
+missed zero is offset base index j low high = refl
+missed (suc n) [] offset base index j low high = refl
+missed (suc n) (i ∷ is) offset base index j low high =
     let next : ℕ = offset + length (text_of (line_parts base i)) in
-    let above : base < place = omega (arith, low) in
-    let different : place ≡ base → ⊥ = (λ e. omega (arith, above, e)) in
-    ap (λ (t : Bool). cond t (Some j) (position_from (carries (label_text place)) (j + 1) (take n (statements_of next (base + 1) is))))
-    (other_label place base (omega (arith, high)) (omega (arith, above, high)) different)
-    ∙ missed n is next (base + 1) place (j + 1) (omega (arith, low)) high
+    let above : base < index = omega (arith, low) in
+    let different : index ≡ base → ⊥ = (λ e. omega (arith, above, e)) in
+    ap (λ (t : Bool). cond t (Some j) (position_from (carries (label_text index)) (j + 1) (take n (statements_of next (base + 1) is))))
+    (other_label index base (omega (arith, high)) (omega (arith, above, high)) different)
+    ∙ missed n is next (base + 1) index (j + 1) (omega (arith, low)) high
 
 -- the statement at an index
 record ListedAt (is : List Insn) (base n : ℕ) (s : Statement) : Type 0 where
@@ -203,35 +203,35 @@ statements_length offset at (i ∷ is) = ap (λ (n : ℕ). suc n) (statements_le
 zero_plus : (n : ℕ) → 0 + n ≡ n
 zero_plus n = omega arith
 
-module _ (p : List Packed) (is : List Insn) (loaded : IsLoaded p) (packed : ArePacked p) (words : map insn_word is ≡ p) where
+module _ (p : List Packed) (is : List Insn) (loaded : IsLoaded p) (packed : ArePacked p) (packs : map packed_insn is ≡ p) where
   abbrev ss : List Statement
   ss = statements_of 0 0 is
 
   same_length : length p ≡ length is
-  same_length = ap length (sym words) ∙ length-map is insn_word
+  same_length = ap length (sym packs) ∙ length-map is packed_insn
 
   few : length is ≤ 4096
   few = subst (λ n. n ≤ 4096) same_length loaded.loadable.has_length.1
 
-  word_at : (n : ℕ) (i : Insn) → slice_get is n ≡ Some i → slice_get p n ≡ Some (insn_word i)
-  word_at n i there = ap (λ ws. slice_get ws n) (sym words) ∙ slice_get-map insn_word is n ∙ ap (option_map insn_word) there
+  packed_at : (n : ℕ) (i : Insn) → slice_get is n ≡ Some i → slice_get p n ≡ Some (packed_insn i)
+  packed_at n i there = ap (λ ws. slice_get ws n) (sym packs) ∙ slice_get-map packed_insn is n ∙ ap (option_map packed_insn) there
 
-  -- the place of a label
-  there_is : (place : ℕ) → place < length p → place_of ss (label_text place) ≡ Some place
-  there_is place less =
-      found is 0 0 place 0 (omega arith) (omega (arith, less, same_length)) (omega (arith, few)) ∙ ap (λ (n : ℕ). Some n) (let sum : 0 + (place - 0) ≡ place = omega arith in sum)
+  -- the index of a label
+  there_is : (index : ℕ) → index < length p → index_of ss (label_text index) ≡ Some index
+  there_is index less =
+      found is 0 0 index 0 (omega arith) (omega (arith, less, same_length)) (omega (arith, few)) ∙ ap (λ (n : ℕ). Some n) (let sum : 0 + (index - 0) ≡ index = omega arith in sum)
 
   labels_differ : HasDistinctLabels ss
   labels_differ at less = by (slice_get ss at) refl
     where
-      by : (at_it : Option Statement) → slice_get ss at ≡ at_it → option_map_or (λ name. is_some (place_of (take at ss) name)) (option_and_then (λ s. s.label) at_it) false ≡ false
+      by : (at_it : Option Statement) → slice_get ss at ≡ at_it → option_map_or (λ name. is_some (index_of (take at ss) name)) (option_and_then (λ s. s.label) at_it) false ≡ false
       by None e = refl
       by (Some s) e =
           let listed_s = listed_at is 0 0 at s e in
-          ap (λ (l : Option (List ℕ)). option_map_or (λ name. is_some (place_of (take at ss) name)) l false) (ap (λ (t : Statement). t.label) listed_s.same ∙ ap (λ (n : ℕ). Some (label_text n)) (zero_plus at))
+          ap (λ (l : Option (List ℕ)). option_map_or (λ name. is_some (index_of (take at ss) name)) l false) (ap (λ (t : Statement). t.label) listed_s.same ∙ ap (λ (n : ℕ). Some (label_text n)) (zero_plus at))
           ∙ ap is_some (missed at is 0 0 at 0 (omega arith) (omega (arith, less, few, statements_length 0 0 is)))
 
-  reaches_by : (at : ℕ) (i : Insn) → jumps_outside (length p) at (insn_word i) ≡ false → Reaches (length p) at i
+  reaches_by : (at : ℕ) (i : Insn) → jumps_outside (length p) at (packed_insn i) ≡ false → Reaches (length p) at i
   reaches_by at (insn.Jump (jump.Always k)) e = leb-false (length p) (at + 1 + k) (or_parts _ _ e).0
   reaches_by at (insn.Jump (jump.If c s jt jf)) e = both c s e
     where
@@ -241,7 +241,7 @@ module _ (p : List Packed) (is : List Insn) (loaded : IsLoaded p) (packed : AreP
         leb-false (length p) (at + 1 + jf) (or_parts (nat_le (length p) (at + 1 + jf)) false (or_parts (nat_le (length p) (at + 1 + jt)) (list_any (nat_le (length p)) ((at + 1 + jf) ∷ [])) e).1).0,
       )
 
-      both : (c : Condition) (s : Source) → jumps_outside (length p) at (insn_word (insn.Jump (jump.If c s jt jf))) ≡ false → (at + 1 + jt < length p) × (at + 1 + jf < length p)
+      both : (c : Condition) (s : Source) → jumps_outside (length p) at (packed_insn (insn.Jump (jump.If c s jt jf))) ≡ false → (at + 1 + jt < length p) × (at + 1 + jf < length p)
       both condition.Equal (K k) e = two e
       both condition.Equal X e = two e
       both condition.Greater (K k) e = two e
@@ -258,7 +258,7 @@ module _ (p : List Packed) (is : List Insn) (loaded : IsLoaded p) (packed : AreP
   reaches_by at (insn.Move i) e = tt
 
   reaches : (at : ℕ) (i : Insn) → slice_get is at ≡ Some i → Reaches (length p) at i
-  reaches at i there = reaches_by at i (faultless_at p at (insn_word i) loaded.loadable.no_word_fault (word_at at i there)).jump
+  reaches at i there = reaches_by at i (faultless_at p at (packed_insn i) loaded.loadable.no_insn_fault (packed_at at i there)).jump
 
   -- the others of the instructions fit, too
   fits_from : (base : ℕ) (js : List Insn) → ((n : ℕ) (i : Insn) → slice_get js n ≡ Some i → slice_get is (base + n) ≡ Some i) → AllFit (length p) base js
@@ -267,7 +267,7 @@ module _ (p : List Packed) (is : List Insn) (loaded : IsLoaded p) (packed : AreP
       let here : slice_get is base ≡ Some i = ap (slice_get is) (let sum : base ≡ base + 0 = omega arith in sum) ∙ part 0 i refl in (
         subst (λ n. base < n) (sym same_length) (slice_get_within is base i here),
         reaches base i here,
-        packed base (insn_word i) (word_at base i here),
+        packed base (packed_insn i) (packed_at base i here),
         fits_from (base + 1) js (λ n j e. ap (slice_get is) (let sum : base + 1 + n ≡ base + suc n = omega arith in sum) ∙ part (suc n) j e),
       )
 
@@ -276,7 +276,7 @@ module _ (p : List Packed) (is : List Insn) (loaded : IsLoaded p) (packed : AreP
 
   -- ---- its instructions
 
-  alu_row : (o : Operator) (s : Source) → plain_word (mnemonic_of (insn.Alu (alu.Binary o s))) (operand_at 0 (insn.Alu (alu.Binary o s))) ≡ Some (insn_word (insn.Alu (alu.Binary o s)))
+  alu_row : (o : Operator) (s : Source) → plain_packed (mnemonic_of (insn.Alu (alu.Binary o s))) (operand_at 0 (insn.Alu (alu.Binary o s))) ≡ Some (packed_insn (insn.Alu (alu.Binary o s)))
   alu_row operator.Add (K k) = refl
   alu_row operator.Add X = refl
   alu_row operator.Sub (K k) = refl
@@ -298,7 +298,7 @@ module _ (p : List Packed) (is : List Insn) (loaded : IsLoaded p) (packed : AreP
   alu_row operator.Xor (K k) = refl
   alu_row operator.Xor X = refl
 
-  branch_row : (c : Condition) (s : Source) (jt jf : ℕ) → two_way_word (mnemonic_of (insn.Jump (jump.If c s jt jf))) (text_source_of s) jt jf ≡ Some (insn_word (insn.Jump (jump.If c s jt jf)))
+  branch_row : (c : Condition) (s : Source) (jt jf : ℕ) → two_way_packed (mnemonic_of (insn.Jump (jump.If c s jt jf))) (text_source_of s) jt jf ≡ Some (packed_insn (insn.Jump (jump.If c s jt jf)))
   branch_row condition.Equal (K k) jt jf = refl
   branch_row condition.Equal X jt jf = refl
   branch_row condition.Greater (K k) jt jf = refl
@@ -308,11 +308,11 @@ module _ (p : List Packed) (is : List Insn) (loaded : IsLoaded p) (packed : AreP
   branch_row condition.SharesBits (K k) jt jf = refl
   branch_row condition.SharesBits X jt jf = refl
 
-  jt_near : (c : Condition) (s : Source) (jt jf : ℕ) → IsPacked (insn_word (insn.Jump (jump.If c s jt jf))) → (jt ≤ farthest) × (jf ≤ farthest)
+  jt_near : (c : Condition) (s : Source) (jt jf : ℕ) → IsPacked (packed_insn (insn.Jump (jump.If c s jt jf))) → (jt ≤ farthest) × (jf ≤ farthest)
   jt_near c (K k) jt jf fit = (omega (arith, fit.jt), omega (arith, fit.jf))
   jt_near c X jt jf fit = (omega (arith, fit.jt), omega (arith, fit.jf))
 
-  row_of : (at : ℕ) (i : Insn) → Reaches (length p) at i → IsPacked (insn_word i) → IsRow ss at (mnemonic_of i) (operand_at at i) (insn_word i)
+  row_of : (at : ℕ) (i : Insn) → Reaches (length p) at i → IsPacked (packed_insn i) → IsRow ss at (mnemonic_of i) (operand_at at i) (packed_insn i)
   row_of at (insn.Load (load.Immediate k)) reach fit = refl
   row_of at (insn.Load (load.Absolute Word k)) reach fit = refl
   row_of at (insn.Load (load.Absolute Half k)) reach fit = refl
@@ -343,13 +343,13 @@ module _ (p : List Packed) (is : List Insn) (loaded : IsLoaded p) (packed : AreP
   row_at at s w here word =
       let l = listed_at is 0 0 at s here in
       let same : s ≡ listed l.offset at l.insn = l.same ∙ ap (λ (n : ℕ). listed l.offset n l.insn) (zero_plus at) in
-      subst (IsRow ss at s.mnemonic s.operand) (slice_get_unique p at (insn_word l.insn) w (word_at at l.insn l.there) word)
-      (subst (λ (t : Statement). IsRow ss at t.mnemonic t.operand (insn_word l.insn)) (sym same)
-      (row_of at l.insn (reaches at l.insn l.there) (packed at (insn_word l.insn) (word_at at l.insn l.there))))
+      subst (IsRow ss at s.mnemonic s.operand) (slice_get_unique p at (packed_insn l.insn) w (packed_at at l.insn l.there) word)
+      (subst (λ (t : Statement). IsRow ss at t.mnemonic t.operand (packed_insn l.insn)) (sym same)
+      (row_of at l.insn (reaches at l.insn l.there) (packed at (packed_insn l.insn) (packed_at at l.insn l.there))))
 
   assembles : Assembles ss p
   assembles = record {
-    count = subst (λ n. (1 ≤ n) × (n ≤ max_insns)) (same_length ∙ sym (statements_length 0 0 is)) loaded.loadable.has_length;
+    count = subst (λ n. (1 ≤ n) × (n ≤ MAX_INSNS)) (same_length ∙ sym (statements_length 0 0 is)) loaded.loadable.has_length;
     labels = labels_differ;
     len = same_length ∙ sym (statements_length 0 0 is);
     rows = row_at;
@@ -359,4 +359,4 @@ module _ (p : List Packed) (is : List Insn) (loaded : IsLoaded p) (packed : AreP
   source_again = (ss, listing_sources (length p) is (subst (λ n. n ≤ 4096) (sym same_length) few) all_fit, assembles)
 
 pub assembles_again : (p : List Packed) (text : List ℕ) → IsLoaded p → ArePacked p → IsListing p text → IsSourceOf text p
-assembles_again p text loaded packed (is, words, lines) = subst (λ t. IsSourceOf t p) (sym lines) (source_again p is loaded packed words)
+assembles_again p text loaded packed (is, packs, lines) = subst (λ t. IsSourceOf t p) (sym lines) (source_again p is loaded packed packs)

@@ -5,12 +5,12 @@ use Rattle.std.specs.Prelude.{◌≡◌, ℕ, ◌+◌, ◌<◌, ◌≤◌, Bool,
 use Rattle.std.specs.Option.{option_map_or, option_and_then, option_or}
 use Rattle.std.specs.List.{position_from}
 use Rattle.bpf_isa.specs.declared.packed.Packed.{Packed}
-use Rattle.bpf_isa.specs.Families.{word_k}
-use Rattle.bpf_isa.specs.Machine.{max_insns}
+use Rattle.bpf_isa.specs.Families.{packed_k}
+use Rattle.bpf_isa.specs.declared.state.TheConstants.{MAX_INSNS}
 use Rattle.bpf_text.specs.declared.keyword.Mnemonic.{Mnemonic}
 use Rattle.bpf_text.specs.Grammar.{Statement, Operand, Target, Branch}
 use Rattle.bpf_text.specs.Meaning.{Sources, FaultFits}
-use Rattle.bpf_asm.specs.Rows.{plain_word, one_way_word, two_way_word, jump_code}
+use Rattle.bpf_asm.specs.Rows.{plain_packed, one_way_packed, two_way_packed, jump_code}
 use Rattle.bpf_asm.specs.declared.fault.AsmFault.{AsmFault}
 use Rattle.bpf_asm.specs.declared.fault.AsmFault.TheVariants.{Text, Empty, TooMany, TwiceLabel, NoLabel, Backward, TooFar, Memory}
 
@@ -21,13 +21,13 @@ abbrev pub carries : List ℕ → Statement → Bool
 carries name s = option_map_or (bytes_eq name) s.label false
 
 -- the index of the statement that carries the label
-abbrev pub place_of : List Statement → List ℕ → Option ℕ
-place_of ss name = position_from (carries name) 0 ss
+abbrev pub index_of : List Statement → List ℕ → Option ℕ
+index_of ss name = position_from (carries name) 0 ss
 
 -- the label of the statement at the index stood before
 abbrev pub is_twice : List Statement → ℕ → Bool
 is_twice ss at =
-    option_map_or (λ name. is_some (place_of (take at ss) name)) (option_and_then (λ s. s.label) (slice_get ss at)) false
+    option_map_or (λ name. is_some (index_of (take at ss) name)) (option_and_then (λ s. s.label) (slice_get ss at)) false
 
 -- no label stands twice
 abbrev pub HasDistinctLabels : List Statement → Type 0
@@ -37,7 +37,7 @@ HasDistinctLabels ss = (at : ℕ) → at < length ss → is_twice ss at ≡ fals
 
 -- from the statement at the index the label is so far
 abbrev pub IsAtDistance : List Statement → ℕ → List ℕ → ℕ → Type 0
-IsAtDistance ss at name distance = place_of ss name ≡ Some (at + 1 + distance)
+IsAtDistance ss at name distance = index_of ss name ≡ Some (at + 1 + distance)
 
 -- the greatest distance of a conditional jump
 abbrev pub farthest : ℕ
@@ -52,16 +52,16 @@ IsNear ss at name distance = IsAtDistance ss at name distance × (distance ≤ f
 -- the instruction of a statement at the index
 abbrev pub IsRow : List Statement → ℕ → Mnemonic → Operand → Packed → Type 0
 IsRow ss at m (Target name) w =
-    (distance code : ℕ) × IsAtDistance ss at name distance × (jump_code m ≡ Some code) × (w ≡ word_k code distance)
+    (distance code : ℕ) × IsAtDistance ss at name distance × (jump_code m ≡ Some code) × (w ≡ packed_k code distance)
 IsRow ss at m (Branch source first None) w =
-    (distance : ℕ) × IsNear ss at first distance × (one_way_word m source distance ≡ Some w)
+    (distance : ℕ) × IsNear ss at first distance × (one_way_packed m source distance ≡ Some w)
 IsRow ss at m (Branch source first (Some second)) w =
-    (distance other : ℕ) × IsNear ss at first distance × IsNear ss at second other × (two_way_word m source distance other ≡ Some w)
-IsRow ss at m operand w = plain_word m operand ≡ Some w
+    (distance other : ℕ) × IsNear ss at first distance × IsNear ss at second other × (two_way_packed m source distance other ≡ Some w)
+IsRow ss at m operand w = plain_packed m operand ≡ Some w
 
 -- 1 to 4096 statements
 abbrev pub HasCount : List Statement → Type 0
-HasCount ss = (1 ≤ length ss) × (length ss ≤ max_insns)
+HasCount ss = (1 ≤ length ss) × (length ss ≤ MAX_INSNS)
 
 -- the statements are the program: each is the instruction at its index
 pub record Assembles (ss : List Statement) (p : List Packed) : Type 0 where
@@ -73,20 +73,20 @@ pub record Assembles (ss : List Statement) (p : List Packed) : Type 0 where
 -- ---- the first fault
 
 -- of a jump's target: there is no such label, or it isn't later
-abbrev pub place_fault : ℕ → Option ℕ → Option AsmFault
-place_fault at None = Some (NoLabel at)
-place_fault at (Some place) = if nat_le place at then Some (Backward at) else None
+abbrev pub index_fault : ℕ → Option ℕ → Option AsmFault
+index_fault at None = Some (NoLabel at)
+index_fault at (Some index) = if nat_le index at then Some (Backward at) else None
 
 abbrev pub target_fault : List Statement → ℕ → List ℕ → Option AsmFault
-target_fault ss at name = place_fault at (place_of ss name)
+target_fault ss at name = index_fault at (index_of ss name)
 
 -- of a conditional jump's target: it may be too far, too
 abbrev pub reach_fault : ℕ → Option ℕ → Option AsmFault
 reach_fault at None = None
-reach_fault at (Some place) = if nat_lt (at + 1 + farthest) place then Some (TooFar at) else None
+reach_fault at (Some index) = if nat_lt (at + 1 + farthest) index then Some (TooFar at) else None
 
 abbrev pub near_fault : List Statement → ℕ → List ℕ → Option AsmFault
-near_fault ss at name = option_or (target_fault ss at name) (reach_fault at (place_of ss name))
+near_fault ss at name = option_or (target_fault ss at name) (reach_fault at (index_of ss name))
 
 -- of a statement's targets, from left to right
 abbrev pub operand_fault : List Statement → ℕ → Operand → Option AsmFault
@@ -110,10 +110,10 @@ IsFirstTargetFault ss fault =
 -- of the number of statements
 abbrev pub IsCountFault : List Statement → AsmFault → Type 0
 IsCountFault ss Empty = length ss ≡ 0
-IsCountFault ss TooMany = max_insns < length ss
+IsCountFault ss TooMany = MAX_INSNS < length ss
 IsCountFault ss fault = ⊥
 
--- The first fault of statements: their number; then the first label that stood before; then the first jump that has no place
+-- The first fault of statements: their number; then the first label that stood before; then the first jump that has no target
 -- to go to. Memory can only run out where there are 1 to 4096 statements.
 abbrev pub IsStatementFault : List Statement → AsmFault → Type 0
 IsStatementFault ss (Text fault) = ⊥

@@ -3,7 +3,7 @@ use Rattle.std.specs.Prelude.{◌≡◌, ℕ, List, map, Some, slice_get}
 use Rattle.std.specs.Option.{option_and_then}
 use Rattle.bpf_isa.specs.declared.packed.Packed.{Packed}
 use Rattle.bpf_isa.specs.declared.state.State.{State}
-use Rattle.bpf_isa.specs.Table.{canonical_word, step_of}
+use Rattle.bpf_isa.specs.Table.{canonical_form, step_of}
 use Rattle.bpf_text.specs.Grammar.{Statement}
 use Rattle.bpf_isa.specs.Numeric.{IsPacked}
 use Rattle.bpf_loader.specs.Faults.{IsLoaded}
@@ -16,9 +16,9 @@ use Rattle.bpf_asm.specs.Meaning.{source_step}
 abbrev pub StepsAlike : Type 0
 StepsAlike =
     (ss : List Statement) (p : List Packed) → Assembles ss p → (frame : List ℕ) (whole : ℕ) (s : State) →
-    source_step ss frame whole s ≡ option_and_then (λ w. step_of w s frame whole) (slice_get (map canonical_word p) s.place)
+    source_step ss frame whole s ≡ option_and_then (λ w. step_of w s frame whole) (slice_get (map canonical_form p) s.place)
 
--- the numbers of each word fit their fields, as in any program that is held in memory
+-- the numbers of each instruction fit their fields, as in any program that is held in memory
 abbrev pub ArePacked : List Packed → Type 0
 ArePacked p = (at : ℕ) (w : Packed) → slice_get p at ≡ Some w → IsPacked w
 

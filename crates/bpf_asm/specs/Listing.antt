@@ -25,7 +25,7 @@ use Rattle.bpf_isa.specs.declared.moves.Move.{Move}
 use Rattle.bpf_isa.specs.declared.moves.Move.TheVariants as move
 use Rattle.bpf_isa.specs.declared.insn.Insn.{Insn}
 use Rattle.bpf_isa.specs.declared.insn.Insn.TheVariants as insn
-use Rattle.bpf_isa.specs.Insns.{insn_word}
+use Rattle.bpf_isa.specs.Insns.{packed_insn}
 
 -- the second operand
 abbrev pub source_text : Source → List ℕ
@@ -77,7 +77,7 @@ condition_name condition.SharesBits = codes "jset"
 
 -- by the index of the instruction
 abbrev pub label_text : ℕ → List ℕ
-label_text place = codes "L" ++ decimal place
+label_text index = codes "L" ++ decimal index
 
 -- of a jump at the index
 abbrev pub jump_text : ℕ → Jump → List ℕ
@@ -113,4 +113,4 @@ lines_text at (i ∷ is) = line_text at i ++ lines_text (at + 1) is
 
 -- the text is the listing of the program
 abbrev pub IsListing : List Packed → List ℕ → Type 0
-IsListing p text = (is : List Insn) × (map insn_word is ≡ p) × (text ≡ lines_text 0 is)
+IsListing p text = (is : List Insn) × (map packed_insn is ≡ p) × (text ≡ lines_text 0 is)

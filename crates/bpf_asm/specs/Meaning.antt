@@ -13,7 +13,7 @@ use Rattle.bpf_text.specs.declared.keyword.Mnemonic.TheVariants.{Ld, Ldi, Ldh, L
 use Rattle.bpf_text.specs.declared.statement.Source.{Source}
 use Rattle.bpf_text.specs.declared.statement.Source.TheVariants.{K, X}
 use Rattle.bpf_text.specs.Grammar.{Statement, Operand, Nothing, Immediate, Absolute, Indirect, Scratch, HeaderLength, Len, Value, A, Target, Branch}
-use Rattle.bpf_asm.specs.Assembly.{place_of}
+use Rattle.bpf_asm.specs.Assembly.{index_of}
 
 -- the second operand of an operation or a comparison
 abbrev pub value_of : Source → State → ℕ
@@ -106,11 +106,11 @@ is_jump _ = Bool.false
 
 -- the same registers and scratch memory, at another statement
 abbrev pub state_at : State → ℕ → Outcome
-state_at s place = On (record { place = place; a = s.a; x = s.x; scratch = s.scratch })
+state_at s index = On (record { place = index; a = s.a; x = s.x; scratch = s.scratch })
 
 -- goes to the statement that carries the label
 abbrev pub goes_to : List Statement → List ℕ → State → Option Outcome
-goes_to ss name s = option_map (state_at s) (place_of ss name)
+goes_to ss name s = option_map (state_at s) (index_of ss name)
 
 -- to the first target where the comparison holds, else to the second, or to the next statement where there is none
 abbrev pub goes_on : List Statement → Option (List ℕ) → State → Option Outcome
@@ -122,7 +122,7 @@ branch_effect ss first second s holds = if holds then goes_to ss first s else go
 
 -- ---- steps and runs
 
--- the step of a statement; the place of a state is the index of a statement
+-- the step of a statement; the pc of a state is the index of a statement
 abbrev pub statement_step : List Statement → Mnemonic → Operand → State → List ℕ → ℕ → Option Outcome
 statement_step ss m Nothing s frame whole = bare_effect m s
 statement_step ss m (Immediate k) s frame whole = immediate_effect m k s

@@ -3,7 +3,7 @@
 use Rattle.std.specs.Prelude.{ℕ, ◌+◌, Bool, Option, Some, None, is_some}
 use Rattle.std.specs.Option.{option_map, option_map_or}
 use Rattle.bpf_isa.specs.declared.packed.Packed.{Packed}
-use Rattle.bpf_isa.specs.Families.{word_k}
+use Rattle.bpf_isa.specs.Families.{packed_k}
 use Rattle.bpf_text.specs.declared.keyword.Mnemonic.{Mnemonic}
 use Rattle.bpf_text.specs.declared.keyword.Mnemonic.TheVariants.{Ld, Ldi, Ldh, Ldb, Ldx, Ldxi, Ldxb, St, Stx, Jmp, Ja, Jeq, Jneq, Jne, Jlt, Jle, Jgt, Jge, Jset, Add, Sub, Mul, Div, Mod, Neg, And, Or, Xor, Lsh, Rsh, Tax, Txa, Ret}
 use Rattle.bpf_text.specs.declared.statement.Source.{Source}
@@ -107,37 +107,37 @@ inverse_code _ = None
 -- ---- the instruction
 
 -- of an operation with k or x
-abbrev pub source_word : ℕ → Source → ℕ → ℕ → Packed
-source_word code (K k) jt jf = record { code = code; jt = jt; jf = jf; k = k }
-source_word code X jt jf = record { code = code + 8; jt = jt; jf = jf; k = 0 }
+abbrev pub source_packed : ℕ → Source → ℕ → ℕ → Packed
+source_packed code (K k) jt jf = record { code = code; jt = jt; jf = jf; k = k }
+source_packed code X jt jf = record { code = code + 8; jt = jt; jf = jf; k = 0 }
 
 -- of a statement that is no jump
-abbrev pub plain_word : Mnemonic → Operand → Option Packed
-plain_word m Nothing = option_map (λ code. word_k code 0) (bare_code m)
-plain_word m (Immediate k) = option_map (λ code. word_k code k) (immediate_code m)
-plain_word m (Absolute k) = option_map (λ code. word_k code k) (absolute_code m)
-plain_word m (Indirect k) = option_map (λ code. word_k code k) (indirect_code m)
-plain_word m (Scratch k) = option_map (λ code. word_k code k) (scratch_code m)
-plain_word m (HeaderLength k) = option_map (λ code. word_k code k) (header_length_code m)
-plain_word m Len = option_map (λ code. word_k code 0) (len_code m)
-plain_word m (Value source) = option_map (λ code. source_word code source 0 0) (alu_code m)
-plain_word m A = option_map (λ code. word_k code 0) (a_code m)
-plain_word m (Target name) = None
-plain_word m (Branch source first second) = None
+abbrev pub plain_packed : Mnemonic → Operand → Option Packed
+plain_packed m Nothing = option_map (λ code. packed_k code 0) (bare_code m)
+plain_packed m (Immediate k) = option_map (λ code. packed_k code k) (immediate_code m)
+plain_packed m (Absolute k) = option_map (λ code. packed_k code k) (absolute_code m)
+plain_packed m (Indirect k) = option_map (λ code. packed_k code k) (indirect_code m)
+plain_packed m (Scratch k) = option_map (λ code. packed_k code k) (scratch_code m)
+plain_packed m (HeaderLength k) = option_map (λ code. packed_k code k) (header_length_code m)
+plain_packed m Len = option_map (λ code. packed_k code 0) (len_code m)
+plain_packed m (Value source) = option_map (λ code. source_packed code source 0 0) (alu_code m)
+plain_packed m A = option_map (λ code. packed_k code 0) (a_code m)
+plain_packed m (Target name) = None
+plain_packed m (Branch source first second) = None
 
 -- of a conditional jump with one target, at this distance
-abbrev pub one_way_word : Mnemonic → Source → ℕ → Option Packed
-one_way_word m source distance =
-    option_map_or (λ code. Some (source_word code source distance 0)) (branch_code m)
-    (option_map (λ code. source_word code source 0 distance) (inverse_code m))
+abbrev pub one_way_packed : Mnemonic → Source → ℕ → Option Packed
+one_way_packed m source distance =
+    option_map_or (λ code. Some (source_packed code source distance 0)) (branch_code m)
+    (option_map (λ code. source_packed code source 0 distance) (inverse_code m))
 
 -- of one with two targets, at these distances
-abbrev pub two_way_word : Mnemonic → Source → ℕ → ℕ → Option Packed
-two_way_word m source first second = option_map (λ code. source_word code source first second) (branch_code m)
+abbrev pub two_way_packed : Mnemonic → Source → ℕ → ℕ → Option Packed
+two_way_packed m source first second = option_map (λ code. source_packed code source first second) (branch_code m)
 
 -- the mnemonic takes operands of this form
 abbrev pub takes : Mnemonic → Operand → Bool
 takes m (Target name) = is_some (jump_code m)
-takes m (Branch source first None) = is_some (one_way_word m source 0)
+takes m (Branch source first None) = is_some (one_way_packed m source 0)
 takes m (Branch source first (Some second)) = is_some (branch_code m)
-takes m operand = is_some (plain_word m operand)
+takes m operand = is_some (plain_packed m operand)

@@ -1,7 +1,7 @@
-//! The assembler.
+//! Two passes over the statements: the labels come first, since every jump names a later one.
 
 ghost use Rattle.std.specs.Prelude.{◌≡◌, List, length, map, true, Some, None, IfOk, IfErr, OnOk};
-ghost use Rattle.bpf_isa.specs.Insns.{insn_word};
+ghost use Rattle.bpf_isa.specs.Insns.{packed_insn};
 ghost use Rattle.bpf_text.specs.Grammar.{Statement as Stated};
 ghost use Rattle.bpf_text.specs.Meaning.{operand_of, statement_of};
 ghost use Rattle.bpf_asm.specs.Rows.{takes};
@@ -19,11 +19,11 @@ use std::alloc::Global;
 /// The instruction of the statement at an index, or the first fault of its targets.
 fn insn_of(labels: &Labels<'_>, at: usize, statement: &Statement<'_>) -> Result<Insn, AsmFault>
     requires { takes statement.now.mnemonic (operand_of statement.now.operand) ≡ true }
-    ensures row { IfOk result (λ insn. (ss : List Stated) → Knows labels.now.places.entries ss →
-        IsRow ss at statement.now.mnemonic (operand_of statement.now.operand) (insn_word insn)) }
-    ensures no_fault { OnOk result ((ss : List Stated) → Knows labels.now.places.entries ss →
+    ensures row { IfOk result (λ insn. (ss : List Stated) → Knows labels.now.indices.entries ss →
+        IsRow ss at statement.now.mnemonic (operand_of statement.now.operand) (packed_insn insn)) }
+    ensures no_fault { OnOk result ((ss : List Stated) → Knows labels.now.indices.entries ss →
         operand_fault ss at (operand_of statement.now.operand) ≡ None) }
-    ensures fault { IfErr result (λ fault. (ss : List Stated) → Knows labels.now.places.entries ss →
+    ensures fault { IfErr result (λ fault. (ss : List Stated) → Knows labels.now.indices.entries ss →
         operand_fault ss at (operand_of statement.now.operand) ≡ Some fault) }
 {
     let mnemonic = statement.mnemonic;
@@ -55,39 +55,38 @@ fn check_count(statements: &[Statement<'_>]) -> Result<(), AsmFault>
     Ok(())
 }
 
-#[tactic(auto, using(crate::proofs::Program::rows_more, crate::proofs::Program::first_fault))]
 /// The instructions of the statements, or the first fault of a target.
-fn words_of(
+#[tactic(auto, using(crate::proofs::Program::rows_more, crate::proofs::Program::first_fault))]
+fn insns_of(
     alloc: Global,
     labels: &Labels<'_>,
     statements: &[Statement<'_>],
 ) -> Result<Vec<Packed>, AsmFault>
-    requires knows { Knows labels.now.places.entries (map statement_of statements.now) }
+    requires knows { Knows labels.now.indices.entries (map statement_of statements.now) }
     requires takes { AllTake (map statement_of statements.now) }
-    ensures rows { IfOk result (λ words.
-        AreRows (map statement_of statements.now) (length statements.now) words.items) }
+    ensures rows { IfOk result (λ insns.
+        AreRows (map statement_of statements.now) (length statements.now) insns.items) }
     ensures fault { IfErr result (IsRowFault (map statement_of statements.now)) }
 {
-    let mut words = Vec::with_capacity(alloc, statements.len())?;
+    let mut insns = Vec::with_capacity(alloc, statements.len())?;
     for (at, statement) in statements.iter().enumerate() {
-        words.push(insn_of(labels, at, statement)?.pack())?;
+        insns.push(insn_of(labels, at, statement)?.pack())?;
     }
-    Ok(words)
+    Ok(insns)
 }
 
 /// The program of these statements, or their first fault.
 fn program_of(alloc: Global, statements: &[Statement<'_>]) -> Result<Vec<Packed>, AsmFault>
     requires { AllTake (map statement_of statements.now) }
-    ensures assembled { IfOk result (λ words.
-        Assembles (map statement_of statements.now) words.items) }
+    ensures assembled { IfOk result (λ insns.
+        Assembles (map statement_of statements.now) insns.items) }
     ensures fault { IfErr result (IsStatementFault (map statement_of statements.now)) }
 {
     check_count(statements)?;
     let labels = Labels::new(alloc, statements)?;
-    words_of(alloc, &labels, statements)
+    insns_of(alloc, &labels, statements)
 }
 
-#[tactic(auto, using(crate::proofs::Forms::sources_take))]
 /// The program of a source text: one instruction for each statement, in the order of the text. It may
 /// still have a fault that only its loading finds, as a division by 0 or a path without a return.
 ///
@@ -95,8 +94,9 @@ fn program_of(alloc: Global, statements: &[Statement<'_>]) -> Result<Vec<Packed>
 ///
 /// The first fault, as [`AsmFault`] orders them. `Memory` can only come of a text that is source of 1
 /// to 4096 statements, `Text(Memory)` only of one that begins with a whole statement.
+#[tactic(auto, using(crate::proofs::Forms::sources_take))]
 pub fn assemble(alloc: Global, text: &str) -> Result<Vec<Packed>, AsmFault>
-    ensures assembled { IfOk result (λ words. IsSourceOf text.now words.items) }
+    ensures assembled { IfOk result (λ insns. IsSourceOf text.now insns.items) }
     ensures fault { IfErr result (IsTextFault text.now) }
 {
     let statements = statements(alloc, text)?;

@@ -1,4 +1,4 @@
-//! The faults of a filter's source.
+//! The faults of the text, of the labels and of the targets in one type, in the order of the checks.
 
 ghost use Rattle.std.specs.Prelude.{◌≡◌};
 ghost use Rattle.bpf_asm.specs.declared.fault.AsmFault.TheVariants.{Memory, Text};

@@ -15,7 +15,7 @@ pub fn text_has_one_program()
 {}
 
 /// The listing of a loaded program is source of that program, and so of no other: assembled again, it
-/// gives the same words.
+/// gives the same instructions.
 pub fn listing_is_source_of_its_program()
     ensures { ListingsAssembleAgain }
 {}

@@ -5,8 +5,8 @@
 //! labels. `bpf_loader` then says whether the program can be run.
 //!
 //! ```
-//! let words = assemble(alloc, "ldh [12]\njne #0x800, drop\nret #-1\ndrop: ret #0\n")?;
-//! let program = Program::load(words)?;
+//! let insns = assemble(alloc, "ldh [12]\njne #0x800, drop\nret #-1\ndrop: ret #0\n")?;
+//! let program = Program::load(insns)?;
 //! ```
 #![tactic(auto)]
 

@@ -1,12 +1,12 @@
-//! The listing of a program.
+//! The way back: from a loaded program to source that assembles to it.
 
 ghost use Rattle.std.specs.Prelude.{◌≡◌, ◌++◌, ◌<◌, IfNone, IfOk, IfSome, None, OnOk, slice_get};
 ghost use Rattle.std.specs.Prelude.{string_bytes};
-ghost use Rattle.bpf_isa.specs.Insns.{insn_word};
+ghost use Rattle.bpf_isa.specs.Insns.{packed_insn};
 ghost use Rattle.bpf_isa.specs.Numeric.{IsPacked};
-ghost use Rattle.bpf_isa.specs.Table.{canonical_word, row};
+ghost use Rattle.bpf_isa.specs.Table.{canonical_form, row};
 ghost use Rattle.bpf_asm.specs.Assembly.{IsSourceOf};
-ghost use Rattle.bpf_isa.specs.Machine.{max_insns};
+ghost use Rattle.bpf_isa.specs.declared.state.TheConstants.{MAX_INSNS};
 ghost use Rattle.bpf_asm.specs.Listing.{IsListing, condition_name, line_text, operator_name};
 
 use bpf_isa::{
@@ -186,7 +186,7 @@ impl Display for InsnText {
 }
 
 fn push_line(text: &mut String, at: usize, insn: Insn) -> Result<(), AllocError>
-    requires { at < max_insns }
+    requires { at < MAX_INSNS }
     ensures { OnOk result
         (string_bytes text.new ≡ string_bytes text.old ++ line_text at insn) }
 {
@@ -197,31 +197,31 @@ fn push_line(text: &mut String, at: usize, insn: Insn) -> Result<(), AllocError>
     write!(text, "L{at}: {insn}\n")
 }
 
-/// The instruction of a word.
-fn insn_of(word: Packed) -> Option<Insn>
-    ensures found { IfSome result (λ insn. insn_word insn ≡ canonical_word word) }
-    ensures unlisted { IfNone result (row word.code ≡ None) }
-    ensures fits { IsPacked word }
+/// The typed instruction of a packed one.
+fn insn_of(packed: Packed) -> Option<Insn>
+    ensures found { IfSome result (λ insn. packed_insn insn ≡ canonical_form packed) }
+    ensures unlisted { IfNone result (row packed.code ≡ None) }
+    ensures fits { IsPacked packed }
 {
-    Insn::decode(&word)
+    Insn::decode(&packed)
 }
 
-#[tactic(auto, using(crate::proofs::Lines::all_listed))]
 /// The program as source, a line for each instruction, which ends with a newline: its label, and the
 /// instruction as `bpf_asm` takes it. The label is `L` and the index of the instruction, numbers are
 /// decimal, and a conditional jump names both targets. The listing is source of the same program.
 ///
 /// # Errors
 ///
-/// `AllocError` if there is no memory for the text.
+/// `AllocError` if there is no memory for the text. Every program needs some: each has a line.
+#[tactic(auto, using(crate::proofs::Lines::all_listed))]
 pub fn listing(alloc: Global, program: &Program) -> Result<String, AllocError>
     ensures listing { IfOk result (λ text. IsListing program.now (string_bytes text)) }
     ensures source { IfOk result (λ text. IsSourceOf (string_bytes text) program.now) }
 {
     let mut text = String::new(alloc);
-    for (at, word) in program.words().iter().enumerate() {
-        // Each word of a loaded program is an instruction.
-        if let Some(insn) = insn_of(*word) {
+    for (at, packed) in program.insns().iter().enumerate() {
+        // Each code of a loaded program is listed.
+        if let Some(insn) = insn_of(*packed) {
             push_line(&mut text, at, insn)?;
         }
     }

@@ -1,13 +1,13 @@
-//! The instruction of each statement that is no jump, and of a jump whose distances are known.
+//! Which instruction a mnemonic and its operand are, once every distance is known.
 
 ghost use Rattle.std.specs.Prelude.{◌≡◌};
 ghost use Rattle.std.specs.Option.{option_map};
-ghost use Rattle.bpf_isa.specs.Families.{condition_code, operator_code, word_k};
-ghost use Rattle.bpf_isa.specs.Insns.{insn_word};
+ghost use Rattle.bpf_isa.specs.Families.{condition_code, operator_code, packed_k};
+ghost use Rattle.bpf_isa.specs.Insns.{packed_insn};
 ghost use Rattle.bpf_text.specs.Meaning.{operand_of};
 ghost use Rattle.bpf_asm.specs.Rows.{alu_code, bare_code, branch_code, immediate_code, inverse_code};
-ghost use Rattle.bpf_asm.specs.Rows.{absolute_code, indirect_code, one_way_word, plain_word};
-ghost use Rattle.bpf_asm.specs.Rows.{scratch_code, two_way_word};
+ghost use Rattle.bpf_asm.specs.Rows.{absolute_code, indirect_code, one_way_packed, plain_packed};
+ghost use Rattle.bpf_asm.specs.Rows.{scratch_code, two_way_packed};
 ghost use Rattle.bpf_asm.specs.Typed.{absolute_load_code, indirect_load_code, source_of};
 
 use bpf_isa::{
@@ -27,7 +27,7 @@ fn source_of(source: Value) -> Source
 
 /// The instruction without an operand.
 fn bare(mnemonic: Mnemonic) -> Option<Insn>
-    ensures { option_map insn_word result ≡ option_map (λ code. word_k code 0) (bare_code mnemonic) }
+    ensures { option_map packed_insn result ≡ option_map (λ code. packed_k code 0) (bare_code mnemonic) }
 {
     match mnemonic {
         Mnemonic::Neg => Some(Insn::Alu(Alu::Negate)),
@@ -39,8 +39,8 @@ fn bare(mnemonic: Mnemonic) -> Option<Insn>
 
 /// The instruction of `#k`.
 fn immediate(mnemonic: Mnemonic, k: u32) -> Option<Insn>
-    ensures { option_map insn_word result
-        ≡ option_map (λ code. word_k code k) (immediate_code mnemonic) }
+    ensures { option_map packed_insn result
+        ≡ option_map (λ code. packed_k code k) (immediate_code mnemonic) }
 {
     match mnemonic {
         Mnemonic::Ld | Mnemonic::Ldi => Some(Insn::Load(Load::Immediate(k))),
@@ -65,8 +65,8 @@ fn size_of(mnemonic: Mnemonic) -> Option<Size>
 
 /// The instruction of `M[k]`.
 fn scratch(mnemonic: Mnemonic, k: u32) -> Option<Insn>
-    ensures { option_map insn_word result
-        ≡ option_map (λ code. word_k code k) (scratch_code mnemonic) }
+    ensures { option_map packed_insn result
+        ≡ option_map (λ code. packed_k code k) (scratch_code mnemonic) }
 {
     match mnemonic {
         Mnemonic::Ld => Some(Insn::Load(Load::Scratch(k))),
@@ -99,7 +99,7 @@ fn operator_of(mnemonic: Mnemonic) -> Option<Operator>
 /// The instruction of a statement that is no jump. None: it is one, or the mnemonic doesn't take the
 /// operand.
 pub fn plain_insn(mnemonic: Mnemonic, operand: Operand<'_>) -> Option<Insn>
-    ensures { option_map insn_word result ≡ plain_word mnemonic (operand_of operand.entry) }
+    ensures { option_map packed_insn result ≡ plain_packed mnemonic (operand_of operand.entry) }
 {
     match operand {
         Operand::None => bare(mnemonic),
@@ -155,7 +155,7 @@ fn inverse_of(mnemonic: Mnemonic) -> Option<Condition>
 
 /// A conditional jump with one target, which skips so many instructions.
 pub fn one_way_insn(mnemonic: Mnemonic, source: Value, distance: u8) -> Option<Insn>
-    ensures { option_map insn_word result ≡ one_way_word mnemonic source distance }
+    ensures { option_map packed_insn result ≡ one_way_packed mnemonic source distance }
 {
     let source = source_of(source);
     if let Some(condition) = condition_of(mnemonic) {
@@ -167,7 +167,7 @@ pub fn one_way_insn(mnemonic: Mnemonic, source: Value, distance: u8) -> Option<I
 
 /// A conditional jump with two targets, by how many instructions each skips.
 pub fn two_way_insn(mnemonic: Mnemonic, source: Value, first: u8, second: u8) -> Option<Insn>
-    ensures { option_map insn_word result ≡ two_way_word mnemonic source first second }
+    ensures { option_map packed_insn result ≡ two_way_packed mnemonic source first second }
 {
     let condition = condition_of(mnemonic)?;
     let source = source_of(source);

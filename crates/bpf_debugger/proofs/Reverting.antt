@@ -107,24 +107,24 @@ reverts_by w s t frame whole (Some r) is e =
 rebuilt : (p : List Packed) (s t : State) → scratch_before (slot_of s (slice_get p s.place)) t.scratch ≡ s.scratch → state_before (record_of p s) t ≡ s
 rebuilt p s t e = ap (λ (scratch : List ℕ). record { place = s.place; a = s.a; x = s.x; scratch = scratch }) e
 
-step_by_word : (p : List Packed) (s t : State) (frame : List ℕ) (whole : ℕ) (word : Option Packed) → slice_get p s.place ≡ word → program_step p frame whole s ≡ Some (On t) → scratch_before (slot_of s word) t.scratch ≡ s.scratch
-step_by_word p s t frame whole None is e = let h : None ≡ Some (On t) = subst (λ (o : Option Packed). Rattle.std.specs.Option.option_and_then (λ w. step_of w s frame whole) o ≡ Some (On t)) is e in cc
-step_by_word p s t frame whole (Some w) is e =
+step_by_insn : (p : List Packed) (s t : State) (frame : List ℕ) (whole : ℕ) (insn : Option Packed) → slice_get p s.place ≡ insn → program_step p frame whole s ≡ Some (On t) → scratch_before (slot_of s insn) t.scratch ≡ s.scratch
+step_by_insn p s t frame whole None is e = let h : None ≡ Some (On t) = subst (λ (o : Option Packed). Rattle.std.specs.Option.option_and_then (λ w. step_of w s frame whole) o ≡ Some (On t)) is e in cc
+step_by_insn p s t frame whole (Some w) is e =
     let h : step_of w s frame whole ≡ Some (On t) = subst (λ (o : Option Packed). Rattle.std.specs.Option.option_and_then (λ w. step_of w s frame whole) o ≡ Some (On t)) is e in
     reverts_by w s t frame whole (row w.code) refl h
 
 -- a step is undone by the record of the state before it
 pub step_reverts : (p : List Packed) (s t : State) (frame : List ℕ) (whole : ℕ) → program_step p frame whole s ≡ Some (On t) → state_before (record_of p s) t ≡ s
-step_reverts p s t frame whole e = rebuilt p s t (step_by_word p s t frame whole (slice_get p s.place) refl e)
+step_reverts p s t frame whole e = rebuilt p s t (step_by_insn p s t frame whole (slice_get p s.place) refl e)
 
 same_by : (s : State) (w : Packed) (b : Bool) → stores_scratch w.code ≡ b → scratch_before (slot_of s (Some w)) s.scratch ≡ s.scratch
 same_by s w true e = rw e (set-get_or s.scratch w.k 0)
 same_by s w false e = rw e refl
 
-same_word : (s : State) (word : Option Packed) → scratch_before (slot_of s word) s.scratch ≡ s.scratch
-same_word s None = refl
-same_word s (Some w) = same_by s w (stores_scratch w.code) refl
+same_slot : (s : State) (insn : Option Packed) → scratch_before (slot_of s insn) s.scratch ≡ s.scratch
+same_slot s None = refl
+same_slot s (Some w) = same_by s w (stores_scratch w.code) refl
 
 -- the record of a state leaves the state itself as it is
 pub record_stays : (p : List Packed) (s : State) → state_before (record_of p s) s ≡ s
-record_stays p s = rebuilt p s s (same_word s (slice_get p s.place))
+record_stays p s = rebuilt p s s (same_slot s (slice_get p s.place))

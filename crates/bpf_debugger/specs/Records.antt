@@ -7,7 +7,7 @@ use Rattle.bpf_debugger.specs.declared.record.Slot.{Slot}
 
 -- the values before a step
 pub record Record : Type 0 where
-  pub place : ℕ
+  pub pc : ℕ
   pub a : ℕ
   pub x : ℕ
   pub slot : Option Slot
@@ -19,7 +19,7 @@ slot_of s (Some w) = if stores_scratch w.code then Some (record { index = w.k; v
 
 -- the record of a state, before the step from it
 abbrev pub record_of : List Packed → State → Record
-record_of p s = record { place = s.place; a = s.a; x = s.x; slot = slot_of s (slice_get p s.place) }
+record_of p s = record { pc = s.place; a = s.a; x = s.x; slot = slot_of s (slice_get p s.place) }
 
 -- the scratch memory with the old value in its slot
 abbrev pub scratch_before : Option Slot → List ℕ → List ℕ
@@ -28,4 +28,4 @@ scratch_before (Some slot) scratch = slice_set scratch slot.index slot.value
 
 -- the state before the step
 abbrev pub state_before : Record → State → State
-state_before r s = record { place = r.place; a = r.a; x = r.x; scratch = scratch_before r.slot s.scratch }
+state_before r s = record { place = r.pc; a = r.a; x = r.x; scratch = scratch_before r.slot s.scratch }

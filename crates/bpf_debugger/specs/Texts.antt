@@ -10,7 +10,7 @@ use Rattle.bpf_debugger.specs.declared.fault.DebugFault.TheVariants.{NoFrame, No
 
 -- a scratch memory slot, after a space
 abbrev pub slot_text : ℕ → List ℕ
-slot_text word = codes " " ++ decimal word
+slot_text value = codes " " ++ decimal value
 
 -- the state at a position
 abbrev pub state_text : ℕ → State → List ℕ

@@ -1,4 +1,4 @@
-//! A step back.
+//! A step back restores one record, so that no step is ever made again.
 
 ghost use Rattle.std.specs.Prelude.{◌≡◌};
 ghost use Rattle.bpf_debugger.specs.Records.{state_before};
@@ -14,7 +14,7 @@ pub fn undo(undo: &Undo, mut state: State) -> State
         state.scratch[slot.index] = slot.value;
     }
     State {
-        place: undo.place,
+        place: undo.pc,
         a: undo.a,
         x: undo.x,
         scratch: state.scratch,

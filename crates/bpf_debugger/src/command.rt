@@ -1,4 +1,4 @@
-//! The commands, and how they are written.
+//! Commands are values, so that a program can send them without any text.
 
 /// What to do next. Frames and instructions are counted from 0.
 #[derive(Clone, Copy, Debug, PartialEq, Eq)]

@@ -1,4 +1,4 @@
-//! Why a command is refused.
+//! A refusal is a line of its own to the person, and a value to the program.
 
 ghost use Rattle.std.specs.Prelude.{◌≡◌};
 ghost use Rattle.bpf_debugger.specs.Texts.{bad_command_text, fault_text};
@@ -25,7 +25,7 @@ pub enum DebugFault {
 }
 
 impl DebugFault {
-    /// The line that tells of the fault, which ends with a newline. Allocates nothing.
+    /// The line that reports the fault, which ends with a newline. Allocates nothing.
     pub fn line(self) -> &'static str
         ensures { result.now ≡ fault_text self }
     {

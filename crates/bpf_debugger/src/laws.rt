@@ -1,4 +1,5 @@
-//! Laws of runs and sessions, which hold of the definitions alone.
+//! What holds of every run and session by the definitions alone. Each law is the contract of a call that
+//! does nothing.
 
 ghost use Rattle.bpf_debugger.specs.Chain.{EachChainIsItsRun};
 ghost use Rattle.bpf_debugger.specs.Laws.{EachSessionIsAFold};

@@ -1,4 +1,4 @@
-//! Reads a command from its line.
+//! Commands as a person types them.
 
 ghost use Rattle.std.specs.Prelude.{◌≡◌, ◌∷◌, [], MatchOption, length};
 ghost use Rattle.std.specs.Char.{is_ascii_digit};

@@ -1,11 +1,11 @@
-//! Undo records: what one step of the machine overwrites.
+//! A step overwrites little, so a record of that is enough to go back, and a run needs no saved states.
 
 ghost use Rattle.std.specs.Prelude.{◌≡◌, ◌<◌, ℕ, List, Some, true, length, IfSome};
 ghost use Rattle.bpf_isa.specs.declared.state.State.{State};
 ghost use Rattle.bpf_isa.specs.declared.state.Outcome.TheVariants.{On};
 ghost use Rattle.bpf_machine.specs.Run.{program_step};
-ghost use Rattle.bpf_isa.specs.Machine.{scratch_slots};
-ghost use Rattle.bpf_isa.specs.Table.{canonical_word, stores_scratch};
+ghost use Rattle.bpf_isa.specs.declared.state.TheConstants.{SCRATCH_SLOTS};
+ghost use Rattle.bpf_isa.specs.Table.{canonical_form, stores_scratch};
 ghost use Rattle.bpf_debugger.specs.Records.{record_of, slot_of, state_before};
 
 use bpf_isa::{Family, Packed, State, Store};
@@ -23,7 +23,7 @@ pub(crate) struct Slot {
 /// that a store changes. No step changes more.
 #[derive(Debug, Drop)]
 pub struct Undo {
-    pub(crate) place: usize,
+    pub(crate) pc: usize,
     pub(crate) a: u32,
     pub(crate) x: u32,
     pub(crate) slot: Option<Slot>,
@@ -32,14 +32,14 @@ pub struct Undo {
 impl Model for Undo {
     ghost use Rattle.std.specs.Prelude.{◌<◌};
     ghost use Rattle.std.specs.Option.{ForSome};
-    ghost use Rattle.bpf_isa.specs.Machine.{scratch_slots};
+    ghost use Rattle.bpf_isa.specs.declared.state.TheConstants.{SCRATCH_SLOTS};
     ghost use Rattle.bpf_debugger.specs.Records.{Record};
 
     ghost Value = { Record };
 
-    ghost view = { λ u. record { place = u.place; a = u.a; x = u.x; slot = u.slot } };
+    ghost view = { λ u. record { pc = u.pc; a = u.a; x = u.x; slot = u.slot } };
 
-    ghost invariant = { λ u. ForSome u.slot (λ slot. slot.index < scratch_slots) };
+    ghost invariant = { λ u. ForSome u.slot (λ slot. slot.index < SCRATCH_SLOTS) };
 }
 
 impl Undo {
@@ -51,9 +51,9 @@ impl Undo {
             → program_step program.now frame whole state.now ≡ Some (On next)
             → state_before result next ≡ state.now }
     {
-        let slot = slot_of(program.words()[state.place], state);
+        let slot = slot_of(program.insns()[state.place], state);
         Undo {
-            place: state.place,
+            pc: state.place,
             a: state.a,
             x: state.x,
             slot,
@@ -62,13 +62,13 @@ impl Undo {
 }
 
 /// The scratch memory slot that an instruction stores, with its value in the state.
-fn slot_of(word: Packed, state: &State) -> Option<Slot>
-    requires canonical { canonical_word word ≡ word }
-    requires in_range { stores_scratch word.code ≡ true → word.k < scratch_slots }
-    ensures slot { result ≡ slot_of state.now (Some word) }
-    ensures exists { IfSome result (λ slot. slot.index < scratch_slots) }
+fn slot_of(insn: Packed, state: &State) -> Option<Slot>
+    requires canonical { canonical_form insn ≡ insn }
+    requires in_range { stores_scratch insn.code ≡ true → insn.k < SCRATCH_SLOTS }
+    ensures slot { result ≡ slot_of state.now (Some insn) }
+    ensures exists { IfSome result (λ slot. slot.index < SCRATCH_SLOTS) }
 {
-    let (Store::A(k) | Store::X(k)) = Store::unpack(word)?;
+    let (Store::A(k) | Store::X(k)) = Store::unpack(insn)?;
     Some(Slot {
         index: k as usize,
         value: state.scratch[k as usize],

@@ -1,4 +1,4 @@
-//! The replies to commands, and their text.
+//! Replies are values; their text stands apart, so that a program can print them its own way.
 
 ghost use Rattle.std.specs.Prelude.{◌≡◌, IfOk, string_bytes};
 ghost use Rattle.bpf_debugger.specs.Texts.{done_text, reply_text, state_text, tally_text};
@@ -41,7 +41,7 @@ pub enum Reply {
 ///
 /// # Errors
 ///
-/// `AllocError` if there is no memory for the text.
+/// `AllocError` if there is no memory for the text. Every reply needs some but an empty `Listing`.
 pub fn render(alloc: Global, reply: &Reply) -> Result<String, AllocError>
     ensures { IfOk result (λ text. string_bytes text ≡ reply_text reply.now) }
 {
@@ -66,14 +66,14 @@ fn state_line(alloc: Global, m: usize, state: &State) -> Result<String, AllocErr
     ensures { IfOk result (λ text. string_bytes text ≡ state_text m state.now) }
 {
     let State {
-        place,
+        place: pc,
         a,
         x,
         scratch,
     } = state;
-    let mut text = format!(in alloc; "at {m} pc {place} A {a} X {x} M")?;
-    for word in scratch {
-        write!(text, " {word}")?;
+    let mut text = format!(in alloc; "at {m} pc {pc} A {a} X {x} M")?;
+    for slot in scratch {
+        write!(text, " {slot}")?;
     }
     text.push_str("\n")?;
     Ok(text)

@@ -1,4 +1,4 @@
-//! A session of the debugger.
+//! The debugger as its caller sees it: commands in, replies out, and a state that a refusal leaves alone.
 
 ghost use Rattle.std.specs.Prelude.{◌≡◌, ◌<◌, length, count_by, IfOk, IfErr};
 ghost use Rattle.bpf_isa.specs.declared.packed.Packed.{Packed};
@@ -47,7 +47,8 @@ impl Session {
     ///
     /// # Errors
     ///
-    /// There is no memory for the breakpoints. The program and the frames are returned.
+    /// There is no memory for the breakpoints, one for each instruction. The program and the frames are
+    /// returned.
     pub fn new(
         alloc: Global,
         program: Program,
@@ -57,7 +58,7 @@ impl Session {
         ensures program { IfErr result (λ refused. refused.program ≡ program) }
         ensures frames { IfErr result (λ refused. refused.frames ≡ frames) }
     {
-        match vec![in alloc; false; program.words().len()] {
+        match vec![in alloc; false; program.insns().len()] {
             Ok(breakpoints) => Ok(Session {
                 alloc,
                 program,

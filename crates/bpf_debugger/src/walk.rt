@@ -1,4 +1,4 @@
-//! A walk along the run of a filter on a frame.
+//! The position on a run, with the records of the steps made so far.
 
 ghost use Rattle.std.specs.Prelude.{◌≡◌, ◌+◌, ◌-◌, ◌<◌, ◌≤◌, List, None, OnOk, OnErr, min};
 ghost use Rattle.std.specs.Prelude.{length, slice_get, vec_len, vec_capacity};

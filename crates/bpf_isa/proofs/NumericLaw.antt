@@ -1,4 +1,4 @@
--- What is written is read as the same words.
+-- What is written is read as the same instructions.
 use Rattle.std.proofs.Common.{◌≡◌, ℕ, suc, ◌+◌, ◌^◌, ◌<◌, ◌≤◌, Bool, true, false, not, leb, eqb, List, [], ◌∷◌, ◌++◌, length, All, None, Ok, refl, ap, ◌∙◌, append_assoc, arith, rules, eq-eqb, lit<}
 use Rattle.std.specs.Prelude.{fold, decimal, position, ◌||◌}
 use Rattle.std.specs.Char.{is_ascii_digit}
@@ -12,7 +12,7 @@ use Rattle.std.proofs.lemmas.List.Elements.{All-from_recursion}
 use Rattle.std.proofs.lemmas.List.Splits.{slice_split_none, slice_split_at}
 use Rattle.std.proofs.lemmas.List.Concat.{flat_map-cons}
 use Rattle.bpf_isa.specs.declared.packed.Packed.{Packed}
-use Rattle.bpf_isa.specs.Numeric.{Part, Item, word_text, numeric_text, IsPacked, with_offsets, parts, is_blank, is_separator, is_allowed, numbers_in, item_of, items_in, value_of, number_of, count_of, word_of, words_of, counted_words, program_of, numeric_of}
+use Rattle.bpf_isa.specs.Numeric.{Part, Item, packed_text, numeric_text, IsPacked, with_offsets, parts, is_blank, is_separator, is_allowed, numbers_in, item_of, items_in, value_of, number_of, count_of, packed_of, insns_of, counted_insns, program_of, numeric_of}
 use Rattle.bpf_isa.proofs.NumericParts.{numbers_of, items_of, kept, items_none}
 use Rattle.bpf_isa.proofs.NumericValues.{next_value}
 use Rattle.bpf_isa.proofs.NumericProgram.{known, counted}
@@ -101,12 +101,12 @@ items_more : (at : ℕ) (body rest : List ℕ) → Free is_separator body → it
 unfolding items_in
 items_more at body rest free = ap (λ (pieces : List (List ℕ)). items_of (with_offsets at pieces)) (slice_split_at is_separator body 44 rest (Free-all is_separator body free) refl)
 
--- ---- a word
+-- ---- an instruction
 
 abbrev body : Packed → List ℕ
 body w = decimal w.code ++ (32 ∷ (decimal w.jt ++ (32 ∷ (decimal w.jf ++ (32 ∷ decimal w.k)))))
 
-word_text_is : (w : Packed) (rest : List ℕ) → word_text w ++ rest ≡ body w ++ 44 ∷ rest
+word_text_is : (w : Packed) (rest : List ℕ) → packed_text w ++ rest ≡ body w ++ 44 ∷ rest
 word_text_is w rest = simp append_assoc
 
 Free-body : (p : ℕ → Bool) → ((c : ℕ) → is_ascii_digit c ≡ true → p c ≡ false) → p 32 ≡ false → (w : Packed) → IsPacked w → Free p (body w)
@@ -132,30 +132,30 @@ body_numbers w at fits =
     ∙ ap (λ (ps : List Part). (jt_at, decimal w.jt) ∷ ps) (numbers_more jf_at w.jf _ (omega (arith, fits.jf))
     ∙ ap (λ (ps : List Part). (jf_at, decimal w.jf) ∷ ps) (numbers_last k_at w.k (omega (arith, fits.k)))))
 
-word_is : (w : Packed) (a b c d : ℕ) → IsPacked w → word_of (a, decimal w.code) ((b, decimal w.jt) ∷ (c, decimal w.jf) ∷ (d, decimal w.k) ∷ []) ≡ Ok w
-unfolding word_of
+word_is : (w : Packed) (a b c d : ℕ) → IsPacked w → packed_of (a, decimal w.code) ((b, decimal w.jt) ∷ (c, decimal w.jf) ∷ (d, decimal w.k) ∷ []) ≡ Ok w
+unfolding packed_of
 word_is w a b c d fits =
     rw (number_reads 0xffff a w.code (omega (arith, fits.code)) (lit< tt), number_reads 0xff b w.jt (omega (arith, fits.jt)) (lit< tt), number_reads 0xff c w.jf (omega (arith, fits.jf)) (lit< tt), number_reads 0xffff_ffff d w.k (omega (arith, fits.k)) (lit< tt)) refl
 
 word_item : (w : Packed) (at : ℕ) (rest : List ℕ) → IsPacked w
     → let jt_at = at + length (decimal w.code) + 1 in let jf_at = jt_at + length (decimal w.jt) + 1 in let k_at = jf_at + length (decimal w.jf) + 1 in
-    items_in at (word_text w ++ rest) ≡ ((at, decimal w.code), (jt_at, decimal w.jt) ∷ (jf_at, decimal w.jf) ∷ (k_at, decimal w.k) ∷ []) ∷ items_in (at + length (body w) + 1) rest
+    items_in at (packed_text w ++ rest) ≡ ((at, decimal w.code), (jt_at, decimal w.jt) ∷ (jf_at, decimal w.jf) ∷ (k_at, decimal w.k) ∷ []) ∷ items_in (at + length (body w) + 1) rest
 word_item w at rest fits =
     ap (items_in at) (word_text_is w rest) ∙ items_more at (body w) rest (Free-body is_separator no_separator refl w fits)
     ∙ ap (λ (ps : List Part). cons_option (item_of ps) (items_in (at + length (body w) + 1) rest)) (body_numbers w at fits)
 
-words_read : (ws : List Packed) (at : ℕ) → AllByRecursion IsPacked ws → words_of (items_in at (flat_map word_text ws)) ≡ Ok ws
-unfolding words_of
-words_read [] at fits = rw (items_none at) refl
-words_read (w ∷ ws) at fits =
-    let rest = flat_map word_text ws in
-    ap words_of (ap (items_in at) (flat_map-cons word_text w ws) ∙ word_item w at rest fits.0)
-    ∙ rw (word_is w at _ _ _ fits.0, words_read ws (at + length (body w) + 1) fits.1) refl
+insns_read : (ws : List Packed) (at : ℕ) → AllByRecursion IsPacked ws → insns_of (items_in at (flat_map packed_text ws)) ≡ Ok ws
+unfolding insns_of
+insns_read [] at fits = rw (items_none at) refl
+insns_read (w ∷ ws) at fits =
+    let rest = flat_map packed_text ws in
+    ap insns_of (ap (items_in at) (flat_map-cons packed_text w ws) ∙ word_item w at rest fits.0)
+    ∙ rw (word_is w at _ _ _ fits.0, insns_read ws (at + length (body w) + 1) fits.1) refl
 
-Free-words : (p : ℕ → Bool) → ((c : ℕ) → is_ascii_digit c ≡ true → p c ≡ false) → p 32 ≡ false → p 44 ≡ false → (ws : List Packed) → AllByRecursion IsPacked ws → Free p (flat_map word_text ws)
-Free-words p none space comma [] fits = tt
-Free-words p none space comma (w ∷ ws) fits =
-    let one : Free p (body w ++ 44 ∷ flat_map word_text ws) = Free-append p (body w) (44 ∷ flat_map word_text ws) (Free-body p none space w fits.0) (comma, Free-words p none space comma ws fits.1) in
+Free-insns : (p : ℕ → Bool) → ((c : ℕ) → is_ascii_digit c ≡ true → p c ≡ false) → p 32 ≡ false → p 44 ≡ false → (ws : List Packed) → AllByRecursion IsPacked ws → Free p (flat_map packed_text ws)
+Free-insns p none space comma [] fits = tt
+Free-insns p none space comma (w ∷ ws) fits =
+    let one : Free p (body w ++ 44 ∷ flat_map packed_text ws) = Free-append p (body w) (44 ∷ flat_map packed_text ws) (Free-body p none space w fits.0) (comma, Free-insns p none space comma ws fits.1) in
     rw (flat_map-cons, word_text_is) one
 
 counts : (n at : ℕ) → n ≤ 4096 → count_of (at, decimal n) [] ≡ Ok n
@@ -166,8 +166,8 @@ each_fits : (ws : List Packed) → All IsPacked ws → AllByRecursion IsPacked w
 each_fits [] h = tt
 each_fits (w ∷ ws) h = (h 0 w (omega arith), each_fits ws (λ k d lt. h (suc k) d (omega arith)))
 
-as_counted : (end : ℕ) (ws : List Packed) (items : List Item) → words_of items ≡ Ok ws → counted_words end (length ws) items ≡ Ok ws
-unfolding counted_words
+as_counted : (end : ℕ) (ws : List Packed) (items : List Item) → insns_of items ≡ Ok ws → counted_insns end (length ws) items ≡ Ok ws
+unfolding counted_insns
 as_counted end ws items h = rw (h, eq-eqb (length ws) (length ws) refl) refl
 
 pub reads_back : (ws : List Packed) → length ws ≤ 4096 → All IsPacked ws → numeric_of (numeric_text ws) ≡ Ok ws
@@ -175,15 +175,15 @@ reads_back ws few packed =
     let fits = each_fits ws packed in
     let n = length ws in
     let small : n < 2 ^ 64 = omega arith in
-    let rest = flat_map word_text ws in
+    let rest = flat_map packed_text ws in
     let text = decimal n ++ 44 ∷ rest in
     let written : numeric_text ws ≡ text = append_assoc (decimal n) (44 ∷ []) rest in
     let free : Free (λ b. not (is_allowed b)) text =
     Free-append (λ b. not (is_allowed b)) (decimal n) (44 ∷ rest) (Free-decimal (λ b. not (is_allowed b)) no_stranger n small)
-    (refl, Free-words (λ b. not (is_allowed b)) no_stranger refl refl ws fits) in
+    (refl, Free-insns (λ b. not (is_allowed b)) no_stranger refl refl ws fits) in
     let items : items_in 0 text ≡ ((0, decimal n), []) ∷ items_in (0 + length (decimal n) + 1) rest =
     items_more 0 (decimal n) rest (Free-decimal is_separator no_separator n small)
     ∙ ap (λ (ps : List Part). cons_option (item_of ps) (items_in (0 + length (decimal n) + 1) rest)) (numbers_last 0 n small) in
     ap numeric_of written ∙ known text (position_free (λ b. not (is_allowed b)) text free) ∙ ap (program_of (length text)) items
     ∙ counted (length text) ((0, decimal n), []) (items_in (0 + length (decimal n) + 1) rest) n (counts n 0 few)
-    ∙ as_counted (length text) ws (items_in (0 + length (decimal n) + 1) rest) (words_read ws (0 + length (decimal n) + 1) fits)
+    ∙ as_counted (length text) ws (items_in (0 + length (decimal n) + 1) rest) (insns_read ws (0 + length (decimal n) + 1) fits)

@@ -3,8 +3,8 @@ use Rattle.std.proofs.Common.{◌≡◌, ℕ, ◌<◌, Bool, true, false, cond, 
 use Rattle.std.specs.Prelude.{position}
 use Rattle.bpf_isa.specs.declared.numeric.fault.NumericFault.{NumericFault}
 use Rattle.bpf_isa.specs.declared.numeric.fault.NumericFault.TheVariants.{Character, Number, Form, TooMany, Memory}
-use Rattle.bpf_isa.specs.Numeric.{◌>>=◌, Part, Item, value_of, number_of, HasCount, is_allowed, items_in, count_of, word_of, counted_words, program_of, unless_at, numeric_of, IsFault}
-use Rattle.bpf_isa.proofs.NumericWords.{is_fault}
+use Rattle.bpf_isa.specs.Numeric.{◌>>=◌, Part, Item, value_of, number_of, HasCount, is_allowed, items_in, count_of, packed_of, counted_insns, program_of, unless_at, numeric_of, IsFault}
+use Rattle.bpf_isa.proofs.NumericInsns.{is_fault}
 
 pub foreign : (text : List ℕ) (at : ℕ) → Some at ≡ position (λ b. not (is_allowed b)) text → numeric_of text ≡ Err (Character at)
 unfolding numeric_of
@@ -19,7 +19,7 @@ unfolding program_of
 no_item text h e = known text h ∙ ap (program_of (length text)) e
 
 pub counted : (end : ℕ) (first : Item) (others : List Item) (count : ℕ) → count_of first.0 first.1 ≡ Ok count
-    → program_of end (first ∷ others) ≡ counted_words end count others
+    → program_of end (first ∷ others) ≡ counted_insns end count others
 unfolding program_of
 counted end first others count h = rw h refl
 
@@ -38,9 +38,9 @@ begin text first others b = known text b.known ∙ ap (program_of (length text))
 pub bad_count : (text : List ℕ) (first : Item) (others : List Item) (e : NumericFault) → Begins text first others → Err e ≡ count_of first.0 first.1 → IsFault e (numeric_of text)
 bad_count text first others e b h = is_fault e (numeric_of text) (begin text first others b ∙ uncounted (length text) first others e (sym h))
 
--- the text is what its words are
+-- the text is what its insns are
 pub words_are : (text : List ℕ) (first : Item) (others : List Item) (count : ℕ) → Begins text first others → Ok count ≡ count_of first.0 first.1
-    → numeric_of text ≡ counted_words (length text) count others
+    → numeric_of text ≡ counted_insns (length text) count others
 words_are text first others count b h = begin text first others b ∙ counted (length text) first others count (sym h)
 
 -- ---- memory is no fault of a text
@@ -65,8 +65,8 @@ unfolding count_of
 count_no_memory first [] e = bind_no_memory (number_of 0xffff_ffff first) (λ n. cond (ltb 4096 n) (Err (TooMany first.0)) (Ok n)) (number_no_memory 0xffff_ffff first) (λ n. unless_memory (ltb 4096 n) (TooMany first.0) n (λ h. cc)) e
 count_no_memory first (_ ∷ _) e = cc
 
-pub word_no_memory : (code : Part) (others : List Part) → word_of code others ≡ Err Memory → ⊥
-unfolding word_of
+pub word_no_memory : (code : Part) (others : List Part) → packed_of code others ≡ Err Memory → ⊥
+unfolding packed_of
 word_no_memory code [] e = cc
 word_no_memory code (_ ∷ []) e = cc
 word_no_memory code (_ ∷ _ ∷ []) e = cc

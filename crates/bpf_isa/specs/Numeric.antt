@@ -3,19 +3,19 @@ use Rattle.std.specs.Prelude.{ℕ, ◌+◌, ◌-◌, ◌*◌, ◌^◌, ◌<◌, 
 use Rattle.std.specs.List.{slice_split, filter_map, flat_map}
 use Rattle.std.specs.Char.{is_ascii_digit}
 use Rattle.bpf_isa.specs.declared.packed.Packed.{Packed}
-use Rattle.bpf_isa.specs.Machine.{max_insns}
+use Rattle.bpf_isa.specs.declared.state.TheConstants.{MAX_INSNS}
 use Rattle.bpf_isa.specs.declared.numeric.fault.NumericFault.{NumericFault}
 use Rattle.bpf_isa.specs.declared.numeric.fault.NumericFault.TheVariants.{Character, Number, Form, Count, TooMany, Memory}
 
 -- ---- Writing: the count and a comma, then each instruction's four numbers and a comma.
 
-abbrev pub word_text : Packed → List ℕ
-word_text w = decimal w.code ++ codes " " ++ decimal w.jt ++ codes " " ++ decimal w.jf ++ codes " " ++ decimal w.k ++ codes ","
+abbrev pub packed_text : Packed → List ℕ
+packed_text w = decimal w.code ++ codes " " ++ decimal w.jt ++ codes " " ++ decimal w.jf ++ codes " " ++ decimal w.k ++ codes ","
 
 abbrev pub numeric_text : List Packed → List ℕ
-numeric_text ws = decimal (length ws) ++ codes "," ++ flat_map word_text ws
+numeric_text ws = decimal (length ws) ++ codes "," ++ flat_map packed_text ws
 
--- a word whose numbers fit their fields
+-- an instruction whose numbers fit their fields
 pub record IsPacked (w : Packed) : Type 0 where
   pub code : w.code < 2 ^ 16
   pub jt : w.jt < 2 ^ 8
@@ -84,38 +84,38 @@ number_of most number = if nat_lt most (value_of number.1) then Err (Number numb
 unfoldable pub count_of : Part → List Part → Result ℕ NumericFault
 count_of first [] = do
   n ← number_of 0xffff_ffff first
-  if nat_lt max_insns n then Err (TooMany first.0) else Ok n
+  if nat_lt MAX_INSNS n then Err (TooMany first.0) else Ok n
 count_of first (_ ∷ _) = Err (Form first.0)
 
 -- a further item: code, jt, jf and k
-unfoldable pub word_of : Part → List Part → Result Packed NumericFault
-word_of code (jt ∷ jf ∷ k ∷ []) = do
+unfoldable pub packed_of : Part → List Part → Result Packed NumericFault
+packed_of code (jt ∷ jf ∷ k ∷ []) = do
   code ← number_of 0xffff code
   jt ← number_of 0xff jt
   jf ← number_of 0xff jf
   k ← number_of 0xffff_ffff k
   Ok (record { code = code; jt = jt; jf = jf; k = k })
-word_of first _ = Err (Form first.0)
+packed_of first _ = Err (Form first.0)
 
-unfoldable pub words_of : List Item → Result (List Packed) NumericFault
-words_of [] = Ok []
-words_of (item ∷ items) = do
-  word ← word_of item.0 item.1
-  words ← words_of items
-  Ok (word ∷ words)
+unfoldable pub insns_of : List Item → Result (List Packed) NumericFault
+insns_of [] = Ok []
+insns_of (item ∷ items) = do
+  insn ← packed_of item.0 item.1
+  insns ← insns_of items
+  Ok (insn ∷ insns)
 
 -- the items after the count in a text of this length: there are as many as the count says
-unfoldable pub counted_words : ℕ → ℕ → List Item → Result (List Packed) NumericFault
-counted_words end count items = do
-  words ← words_of items
-  if length words == count then Ok words else Err (Count end)
+unfoldable pub counted_insns : ℕ → ℕ → List Item → Result (List Packed) NumericFault
+counted_insns end count items = do
+  insns ← insns_of items
+  if length insns == count then Ok insns else Err (Count end)
 
 -- the items of a text of this length
 unfoldable pub program_of : ℕ → List Item → Result (List Packed) NumericFault
 program_of end [] = Err (Form end)
 program_of end (first ∷ others) = do
   count ← count_of first.0 first.1
-  counted_words end count others
+  counted_insns end count others
 
 -- a byte that the form doesn't have comes before all other faults
 abbrev pub unless_at : Option ℕ → Result (List Packed) NumericFault → Result (List Packed) NumericFault

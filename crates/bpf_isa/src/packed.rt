@@ -1,7 +1,7 @@
-//! One packed instruction.
+//! The form in which filters come from outside: four numbers, which may be no instruction.
 
 ghost use Rattle.std.specs.Prelude.{◌≡◌};
-ghost use Rattle.bpf_isa.specs.Families.{word_k};
+ghost use Rattle.bpf_isa.specs.Families.{packed_k};
 
 /// One instruction as the kernel and libpcap pack it (`struct sock_filter`, `struct bpf_insn`).
 #[derive(Clone, Copy, Debug, PartialEq, Eq)]
@@ -20,7 +20,7 @@ impl Packed {
     /// The instruction with jt and jf 0.
     #[inline(always)]
     pub(crate) fn with_k(code: u16, k: u32) -> Packed
-        ensures { result ≡ word_k code k }
+        ensures { result ≡ packed_k code k }
     {
         Packed {
             code,

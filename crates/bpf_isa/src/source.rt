@@ -1,4 +1,4 @@
-//! The second operand of arithmetic and of conditional jumps.
+//! Arithmetic and conditional jumps take k or X as their second operand, and share the type of it.
 
 ghost use Rattle.std.specs.Prelude.{◌≡◌};
 ghost use Rattle.bpf_isa.specs.Values.{source_value};

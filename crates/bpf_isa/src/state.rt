@@ -1,4 +1,4 @@
-//! The state of the machine, and its limits.
+//! What an instruction works on, and the two limits that bound a pc and a slot.
 
 ghost use Rattle.std.specs.Prelude.{◌≡◌};
 ghost use Rattle.bpf_isa.specs.Machine.{start};

@@ -3,7 +3,7 @@
 use Rattle.std.specs.Prelude.{◌≡◌, ℕ, ◌*◌, ◌%◌, ◌^◌, ◌<◌, List, [], ◌∷◌, Option, Some, None, IfSome, length, bit_and, bit_or, slice_index, slice_set, All}
 use Rattle.std.specs.Int.{bit_at}
 use Rattle.bpf_isa.specs.declared.insn.Insn.{Insn}
-use Rattle.bpf_isa.specs.Machine.{scratch_slots}
+use Rattle.bpf_isa.specs.declared.state.TheConstants.{SCRATCH_SLOTS}
 use Rattle.bpf_loader.specs.declared.fault.LoadFault.{LoadFault}
 use Rattle.bpf_loader.specs.declared.fault.LoadFault.TheVariants.{Unstored}
 use Rattle.bpf_loader.specs.Typed.{successors_of, loaded_slot, stored_slot}
@@ -26,17 +26,17 @@ masks_after masks pc i = intersect_masks masks (successors_of pc i) (mask_after 
 pub record CanCarry (masks : List ℕ) (pc : ℕ) (i : Insn) : Type 0 where
   pub here : pc < length masks
   pub successors : All (λ next. next < length masks) (successors_of pc i)
-  pub read : IfSome (loaded_slot i) (λ word. word < scratch_slots)
-  pub stored : IfSome (stored_slot i) (λ word. word < scratch_slots)
+  pub read : IfSome (loaded_slot i) (λ slot. slot < SCRATCH_SLOTS)
+  pub stored : IfSome (stored_slot i) (λ slot. slot < SCRATCH_SLOTS)
 
 -- the instruction loads no slot that its mask lacks, and the masks are carried over it
 pub record Carries (old new : List ℕ) (pc : ℕ) (i : Insn) : Type 0 where
   pub masks : new ≡ masks_after old pc i
-  pub read : IfSome (loaded_slot i) (λ word. bit_at (slice_index old pc) word ≡ 1)
+  pub read : IfSome (loaded_slot i) (λ slot. bit_at (slice_index old pc) slot ≡ 1)
 
 -- the instruction loads a slot that its mask lacks
 pub record Lacks (masks : List ℕ) (pc : ℕ) (i : Insn) (fault : LoadFault) : Type 0 where
-  pub word : ℕ
-  pub read : loaded_slot i ≡ Some word
-  pub unset : bit_at (slice_index masks pc) word ≡ 0
-  pub fault_is : fault ≡ Unstored pc word
+  pub slot : ℕ
+  pub read : loaded_slot i ≡ Some slot
+  pub unset : bit_at (slice_index masks pc) slot ≡ 0
+  pub fault_is : fault ≡ Unstored pc slot

@@ -1,4 +1,4 @@
-//! The faults of a program that can't be loaded.
+//! One fault for each rule, with the pc where it is broken, so that a message can name the instruction.
 
 use bpf_isa::Packed;
 use thiserror::Error;

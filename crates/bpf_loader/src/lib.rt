@@ -7,8 +7,8 @@
 //! scratch memory slot that it hasn't stored.
 //!
 //! ```
-//! let words = read_numeric(alloc, "2,32 0 0 0,22 0 0 0,")?;
-//! match Program::load(words) {
+//! let insns = read_numeric(alloc, "2,32 0 0 0,22 0 0 0,")?;
+//! match Program::load(insns) {
 //!     Ok(program) => run(&program, &view, whole),
 //!     Err(LoadRefused { fault, words }) => return Err(fault),
 //! }
@@ -19,9 +19,9 @@
 #![tactic(auto)]
 
 mod fault;
+mod insns;
 mod program;
 mod scratch;
-mod words;
 
 pub use fault::{LoadFault, LoadRefused};
 pub use program::Program;

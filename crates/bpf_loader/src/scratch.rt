@@ -5,8 +5,8 @@ ghost use Rattle.std.specs.Prelude.{All, IfSome, MatchBool, MatchResult};
 ghost use Rattle.std.specs.Int.{bit_at};
 ghost use Rattle.bpf_loader.specs.Typed.{successors_of, loaded_slot, stored_slot};
 ghost use Rattle.bpf_loader.specs.Masks.{mask_after, intersect_masks, CanCarry, Carries, Lacks};
-ghost use Rattle.bpf_isa.specs.Machine.{max_insns, scratch_slots};
-ghost use Rattle.bpf_loader.specs.Faults.{HasLength, HasNoWordFault, StoresBeforeReads};
+ghost use Rattle.bpf_isa.specs.declared.state.TheConstants.{MAX_INSNS, SCRATCH_SLOTS};
+ghost use Rattle.bpf_loader.specs.Faults.{HasLength, HasNoInsnFault, StoresBeforeReads};
 ghost use Rattle.bpf_loader.specs.Faults.{ends_in_return, IsFirstFault};
 
 use crate::fault::LoadFault;
@@ -17,7 +17,7 @@ fn loaded_slot(insn: Insn) -> Option<u32>
     ensures { result ≡ loaded_slot insn }
 {
     match insn {
-        Insn::Load(Load::Scratch(word)) | Insn::LoadX(LoadX::Scratch(word)) => Some(word),
+        Insn::Load(Load::Scratch(slot)) | Insn::LoadX(LoadX::Scratch(slot)) => Some(slot),
         _ => None,
     }
 }
@@ -27,26 +27,26 @@ fn stored_slot(insn: Insn) -> Option<u32>
     ensures { result ≡ stored_slot insn }
 {
     match insn {
-        Insn::Store(Store::A(word) | Store::X(word)) => Some(word),
+        Insn::Store(Store::A(slot) | Store::X(slot)) => Some(slot),
         _ => None,
     }
 }
 
 /// Whether the mask has the slot.
-fn has_stored(mask: u16, word: u32) -> bool
-    requires { word < scratch_slots }
-    ensures { MatchBool result (bit_at mask word ≡ 1) (bit_at mask word ≡ 0) }
+fn has_stored(mask: u16, slot: u32) -> bool
+    requires { slot < SCRATCH_SLOTS }
+    ensures { MatchBool result (bit_at mask slot ≡ 1) (bit_at mask slot ≡ 0) }
 {
-    mask >> word & 1 == 1
+    mask >> slot & 1 == 1
 }
 
 /// The mask after the instruction: one bit for each slot that every path so far has stored.
 fn mask_after(insn: Insn, before: u16) -> u16
-    requires { IfSome (stored_slot insn) (λ word. word < scratch_slots) }
+    requires { IfSome (stored_slot insn) (λ slot. slot < SCRATCH_SLOTS) }
     ensures { result ≡ mask_after (stored_slot insn) before }
 {
     match stored_slot(insn) {
-        Some(word) => before | 1 << word,
+        Some(slot) => before | 1 << slot,
         None => before,
     }
 }
@@ -75,10 +75,10 @@ fn carry(masks: &mut [u16], pc: usize, insn: Insn) -> Result<(), LoadFault>
         (λ fault. Lacks masks.old pc insn fault) }
 {
     let before = masks[pc];
-    if let Some(word) = loaded_slot(insn)
-        && !has_stored(before, word)
+    if let Some(slot) = loaded_slot(insn)
+        && !has_stored(before, slot)
     {
-        return Err(LoadFault::Unstored { at: pc, word });
+        return Err(LoadFault::Unstored { at: pc, word: slot });
     }
     intersect(masks, pc, insn, mask_after(insn, before));
     Ok(())
@@ -87,9 +87,9 @@ fn carry(masks: &mut [u16], pc: usize, insn: Insn) -> Result<(), LoadFault>
 /// The masks before the pass: no slot is stored at the first instruction, and no path has come to
 /// another.
 fn masks_at_start() -> [u16; MAX_INSNS]
-    ensures size { length result ≡ max_insns }
+    ensures size { length result ≡ MAX_INSNS }
     ensures first { slice_index result 0 ≡ 0 }
-    ensures others { (pc : ℕ) → 1 ≤ pc → pc < max_insns → slice_index result pc ≡ 2 ^ 16 - 1 }
+    ensures others { (pc : ℕ) → 1 ≤ pc → pc < MAX_INSNS → slice_index result pc ≡ 2 ^ 16 - 1 }
 {
     let mut masks = [u16::MAX; MAX_INSNS];
     masks[0] = 0;
@@ -98,17 +98,17 @@ fn masks_at_start() -> [u16; MAX_INSNS]
 
 /// Refuses the first load of a slot that some path from instruction 0 hasn't stored. Since jumps go
 /// forward, one pass in order has seen every path to a pc before it comes there.
-pub(crate) fn check_scratch(words: &[Packed]) -> Result<(), LoadFault>
-    requires has_length { HasLength words.now }
-    requires no_word_fault { HasNoWordFault words.now }
-    requires returns { ends_in_return words.now ≡ true }
+pub(crate) fn check_scratch(insns: &[Packed]) -> Result<(), LoadFault>
+    requires has_length { HasLength insns.now }
+    requires no_insn_fault { HasNoInsnFault insns.now }
+    requires returns { ends_in_return insns.now ≡ true }
     ensures { MatchResult result
-        (λ _. StoresBeforeReads words.now)
-        (λ fault. IsFirstFault words.now fault) }
+        (λ _. StoresBeforeReads insns.now)
+        (λ fault. IsFirstFault insns.now fault) }
 {
     let mut masks = masks_at_start();
-    for (pc, word) in words.iter().enumerate() {
-        let Some(insn) = Insn::decode(word) else {
+    for (pc, packed) in insns.iter().enumerate() {
+        let Some(insn) = Insn::decode(packed) else {
             unreachable!()
         };
         carry(&mut masks, pc, insn)?;

@@ -1,4 +1,4 @@
-//! The faults of a filter's source text.
+//! Each fault carries a byte offset, so that a message can point into the text.
 
 ghost use Rattle.std.specs.Prelude.{◌≡◌};
 ghost use Rattle.bpf_text.specs.declared.fault.TextFault.TheVariants.{Memory};

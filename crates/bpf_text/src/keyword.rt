@@ -1,4 +1,4 @@
-//! The words with a meaning of their own: mnemonics, registers, `M` and `len`.
+//! Which names the language takes for itself: none of them can be a label.
 
 ghost use Rattle.std.specs.Prelude.{◌≡◌, map};
 ghost use Rattle.bpf_text.specs.Keywords.{keywords, with_first, keyword_in, keyword_of};

@@ -1,4 +1,5 @@
-//! Laws of filter source, which hold of the definitions alone.
+//! What holds of every source text by the definitions alone. Each law is the contract of a call that
+//! does nothing.
 
 ghost use Rattle.bpf_text.specs.Laws.{OneReading, LeavesWhatMayFollow};
 

@@ -1,4 +1,4 @@
-//! The tokens of a text, one after the other.
+//! Bytes to tokens. Comments and blanks end here, so that the parser never sees them.
 
 ghost use Rattle.std.specs.Prelude.{◌≡◌, ◌+◌, ◌<◌, ◌≤◌, ◌==◌, take, drop, length, IfSome};
 ghost use Rattle.std.specs.List.{prefix_len, position_or_len};

@@ -1,4 +1,4 @@
-//! The value of a number token.
+//! The radixes of `bpf_asm`: decimal, and hexadecimal, binary or octal by the first bytes.
 
 ghost use Rattle.std.specs.Prelude.{◌≡◌, ◌≤◌, ◌^◌, min};
 ghost use Rattle.std.specs.List.{list_all};

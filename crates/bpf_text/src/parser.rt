@@ -1,4 +1,4 @@
-//! The parser: one pass over the tokens.
+//! Tokens to statements, in one pass that looks at most one token ahead.
 
 ghost use Rattle.std.specs.Prelude.{◌≡◌, map, option_map, MatchResult};
 ghost use Rattle.bpf_text.specs.Tokens.{Parses};

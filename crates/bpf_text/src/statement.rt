@@ -1,4 +1,4 @@
-//! The statements of a filter's source text.
+//! What a source text says, before any label is looked up: the assembler gives it instructions.
 
 use crate::keyword::Mnemonic;
 

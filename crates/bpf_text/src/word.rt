@@ -1,4 +1,4 @@
-//! Words: names and numbers.
+//! A run of letters, digits and `_` is one token, which its first byte decides: a number or a name.
 
 ghost use Rattle.std.specs.Prelude.{◌≡◌, ◌<◌, take, drop, length};
 ghost use Rattle.std.specs.List.{prefix_len};

@@ -5,7 +5,7 @@ use Rattle.bpf_asm.specs.Assembly.{Assembles}
 use Rattle.bpf_asm.specs.Meaning.{SourceRunsFrom, source_step}
 use Rattle.bpf_asm.proofs.Stepping.{steps_alike}
 use Rattle.bpf_isa.specs.Machine.{start}
-use Rattle.bpf_isa.specs.Table.{canonical_word, step_of}
+use Rattle.bpf_isa.specs.Table.{canonical_form, step_of}
 use Rattle.bpf_isa.specs.declared.packed.Packed.{Packed}
 use Rattle.bpf_isa.specs.declared.state.State.{State}
 use Rattle.bpf_machine.specs.Run.{HasOneRun, RunsFrom, program_step}
@@ -13,7 +13,7 @@ use Rattle.bpf_machine.proofs.OneRun.{has_one_run}
 use Rattle.bpf_text.specs.Grammar.{Statement}
 use Rattle.commands.specs.Laws.{SourceMeansItsProgram}
 
-module _ (ss : List Statement) (p q : List Packed) (assembled : Assembles ss p) (is : q ≡ map canonical_word p) (frame : List ℕ) (whole : ℕ) where
+module _ (ss : List Statement) (p q : List Packed) (assembled : Assembles ss p) (is : q ≡ map canonical_form p) (frame : List ℕ) (whole : ℕ) where
   same_step : (s : State) → source_step ss frame whole s ≡ program_step q frame whole s
   same_step s =
       steps_alike ss p assembled frame whole s

@@ -1,7 +1,7 @@
 -- The texts that a run is set up by: the filters and the table of virtual links (this project's profile).
 use Rattle.std.specs.Prelude.{◌≡◌, ◌⊎◌, ℕ, ◌+◌, List, [], ◌∷◌, map, Option, None, Some, Ok, ⊤}
 use Rattle.bpf_isa.specs.Numeric.{numeric_of, IsFault, HasCount}
-use Rattle.bpf_isa.specs.Table.{canonical_word}
+use Rattle.bpf_isa.specs.Table.{canonical_form}
 use Rattle.bpf_isa.specs.declared.numeric.fault.NumericFault.TheVariants as numeric
 use Rattle.bpf_isa.specs.declared.packed.Packed.{Packed}
 use Rattle.bpf_loader.specs.Faults.{IsLoadable, IsFirstFault}
@@ -18,7 +18,7 @@ use Rattle.commands.specs.declared.text.TextRefusal.TheVariants as refusals
 
 -- the text holds this filter, in the form in which it runs
 abbrev pub IsFilter : List ℕ → List Packed → Type 0
-IsFilter text p = (words : List Packed) × (numeric_of text ≡ Ok words) × IsLoadable words × (p ≡ map canonical_word words)
+IsFilter text p = (words : List Packed) × (numeric_of text ≡ Ok words) × IsLoadable words × (p ≡ map canonical_form words)
 
 -- the text, of the filter of this number, holds no filter, and this is its fault
 abbrev pub IsFilterFault : List ℕ → Option ℕ → Fault → Type 0

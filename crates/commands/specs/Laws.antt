@@ -3,7 +3,7 @@ use Rattle.std.specs.Prelude.{◌≡◌, ℕ, ◌≤◌, List, length, drop, map
 use Rattle.bpf_isa.specs.declared.packed.Packed.{Packed}
 use Rattle.bpf_asm.specs.Assembly.{Assembles}
 use Rattle.bpf_asm.specs.Meaning.{SourceRuns}
-use Rattle.bpf_isa.specs.Table.{canonical_word}
+use Rattle.bpf_isa.specs.Table.{canonical_form}
 use Rattle.bpf_isa.specs.declared.state.State.{State}
 use Rattle.bpf_loader.specs.Faults.{IsLoaded}
 use Rattle.bpf_machine.specs.Run.{HasOneRun}
@@ -18,5 +18,5 @@ pub record MeansItsProgram (ss : List Statement) (q : List Packed) (frame : List
 -- Where statements are assembled to a program that loads, the source means the loaded program.
 abbrev pub SourceMeansItsProgram : Type 0
 SourceMeansItsProgram =
-    (ss : List Statement) (p q : List Packed) → Assembles ss p → IsLoaded q → q ≡ map canonical_word p →
+    (ss : List Statement) (p q : List Packed) → Assembles ss p → IsLoaded q → q ≡ map canonical_form p →
     (frame : List ℕ) (whole : ℕ) → MeansItsProgram ss q frame whole

@@ -5,4 +5,4 @@ pub mod Closing
 pub mod Masks
 pub mod Drawing
 pub mod Batching
-pub mod Placing
+pub mod Scattering

@@ -70,7 +70,7 @@ rest_once : (n : ℕ) (xs before after : List ℕ) → xs ≡ before ++ n ∷ af
 rest_once n xs before after is h k =
     omega (arith, h k, once_below-suc n k, ap (times k) is, times-append k before (n ∷ after), times-append k before after)
 
--- a number at its place, and the others
+-- a number at its index, and the others
 put_last : (n : ℕ) (xs before after : List ℕ) → xs ≡ before ++ n ∷ after → IsPermutation (before ++ after) (numbers_below n)
     → IsPermutation xs (numbers_below (suc n))
 put_last n xs before after is rest =

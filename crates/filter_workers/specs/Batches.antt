@@ -3,6 +3,7 @@ use Rattle.std.specs.Prelude.{◌≡◌, ℕ, ◌+◌, ◌^◌, ◌<◌, ◌≤�
 use Rattle.afdx_frame.specs.Frame.{Frame}
 use Rattle.bpf_isa.specs.declared.packed.Packed.{Packed}
 use Rattle.filter_workers.specs.Seats.{DeskId, SeatState, joined_seat}
+use Rattle.filter_workers.specs.declared.decision.TheConstants.{MAX_FILTERS}
 use Rattle.filter_workers.specs.declared.decision.Decision.{Decision}
 use Rattle.filter_workers.specs.declared.worker.Numbered.{Numbered}
 use Rattle.filter_workers.specs.declared.worker.Batch.{Batch}
@@ -15,7 +16,7 @@ IsDecided all d = slice_get all d.number ≡ Some d.decision
 abbrev pub numbers_of : List Numbered → List ℕ
 numbers_of decisions = map (λ (d : Numbered). d.number) decisions
 
--- A seat of this desk with this room, which was told that no number is left, and the decision for each number that it drew.
+-- A seat of this desk with this room, which has found no number left, and the decision for each number that it drew.
 pub record IsBatch (desk : DeskId) (room : ℕ) (all : List Decision) (b : Batch) : Type 0 where
   pub of_desk : b.seat.desk ≡ desk
   pub room_is : b.seat.room ≡ room
@@ -33,13 +34,13 @@ pub record CanShare (desk : DeskId) (programs : List (List Packed)) (frames : Li
     : Type 0 where
   pub of_desk : seat.desk ≡ desk
   pub size : desk.len ≡ length frames
-  pub few : length programs ≤ 8
+  pub few : length programs ≤ MAX_FILTERS
   pub fresh : seat.numbers ≡ []
   pub workers : 1 ≤ count
   pub room : count ≤ seat.room
   pub numbers : worker + count < 2 ^ 32
 
--- each decision at the place of its number
-abbrev pub placed : List Decision → List Numbered → List Decision
-placed all [] = all
-placed all (d ∷ ds) = placed (slice_set all d.number d.decision) ds
+-- each decision at the index that is its number
+abbrev pub scattered : List Decision → List Numbered → List Decision
+scattered all [] = all
+scattered all (d ∷ ds) = scattered (slice_set all d.number d.decision) ds

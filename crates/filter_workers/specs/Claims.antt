@@ -1,8 +1,9 @@
 -- The rule of a desk's table: what is so between any two steps of its threads, however they run.
-use Rattle.std.specs.Prelude.{◌≡◌, ℕ, ◌+◌, ◌-◌, ◌/◌, ◌^◌, ◌<◌, ◌≤◌, ◌==◌, min, Bool, true, false, ◌||◌, if◌then◌else◌, nat_lt, List, [], ◌∷◌, ◌++◌, length, slice_index, All}
+use Rattle.std.specs.Prelude.{◌≡◌, ℕ, ◌+◌, ◌-◌, ◌/◌, ◌<◌, ◌≤◌, ◌==◌, min, Bool, true, false, ◌||◌, if◌then◌else◌, nat_lt, List, [], ◌∷◌, ◌++◌, length, slice_index, All}
 use mathlib.Core.Option.{some}
 use lib.ListN.{get_elem?}
 use Rattle.atomic_table.specs.Table.{State, Step, Me}
+use Rattle.filter_workers.specs.declared.desk.TheConstants.{DESK_SEATS, MAX_NUMBERS}
 use Rattle.filter_workers.specs.declared.view.SeatView.{SeatView}
 
 -- the sum of f over a list
@@ -18,7 +19,7 @@ times k = total (λ x. if x == k then 1 else 0)
 abbrev pub once_below : ℕ → ℕ → ℕ
 once_below n k = if nat_lt k n then 1 else 0
 
--- the room of a seat that was told that no number is left
+-- the room of a seat that has found no number left
 abbrev pub through_room : SeatView → ℕ
 through_room v = if v.through then v.room else 0
 
@@ -30,16 +31,16 @@ pub record IsSeat (len word : ℕ) (v : SeatView) : Type 0 where
   pub empty : v.room ≡ 0 → v.numbers ≡ []
 
 -- The word is the next number. Each number below it and below len stands once on all seats' lists together, and no other
--- stands there. The rooms add up to 64. Where the word is past len, each further step made a seat through.
+-- stands there. The rooms add up to that of a desk. Where the word is past len, each further step made a seat through.
 pub record AreClaims (len word : ℕ) (views : List SeatView) : Type 0 where
   pub once : (k : ℕ) → total (λ v. times k v.numbers) views ≡ once_below (min word len) k
-  pub rooms : total (λ v. v.room) views ≡ 64
+  pub rooms : total (λ v. v.room) views ≡ DESK_SEATS
   pub past : word ≤ len + total through_room views
   pub seats : (id : ℕ) (v : SeatView) → get_elem? views id ≡ some v → IsSeat len word v
 
--- a desk of at most 2^32 numbers has one word
+-- a desk of at most MAX_NUMBERS numbers has one word
 pub record Keeps (len : ℕ) (s : State (Unit {0}) SeatView) : Type 0 where
-  pub small : len ≤ 2 ^ 32
+  pub small : len ≤ MAX_NUMBERS
   pub one_word : length s.words ≡ 1
   pub claims : AreClaims len (slice_index s.words 0) s.views
 
@@ -49,7 +50,7 @@ abbrev pub seat_view : List ℕ → ℕ → Bool → ℕ → SeatView
 seat_view numbers room through len = record { numbers = numbers; room = room; through = through; len = len }
 
 abbrev pub first_view : ℕ → SeatView
-first_view len = seat_view [] 64 false len
+first_view len = seat_view [] DESK_SEATS false len
 
 -- the view of a seat that was joined into another
 abbrev pub spent : SeatView
@@ -68,7 +69,7 @@ Draws step before n after =
 
 -- a load changes no view, and shows that a seat has no more room than there is
 abbrev pub Looks : Step (Unit {0}) → Me (Unit {0}) SeatView → ℕ → Me (Unit {0}) SeatView → Type 0
-Looks step before n after = (after ≡ before) × (before.0.room ≤ 64)
+Looks step before n after = (after ≡ before) × (before.0.room ≤ DESK_SEATS)
 
 abbrev pub keeps_half : SeatView → SeatView
 keeps_half v = seat_view v.numbers (v.room - v.room / 2) v.through v.len

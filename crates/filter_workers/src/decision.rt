@@ -1,10 +1,13 @@
-//! What the filters say of a frame.
-ghost use Rattle.std.specs.Prelude.{◌≡◌, ◌≤◌, length};
-ghost use Rattle.filter_workers.specs.Filters.{accepts_bit, answer_for, decision_by};
+//! Filters on one thread. The rounds on threads run them by the same calls, so both say the same.
+ghost use Rattle.std.specs.Prelude.{◌≡◌, ◌<◌, ◌≤◌, IfErr, IfOk, length};
+ghost use Rattle.afdx_frame.specs.View.{view_bytes};
+ghost use Rattle.bpf_machine.specs.Run.{answer_of};
+ghost use Rattle.filter_workers.specs.Filters.{accepts_bit, decision_by, decisions_by};
 
-use afdx_frame::TapFrame;
+use afdx_frame::{FrameView, TapFrame};
 use bpf_loader::Program;
 use bpf_machine::run;
+use std::alloc::{AllocError, Global};
 
 /// The most filters of a run: a bit of a mask for each.
 pub const MAX_FILTERS: usize = 8;
@@ -18,13 +21,14 @@ pub struct Decision {
     pub answer: u32,
 }
 
-/// The return value of a filter. It stands apart, so that the loop over its instructions has the
-/// registers to itself.
+/// The return value of a filter for a frame: the number of bytes to keep, 0 to reject it. `whole` is
+/// the frame's length on the wire in bytes.
+// It is never inlined, so that the loop over the filter's instructions has the registers to itself.
 #[inline(never)]
-fn answer_for(program: &Program, frame: &TapFrame) -> u32
-    ensures { result ≡ answer_for program.now frame.now }
+pub fn answer_for(program: &Program, view: &FrameView<'_>, whole: u32) -> u32
+    ensures { result ≡ answer_of program.now (view_bytes view.now) whole }
 {
-    let (answer, _steps) = run(program, &frame.view(), frame.whole());
+    let (answer, _steps) = run(program, view, whole);
     answer
 }
 
@@ -36,15 +40,15 @@ fn accepts_bit(answer: u32) -> u32
     if answer == 0 { 0 } else { 1 }
 }
 
-/// Runs each filter on a frame.
-pub fn decide(programs: &[Program], frame: &TapFrame) -> Decision
-    requires { length programs.now ≤ 8 }
+/// Runs each filter on a frame, at most [`MAX_FILTERS`] of them.
+pub fn filter_frame(programs: &[Program], frame: &TapFrame) -> Decision
+    requires { length programs.now ≤ MAX_FILTERS }
     ensures { result ≡ decision_by programs.now frame.now }
 {
     let mut mask = 0u32;
     let mut answer = 0u32;
-    for place in (0..programs.len()).rev() {
-        let one = answer_for(&programs[place], frame);
+    for index in (0..programs.len()).rev() {
+        let one = answer_for(&programs[index], &frame.view(), frame.whole());
         mask = mask * 2 + accepts_bit(one);
         answer = answer.max(one);
     }
@@ -52,4 +56,25 @@ pub fn decide(programs: &[Program], frame: &TapFrame) -> Decision
         mask: mask as u8,
         answer,
     }
+}
+
+/// Runs the filters on each frame, on this thread: the decision at index i is that on frame i.
+///
+/// # Errors
+///
+/// `AllocError` if there is no memory for the decisions. No frames need none.
+pub fn filter_frames(
+    alloc: Global,
+    programs: &[Program],
+    frames: &[TapFrame],
+) -> Result<Vec<Decision>, AllocError>
+    requires { length programs.now ≤ MAX_FILTERS }
+    ensures decisions { IfOk result (λ all. all.items ≡ decisions_by programs.now frames.now) }
+    ensures memory { IfErr result (λ _. 0 < length frames.now) }
+{
+    let mut decisions = Vec::with_capacity(alloc, frames.len())?;
+    for frame in frames {
+        decisions.push(filter_frame(programs, frame))?;
+    }
+    Ok(decisions)
 }

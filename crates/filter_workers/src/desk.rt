@@ -1,4 +1,4 @@
-//! A desk at which threads claim numbers, and their seats at it.
+//! How workers share a round without a lock: a number is claimed by one atomic step.
 ghost use Rattle.std.specs.Prelude.{◌≡◌, ◌≢◌, ◌^◌, ◌<◌, ◌≤◌, IfOk, MatchResult};
 ghost use Rattle.filter_workers.specs.Seats.{Claims, DrewAll, first_half, first_seat, joined_seat, second_half};
 
@@ -8,8 +8,11 @@ use atomic_table::{Seat, Table};
 use std::alloc::{AllocError, Global};
 use std::marker::Model;
 
-/// The room of a desk: its first seat can be split into this many.
-const ROOM: u64 = 64;
+/// The seats of a desk: the first can be split into this many.
+pub const DESK_SEATS: u64 = 64;
+
+/// The most numbers of a desk.
+pub const MAX_NUMBERS: u64 = 1 << 32;
 
 /// Numbers from 0 on, which threads claim, each once. Contracts see which desk it is, and `len`,
 /// how many numbers it has.
@@ -20,19 +23,20 @@ pub struct ClaimDesk {
 }
 
 impl Model for ClaimDesk {
-    ghost use Rattle.std.specs.Prelude.{◌≡◌, ◌^◌, ◌≤◌};
+    ghost use Rattle.std.specs.Prelude.{◌≡◌, ◌≤◌};
     ghost use Rattle.filter_workers.specs.Seats.{DeskId};
+    ghost use Rattle.filter_workers.specs.declared.desk.TheConstants.{MAX_NUMBERS};
 
     ghost Value = { DeskId };
 
     ghost view = { λ d. record { table = d.table.shared.table_id; len = d.len } };
 
     ghost invariant = { λ d. (d.table.shared.key ≡ d.len) × (d.table.shared.table_id.words ≡ 1)
-        × (d.table.shared.table_id.slots ≡ 0) × (d.len ≤ 2 ^ 32) };
+        × (d.table.shared.table_id.slots ≡ 0) × (d.len ≤ MAX_NUMBERS) };
 }
 
-/// A place at a desk, for one thread at a time. Contracts see its desk, the numbers that it drew, its
-/// room, and whether it was told that no number is left.
+/// A seat at a desk, for one thread at a time. Contracts see its desk, the numbers that it drew, its
+/// room, and whether it has found that no number is left.
 #[derive(Drop)]
 pub struct DeskSeat {
     seat: Seat<(), SeatView>,
@@ -58,16 +62,16 @@ impl Model for DeskSeat {
 }
 
 impl ClaimDesk {
-    /// A desk of `len` numbers, at most 2^32, and its one seat.
+    /// A desk of `len` numbers, at most [`MAX_NUMBERS`], and its one seat, whose room is [`DESK_SEATS`].
     pub fn new(alloc: Global, len: u64) -> Result<(ClaimDesk, DeskSeat), AllocError>
-        requires { len ≤ 2 ^ 32 }
+        requires { len ≤ MAX_NUMBERS }
         ensures desk { IfOk result (λ made. made.0.len ≡ len) }
         ensures seat { IfOk result (λ made. made.1 ≡ first_seat made.0) }
     {
         let (table, seat) = Table::of_words(alloc, &[0], &len)?;
         let seat = DeskSeat {
             seat,
-            room: ROOM,
+            room: DESK_SEATS,
             through: false,
         };
         Ok((ClaimDesk { table, len }, seat))
@@ -79,41 +83,15 @@ impl ClaimDesk {
         ensures claim { Claims seat result.0 result.1 }
         ensures desk { result.1.desk ≡ self.now }
     {
-        let DeskSeat {
-            mut seat,
-            room,
-            through,
-        } = seat;
-        if through {
-            return (
-                None,
-                DeskSeat {
-                    seat,
-                    room,
-                    through,
-                },
-            );
+        let mut seat = seat;
+        if !seat.through {
+            let number = self.table.shared.fetch_add::<Draw>(&mut seat.seat, 0, 1);
+            if number < self.len {
+                return (Some(number), seat);
+            }
+            seat.through = true;
         }
-        let number = self.table.shared.fetch_add::<Draw>(&mut seat, 0, 1);
-        if number < self.len {
-            (
-                Some(number),
-                DeskSeat {
-                    seat,
-                    room,
-                    through,
-                },
-            )
-        } else {
-            (
-                None,
-                DeskSeat {
-                    seat,
-                    room,
-                    through: true,
-                },
-            )
-        }
+        (None, seat)
     }
 
     /// Splits a seat in two, each with half of its room; the first keeps the numbers, and the larger
@@ -179,10 +157,10 @@ impl ClaimDesk {
     pub fn close(self, seat: DeskSeat) -> Result<u64, (ClaimDesk, DeskSeat)>
         requires { seat.desk ≡ self }
         ensures { MatchResult result
-            (λ drawn. (seat.room ≡ 64) × DrewAll seat drawn)
-            (λ back. (seat.room ≢ 64) × (back.0 ≡ self) × (back.1 ≡ seat)) }
+            (λ drawn. (seat.room ≡ DESK_SEATS) × DrewAll seat drawn)
+            (λ back. (seat.room ≢ DESK_SEATS) × (back.0 ≡ self) × (back.1 ≡ seat)) }
     {
-        if seat.room != ROOM {
+        if seat.room != DESK_SEATS {
             return Err((self, seat));
         }
         let ClaimDesk { table, len } = self;

@@ -1,4 +1,4 @@
-//! Why a round has no answer.
+//! A round fails only by what the system refuses: memory or a thread.
 ghost use Rattle.std.specs.Prelude.{◌≡◌};
 
 use std::alloc::AllocError;

@@ -14,8 +14,8 @@
 //! Which worker takes which frame is settled at a [`ClaimDesk`]: it has the numbers from 0 to a length,
 //! and a [`DeskSeat`] for each worker. A claim is one atomic step and never waits. However the threads
 //! run, each number is drawn once: a seat draws rising numbers, and the one seat that is left when all
-//! are joined has drawn the numbers below some n in some order, all of them where it was told that
-//! none is left.
+//! are joined has drawn the numbers below some n in some order, all of them where it has found
+//! none left.
 //!
 //! ```
 //! let (desk, seat) = ClaimDesk::new(alloc, 2)?;
@@ -37,8 +37,8 @@ mod rule;
 mod view;
 mod worker;
 
-pub use decision::{Decision, MAX_FILTERS, decide};
-pub use desk::{ClaimDesk, DeskSeat};
+pub use decision::{Decision, MAX_FILTERS, answer_for, filter_frame, filter_frames};
+pub use desk::{ClaimDesk, DESK_SEATS, DeskSeat, MAX_NUMBERS};
 pub use fault::RoundFault;
 pub use gate::RunGate;
 pub use round::{MAX_WORKERS, filter_round};

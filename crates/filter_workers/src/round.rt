@@ -1,14 +1,16 @@
-//! A round of frames, filtered by some threads.
+//! A round on threads. It ends with every worker joined, so no thread reads a frame after it.
 ghost use Rattle.std.specs.Prelude.{◌≡◌, ◌^◌, ◌<◌, ◌≤◌, IfErr, IfOk, IfSome, IsSome, length, max, min, All};
-ghost use Rattle.filter_workers.specs.Batches.{CanShare, IsBatch, placed};
+ghost use Rattle.filter_workers.specs.Batches.{CanShare, IsBatch, scattered};
 ghost use Rattle.filter_workers.specs.Filters.{decisions_by};
+ghost use Rattle.filter_workers.specs.declared.decision.TheConstants.{MAX_FILTERS};
+ghost use Rattle.filter_workers.specs.declared.desk.TheConstants.{MAX_NUMBERS};
 ghost use Rattle.filter_workers.specs.declared.fault.RoundFault.TheVariants.{Spawn};
 
 use crate::decision::Decision;
 use crate::desk::{ClaimDesk, DeskSeat};
 use crate::fault::RoundFault;
 use crate::gate::RunGate;
-use crate::worker::{Batch, Lent, Numbered};
+use crate::worker::{Batch, BorrowedRound, Numbered};
 use afdx_frame::TapFrame;
 use bpf_loader::Program;
 use std::alloc::Global;
@@ -40,7 +42,7 @@ fn share<'s, E, R: Threads + Sync, G: RunGate + Sync>(
     scope: &'s Scope<'s, E>,
     rt: &'s R,
     alloc: Global,
-    round: &'s Lent<'s, G>,
+    round: &'s BorrowedRound<'s, G>,
     seat: DeskSeat,
     worker: u32,
     count: u32,
@@ -86,7 +88,7 @@ fn share<'s, E, R: Threads + Sync, G: RunGate + Sync>(
 fn run_workers<R: Threads + Wait + Sync, G: RunGate + Sync>(
     rt: &R,
     alloc: Global,
-    round: &Lent<'_, G>,
+    round: &BorrowedRound<'_, G>,
     seat: DeskSeat,
     count: u32,
 ) -> Result<Batch, RoundFault>
@@ -111,10 +113,10 @@ fn run_workers<R: Threads + Wait + Sync, G: RunGate + Sync>(
     )
 }
 
-/// Puts each decision at the place of its number.
-fn place(decisions: &mut [Decision], numbered: &[Numbered])
+/// Puts each decision at the index that is its number.
+fn scatter(decisions: &mut [Decision], numbered: &[Numbered])
     requires { All (λ d. d.number < length decisions.old) numbered.now }
-    ensures { decisions.new ≡ placed decisions.old numbered.now }
+    ensures { decisions.new ≡ scattered decisions.old numbered.now }
 {
     for one in numbered {
         decisions[one.number as usize] = one.decision;
@@ -128,13 +130,13 @@ fn worker_count(workers: u32, frames: usize) -> u32
     (workers as usize).min(frames).max(1) as u32
 }
 
-/// Runs up to eight filters on each frame of a round, by so many workers, of which worker 0 is the
-/// caller and each other a thread that is started for the round. A worker claims frames at a desk
-/// until none is left; before the filters run on a frame the gate is told. No more workers run than
-/// there are frames, and of an empty round the gate isn't told. Each worker reads the borrowed frames
-/// where they are, and has ended when the call returns.
+/// Runs 1 to [`MAX_FILTERS`](crate::MAX_FILTERS) filters on each frame of a round, by 1 to
+/// [`MAX_WORKERS`] workers, of which worker 0 is the caller and each other a thread that is started for
+/// the round. A worker claims frames at a desk until none is left; before the filters run on a frame
+/// the gate is called. No more workers run than there are frames, and for an empty round the gate isn't
+/// called. Each worker reads the borrowed frames where they are, and has ended when the call returns.
 ///
-/// At place i of the result stands what the filters say of frame i.
+/// The decision at index i is that on frame i.
 pub fn filter_round<R: Threads + Wait + Sync, G: RunGate + Sync>(
     rt: &R,
     alloc: Global,
@@ -143,9 +145,9 @@ pub fn filter_round<R: Threads + Wait + Sync, G: RunGate + Sync>(
     workers: u32,
     gate: &G,
 ) -> Result<Vec<Decision>, RoundFault>
-    requires workers { (1 ≤ workers) × (workers ≤ 8) }
-    requires programs { (1 ≤ length programs.now) × (length programs.now ≤ 8) }
-    requires frames { length frames.now ≤ 2 ^ 32 }
+    requires workers { (1 ≤ workers) × (workers ≤ MAX_WORKERS) }
+    requires programs { (1 ≤ length programs.now) × (length programs.now ≤ MAX_FILTERS) }
+    requires frames { length frames.now ≤ MAX_NUMBERS }
     ensures decisions { IfOk result (λ all. all.items ≡ decisions_by programs.now frames.now) }
     ensures fault { IfErr result (λ fault. (0 < length frames.now)
         × (fault ≡ Spawn → (1 < workers) × (1 < length frames.now))) }
@@ -156,7 +158,7 @@ pub fn filter_round<R: Threads + Wait + Sync, G: RunGate + Sync>(
     let nothing = Decision { mask: 0, answer: 0 };
     let mut decisions = vec![in alloc; nothing; frames.len()]?;
     let (desk, seat) = ClaimDesk::new(alloc, frames.len() as u64)?;
-    let round = Lent {
+    let round = BorrowedRound {
         desk: &desk,
         programs,
         frames,
@@ -171,6 +173,6 @@ pub fn filter_round<R: Threads + Wait + Sync, G: RunGate + Sync>(
     let Ok(_drawn) = desk.close(seat) else {
         unreachable!()
     };
-    place(&mut decisions, &numbered);
+    scatter(&mut decisions, &numbered);
     Ok(decisions)
 }

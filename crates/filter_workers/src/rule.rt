@@ -1,4 +1,5 @@
-//! The rule of a desk's table, and the names of its steps.
+//! What any two steps of threads at a desk keep. The proofs need the names of the steps; they do nothing
+//! when they run.
 ghost use Rattle.filter_workers.specs.Claims.{Draws, Looks, first_view, joined, keeps_half, Keeps, other_half, spent};
 
 use crate::view::SeatView;

@@ -1,8 +1,9 @@
-//! One worker's part of a round.
+//! What a thread of a round does and hands back. It needs no thread itself, so it is proved as any call.
 ghost use Rattle.std.specs.Prelude.{◌≡◌, ◌+◌, ◌<◌, ◌≤◌, IfOk, [], length};
 ghost use Rattle.filter_workers.specs.Filters.{decisions_by};
+ghost use Rattle.filter_workers.specs.declared.decision.TheConstants.{MAX_FILTERS};
 
-use crate::decision::{Decision, decide};
+use crate::decision::{Decision, filter_frame};
 use crate::desk::{ClaimDesk, DeskSeat};
 use crate::gate::RunGate;
 use afdx_frame::TapFrame;
@@ -23,16 +24,16 @@ pub(crate) struct Batch {
     pub(crate) decisions: Vec<Numbered>,
 }
 
-/// A round that is lent to its workers.
+/// A round, as its workers borrow it.
 #[derive(Drop)]
-pub(crate) struct Lent<'a, G> {
+pub(crate) struct BorrowedRound<'a, G> {
     pub(crate) desk: &'a ClaimDesk,
     pub(crate) programs: &'a [Program],
     pub(crate) frames: &'a [TapFrame],
     pub(crate) gate: &'a G,
 }
 
-impl<'a, G: RunGate> Lent<'a, G> {
+impl<'a, G: RunGate> BorrowedRound<'a, G> {
     ghost use Rattle.filter_workers.specs.Batches.{IsBatch};
 
     /// Claims frames until none is left, and runs the filters on each.
@@ -44,7 +45,7 @@ impl<'a, G: RunGate> Lent<'a, G> {
     ) -> Result<Batch, AllocError>
         requires desk { seat.desk ≡ self.now.desk.now }
         requires size { self.now.desk.now.len ≡ length self.now.frames.now }
-        requires few { length self.now.programs.now ≤ 8 }
+        requires few { length self.now.programs.now ≤ MAX_FILTERS }
         requires fresh { seat.numbers ≡ [] }
         ensures { IfOk result (IsBatch seat.desk seat.room
             (decisions_by self.now.programs.now self.now.frames.now)) }
@@ -58,7 +59,7 @@ impl<'a, G: RunGate> Lent<'a, G> {
                 break;
             };
             self.gate.run(worker, number);
-            let decision = decide(self.programs, &self.frames[number as usize]);
+            let decision = filter_frame(self.programs, &self.frames[number as usize]);
             decisions.push(Numbered { number, decision })?;
         }
         Ok(Batch { seat, decisions })

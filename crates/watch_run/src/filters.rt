@@ -5,7 +5,7 @@ ghost use Rattle.watch_run.specs.Filters.{keep_by, keep_of};
 
 use afdx_frame::TapFrame;
 use bpf_loader::Program;
-use filter_workers::{Decision, decide};
+use filter_workers::{Decision, filter_frame};
 use std::alloc::{AllocError, Global};
 
 /// How many bytes are kept of a frame, by the greatest return value. None: it is rejected.
@@ -31,7 +31,7 @@ pub fn filter_round(
     let mut keeps = Vec::with_capacity(alloc, round.len())?;
     let mut masks = Vec::with_capacity(alloc, round.len())?;
     for frame in round {
-        let Decision { mask, answer } = decide(programs, frame);
+        let Decision { mask, answer } = filter_frame(programs, frame);
         keeps.push(keep_of(answer, frame))?;
         masks.push(mask)?;
     }

@@ -1,4 +1,4 @@
-//! The faults of a text in the numeric form.
+//! Each fault carries a byte offset, so that a message can point into the text.
 
 ghost use Rattle.std.specs.Prelude.{◌≡◌};
 ghost use Rattle.bpf_isa.specs.declared.numeric.fault.NumericFault.TheVariants.{Memory};

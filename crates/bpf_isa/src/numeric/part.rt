@@ -1,4 +1,4 @@
-//! Cuts the text into items, and items into numbers.
+//! The lexer of the numeric form. Each piece keeps its byte offset, which the faults name.
 
 ghost use Rattle.std.specs.Prelude.{◌≡◌, ◌+◌, ◌^◌, ◌<◌, ◌≤◌, ℕ, [], ◌∷◌, take, drop, length};
 ghost use Rattle.std.specs.Prelude.{MatchOption, IfSome};

@@ -1,11 +1,11 @@
-//! Reads the numeric form.
+//! From text to instructions. The count comes first, so that one allocation of a known size serves.
 
 ghost use Rattle.std.specs.Prelude.{◌≡◌, ◌<◌, ◌≤◌, ℕ, List, [], ◌∷◌, Err, position, not};
 ghost use Rattle.std.specs.Prelude.{IfOk, MatchOption};
 ghost use Rattle.bpf_isa.specs.declared.numeric.fault.NumericFault.TheVariants.{Form, Memory};
-ghost use Rattle.bpf_isa.specs.Machine.{max_insns};
+ghost use Rattle.bpf_isa.specs.declared.state.TheConstants.{MAX_INSNS};
 ghost use Rattle.bpf_isa.specs.Numeric.{Gives, is_allowed, numbers_in, items_in, number_of};
-ghost use Rattle.bpf_isa.specs.Numeric.{count_of, word_of, counted_words, numeric_of, HasCount};
+ghost use Rattle.bpf_isa.specs.Numeric.{count_of, packed_of, counted_insns, numeric_of, HasCount};
 
 use crate::numeric::fault::NumericFault;
 use crate::numeric::part::{Item, Part, is_allowed};
@@ -34,7 +34,7 @@ fn read_number(digits: Part<'_>, most: u32) -> Result<u32, NumericFault>
 fn read_count(item: Item<'_>) -> Result<usize, NumericFault>
     ensures value { result ≡ count_of (item.entry.first.at, item.entry.first.bytes.now)
         (numbers_in item.entry.others.at item.entry.others.bytes.now) }
-    ensures bounded { IfOk result (λ n. n ≤ max_insns) }
+    ensures bounded { IfOk result (λ n. n ≤ MAX_INSNS) }
 {
     let at = item.first.at;
     if item.others.next_number().is_some() {
@@ -48,10 +48,10 @@ fn read_count(item: Item<'_>) -> Result<usize, NumericFault>
 }
 
 /// The three numbers after an item's first, if there are exactly three.
-#[tactic(auto, unfolding(crate::specs::Numeric::word_of))]
+#[tactic(auto, unfolding(crate::specs::Numeric::packed_of))]
 fn last_three(others: Part<'_>) -> Option<(Part<'_>, Part<'_>, Part<'_>)>
     ensures { MatchOption result
-        ((code : ℕ × List ℕ) → word_of code (numbers_in others.entry.at others.entry.bytes.now)
+        ((code : ℕ × List ℕ) → packed_of code (numbers_in others.entry.at others.entry.bytes.now)
         ≡ Err (Form code.0))
         (λ x. numbers_in others.entry.at others.entry.bytes.now
         ≡ (x.0.at, x.0.bytes.now) ∷ (x.1.at, x.1.bytes.now) ∷ (x.2.at, x.2.bytes.now) ∷ []) }
@@ -65,9 +65,9 @@ fn last_three(others: Part<'_>) -> Option<(Part<'_>, Part<'_>, Part<'_>)>
     }
 }
 
-#[tactic(auto, unfolding(crate::specs::Numeric::word_of))]
-fn read_word(item: Item<'_>) -> Result<Packed, NumericFault>
-    ensures { result ≡ word_of (item.entry.first.at, item.entry.first.bytes.now)
+#[tactic(auto, unfolding(crate::specs::Numeric::packed_of))]
+fn read_insn(item: Item<'_>) -> Result<Packed, NumericFault>
+    ensures { result ≡ packed_of (item.entry.first.at, item.entry.first.bytes.now)
         (numbers_in item.entry.others.at item.entry.others.bytes.now) }
 {
     let Some((jt, jf, k)) = last_three(item.others) else {
@@ -87,32 +87,32 @@ fn read_word(item: Item<'_>) -> Result<Packed, NumericFault>
 
 /// The instructions of a text of `end` bytes that claims `count` of them. The allocation follows
 /// the count and not the text: surplus items are checked and not kept.
-fn read_words(
+fn read_insns(
     alloc: Global,
     count: usize,
     end: usize,
     text: Part<'_>,
 ) -> Result<Vec<Packed>, NumericFault>
     ensures exact { Gives (λ v. v.items) result
-        (counted_words end count (items_in text.entry.at text.entry.bytes.now)) }
+        (counted_insns end count (items_in text.entry.at text.entry.bytes.now)) }
     ensures memory { result ≡ Err Memory → 0 < count }
 {
-    let mut words = Vec::with_capacity(alloc, count)?;
+    let mut insns = Vec::with_capacity(alloc, count)?;
     let mut surplus = false;
     let mut rest = text;
     while let Some((item, after)) = rest.next_item() {
-        let word = read_word(item)?;
-        if words.len() < count {
-            words.push(word)?;
+        let insn = read_insn(item)?;
+        if insns.len() < count {
+            insns.push(insn)?;
         } else {
             surplus = true;
         }
         rest = after;
     }
-    if surplus || words.len() < count {
+    if surplus || insns.len() < count {
         return Err(NumericFault::Count { at: end });
     }
-    Ok(words)
+    Ok(insns)
 }
 
 /// The offset of the first byte that the form doesn't have.
@@ -142,5 +142,5 @@ pub fn read_numeric(alloc: Global, text: &str) -> Result<Vec<Packed>, NumericFau
         return Err(NumericFault::Form { at: bytes.len() });
     };
     let count = read_count(first)?;
-    read_words(alloc, count, bytes.len(), rest)
+    read_insns(alloc, count, bytes.len(), rest)
 }

@@ -96,6 +96,6 @@ fn canonical_form(rt: HostRuntime) -> Result<(), Fail> {
     };
     assert_eq!(rt; program.len(), 1);
     assert_eq!(rt; program.at(0), loaded);
-    assert_eq!(rt; program.words(), [loaded].as_slice());
+    assert_eq!(rt; program.insns(), [loaded].as_slice());
     Ok(())
 }

@@ -404,7 +404,7 @@ fn operands(rt: HostRuntime) {
 }
 
 #[test]
-fn canonical_words(rt: HostRuntime) {
+fn canonical_forms(rt: HostRuntime) {
     // ret #7
     assert_eq!(rt; canonical(word(6, 9, 9, 7)), word(6, 0, 0, 7));
     // codes that aren't listed

@@ -10,16 +10,16 @@ loop-at-preserved c = elim c.match-insn_of.branch [
   | in-Some+in_ok-push_line w ↦
       subst (λ text. Listed c.args.program.now (c.loop-at.at + 1) (string_bytes text)) (sym w.text-is)
       (subst (Listed c.args.program.now (c.loop-at.at + 1)) (sym w.in_ok-push_line.ensures)
-      (listed_next c.args.program.now c.words-word-items.result.now c.loop-at.at _ w.in-Some.insn (string_bytes c.loop-at.text)
-      c.words-word-items.ensures.value c.words-word-items.ensures.loaded c.loop-at-test.true w.in-Some.ensures.found w.in-Some.ensures.fits c.loop-at.invariant))
-  | in_default w ↦ absurd (always_listed c.args.program.now c.words-word-items.result.now c.loop-at.at _
-      c.words-word-items.ensures.value c.words-word-items.ensures.loaded c.loop-at-test.true w.in_default.ensures.unlisted)
+      (listed_next c.args.program.now c.insns-packed-items.result.now c.loop-at.at _ w.in-Some.insn (string_bytes c.loop-at.text)
+      c.insns-packed-items.ensures.value c.insns-packed-items.ensures.loaded c.loop-at-test.true w.in-Some.ensures.found w.in-Some.ensures.fits c.loop-at.invariant))
+  | in_default w ↦ absurd (always_listed c.args.program.now c.insns-packed-items.result.now c.loop-at.at _
+      c.insns-packed-items.ensures.value c.insns-packed-items.ensures.loaded c.loop-at-test.true w.in_default.ensures.unlisted)
 ]
 
 -- src/lister.rt:210:1
 pub returns-clause-source : goal.returns-clause-source
 returns-clause-source c =
-    let same : length c.words-word-items.result.now ≡ length c.args.program.now = ap length c.words-word-items.ensures.value in
+    let same : length c.insns-packed-items.result.now ≡ length c.args.program.now = ap length c.insns-packed-items.ensures.value in
     let end : c.loop-at.at ≡ length c.args.program.now = grind (arith, same, c.loop-at.auto.at-end, c.loop-at-test.false) in
-    all_source c.args.program.now (string_bytes c.loop-at.text) c.words-word-items.ensures.loaded
+    all_source c.args.program.now (string_bytes c.loop-at.text) c.insns-packed-items.ensures.loaded
     (subst (λ n. Listed c.args.program.now n (string_bytes c.loop-at.text)) end c.loop-at.invariant)

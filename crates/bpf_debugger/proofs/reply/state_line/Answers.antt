@@ -8,6 +8,6 @@ use Rattle.bpf_debugger.proofs.reply.state_line.Goals as goal
 pub returns : goal.returns
 returns c =
     let scratch = c.args.state.now.scratch in
-    let whole : take c.loop-word.word-index scratch ≡ scratch = take_all c.loop-word.word-index scratch (omega (arith, c.loop-word-test.false, c.fits-state)) in
-    let slots : string_bytes c.loop-word.text ≡ string_bytes c.in_ok-text.text ++ flat_map slot_text scratch = rw whole at c.loop-word.invariant in
+    let whole : take c.loop-slot.slot-index scratch ≡ scratch = take_all c.loop-slot.slot-index scratch (omega (arith, c.loop-slot-test.false, c.fits-state)) in
+    let slots : string_bytes c.loop-slot.text ≡ string_bytes c.in_ok-text.text ++ flat_map slot_text scratch = rw whole at c.loop-slot.invariant in
     rw (c.in_ok-push_str.ensures.bytes, slots, c.in_ok-text.ensures.ok) (simp append_assoc)

@@ -4,5 +4,5 @@ use Rattle.std.specs.String.{string_bytes}
 use Rattle.bpf_debugger.specs.Texts.{slot_text}
 use Rattle.bpf_debugger.proofs.reply.state_line.Given as goal
 
-abbrev pub invariant-loop-word : goal.invariant-loop-word
-invariant-loop-word l = string_bytes l.text ≡ string_bytes l.initial.text ++ flat_map slot_text (take l.word-index l.scratch)
+abbrev pub invariant-loop-slot : goal.invariant-loop-slot
+invariant-loop-slot l = string_bytes l.text ≡ string_bytes l.initial.text ++ flat_map slot_text (take l.slot-index l.scratch)

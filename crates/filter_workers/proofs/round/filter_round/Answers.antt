@@ -4,8 +4,8 @@ use Rattle.filter_workers.specs.declared.decision.Decision.{Decision}
 use Rattle.filter_workers.specs.declared.worker.Numbered.{Numbered}
 use Rattle.filter_workers.specs.Seats.{SeatState, DrewAll}
 use Rattle.filter_workers.specs.Filters.{decision_by, decisions_by}
-use Rattle.filter_workers.specs.Batches.{IsBatch, placed}
-use Rattle.filter_workers.proofs.Placing.{restored, whole_round}
+use Rattle.filter_workers.specs.Batches.{IsBatch, scattered}
+use Rattle.filter_workers.proofs.Scattering.{restored, whole_round}
 use Rattle.filter_workers.proofs.round.filter_round.Goals as goal
 
 -- src/round.rt:134:1
@@ -24,8 +24,8 @@ returns-clause-decisions g c =
     ap (λ (s : SeatState). s.desk.len) c.in_ok-desk.ensures.seat ∙ (c.in_ok-desk.ensures.desk ∙ sym many) in
     let room : length old ≡ c.in_ok-decisions.decisions.len = c.deref_mut.ensures.len in
     let same : length old ≡ length all = room ∙ (c.in_ok-decisions.ensures.len ∙ sym many) in
-    let is : c.place.new.decisions ≡ all =
-    c.place.ensures ∙ (ap (λ (ds : List Numbered). placed old ds) c.deref.ensures.value
+    let is : c.scatter.new.decisions ≡ all =
+    c.scatter.ensures ∙ (ap (λ (ds : List Numbered). scattered old ds) c.deref.ensures.value
     ∙ whole_round seat.desk seat.room c.in-Ok._drawn all old b batch drew size same) in
-    restored c.place.new.decisions _ c.in_ok-decisions.decisions.len
+    restored c.scatter.new.decisions _ c.in_ok-decisions.decisions.len
     (ap (λ (ds : List Decision). length ds) is ∙ (many ∙ sym c.in_ok-decisions.ensures.len)) ∙ is

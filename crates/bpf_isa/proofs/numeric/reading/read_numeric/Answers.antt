@@ -39,7 +39,7 @@ returns-clause-exact c =
     let first : Item = ((found.first.first.at, found.first.first.bytes.now), numbers_in found.first.others.at found.first.others.bytes.now) in
     let others = items_in found.rest.at found.rest.bytes.now in
     let begins : Begins text first others = record { known = c.in_default.ensures; items = found.ensures.items } in
-    rw (← c.as_bytes-bytes.ensures.value, words_are text first others c.in_ok-count.count begins c.in_ok-count.ensures.value) c.read_words.ensures.exact
+    rw (← c.as_bytes-bytes.ensures.value, words_are text first others c.in_ok-count.count begins c.in_ok-count.ensures.value) c.read_insns.ensures.exact
 
 pub returns-clause-memory : goal.returns-clause-memory
 returns-clause-memory c =
@@ -48,4 +48,4 @@ returns-clause-memory c =
     let first : Item = ((found.first.first.at, found.first.first.bytes.now), numbers_in found.first.others.at found.first.others.bytes.now) in
     let others = items_in found.rest.at found.rest.bytes.now in
     let begins : Begins text first others = record { known = c.in_default.ensures; items = found.ensures.items } in
-    λ e. rw (← c.as_bytes-bytes.ensures.value) (has_count text first others c.in_ok-count.count begins c.in_ok-count.ensures.value (c.read_words.ensures.memory e))
+    λ e. rw (← c.as_bytes-bytes.ensures.value) (has_count text first others c.in_ok-count.count begins c.in_ok-count.ensures.value (c.read_insns.ensures.memory e))
