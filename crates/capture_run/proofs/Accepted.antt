@@ -11,7 +11,8 @@ use Rattle.pcap_io.specs.declared.layout.Layout.{Layout}
 use Rattle.pcap_io.specs.declared.layout.Precision.{Precision}
 use Rattle.pcap_io.specs.declared.layout.Precision.TheVariants.{Nanoseconds, Microseconds}
 use Rattle.pcap_io.proofs.Captures.{whole_capture}
-use Rattle.capture_run.specs.Capture.{accepted, answer_for, capture_text, kept_len, records_of}
+use Rattle.filter_workers.specs.Filters.{answer_for}
+use Rattle.capture_run.specs.Capture.{accepted, capture_text, kept_len, records_of}
 use Rattle.capture_run.specs.Laws.{CaptureGivesAccepted}
 
 which : (b : Bool) → (b ≡ true) ⊎ (b ≡ false)

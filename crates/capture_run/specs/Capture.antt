@@ -6,7 +6,7 @@ use Rattle.afdx_frame.specs.declared.bounds.TheConstants.{MAX_SNAPLEN}
 use Rattle.afdx_frame.specs.declared.key.Network.{Network}
 use Rattle.afdx_frame.specs.declared.key.Network.TheVariants as networks
 use Rattle.bpf_isa.specs.declared.packed.Packed.{Packed}
-use Rattle.bpf_machine.specs.Run.{answer_of}
+use Rattle.filter_workers.specs.Filters.{answer_for}
 use Rattle.pcap_io.specs.Capture.{capture_header, record_text}
 use Rattle.pcap_io.specs.Device.{AppendsPrefix, CountsFailure, TakesAtMost, TakesFewer}
 use Rattle.pcap_io.specs.Layout.{header_of}
@@ -22,10 +22,6 @@ use Rattle.run_outcome.specs.declared.fault.WatchFault.{WatchFault}
 use Rattle.run_outcome.specs.declared.fault.WatchFault.TheVariants as watch
 use Rattle.run_outcome.specs.Recording.{LeavesUnread, IsRecording}
 use Rattle.run_outcome.specs.Device.{SourceMembers, SinkMembers}
-
--- the filter's return value for a frame
-abbrev pub answer_for : List Packed → Frame → ℕ
-answer_for p f = answer_of p f.bytes f.whole
 
 -- how many bytes are kept of an accepted frame
 abbrev pub kept_len : List Packed → Frame → ℕ

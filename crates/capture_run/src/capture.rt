@@ -6,29 +6,19 @@ ghost use Rattle.pcap_io.specs.Device.{Writes};
 ghost use Rattle.pcap_io.specs.Reader.{position_of, reading_of, unread_of};
 ghost use Rattle.pcap_io.specs.Writer.{sink_of, has_failed};
 ghost use Rattle.pcap_io.specs.declared.recording.Stage.TheVariants.{Going};
-ghost use Rattle.capture_run.specs.Capture.{answer_for, record_of, devices_of, IsCaptured, IsAborted};
+ghost use Rattle.capture_run.specs.Capture.{record_of, devices_of, IsCaptured, IsAborted};
 ghost use Rattle.run_outcome.specs.Fault.{open_fault};
 ghost use Rattle.capture_run.specs.Copy.{IsCopied, StopsCopy, copying_of};
 
 use afdx_frame::{LentFrame, Network};
 use bpf_loader::Program;
-use bpf_machine::run;
+use filter_workers::answer_for;
 use pcap_io::{
     CaptureWriter, Ending, Found, OpenFault, OpenRefused, OutSink, ReadFault, TapReader, TapSource,
     WriteFault,
 };
 use run_outcome::{CAPTURE_FAILED, MAX_FRAMES, Output, WatchFault, WatchRefused, fault_of_open};
 use std::alloc::Global;
-
-/// The filter's return value for a frame. It stands apart, so that the loop over its instructions has
-/// the registers to itself.
-#[inline(never)]
-fn answer_for(program: &Program, frame: &LentFrame<'_>) -> u32
-    ensures { result ≡ answer_for program.now (frame_of_lent frame.now) }
-{
-    let (answer, _steps) = run(program, &frame.view(), frame.whole());
-    answer
-}
 
 /// Writes the frame's packet, if the filter accepts the frame.
 #[inline]
@@ -45,7 +35,7 @@ fn write_accepted<W: OutSink>(
     ensures going { OnOk result (has_failed writer.new ≡ false) }
     ensures fault { IfErr result (λ fault. fault ≡ WatchFault.Write Output.Capture) }
 {
-    let answer = answer_for(program, frame);
+    let answer = answer_for(program, &frame.view(), frame.whole());
     if answer == 0 {
         return Ok(());
     }
