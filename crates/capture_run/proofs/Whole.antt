@@ -15,35 +15,38 @@ use Rattle.pcap_io.specs.declared.layout.TheConstants.{FILE_HEADER_LEN}
 use Rattle.pcap_io.specs.declared.position.Position.{Position}
 use Rattle.pcap_io.specs.declared.recording.Ending.{Ending}
 use Rattle.pcap_io.proofs.Parse.{reads_to_end}
-use Rattle.run_outcome.specs.Recording.{IsRecording, LeavesUnread}
-use Rattle.capture_run.specs.Capture.{Devices, HasRead, IsAborted, IsCaptured, capture_text, record_of}
+use Rattle.run_outcome.specs.Recording.{HasReadTap, LeavesUnread, most_frames}
+use Rattle.run_outcome.specs.Device.{Devices}
+use Rattle.capture_run.specs.Capture.{IsAborted, IsCaptured, capture_text, record_of}
 use Rattle.capture_run.specs.Copy.{Copying, IsCopied, StopsCopy}
 use Rattle.run_outcome.specs.declared.fault.Output.TheVariants as output
 use Rattle.run_outcome.specs.declared.fault.WatchFault.{WatchFault}
 use Rattle.run_outcome.specs.declared.fault.WatchFault.TheVariants as watch
 use Rattle.capture_run.proofs.Copying.{written_after, written_within}
-use Rattle.run_outcome.proofs.Recording.{complete}
+use Rattle.run_outcome.proofs.Recording.{complete, read_within}
 
 -- Between `old` and `new` a copy was made: before it the reader was opened and the file header written, and after it both devices were
 -- given back.
 pub record Brackets (before after : Devices) (old new : Copying) : Type 0 where
   pub start : old.reading.position ≡ start_at networks.A old.reading.position.layout (2 ^ 32) 0
-  pub opens : Opens before.remaining old.reading.remaining old.reading.position.layout
-  pub header : Appends before.contents old.contents capture_header
-  pub source_before : old.reading.failures ≡ before.source_failures
-  pub sink_before : old.failures ≡ before.sink_failures
-  pub unread : LeavesUnread new.unread new.reading.remaining after.remaining
-  pub contents : after.contents ≡ new.contents
-  pub source_after : after.source_failures ≡ new.reading.failures
-  pub sink_after : after.sink_failures ≡ new.failures
+  pub opens : Opens before.source.remaining old.reading.remaining old.reading.position.layout
+  pub header : Appends before.sink.contents old.contents capture_header
+  pub source_before : old.reading.failures ≡ before.source.failures
+  pub sink_before : old.failures ≡ before.sink.failures
+  pub unread : LeavesUnread new.unread new.reading.remaining after.source.remaining
+  pub contents : after.sink.contents ≡ new.contents
+  pub source_after : after.source.failures ≡ new.reading.failures
+  pub sink_after : after.sink.failures ≡ new.failures
 
 has_read : (before after : Devices) (old new : Copying) (frames : List Frame) (position : Position) (left : Option (List ℕ)) → Brackets before after old new
-    → Reads old.reading.position old.reading.remaining frames position left → HasRead before.remaining frames position left
+    → Reads old.reading.position old.reading.remaining frames position left → HasReadTap networks.A 0 before.source.remaining frames position left
 has_read before after old new frames position left b reads = record {
   layout = old.reading.position.layout;
   opened = old.reading.remaining;
   opens = b.opens;
   reads = subst (λ (x : Position). Reads x old.reading.remaining frames position left) b.start reads;
+  bounded = read_within (start_at networks.A old.reading.position.layout most_frames 0) position old.reading.remaining left frames
+      (subst (λ (x : Position). Reads x old.reading.remaining frames position left) b.start reads) (omega arith);
 }
 
 pub captured : (p : List Packed) (ending : Ending) (before after : Devices) (old new : Copying) → Brackets before after old new → IsCopied p ending old new
@@ -56,13 +59,13 @@ captured p ending before after old new b c =
       left = c.left;
       rest = new.reading.remaining;
       read = read;
-      complete = complete networks.A 0 before.remaining read.opened c.left read.layout c.frames c.position ending read.opens read.reads c.ends;
+      complete = complete networks.A 0 before.source.remaining read.opened c.left read.layout c.frames c.position ending read.opens read.reads c.ends;
       taken = c.taken;
       gone = c.gone;
       ahead = new.unread;
       unread = b.unread;
-      written = subst (λ (x : Option (List ℕ)). Appends before.contents x (capture_text p c.frames)) (sym b.contents)
-          (written_after p before.contents old.contents new.contents c.frames b.header c.copied.written);
+      written = subst (λ (x : Option (List ℕ)). Appends before.sink.contents x (capture_text p c.frames)) (sym b.contents)
+          (written_after p before.sink.contents old.contents new.contents c.frames b.header c.copied.written);
       no_failure = record { source = b.source_after ∙ c.source ∙ b.source_before; sink = b.sink_after ∙ c.sink ∙ b.sink_before };
     }
 
@@ -83,8 +86,8 @@ aborted p (watch.Read networks.A) before after old new b h = inr (record {
   ahead = new.unread;
   unread = b.unread;
   lacks = h.lacks;
-  written = subst (λ (x : Option (List ℕ)). Appends before.contents x (capture_text p h.frames)) (sym b.contents)
-      (written_after p before.contents old.contents new.contents h.frames b.header h.copied.written);
+  written = subst (λ (x : Option (List ℕ)). Appends before.sink.contents x (capture_text p h.frames)) (sym b.contents)
+      (written_after p before.sink.contents old.contents new.contents h.frames b.header h.copied.written);
   source = counted _ _ _ _ b.source_before b.source_after h.source;
   sink = b.sink_after ∙ h.sink ∙ b.sink_before;
 })
@@ -99,8 +102,8 @@ aborted p (watch.Write output.Capture) before after old new b h = inr (record {
   read = has_read before after old new (h.frames ++ h.frame ∷ []) h.position new.reading.remaining b h.reads;
   ahead = new.unread;
   unread = b.unread;
-  written = subst (λ (x : Option (List ℕ)). Appends before.contents x (capture_text p h.frames ++ take h.count (record_of p h.frame))) (sym b.contents)
-      (written_within p before.contents old.contents new.contents h.frames (take h.count (record_of p h.frame)) b.header h.written);
+  written = subst (λ (x : Option (List ℕ)). Appends before.sink.contents x (capture_text p h.frames ++ take h.count (record_of p h.frame))) (sym b.contents)
+      (written_within p before.sink.contents old.contents new.contents h.frames (take h.count (record_of p h.frame)) b.header h.written);
   source = b.source_after ∙ h.source ∙ b.source_before;
   sink = counted _ _ _ _ b.sink_before b.sink_after h.sink;
 })
@@ -117,8 +120,8 @@ aborted p watch.Memory before after old new b h = record {
   unread = b.unread;
   lacks = h.lacks;
   out_of_memory = h.out_of_memory;
-  written = subst (λ (x : Option (List ℕ)). Appends before.contents x (capture_text p h.frames)) (sym b.contents)
-      (written_after p before.contents old.contents new.contents h.frames b.header h.copied.written);
+  written = subst (λ (x : Option (List ℕ)). Appends before.sink.contents x (capture_text p h.frames)) (sym b.contents)
+      (written_after p before.sink.contents old.contents new.contents h.frames b.header h.copied.written);
   no_failure = record { source = b.source_after ∙ h.source ∙ b.source_before; sink = b.sink_after ∙ h.sink ∙ b.sink_before };
 }
 aborted p watch.Filters before after old new b h = absurd h

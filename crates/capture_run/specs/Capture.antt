@@ -20,8 +20,8 @@ use Rattle.pcap_io.specs.declared.recording.Ending.{Ending}
 use Rattle.run_outcome.specs.declared.fault.Output.TheVariants as output
 use Rattle.run_outcome.specs.declared.fault.WatchFault.{WatchFault}
 use Rattle.run_outcome.specs.declared.fault.WatchFault.TheVariants as watch
-use Rattle.run_outcome.specs.Recording.{LeavesUnread, IsRecording}
-use Rattle.run_outcome.specs.Device.{SourceMembers, SinkMembers}
+use Rattle.run_outcome.specs.Recording.{HasReadTap, IsRecording, LeavesUnread}
+use Rattle.run_outcome.specs.Device.{Devices}
 
 -- how many bytes are kept of an accepted frame
 abbrev pub kept_len : List Packed → Frame → ℕ
@@ -47,37 +47,10 @@ accepted p (f ∷ fs) = if answer_for p f == 0 then accepted p fs else f ∷ acc
 
 -- ---- what a run saw of its devices
 
--- what the devices of a capture show, before a call or after it
-pub record Devices : Type 0 where
-  -- the bytes that the source still gives, where they are known
-  pub remaining : Option (List ℕ)
-  pub source_failures : ℕ
-  -- the bytes that the sink took, where they are known
-  pub contents : Option (List ℕ)
-  pub sink_failures : ℕ
-
-abbrev pub devices_of : {S W : Type 0} → SourceMembers S → SinkMembers W → S → W → Devices
-devices_of s w source sink = record {
-  remaining = s.remaining source;
-  source_failures = s.failures source;
-  contents = w.contents sink;
-  sink_failures = w.failures sink;
-}
-
 -- neither device failed
 pub record NoFailures (before after : Devices) : Type 0 where
-  pub source : after.source_failures ≡ before.source_failures
-  pub sink : after.sink_failures ≡ before.sink_failures
-
--- ---- how far a recording was read
-
--- The bytes are a file header and then the packets of these frames, read as those of tap A from number 0 on. A reader stands at
--- `position` after them, and `left` follows.
-pub record HasRead (bytes : Option (List ℕ)) (frames : List Frame) (position : Position) (left : Option (List ℕ)) : Type 0 where
-  pub layout : Layout
-  pub opened : Option (List ℕ)
-  pub opens : Opens bytes opened layout
-  pub reads : Reads (start_at networks.A layout (2 ^ 32) 0) opened frames position left
+  pub source : after.source.failures ≡ before.source.failures
+  pub sink : after.sink.failures ≡ before.sink.failures
 
 -- ---- a whole capture
 
@@ -88,13 +61,13 @@ pub record IsCaptured (p : List Packed) (ending : Ending) (before after : Device
   pub position : Position
   pub left : Option (List ℕ)
   pub rest : Option (List ℕ)
-  pub read : HasRead before.remaining frames position left
-  pub complete : IfSome before.remaining (λ bytes. IsRecording networks.A 0 bytes frames ending)
+  pub read : HasReadTap networks.A 0 before.source.remaining frames position left
+  pub complete : IfSome before.source.remaining (λ bytes. IsRecording networks.A 0 bytes frames ending)
   pub taken : EndLeaves left rest ending
   pub gone : TakesAtMost (RECORD_HEADER_LEN + MAX_SNAPLEN) left rest
   pub ahead : List ℕ
-  pub unread : LeavesUnread ahead rest after.remaining
-  pub written : Appends before.contents after.contents (capture_text p frames)
+  pub unread : LeavesUnread ahead rest after.source.remaining
+  pub written : Appends before.sink.contents after.sink.contents (capture_text p frames)
   pub no_failure : NoFailures before after
 
 -- ---- an aborted capture
@@ -102,17 +75,17 @@ pub record IsCaptured (p : List Packed) (ending : Ending) (before after : Device
 -- The bytes begin with no file header of this project, and this is the first reason. No more than a file header is gone, and
 -- nothing was written.
 pub record IsHeaderFault (fault : HeaderFault) (before after : Devices) : Type 0 where
-  pub found : IfSome before.remaining (λ bytes. header_of bytes ≡ Err fault)
-  pub taken : TakesAtMost FILE_HEADER_LEN before.remaining after.remaining
-  pub unwritten : after.contents ≡ before.contents
+  pub found : IfSome before.source.remaining (λ bytes. header_of bytes ≡ Err fault)
+  pub taken : TakesAtMost FILE_HEADER_LEN before.source.remaining after.source.remaining
+  pub unwritten : after.sink.contents ≡ before.sink.contents
   pub no_failure : NoFailures before after
 
 -- The source failed before it gave a whole file header, and nothing was written.
 pub record FailsToOpen (before after : Devices) : Type 0 where
-  pub taken : TakesFewer FILE_HEADER_LEN before.remaining after.remaining
-  pub unwritten : after.contents ≡ before.contents
-  pub source : CountsFailure before.source_failures after.source_failures
-  pub sink : after.sink_failures ≡ before.sink_failures
+  pub taken : TakesFewer FILE_HEADER_LEN before.source.remaining after.source.remaining
+  pub unwritten : after.sink.contents ≡ before.sink.contents
+  pub source : CountsFailure before.source.failures after.source.failures
+  pub sink : after.sink.failures ≡ before.sink.failures
 
 -- The source failed after these frames, of which the sink has the whole capture, and before it gave the next packet whole.
 pub record FailsToRead (p : List Packed) (before after : Devices) : Type 0 where
@@ -120,13 +93,13 @@ pub record FailsToRead (p : List Packed) (before after : Devices) : Type 0 where
   pub position : Position
   pub left : Option (List ℕ)
   pub rest : Option (List ℕ)
-  pub read : HasRead before.remaining frames position left
+  pub read : HasReadTap networks.A 0 before.source.remaining frames position left
   pub ahead : List ℕ
-  pub unread : LeavesUnread ahead rest after.remaining
+  pub unread : LeavesUnread ahead rest after.source.remaining
   pub lacks : LacksBytes position left rest ahead
-  pub written : Appends before.contents after.contents (capture_text p frames)
-  pub source : CountsFailure before.source_failures after.source_failures
-  pub sink : after.sink_failures ≡ before.sink_failures
+  pub written : Appends before.sink.contents after.sink.contents (capture_text p frames)
+  pub source : CountsFailure before.source.failures after.source.failures
+  pub sink : after.sink.failures ≡ before.sink.failures
 
 -- There was no memory for the packet after these frames. Its header is good, claims at least 1 byte and is gone, and fewer bytes than it
 -- claims were read ahead. The sink has the whole capture of the frames.
@@ -135,23 +108,23 @@ pub record FailsToAllocate (p : List Packed) (before after : Devices) : Type 0 w
   pub position : Position
   pub left : Option (List ℕ)
   pub rest : Option (List ℕ)
-  pub read : HasRead before.remaining frames position left
+  pub read : HasReadTap networks.A 0 before.source.remaining frames position left
   pub ahead : List ℕ
-  pub unread : LeavesUnread ahead rest after.remaining
+  pub unread : LeavesUnread ahead rest after.source.remaining
   pub lacks : LacksBytes position left rest ahead
   pub out_of_memory : LacksMemory position left rest
-  pub written : Appends before.contents after.contents (capture_text p frames)
+  pub written : Appends before.sink.contents after.sink.contents (capture_text p frames)
   pub no_failure : NoFailures before after
 
 -- The sink failed at its file header, of which it has a prefix. No frame was read.
 pub record FailsToBegin (before after : Devices) : Type 0 where
   pub layout : Layout
   pub opened : Option (List ℕ)
-  pub opens : Opens before.remaining opened layout
-  pub unread : opened ≡ after.remaining
-  pub written : AppendsPrefix before.contents after.contents capture_header
-  pub source : after.source_failures ≡ before.source_failures
-  pub sink : CountsFailure before.sink_failures after.sink_failures
+  pub opens : Opens before.source.remaining opened layout
+  pub unread : opened ≡ after.source.remaining
+  pub written : AppendsPrefix before.sink.contents after.sink.contents capture_header
+  pub source : after.source.failures ≡ before.source.failures
+  pub sink : CountsFailure before.sink.failures after.sink.failures
 
 -- The sink failed at the packet of an accepted frame, the last that was read. It has the whole capture of the frames before that, and a
 -- prefix of the packet.
@@ -161,13 +134,13 @@ pub record FailsToWrite (p : List Packed) (before after : Devices) : Type 0 wher
   pub position : Position
   pub left : Option (List ℕ)
   pub count : ℕ
-  pub read : HasRead before.remaining (frames ++ frame ∷ []) position left
+  pub read : HasReadTap networks.A 0 before.source.remaining (frames ++ frame ∷ []) position left
   pub ahead : List ℕ
-  pub unread : LeavesUnread ahead left after.remaining
+  pub unread : LeavesUnread ahead left after.source.remaining
   pub within : count < length (record_of p frame)
-  pub written : Appends before.contents after.contents (capture_text p frames ++ take count (record_of p frame))
-  pub source : after.source_failures ≡ before.source_failures
-  pub sink : CountsFailure before.sink_failures after.sink_failures
+  pub written : Appends before.sink.contents after.sink.contents (capture_text p frames ++ take count (record_of p frame))
+  pub source : after.source.failures ≡ before.source.failures
+  pub sink : CountsFailure before.sink.failures after.sink.failures
 
 -- why a capture was aborted, and what stands then
 abbrev pub IsAborted : List Packed → WatchFault → Devices → Devices → Type 0

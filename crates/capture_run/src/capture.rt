@@ -6,7 +6,8 @@ ghost use Rattle.pcap_io.specs.Device.{Writes};
 ghost use Rattle.pcap_io.specs.Reader.{position_of, reading_of, unread_of};
 ghost use Rattle.pcap_io.specs.Writer.{sink_of, has_failed};
 ghost use Rattle.pcap_io.specs.declared.recording.Stage.TheVariants.{Going};
-ghost use Rattle.capture_run.specs.Capture.{record_of, devices_of, IsCaptured, IsAborted};
+ghost use Rattle.capture_run.specs.Capture.{record_of, IsCaptured, IsAborted};
+ghost use Rattle.run_outcome.specs.Device.{devices_of};
 ghost use Rattle.run_outcome.specs.Fault.{open_fault};
 ghost use Rattle.capture_run.specs.Copy.{IsCopied, StopsCopy, copying_of};
 

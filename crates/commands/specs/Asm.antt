@@ -6,7 +6,7 @@ use Rattle.bpf_isa.specs.declared.packed.Packed.{Packed}
 use Rattle.bpf_asm.specs.Assembly.{IsSourceOf, IsTextFault}
 use Rattle.bpf_asm.specs.declared.fault.AsmFault.TheVariants as asm
 use Rattle.pcap_io.specs.Device.{AppendsPrefix, CountsFailure}
-use Rattle.capture_run.specs.Capture.{Devices}
+use Rattle.run_outcome.specs.Device.{Devices}
 use Rattle.command_line.specs.Line.{line_of}
 use Rattle.commands.specs.Text.{IsTextRefusal, IsWholeText}
 use Rattle.commands.specs.declared.text.TextRefusal.{TextRefusal}
@@ -41,14 +41,14 @@ Prints text before after old new (Err f) = ⊥
 -- The text wasn't read, for this reason, and nothing was written.
 abbrev pub IsUnread : TextRefusal → Devices → Devices → Type 0
 IsUnread refusal before after =
-    IsTextRefusal before.remaining after.remaining before.source_failures after.source_failures refusal
-    × (after.contents ≡ before.contents) × (after.sink_failures ≡ before.sink_failures)
+    IsTextRefusal before.source.remaining after.source.remaining before.source.failures after.source.failures refusal
+    × (after.sink.contents ≡ before.sink.contents) × (after.sink.failures ≡ before.sink.failures)
 
 -- The source's text was read whole, and this became of printing its program.
 pub record IsRead (text : List ℕ) (outcome : Result (Unit {0}) Fault) (before after : Devices) : Type 0 where
-  pub read : IsWholeText before.remaining after.remaining text
-  pub source : after.source_failures ≡ before.source_failures
-  pub printed : Prints text before.contents after.contents before.sink_failures after.sink_failures outcome
+  pub read : IsWholeText before.source.remaining after.source.remaining text
+  pub source : after.source.failures ≡ before.source.failures
+  pub printed : Prints text before.sink.contents after.sink.contents before.sink.failures after.sink.failures outcome
 
 -- what the command came to, and what it leaves, by the text that it read
 abbrev pub IsAsmRun : Option (List ℕ) → Result (Unit {0}) Fault → Devices → Devices → Type 0

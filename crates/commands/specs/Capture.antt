@@ -2,7 +2,8 @@
 use Rattle.std.specs.Prelude.{◌≡◌, ℕ, List, Option, None, Result, Ok, Err, IfSome}
 use Rattle.bpf_isa.specs.declared.packed.Packed.{Packed}
 use Rattle.pcap_io.specs.declared.recording.Ending.{Ending}
-use Rattle.capture_run.specs.Capture.{Devices, IsAborted, IsCaptured}
+use Rattle.capture_run.specs.Capture.{IsAborted, IsCaptured}
+use Rattle.run_outcome.specs.Device.{Devices}
 use Rattle.commands.specs.Inputs.{IsFilter, IsFilterFault}
 use Rattle.command_line.specs.Line.{line_of}
 use Rattle.command_line.specs.declared.fault.Fault.{Fault}

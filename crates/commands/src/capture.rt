@@ -2,7 +2,7 @@
 ghost use Rattle.std.specs.Prelude.{Result, option_map, string_bytes};
 ghost use Rattle.pcap_io.specs.declared.recording.Ending.{Ending};
 ghost use Rattle.command_line.specs.declared.fault.Fault.{Fault};
-ghost use Rattle.capture_run.specs.Capture.{devices_of};
+ghost use Rattle.run_outcome.specs.Device.{devices_of};
 ghost use Rattle.commands.specs.Capture.{IsCaptureRun, IsRan};
 
 use crate::inputs::filter_of;

@@ -21,6 +21,14 @@ source_at s source = record { remaining = s.remaining source; failures = s.failu
 abbrev pub sink_at : {W : Type 0} → SinkMembers W → W → SinkView
 sink_at w sink = record { contents = w.contents sink; failures = w.failures sink }
 
+-- the devices of a run that reads one source and writes one sink
+pub record Devices : Type 0 where
+  pub source : SourceView
+  pub sink : SinkView
+
+abbrev pub devices_of : {S W : Type 0} → SourceMembers S → SinkMembers W → S → W → Devices
+devices_of s w source sink = record { source = source_at s source; sink = sink_at w sink }
+
 -- known bytes grow by the bytes, or by a prefix of them
 abbrev pub AppendsSome : Option (List ℕ) → Option (List ℕ) → List ℕ → Type 0
 AppendsSome old new bytes = (n : ℕ) × Appends old new (take n bytes)
