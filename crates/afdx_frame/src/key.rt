@@ -16,6 +16,9 @@ pub enum Network {
 #[derive(Clone, Copy, Debug, PartialEq, Eq, PartialOrd, Ord, Hash)]
 pub struct VlId(pub u16);
 
+/// How many virtual link identifiers there are: they have 16 bits.
+pub const VL_ID_COUNT: usize = 65536;
+
 /// A moment in nanoseconds since the epoch of the recording (pcap 2.4 counts from 1970).
 #[derive(Clone, Copy, Debug, PartialEq, Eq, PartialOrd, Ord, Hash)]
 pub struct Stamp(pub u64);
