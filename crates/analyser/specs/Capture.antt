@@ -7,7 +7,7 @@ use Rattle.afdx_frame.specs.declared.key.Network.{Network}
 use Rattle.afdx_frame.specs.declared.key.Network.TheVariants as networks
 use Rattle.bpf_isa.specs.declared.packed.Packed.{Packed}
 use Rattle.bpf_machine.specs.Run.{answer_of}
-use Rattle.pcap_io.specs.Capture.{capture_header, record_text}
+use Rattle.pcap_io.specs.Capture.{capture_header, packet_text}
 use Rattle.pcap_io.specs.Device.{AppendsPrefix, CountsFailure, TakesAtMost, TakesFewer}
 use Rattle.pcap_io.specs.Layout.{header_of}
 use Rattle.pcap_io.specs.Position.{EndLeaves, Holds, LacksBytes, LacksMemory, Opens, Reads, start_at}
@@ -15,7 +15,7 @@ use Rattle.pcap_io.specs.declared.layout.HeaderFault.{HeaderFault}
 use Rattle.pcap_io.specs.declared.layout.Layout.{Layout}
 use Rattle.pcap_io.specs.declared.layout.TheConstants.{FILE_HEADER_LEN}
 use Rattle.pcap_io.specs.declared.position.Position.{Position}
-use Rattle.pcap_io.specs.declared.record_header.TheConstants.{RECORD_HEADER_LEN}
+use Rattle.pcap_io.specs.declared.packet_header.TheConstants.{PACKET_HEADER_LEN}
 use Rattle.pcap_io.specs.declared.recording.Ending.{Ending}
 use Rattle.analyser.specs.declared.fault.Output.TheVariants as output
 use Rattle.analyser.specs.declared.fault.WatchFault.{WatchFault}
@@ -31,7 +31,7 @@ kept_len p f = min (answer_for p f) (length f.bytes)
 
 -- the packet of a frame in the capture; a rejected frame has none
 abbrev pub record_of : List Packed → Frame → List ℕ
-record_of p f = if answer_for p f == 0 then [] else record_text f (kept_len p f)
+record_of p f = if answer_for p f == 0 then [] else packet_text f (kept_len p f)
 
 -- the packets of the accepted frames, in order
 abbrev pub records_of : List Packed → List Frame → List ℕ
@@ -104,7 +104,7 @@ pub record IsCaptured (p : List Packed) (ending : Ending) (before after : Device
   pub read : HasRead before.remaining frames position left
   pub complete : IfSome before.remaining (λ bytes. IsRecording networks.A 0 bytes frames ending)
   pub taken : EndLeaves left rest ending
-  pub gone : TakesAtMost (RECORD_HEADER_LEN + MAX_SNAPLEN) left rest
+  pub gone : TakesAtMost (PACKET_HEADER_LEN + MAX_SNAPLEN) left rest
   pub ahead : List ℕ
   pub unread : LeavesUnread ahead rest after.remaining
   pub written : Appends before.contents after.contents (capture_text p frames)

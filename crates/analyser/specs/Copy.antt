@@ -11,7 +11,7 @@ use Rattle.pcap_io.specs.Position.{EndLeaves, LacksBytes, LacksMemory, Reading, 
 use Rattle.pcap_io.specs.declared.position.Position.{Position}
 use Rattle.pcap_io.specs.declared.reader.OpenFault.{OpenFault}
 use Rattle.pcap_io.specs.declared.reader.OpenFault.TheVariants as opening
-use Rattle.pcap_io.specs.declared.record_header.TheConstants.{RECORD_HEADER_LEN}
+use Rattle.pcap_io.specs.declared.packet_header.TheConstants.{PACKET_HEADER_LEN}
 use Rattle.pcap_io.specs.declared.recording.Ending.{Ending}
 use Rattle.analyser.specs.Capture.{record_of, records_of}
 use Rattle.analyser.specs.declared.fault.Output.TheVariants as output
@@ -43,7 +43,7 @@ pub record IsCopied (p : List Packed) (ending : Ending) (old new : Copying) : Ty
   pub bounded : position.count ≤ position.most
   pub ends : IfSome left (λ bytes. ending_here position bytes ≡ Some ending)
   pub taken : EndLeaves left new.reading.remaining ending
-  pub gone : TakesAtMost (RECORD_HEADER_LEN + MAX_SNAPLEN) left new.reading.remaining
+  pub gone : TakesAtMost (PACKET_HEADER_LEN + MAX_SNAPLEN) left new.reading.remaining
   pub source : new.reading.failures ≡ old.reading.failures
   pub sink : new.failures ≡ old.failures
 

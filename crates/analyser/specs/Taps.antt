@@ -10,7 +10,7 @@ use Rattle.pcap_io.specs.Position.{EndLeaves, Reading, TakesFrame, after_frame, 
 use Rattle.pcap_io.specs.Reader.{position_of, reading_of}
 use Rattle.ordered_merge.specs.Order.{IsOrder}
 use Rattle.pcap_io.specs.declared.position.Position.{Position}
-use Rattle.pcap_io.specs.declared.record_header.TheConstants.{RECORD_HEADER_LEN}
+use Rattle.pcap_io.specs.declared.packet_header.TheConstants.{PACKET_HEADER_LEN}
 use Rattle.pcap_io.specs.declared.recording.Ending.{Ending}
 use Rattle.pcap_io.specs.declared.recording.Stage.TheVariants.{Going, Ended}
 use Rattle.analyser.specs.Watch.{HasReadTap, SourceView, most_frames}
@@ -36,7 +36,7 @@ Agrees network (Some ending) q m = (q.stage ≡ Ended ending) × ((tap_of m netw
 
 -- no more than a packet is gone
 abbrev pub TakesAPacket : Option (List ℕ) → Option (List ℕ) → Type 0
-TakesAPacket before after = TakesAtMost (RECORD_HEADER_LEN + MAX_SNAPLEN) before after
+TakesAPacket before after = TakesAtMost (PACKET_HEADER_LEN + MAX_SNAPLEN) before after
 
 -- the recording ends here: with this ending, which leaves no more gone than stated
 pub record Ends (q : Position) (before after : Option (List ℕ)) (ending : Ending) : Type 0 where

@@ -14,7 +14,7 @@ use Rattle.pcap_io.specs.declared.layout.HeaderFault.{HeaderFault}
 use Rattle.pcap_io.specs.declared.layout.Layout.{Layout}
 use Rattle.pcap_io.specs.declared.layout.TheConstants.{FILE_HEADER_LEN}
 use Rattle.pcap_io.specs.declared.position.Position.{Position}
-use Rattle.pcap_io.specs.declared.record_header.TheConstants.{RECORD_HEADER_LEN}
+use Rattle.pcap_io.specs.declared.packet_header.TheConstants.{PACKET_HEADER_LEN}
 use Rattle.pcap_io.specs.declared.recording.Ending.{Ending}
 use Rattle.verdict_ledger.specs.Tally.{totals_of}
 use Rattle.verdict_ledger.specs.Text.{ledger_head, ledger_text, lines_text}
@@ -75,7 +75,7 @@ pub record IsReadPart (network : Network) (late : ℕ) (before after : SourceVie
   pub rest : Option (List ℕ)
   pub ahead : List ℕ
   pub read : HasReadTap network late before.remaining frames position left
-  pub gone : TakesAtMost (RECORD_HEADER_LEN + MAX_SNAPLEN) left rest
+  pub gone : TakesAtMost (PACKET_HEADER_LEN + MAX_SNAPLEN) left rest
   pub unread : LeavesUnread ahead rest after.remaining
 
 -- The recording was read to its ending: these are all its frames. Of the source nothing is left after a clean or a truncated
