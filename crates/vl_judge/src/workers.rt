@@ -1,4 +1,4 @@
-//! The lanes of a round, judged by some threads.
+//! How some threads share the lanes of a round.
 ghost use Rattle.std.specs.Prelude.{◌≡◌, ◌+◌, ◌-◌, ◌/◌, ◌^◌, ◌<◌, ◌≤◌, IfErr, IfOk, IfSome, IsSome, All, None, length, map, take};
 ghost use Rattle.vl_judge.specs.Parts.{CanJudge, IsJudged, count_marked, placed};
 ghost use Rattle.vl_config.specs.Class.{class_by};
@@ -33,26 +33,26 @@ pub(crate) fn count_marked(marks: &[bool]) -> usize
     ensures { result ≡ count_marked marks.now }
 {
     let mut count = 0;
-    for place in 0..marks.len() {
-        if marks[place] {
+    for index in 0..marks.len() {
+        if marks[index] {
             count += 1;
         }
     }
     count
 }
 
-/// A place before which so many lanes are marked.
+/// An index before which so many lanes are marked.
 fn place_after(marks: &[bool], count: usize) -> usize
     requires { count ≤ count_marked marks.now }
     ensures within { result ≤ length marks.now }
     ensures before { count_marked (take result marks.now) ≡ count }
 {
     let mut seen = 0;
-    for place in 0..marks.len() {
+    for index in 0..marks.len() {
         if seen == count {
-            return place;
+            return index;
         }
-        if marks[place] {
+        if marks[index] {
             seen += 1;
         }
     }

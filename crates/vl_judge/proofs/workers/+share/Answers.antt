@@ -1,22 +1,19 @@
 -- The second worker's part is cut off, and what it gives is put behind what the others give.
 use Rattle.std.proofs.Common.{refl, subst, arith}
-use Rattle.vl_judge.specs.declared.round.Promised.{Promised}
+use Rattle.vl_judge.specs.declared.workers.Promised.{Promised}
 use Rattle.vl_judge.specs.declared.part.Part.{Part}
 use Rattle.vl_judge.specs.Parts.{IsJudged}
 use Rattle.vl_judge.proofs.Sharing.{halves_judged, lower_can, upper_can}
-use Rattle.vl_judge.proofs.round.+share.Goals as goal
+use Rattle.vl_judge.proofs.workers.+share.Goals as goal
 
--- src/round.rt:71:9
 pub spawn_with-requires-clause-runs : goal.spawn_with-requires-clause-runs
 spawn_with-requires-clause-runs g t c κs within =
     (refl, upper_can c.args.lent.now c.place_after-at.result c.args.part c.in_ok-mine.mine c.in_ok-mine.theirs c.requires.follows c.in_ok-mine.ensures)
 
--- src/round.rt:74:15
 pub share-requires-clause-follows : goal.share-requires-clause-follows
 share-requires-clause-follows g t c κs within =
     lower_can c.args.lent.now c.place_after-at.result c.args.part c.in_ok-mine.mine c.in_ok-mine.theirs c.requires.follows c.in_ok-mine.ensures
 
--- src/round.rt:46:1
 pub returns-clause-judged : goal.returns-clause-judged
 returns-clause-judged g t c =
     let told : IsJudged c.args.lent.now c.of.result.value c.in_ok-other.other =

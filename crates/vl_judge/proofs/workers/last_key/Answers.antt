@@ -1,7 +1,7 @@
 use Rattle.std.proofs.Common.{◌≡◌, ◌-◌, Some, length, slice_get, sym, ap, ◌∙◌, arith}
 use Rattle.std.proofs.lemmas.Option.{slice_get_within}
 use Rattle.vl_judge.proofs.Rounds.{last_key_at}
-use Rattle.vl_judge.proofs.round.last_key.Goals as goal
+use Rattle.vl_judge.proofs.workers.last_key.Goals as goal
 
 pub returns-in-Some : goal.returns-in-Some
 returns-in-Some c =

@@ -2,7 +2,7 @@ use Rattle.std.proofs.Common.{◌+◌, ◌∙◌, ◌++◌, ◌∷◌, [], List,
 use Rattle.vl_judge.specs.Lanes.{FollowsOn, StandsAfter}
 use Rattle.vl_judge.specs.Verdicts.{verdicts}
 use Rattle.vl_judge.proofs.Rounds.{all_taken, last_key_next, longer, next_follows}
-use Rattle.vl_judge.proofs.lanes.Lanes.judge_each.Goals as goal
+use Rattle.vl_judge.proofs.lanes.Lanes.judge_frames.Goals as goal
 
 pub loop-frame-preserved : goal.loop-frame-preserved
 loop-frame-preserved c =

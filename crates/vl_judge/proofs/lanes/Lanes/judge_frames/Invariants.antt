@@ -4,7 +4,7 @@ use Rattle.afdx_frame.specs.Frame.{Frame}
 use Rattle.vl_config.specs.Document.{VlTable}
 use Rattle.vl_judge.specs.Lanes.{FollowsOn, StandsAfter, last_key}
 use Rattle.vl_judge.specs.Verdicts.{verdicts}
-use Rattle.vl_judge.proofs.lanes.Lanes.judge_each.Given as goal
+use Rattle.vl_judge.proofs.lanes.Lanes.judge_frames.Given as goal
 
 abbrev pub invariant-loop-frame : goal.invariant-loop-frame
 invariant-loop-frame l = record {
