@@ -1,16 +1,20 @@
-//! The core: merging and answering as a machine over events.
+//! The machine as a whole, with what holds of it after every list of events.
 ghost use Rattle.std.specs.Prelude.{◌≡◌, ◌≤◌, IfOk, OnErr, IsSome, replicate};
 ghost use Rattle.std.specs.List.Sorted.{IsPermutation};
-ghost use Rattle.ordered_merge.specs.Core.{core_step, new_core};
-ghost use Rattle.ordered_merge.specs.Side.{Steps};
-ghost use Rattle.ordered_merge.specs.Sound.{AnswersAre, EveryRunIsInOrder, IsRecording, MayAllocate, OutputIsAll, OutputIsPrefix, PostsWhereHeld, held};
+ghost use Rattle.ordered_merge.specs.Events.Steps.{core_step, new_core};
+ghost use Rattle.ordered_merge.specs.Events.Side.{Steps};
+ghost use Rattle.ordered_merge.specs.Events.Sound.{AnswersAre, EveryRunIsInOrder, MayAllocate, OutputIsAll, OutputIsPrefix, PostsWhereHeld, held};
+ghost use Rattle.ordered_merge.specs.Recording.{IsRecording};
 
-use crate::event::{Answered, Event, Work};
-use crate::parts::Parts;
-use crate::round::Worker;
+use crate::model::event::{Answered, Event, Work};
+use crate::model::parts::Parts;
+use crate::model::round::Worker;
 use afdx_frame::{Network, TapFrame};
 use std::alloc::{AllocError, Global};
 use std::marker::Model;
+
+/// The most workers of a core.
+pub const MAX_WORKERS: u32 = 8;
 
 /// Both taps, their rings, the merger and the workers, as a machine over [`Event`]s.
 ///
@@ -22,8 +26,8 @@ pub struct Core {
 }
 
 impl Model for Core {
-    ghost use Rattle.ordered_merge.specs.Core.{CoreState};
-    ghost use Rattle.ordered_merge.specs.Sound.{IsSound};
+    ghost use Rattle.ordered_merge.specs.Events.Steps.{CoreState};
+    ghost use Rattle.ordered_merge.specs.Events.Sound.{IsSound};
 
     ghost Value = { CoreState };
 
@@ -33,8 +37,8 @@ impl Model for Core {
 }
 
 impl Core {
-    /// A core over the recordings of both taps, in which a stamp may lie by `late` nanoseconds below the
-    /// greatest one before it, with 1 to 8 workers. A refusal drops both lists.
+    /// A core over the recordings of both taps, in which a timestamp may lie by `late` nanoseconds below the
+    /// greatest one before it, with 1 to [`MAX_WORKERS`] workers. A refusal drops both lists.
     pub fn new(
         alloc: Global,
         a: Vec<TapFrame>,
@@ -45,7 +49,7 @@ impl Core {
         requires recording_a { IsRecording Network.A late a.items }
         requires recording_b { IsRecording Network.B late b.items }
         requires some_workers { 1 ≤ workers }
-        requires few_workers { workers ≤ 8 }
+        requires few_workers { workers ≤ MAX_WORKERS }
         ensures { IfOk result (λ core.
             core ≡ new_core a.items b.items (replicate workers Worker.Idle) late) }
     {

@@ -1,4 +1,4 @@
-//! The events of the core, and what it works on.
+//! The steps of the model: what may happen next, and what workers do to a frame.
 ghost use Rattle.std.specs.Prelude.{◌≡◌, ℕ};
 ghost use Rattle.afdx_frame.specs.Frame.{Frame};
 

@@ -2,16 +2,16 @@
 ghost use Rattle.std.specs.Prelude.{◌≡◌, ◌∷◌, ◌<◌, List, IfOk, OnErr, OnOk, IsSome, replicate};
 ghost use Rattle.std.specs.List.{list_all};
 ghost use Rattle.afdx_frame.specs.Frame.{Frame};
-ghost use Rattle.ordered_merge.specs.Core.{FirstsCanFetch, claim_step, core_fetch_step, core_step, cut_step, fetch_step, gather_step, new_core, post_step};
+ghost use Rattle.ordered_merge.specs.Events.Steps.{FirstsCanFetch, claim_step, core_fetch_step, core_step, cut_step, fetch_step, gather_step, new_core, post_step};
 ghost use Rattle.ordered_merge.specs.Merge.{CanFetch};
-ghost use Rattle.ordered_merge.specs.Sound.{MayAllocate};
-ghost use Rattle.ordered_merge.specs.Round.{is_through};
-ghost use Rattle.ordered_merge.specs.Side.{Steps};
+ghost use Rattle.ordered_merge.specs.Events.Sound.{MayAllocate};
+ghost use Rattle.ordered_merge.specs.Events.Round.{is_through};
+ghost use Rattle.ordered_merge.specs.Events.Side.{Steps};
 
-use crate::event::{Answered, Event, Work};
 use crate::merger::Merger;
-use crate::round::{ROUND, Round, Worker, no_answers};
-use crate::side::{RingItem, TapSide};
+use crate::model::event::{Answered, Event, Work};
+use crate::model::round::{ROUND_CAPACITY, Round, Worker, no_answers};
+use crate::model::side::{RingItem, TapSide};
 use afdx_frame::{Network, TapFrame};
 use std::alloc::{AllocError, Global};
 use std::marker::Model;
@@ -30,7 +30,7 @@ pub(crate) struct Parts {
 }
 
 impl Model for Parts {
-    ghost use Rattle.ordered_merge.specs.Core.{CoreState};
+    ghost use Rattle.ordered_merge.specs.Events.Steps.{CoreState};
 
     ghost Value = { CoreState };
 
@@ -114,12 +114,12 @@ impl Parts {
         ensures unchanged { OnErr result (self.new ≡ self.old) }
         ensures memory { OnErr result (IsSome (cut_step self.old)) }
     {
-        let count = self.merger.count_safe(ROUND);
+        let count = self.merger.count_safe(ROUND_CAPACITY);
         if self.round.is_some() || count == 0 {
             return Ok(false);
         }
         let answers = no_answers(self.alloc, count)?;
-        let frames = self.merger.cut(ROUND)?;
+        let frames = self.merger.cut(ROUND_CAPACITY)?;
         self.round = Some(Round::new(frames, answers));
         self.workers.fill(Worker::Idle);
         Ok(true)

@@ -2,15 +2,15 @@
 ghost use Rattle.std.specs.Prelude.{◌≡◌, ◌+◌, ◌++◌, ◌≤◌, ◌<◌, IfOk, length, slice_get, IsSome, IfSome, false, replicate, true};
 ghost use Rattle.std.specs.Vec.{vec_capacity, vec_len};
 ghost use Rattle.std.specs.Option.{MatchOption};
-ghost use Rattle.ordered_merge.specs.Round.{after_claim, answered, claimed, is_answered, new_round, posted};
+ghost use Rattle.ordered_merge.specs.Events.Round.{after_claim, answered, claimed, is_answered, new_round, posted};
 
-use crate::event::{Answered, Work};
+use crate::model::event::{Answered, Work};
 use afdx_frame::TapFrame;
 use std::alloc::{AllocError, Global};
 use std::marker::Model;
 
 /// The most frames of a round.
-pub(crate) const ROUND: usize = 256;
+pub(crate) const ROUND_CAPACITY: usize = 256;
 
 /// What a worker does.
 #[derive(Clone, Copy, Debug)]
@@ -31,7 +31,7 @@ pub(crate) struct Round {
 }
 
 impl Model for Round {
-    ghost use Rattle.ordered_merge.specs.Round.{RoundState};
+    ghost use Rattle.ordered_merge.specs.Events.Round.{RoundState};
     ghost use Rattle.std.specs.Prelude.{◌≡◌, ◌≤◌, length};
 
     ghost Value = { RoundState };

@@ -1,7 +1,7 @@
-//! One tap's side of the core.
+//! What the model has of each tap: the frames to come, and its ring.
 ghost use Rattle.std.specs.Prelude.{◌≡◌, ◌<◌, [], ◌∷◌, ◌++◌, IfNone, IfOk, OnSome, length};
 ghost use Rattle.std.specs.Option.{option_to_list};
-ghost use Rattle.ordered_merge.specs.Side.{Steps, end_step, new_side, put_step};
+ghost use Rattle.ordered_merge.specs.Events.Side.{Steps, end_step, new_side, put_step};
 
 use afdx_frame::TapFrame;
 use std::alloc::{AllocError, Global};
@@ -9,7 +9,7 @@ use std::collections::VecDeque;
 use std::marker::Model;
 
 /// The most items on a tap's ring.
-pub(crate) const RING: usize = 64;
+pub(crate) const RING_CAPACITY: usize = 64;
 
 /// What a tap puts onto its ring.
 #[derive(Debug, Drop)]
@@ -29,13 +29,14 @@ pub(crate) struct TapSide {
 impl Model for TapSide {
     ghost use Rattle.std.specs.Prelude.{◌≤◌, length};
     ghost use Rattle.std.specs.VecDeque.{deque_capacity};
-    ghost use Rattle.ordered_merge.specs.Side.{SideState};
+    ghost use Rattle.ordered_merge.specs.Events.Side.{SideState};
+    ghost use Rattle.ordered_merge.specs.declared.model.side.TheConstants.{RING_CAPACITY};
 
     ghost Value = { SideState };
 
     ghost view = { λ s. record { left = s.left.items; marked = s.marked; ring = s.ring.items } };
 
-    ghost invariant = { λ s. (64 ≤ deque_capacity s.ring) × (length s.ring.items ≤ 64) };
+    ghost invariant = { λ s. (RING_CAPACITY ≤ deque_capacity s.ring) × (length s.ring.items ≤ RING_CAPACITY) };
 }
 
 impl TapSide {
@@ -46,7 +47,7 @@ impl TapSide {
         Ok(TapSide {
             left: VecDeque::from_vec(frames),
             marked: false,
-            ring: VecDeque::with_capacity(alloc, RING)?,
+            ring: VecDeque::with_capacity(alloc, RING_CAPACITY)?,
         })
     }
 
@@ -54,7 +55,7 @@ impl TapSide {
     pub(crate) fn put(&mut self) -> bool
         ensures { Steps (put_step self.old) self.old result self.new }
     {
-        if self.ring.len() >= RING {
+        if self.ring.len() >= RING_CAPACITY {
             return false;
         }
         match self.left.pop_front() {
@@ -70,7 +71,7 @@ impl TapSide {
     pub(crate) fn mark_end(&mut self) -> bool
         ensures { Steps (end_step self.old) self.old result self.new }
     {
-        if self.marked || !self.left.is_empty() || self.ring.len() >= RING {
+        if self.marked || !self.left.is_empty() || self.ring.len() >= RING_CAPACITY {
             return false;
         }
         self.ring.push_back_reserved(RingItem::End);
@@ -83,7 +84,7 @@ impl TapSide {
         ensures ring { self.old.ring ≡ option_to_list result ++ self.new.ring }
         ensures left { self.new.left ≡ self.old.left }
         ensures marked { self.new.marked ≡ self.old.marked }
-        ensures room { OnSome result (length self.new.ring < 64) }
+        ensures room { OnSome result (length self.new.ring < RING_CAPACITY) }
         ensures none { IfNone result (self.old.ring ≡ []) }
     {
         self.ring.pop_front()
@@ -91,7 +92,7 @@ impl TapSide {
 
     /// Puts an item back onto the ring, as its oldest.
     pub(crate) fn put_back(&mut self, item: RingItem)
-        requires { length self.old.ring < 64 }
+        requires { length self.old.ring < RING_CAPACITY }
         ensures ring { self.new.ring ≡ item ∷ self.old.ring }
         ensures left { self.new.left ≡ self.old.left }
         ensures marked { self.new.marked ≡ self.old.marked }

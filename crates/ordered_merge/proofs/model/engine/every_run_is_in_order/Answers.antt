@@ -1,7 +1,7 @@
-use Rattle.ordered_merge.specs.Core.{new_core}
-use Rattle.ordered_merge.specs.Sound.{core_run}
-use Rattle.ordered_merge.proofs.Soundness.{held_is, new_is_of, output_is_all, output_is_prefix, run_answers, run_sound}
-use Rattle.ordered_merge.proofs.engine.every_run_is_in_order.Goals as goal
+use Rattle.ordered_merge.specs.Events.Steps.{new_core}
+use Rattle.ordered_merge.specs.Events.Sound.{core_run}
+use Rattle.ordered_merge.proofs.Events.Soundness.{held_is, new_is_of, output_is_all, output_is_prefix, run_answers, run_sound}
+use Rattle.ordered_merge.proofs.model.engine.every_run_is_in_order.Goals as goal
 
 pub returns : goal.returns
 returns c = λ answer late a b workers events h k.

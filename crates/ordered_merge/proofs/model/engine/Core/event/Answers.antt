@@ -1,10 +1,10 @@
 use Rattle.std.proofs.Common.{sym, subst}
 use Rattle.std.specs.List.Sorted.{IsPermutation}
-use Rattle.ordered_merge.specs.Core.{CoreState, core_step}
-use Rattle.ordered_merge.specs.Sound.{AnswersAre, HasNumbers, IsOf, PostsWhereHeld, held}
-use Rattle.ordered_merge.proofs.Numbers.{posts_where_held, step_numbers}
-use Rattle.ordered_merge.proofs.Soundness.{called, firsts_can_fetch, held_stays, step_answers, step_sound}
-use Rattle.ordered_merge.proofs.engine.Core.event.Goals as goal
+use Rattle.ordered_merge.specs.Events.Steps.{CoreState, core_step}
+use Rattle.ordered_merge.specs.Events.Sound.{AnswersAre, HasNumbers, IsOf, PostsWhereHeld, held}
+use Rattle.ordered_merge.proofs.Events.Numbers.{posts_where_held, step_numbers}
+use Rattle.ordered_merge.proofs.Events.Soundness.{called, firsts_can_fetch, held_stays, step_answers, step_sound}
+use Rattle.ordered_merge.proofs.model.engine.Core.event.Goals as goal
 
 pub event-requires : goal.event-requires
 event-requires g c = let is = c.self.invariant in firsts_can_fetch is.0 is.1 is.2 c.self.inside.parts is.3

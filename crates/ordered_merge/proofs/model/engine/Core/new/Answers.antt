@@ -1,9 +1,9 @@
 use Rattle.std.proofs.Common.{None, replicate, subst, sym}
-use Rattle.ordered_merge.specs.declared.round.Worker.TheVariants.{Idle}
-use Rattle.ordered_merge.specs.Sound.{IsSound}
-use Rattle.ordered_merge.proofs.Numbers.{all_idle}
-use Rattle.ordered_merge.proofs.Soundness.{new_is_of}
-use Rattle.ordered_merge.proofs.engine.Core.new.Goals as goal
+use Rattle.ordered_merge.specs.declared.model.round.Worker.TheVariants.{Idle}
+use Rattle.ordered_merge.specs.Events.Sound.{IsSound}
+use Rattle.ordered_merge.proofs.Events.Numbers.{all_idle}
+use Rattle.ordered_merge.proofs.Events.Soundness.{new_is_of}
+use Rattle.ordered_merge.proofs.model.engine.Core.new.Goals as goal
 
 pub invariant_of-result : goal.invariant_of-result
 invariant_of-result c =

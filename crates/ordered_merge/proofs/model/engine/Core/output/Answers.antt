@@ -1,7 +1,7 @@
 use Rattle.std.proofs.Common.{subst}
-use Rattle.ordered_merge.specs.Sound.{OutputIsAll, OutputIsPrefix}
-use Rattle.ordered_merge.proofs.Soundness.{output_is_all, output_is_prefix}
-use Rattle.ordered_merge.proofs.engine.Core.output.Goals as goal
+use Rattle.ordered_merge.specs.Events.Sound.{OutputIsAll, OutputIsPrefix}
+use Rattle.ordered_merge.proofs.Events.Soundness.{output_is_all, output_is_prefix}
+use Rattle.ordered_merge.proofs.model.engine.Core.output.Goals as goal
 
 pub returns-clause-prefix : goal.returns-clause-prefix
 returns-clause-prefix c =

@@ -1,7 +1,7 @@
 use Rattle.std.proofs.Common.{sym, subst}
 use Rattle.afdx_frame.specs.declared.key.Network.TheVariants.{A, B}
-use Rattle.ordered_merge.specs.Core.{FirstsCanFetch}
-use Rattle.ordered_merge.proofs.parts.Parts.fetch.Goals as goal
+use Rattle.ordered_merge.specs.Events.Steps.{FirstsCanFetch}
+use Rattle.ordered_merge.proofs.model.parts.Parts.fetch.Goals as goal
 
 pub fetch-requires : goal.fetch-requires
 fetch-requires c = subst FirstsCanFetch (sym c.self.view_is) c.requires A

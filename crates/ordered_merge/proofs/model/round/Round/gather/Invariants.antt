@@ -2,8 +2,8 @@ use Rattle.std.proofs.Common.{◌≡◌, ◌+◌, ◌++◌, ◌≤◌, drop, len
 use Rattle.std.specs.List.{list_all}
 use Rattle.std.specs.Option.{is_some}
 use Rattle.std.specs.Vec.{vec_capacity, vec_len}
-use Rattle.ordered_merge.specs.Round.{answered}
-use Rattle.ordered_merge.proofs.round.Round.gather.Given as goal
+use Rattle.ordered_merge.specs.Events.Round.{answered}
+use Rattle.ordered_merge.proofs.model.round.Round.gather.Given as goal
 
 abbrev pub invariant-loop-answer : goal.invariant-loop-answer
 invariant-loop-answer l = record {

@@ -5,16 +5,17 @@ use Rattle.std.specs.Option.{option_map}
 use Rattle.afdx_frame.specs.Frame.{Frame}
 use Rattle.afdx_frame.specs.declared.key.Network.{Network}
 use Rattle.afdx_frame.specs.declared.key.Network.TheVariants.{A, B}
-use Rattle.ordered_merge.specs.declared.event.Event.{Event}
-use Rattle.ordered_merge.specs.declared.event.Event.TheVariants as events
-use Rattle.ordered_merge.specs.declared.event.Answered.{Answered}
-use Rattle.ordered_merge.specs.declared.side.RingItem.{RingItem}
-use Rattle.ordered_merge.specs.declared.side.RingItem.TheVariants as items
-use Rattle.ordered_merge.specs.declared.round.Worker.{Worker}
-use Rattle.ordered_merge.specs.declared.round.Worker.TheVariants.{Idle, Holding, Through}
+use Rattle.ordered_merge.specs.declared.model.event.Event.{Event}
+use Rattle.ordered_merge.specs.declared.model.event.Event.TheVariants as events
+use Rattle.ordered_merge.specs.declared.model.event.Answered.{Answered}
+use Rattle.ordered_merge.specs.declared.model.side.RingItem.{RingItem}
+use Rattle.ordered_merge.specs.declared.model.side.RingItem.TheVariants as items
+use Rattle.ordered_merge.specs.declared.model.round.TheConstants.{ROUND_CAPACITY}
+use Rattle.ordered_merge.specs.declared.model.round.Worker.{Worker}
+use Rattle.ordered_merge.specs.declared.model.round.Worker.TheVariants.{Idle, Holding, Through}
 use Rattle.ordered_merge.specs.Merge.{MergerState, CanFetch, fetched, ended, cut_frames, after_cut, new_state}
-use Rattle.ordered_merge.specs.Side.{SideState, new_side, put_step, end_step}
-use Rattle.ordered_merge.specs.Round.{RoundState, new_round, claimed, after_claim, posted, is_answered, is_through, answered}
+use Rattle.ordered_merge.specs.Events.Side.{SideState, new_side, put_step, end_step}
+use Rattle.ordered_merge.specs.Events.Round.{RoundState, new_round, claimed, after_claim, posted, is_answered, is_through, answered}
 
 pub record CoreState : Type 0 where
   pub a : SideState
@@ -52,14 +53,10 @@ abbrev pub core_fetch_step : Network → CoreState → Option CoreState
 core_fetch_step network s =
     option_map (λ p. record (with_side s network p.0) { merger = p.1 }) (fetch_step network (side_of s network) s.merger)
 
--- the most frames of a round
-abbrev pub most_of_a_round : ℕ
-most_of_a_round = 256
-
 -- the first safe frames are a round, which no worker has begun
 abbrev pub cut_of : Option RoundState → List Frame → CoreState → Option CoreState
 cut_of None (f ∷ frames) s = Some (record s {
-  merger = after_cut s.merger most_of_a_round;
+  merger = after_cut s.merger ROUND_CAPACITY;
   round = Some (new_round (f ∷ frames));
   workers = replicate (length s.workers) Idle;
 })
@@ -67,7 +64,7 @@ cut_of None [] s = None
 cut_of (Some r) frames s = None
 
 abbrev pub cut_step : CoreState → Option CoreState
-cut_step s = cut_of s.round (cut_frames s.merger most_of_a_round) s
+cut_step s = cut_of s.round (cut_frames s.merger ROUND_CAPACITY) s
 
 -- an idle worker draws the next number of the open round
 abbrev pub claim_of : Option RoundState → Option Worker → ℕ → CoreState → Option CoreState

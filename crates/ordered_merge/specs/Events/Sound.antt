@@ -4,24 +4,20 @@ use Rattle.std.specs.List.{AllByRecursion}
 use Rattle.std.specs.List.Sorted.{IsPermutation}
 use Rattle.std.specs.Option.{unwrap_or}
 use Rattle.afdx_frame.specs.Frame.{Frame}
-use Rattle.afdx_frame.specs.declared.key.Network.{Network}
 use Rattle.afdx_frame.specs.declared.key.Network.TheVariants.{A, B}
-use Rattle.ordered_merge.specs.declared.event.Event.{Event}
-use Rattle.ordered_merge.specs.declared.event.Event.TheVariants as events
-use Rattle.ordered_merge.specs.declared.event.Answered.{Answered}
-use Rattle.ordered_merge.specs.declared.round.Worker.{Worker}
-use Rattle.ordered_merge.specs.declared.round.Worker.TheVariants.{Idle, Holding, Through}
-use Rattle.ordered_merge.specs.declared.side.RingItem.{RingItem}
-use Rattle.ordered_merge.specs.declared.side.RingItem.TheVariants as items
+use Rattle.ordered_merge.specs.declared.model.event.Event.{Event}
+use Rattle.ordered_merge.specs.declared.model.event.Event.TheVariants as events
+use Rattle.ordered_merge.specs.declared.model.event.Answered.{Answered}
+use Rattle.ordered_merge.specs.declared.model.round.Worker.{Worker}
+use Rattle.ordered_merge.specs.declared.model.round.Worker.TheVariants.{Idle, Holding, Through}
+use Rattle.ordered_merge.specs.declared.model.side.RingItem.{RingItem}
+use Rattle.ordered_merge.specs.declared.model.side.RingItem.TheVariants as items
 use Rattle.ordered_merge.specs.Order.{IsRising}
-use Rattle.ordered_merge.specs.Merge.{Tap, new_tap, AreOfTap, Follows}
-use Rattle.ordered_merge.specs.Side.{SideState}
-use Rattle.ordered_merge.specs.Round.{RoundState}
-use Rattle.ordered_merge.specs.Core.{CoreState, core_step, new_core}
-
--- A tap's recording: frames of the network, numbered from 0, with no stamp further below the greatest one before it than `late`.
-abbrev pub IsRecording : Network → ℕ → List Frame → Type 0
-IsRecording network late l = (last : Tap) × AreOfTap network late new_tap l last
+use Rattle.ordered_merge.specs.Recording.{IsRecording}
+use Rattle.ordered_merge.specs.Merge.{Follows}
+use Rattle.ordered_merge.specs.Events.Side.{SideState}
+use Rattle.ordered_merge.specs.Events.Round.{RoundState}
+use Rattle.ordered_merge.specs.Events.Steps.{CoreState, core_step, new_core}
 
 -- ---- where frames are
 

@@ -2,8 +2,9 @@
 use Rattle.std.specs.Prelude.{◌≡◌, Bool, true, false, nat_lt, List, [], ◌∷◌, ◌++◌, length, Option, Some, None, if◌then◌else◌}
 use Rattle.std.specs.Option.{MatchOption}
 use Rattle.afdx_frame.specs.Frame.{Frame}
-use Rattle.ordered_merge.specs.declared.side.RingItem.{RingItem}
-use Rattle.ordered_merge.specs.declared.side.RingItem.TheVariants as items
+use Rattle.ordered_merge.specs.declared.model.side.TheConstants.{RING_CAPACITY}
+use Rattle.ordered_merge.specs.declared.model.side.RingItem.{RingItem}
+use Rattle.ordered_merge.specs.declared.model.side.RingItem.TheVariants as items
 
 pub record SideState : Type 0 where
   -- the frames that weren't put yet, in the order of the recording
@@ -18,7 +19,7 @@ new_side frames = record { left = frames; marked = false; ring = [] }
 
 -- the ring takes one more item
 abbrev pub has_room : SideState → Bool
-has_room s = nat_lt (length s.ring) 64
+has_room s = nat_lt (length s.ring) RING_CAPACITY
 
 -- the next frame goes onto the ring
 abbrev pub put_of : List Frame → SideState → Option SideState

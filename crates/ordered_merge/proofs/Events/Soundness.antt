@@ -10,19 +10,21 @@ use Rattle.std.specs.Result.{IfOk, OnErr}
 use Rattle.afdx_frame.specs.Frame.{Frame}
 use Rattle.afdx_frame.specs.declared.key.Network.{Network}
 use Rattle.afdx_frame.specs.declared.key.Network.TheVariants.{A, B}
-use Rattle.ordered_merge.specs.declared.event.Event.{Event}
-use Rattle.ordered_merge.specs.declared.event.Event.TheVariants as events
-use Rattle.ordered_merge.specs.declared.event.Answered.{Answered}
-use Rattle.ordered_merge.specs.declared.round.Worker.{Worker}
-use Rattle.ordered_merge.specs.declared.round.Worker.TheVariants.{Idle, Holding, Through}
-use Rattle.ordered_merge.specs.declared.side.RingItem.{RingItem}
-use Rattle.ordered_merge.specs.declared.side.RingItem.TheVariants as items
+use Rattle.ordered_merge.specs.declared.model.event.Event.{Event}
+use Rattle.ordered_merge.specs.declared.model.event.Event.TheVariants as events
+use Rattle.ordered_merge.specs.declared.model.event.Answered.{Answered}
+use Rattle.ordered_merge.specs.declared.model.round.TheConstants.{ROUND_CAPACITY}
+use Rattle.ordered_merge.specs.declared.model.round.Worker.{Worker}
+use Rattle.ordered_merge.specs.declared.model.round.Worker.TheVariants.{Idle, Holding, Through}
+use Rattle.ordered_merge.specs.declared.model.side.RingItem.{RingItem}
+use Rattle.ordered_merge.specs.declared.model.side.RingItem.TheVariants as items
 use Rattle.ordered_merge.specs.Order.{IsOrder, IsRising}
 use Rattle.ordered_merge.specs.Merge.{Tap, MergerState, new_tap, tap_of, change_tap, tap_after, IsInTime, CanFetch, AreOfTap, Follows, fetched, cut_frames, after_cut}
-use Rattle.ordered_merge.specs.Side.{SideState, has_room, put_of, put_step, end_of, end_step, Steps}
-use Rattle.ordered_merge.specs.Round.{RoundState, claimed, after_claim, posted, is_answered, is_through, answered}
-use Rattle.ordered_merge.specs.Core.{CoreState, FirstsCanFetch, new_core, side_of, with_side, fetch_of, fetch_step, core_fetch_step, cut_of, claim_of, post_of, gather_of, core_step, most_of_a_round}
-use Rattle.ordered_merge.specs.Sound.{IsRecording, ring_frames, coming, round_frames, output_frames, given, held, OutputIsPrefix, OutputIsAll, HasNoMark, EndsInMark, MarkStands, RoundAnswers, AnswersAre, IsOf, core_run}
+use Rattle.ordered_merge.specs.Events.Side.{SideState, has_room, put_of, put_step, end_of, end_step, Steps}
+use Rattle.ordered_merge.specs.Events.Round.{RoundState, claimed, after_claim, posted, is_answered, is_through, answered}
+use Rattle.ordered_merge.specs.Events.Steps.{CoreState, FirstsCanFetch, new_core, side_of, with_side, fetch_of, fetch_step, core_fetch_step, cut_of, claim_of, post_of, gather_of, core_step}
+use Rattle.ordered_merge.specs.Events.Sound.{ring_frames, coming, round_frames, output_frames, given, held, OutputIsPrefix, OutputIsAll, HasNoMark, EndsInMark, MarkStands, RoundAnswers, AnswersAre, IsOf, core_run}
+use Rattle.ordered_merge.specs.Recording.{IsRecording}
 use Rattle.ordered_merge.proofs.Rising.{each_append}
 use Rattle.ordered_merge.proofs.Following.{follows_new, follows_fetch_a, follows_fetch_b, follows_end, follows_cut, follows_order, one_order}
 
@@ -310,12 +312,12 @@ fetch_sound A late a b s is = fetch_sound_a s.a.ring late a b s is refl
 fetch_sound B late a b s is = fetch_sound_b s.b.ring late a b s is refl
 
 cut_sound : (round : Option RoundState) (frames : List Frame) (late : ℕ) (a b : List Frame) (s : CoreState) → IsOf late a b s → s.round ≡ round
-    → cut_frames s.merger most_of_a_round ≡ frames → IfSome (cut_of round frames s) (IsOf late a b)
+    → cut_frames s.merger ROUND_CAPACITY ≡ frames → IfSome (cut_of round frames s) (IsOf late a b)
 cut_sound (Some r) frames late a b s is e g = tt
 cut_sound None [] late a b s is e g = tt
 cut_sound None (f ∷ frames) late a b s is e g =
-    let before : given s ++ cut_frames s.merger most_of_a_round ≡ output_frames s.output ++ f ∷ frames =
-    ap (λ (l : List Frame). l ++ cut_frames s.merger most_of_a_round) (ap (λ (o : Option RoundState). output_frames s.output ++ round_frames o) e ∙ append-nil (output_frames s.output))
+    let before : given s ++ cut_frames s.merger ROUND_CAPACITY ≡ output_frames s.output ++ f ∷ frames =
+    ap (λ (l : List Frame). l ++ cut_frames s.merger ROUND_CAPACITY) (ap (λ (o : Option RoundState). output_frames s.output ++ round_frames o) e ∙ append-nil (output_frames s.output))
     ∙ ap (λ (l : List Frame). output_frames s.output ++ l) g in
     record {
       fetched_a = is.fetched_a;
@@ -327,8 +329,8 @@ cut_sound None (f ∷ frames) late a b s is e g =
       whole_b = is.whole_b;
       mark_a = is.mark_a;
       mark_b = is.mark_b;
-      follows = subst (λ (l : List Frame). Follows (after_cut s.merger most_of_a_round) is.fetched_a is.fetched_b l) before
-          (follows_cut s.merger is.fetched_a is.fetched_b (given s) most_of_a_round is.follows);
+      follows = subst (λ (l : List Frame). Follows (after_cut s.merger ROUND_CAPACITY) is.fetched_a is.fetched_b l) before
+          (follows_cut s.merger is.fetched_a is.fetched_b (given s) ROUND_CAPACITY is.follows);
       answers = length-replicate (length (f ∷ frames)) None;
     }
 
@@ -421,7 +423,7 @@ pub step_sound : (answer : Frame → ℕ) (e : Event) (late : ℕ) (a b : List F
 step_sound answer (events.Put network) late a b s is = put_sound network late a b s is
 step_sound answer (events.End network) late a b s is = end_sound network late a b s is
 step_sound answer (events.Fetch network) late a b s is = fetch_sound network late a b s is
-step_sound answer events.Cut late a b s is = cut_sound s.round (cut_frames s.merger most_of_a_round) late a b s is refl refl
+step_sound answer events.Cut late a b s is = cut_sound s.round (cut_frames s.merger ROUND_CAPACITY) late a b s is refl refl
 step_sound answer (events.Claim w) late a b s is = claim_sound s.round (slice_get s.workers w) w late a b s is refl
 step_sound answer (events.Post w) late a b s is = post_sound answer s.round (slice_get s.workers w) w late a b s is refl
 step_sound answer events.Gather late a b s is = gather_sound s.round late a b s is refl
@@ -655,7 +657,7 @@ pub step_answers : (answer : Frame → ℕ) (e : Event) (s : CoreState) → Answ
 step_answers answer (events.Put network) s h = side_answers network answer s (put_step (side_of s network)) h
 step_answers answer (events.End network) s h = side_answers network answer s (end_step (side_of s network)) h
 step_answers answer (events.Fetch network) s h = fetch_answers network answer s (fetch_step network (side_of s network) s.merger) h
-step_answers answer events.Cut s h = cut_answers answer s.round (cut_frames s.merger most_of_a_round) s h
+step_answers answer events.Cut s h = cut_answers answer s.round (cut_frames s.merger ROUND_CAPACITY) s h
 step_answers answer (events.Claim w) s h = claim_keeps answer s.round (slice_get s.workers w) w s h refl
 step_answers answer (events.Post w) s h = post_keeps answer s.round (slice_get s.workers w) w s h refl
 step_answers answer events.Gather s h = gather_keeps answer s.round s h refl

@@ -3,9 +3,9 @@ use Rattle.std.specs.Prelude.{ℕ, ◌+◌, Bool, true, false, nat_lt, List, [],
 use Rattle.std.specs.List.{list_all}
 use Rattle.std.specs.Option.{is_some}
 use Rattle.afdx_frame.specs.Frame.{Frame}
-use Rattle.ordered_merge.specs.declared.event.Answered.{Answered}
-use Rattle.ordered_merge.specs.declared.round.Worker.{Worker}
-use Rattle.ordered_merge.specs.declared.round.Worker.TheVariants.{Idle, Holding, Through}
+use Rattle.ordered_merge.specs.declared.model.event.Answered.{Answered}
+use Rattle.ordered_merge.specs.declared.model.round.Worker.{Worker}
+use Rattle.ordered_merge.specs.declared.model.round.Worker.TheVariants.{Idle, Holding, Through}
 
 pub record RoundState : Type 0 where
   pub frames : List Frame
