@@ -33,7 +33,7 @@ bad_at_head p head more reason size few wrong =
     ap (λ (h : List ℕ). reason_at p.layout p.late p.high (header_fields p.layout h)) (take_at head more 16 size) ∙ wrong in
     rw (some, other, long, reads) refl
 
--- fine fields with fewer bytes behind them than they announce cut the recording
+-- fine fields that fewer bytes follow than they claim: the recording is truncated
 pub cut_at_head : (p : Position) (head body : List ℕ) → length head ≡ 16 → p.count ≢ p.most
     → reason_at p.layout p.late p.high (header_fields p.layout head) ≡ None → length body < (header_fields p.layout head).captured_len
     → ending_here p (head ++ body) ≡ Some (Cut p.count)
@@ -102,7 +102,7 @@ step_cut p (Some xs) mid after head body t gone short end =
 
 -- ---- how much a step takes
 
--- the fields of a packet that may stand here, and no more behind them than they announce
+-- the fields of a packet that may stand here, and no more bytes after them than they claim
 pub takes_packet : (p : Position) (before mid after : Option (List ℕ)) (fields : PacketHeader) → IsStart p before mid (starts.Header fields) → TakesAtMost fields.captured_len mid after
     → TakesAtMost 262160 before after
 takes_packet p before mid after fields (head, t, same) (gone, few, rest) =

@@ -1,4 +1,4 @@
-//! The counts of one link.
+//! The counts of a line `link`, and which verdicts count in which column.
 ghost use Rattle.std.specs.Prelude.{◌≡◌, ◌+◌, ◌<◌, List, [], ◌∷◌, ◌++◌, length, cond};
 ghost use Rattle.verdict_ledger.specs.Entry.{Entry};
 ghost use Rattle.verdict_ledger.specs.Tally.{counts_of, is_class, is_excess, is_out, is_copy, is_delivered};

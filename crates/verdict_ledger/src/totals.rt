@@ -1,4 +1,4 @@
-//! The counts of all frames.
+//! The counts of the line `total` and of the lines `filter`.
 ghost use Rattle.std.specs.Prelude.{◌≡◌, ◌<◌, List, [], ◌∷◌, ◌++◌, length};
 ghost use Rattle.verdict_ledger.specs.Entry.{Entry};
 ghost use Rattle.verdict_ledger.specs.Tally.{totals_of, has_bit, filter_count};

@@ -1,4 +1,4 @@
--- The second worker's part is cut off, and what it gives is put behind what the others give.
+-- The last worker takes the end of the part, and what it gives is appended to what the others give.
 use Rattle.std.proofs.Common.{refl, subst, arith}
 use Rattle.vl_judge.specs.declared.workers.Promised.{Promised}
 use Rattle.vl_judge.specs.declared.part.Part.{Part}
