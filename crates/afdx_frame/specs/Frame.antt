@@ -52,6 +52,6 @@ network_cmp A B = Less
 network_cmp B A = Greater
 network_cmp B B = Equal
 
--- the order of both taps' frames: by stamp, then by network, then by number
+-- the order of both taps' frames: by timestamp, then by network, then by number
 abbrev pub key_cmp : Key → Key → Ordering
 key_cmp k l = ordering_then (nat_cmp k.stamp.0 l.stamp.0) (ordering_then (network_cmp k.network l.network) (nat_cmp k.number l.number))

@@ -1,4 +1,4 @@
-//! The bounds that each frame keeps.
+//! The bounds of a frame, which owned and borrowed frames share.
 ghost use Rattle.std.specs.Prelude.{◌≡◌, IsTrue, ◌↔◌};
 ghost use Rattle.afdx_frame.specs.Frame.{AreWithin};
 

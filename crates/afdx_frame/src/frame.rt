@@ -13,7 +13,7 @@ use std::marker::Model;
 /// A frame as a tap recorded it: the network, its index in the recording, when it came, its length
 /// on the wire and the captured bytes, which are the first of the frame and often not all.
 ///
-/// Each frame keeps these bounds: a number below 2^32 and a stamp below 2^32 seconds (what pcap 2.4
+/// Each frame keeps these bounds: a number below 2^32 and a timestamp below 2^32 seconds (what pcap 2.4
 /// counts with), at most 262144 bytes captured (libpcap's largest snapshot length), and no more than
 /// there were on the wire.
 #[derive(Debug, Drop)]

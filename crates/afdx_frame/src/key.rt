@@ -1,4 +1,4 @@
-//! Networks, links, stamps, and the order of both taps' frames.
+//! Networks, links, timestamps, and the order of both taps' frames.
 ghost use Rattle.std.specs.Prelude.{◌≡◌};
 ghost use Rattle.afdx_frame.specs.Frame.{key_cmp};
 ghost use Rattle.afdx_frame.specs.declared.key.Key.{Key};
@@ -16,11 +16,14 @@ pub enum Network {
 #[derive(Clone, Copy, Debug, PartialEq, Eq, PartialOrd, Ord, Hash)]
 pub struct VlId(pub u16);
 
+/// How many virtual link identifiers there are: they have 16 bits.
+pub const VL_ID_COUNT: usize = 65536;
+
 /// A moment in nanoseconds since the epoch of the recording (pcap 2.4 counts from 1970).
 #[derive(Clone, Copy, Debug, PartialEq, Eq, PartialOrd, Ord, Hash)]
 pub struct Stamp(pub u64);
 
-/// The place of a frame in the order of both taps: by stamp, then network A before B, then the
+/// The place of a frame in the order of both taps: by timestamp, then network A before B, then the
 /// frame's number in its recording. (That A comes first is this project's profile.)
 #[derive(Clone, Copy, Debug, PartialEq, Eq, PartialOrd, Ord, Hash)]
 pub struct Key {
@@ -32,7 +35,7 @@ pub struct Key {
     pub number: u64,
 }
 
-/// What `Ord` says of keys: the stamp decides, then network A before B, then the number.
+/// What `Ord` says of keys: the timestamp decides, then network A before B, then the number.
 pub fn key_order()
     ensures { (k l : Key) → ⟦<Key as Ord>⟧.cmp k l ≡ key_cmp k l }
 {}

@@ -23,6 +23,6 @@ mod view;
 
 pub use bounds::MAX_SNAPLEN;
 pub use frame::TapFrame;
-pub use key::{Key, Network, Stamp, VlId, key_order};
+pub use key::{Key, Network, Stamp, VL_ID_COUNT, VlId, key_order};
 pub use lent_frame::LentFrame;
 pub use view::FrameView;

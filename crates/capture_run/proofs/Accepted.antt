@@ -4,9 +4,9 @@ use Rattle.std.specs.List.{flat_map}
 use Rattle.afdx_frame.specs.Frame.{Frame, IsFrame}
 use Rattle.afdx_frame.specs.declared.key.Network.{Network}
 use Rattle.bpf_isa.specs.declared.packed.Packed.{Packed}
-use Rattle.pcap_io.specs.Capture.{AreCapturable, capture_header, capture_of, record_text}
+use Rattle.pcap_io.specs.Capture.{AreCapturable, capture_header, capture_of, packet_text}
 use Rattle.pcap_io.specs.Layout.{fractions_of, nanoseconds_of}
-use Rattle.pcap_io.specs.Recording.{AreGood, IsGood, Record, frame_of, frames_of, stamp_of}
+use Rattle.pcap_io.specs.Recording.{AreGood, IsGood, Packet, frame_of, frames_of, stamp_of}
 use Rattle.pcap_io.specs.declared.layout.Layout.{Layout}
 use Rattle.pcap_io.specs.declared.layout.Precision.{Precision}
 use Rattle.pcap_io.specs.declared.layout.Precision.TheVariants.{Nanoseconds, Microseconds}
@@ -22,13 +22,13 @@ which false = inr refl
 -- ---- the bytes
 
 abbrev packets_of : List Packed → List Frame → List ℕ
-packets_of p frames = flat_map (λ f. record_text f (kept_len p f)) frames
+packets_of p frames = flat_map (λ f. packet_text f (kept_len p f)) frames
 
 records_of-accepted : (p : List Packed) (frames : List Frame) → records_of p frames ≡ packets_of p (accepted p frames)
 records_of-accepted p [] = refl
 records_of-accepted p (f ∷ fs) = elim (which (answer_for p f == 0)) [
   | inl none ↦ rw none (records_of-accepted p fs)
-  | inr some ↦ rw some (ap (λ (x : List ℕ). record_text f (kept_len p f) ++ x) (records_of-accepted p fs))
+  | inr some ↦ rw some (ap (λ (x : List ℕ). packet_text f (kept_len p f) ++ x) (records_of-accepted p fs))
 ]
 
 capture_text-accepted : (p : List Packed) (frames : List Frame) → capture_text p frames ≡ capture_of (kept_len p) (accepted p frames)
@@ -40,7 +40,7 @@ within_seconds : (q : Precision) (seconds fraction : ℕ) → seconds < 2 ^ 32 �
 within_seconds Nanoseconds seconds fraction s f = omega (arith, s, f)
 within_seconds Microseconds seconds fraction s f = omega (arith, s, f)
 
-is_frame : (network : Network) (l : Layout) (late high n : ℕ) (r : Record) → n < 2 ^ 32 → IsGood l late high r → IsFrame (frame_of network l n r)
+is_frame : (network : Network) (l : Layout) (late high n : ℕ) (r : Packet) → n < 2 ^ 32 → IsGood l late high r → IsFrame (frame_of network l n r)
 is_frame network l late high n r fits good = record {
   number_fits = fits;
   stamp_fits = within_seconds l.precision r.seconds r.fraction good.seconds_fit good.within_second;
@@ -48,7 +48,7 @@ is_frame network l late high n r fits good = record {
   within_whole = omega arith;
 }
 
-capturable : (p : List Packed) (network : Network) (l : Layout) (n low high : ℕ) (rs : List Record) → AreGood l 0 high rs → n + length rs ≤ 2 ^ 32 → low ≤ high
+capturable : (p : List Packed) (network : Network) (l : Layout) (n low high : ℕ) (rs : List Packet) → AreGood l 0 high rs → n + length rs ≤ 2 ^ 32 → low ≤ high
     → AreCapturable (kept_len p) low (accepted p (frames_of network l n rs))
 capturable p network l n low high [] good few below = tt
 capturable p network l n low high (r ∷ rs) good few below =
@@ -65,5 +65,5 @@ pub capture_gives_accepted : CaptureGivesAccepted
 capture_gives_accepted p tap network bytes frames ending most late r few =
     let fits : AreCapturable (kept_len p) 0 (accepted p frames) =
     subst (λ (fs : List Frame). AreCapturable (kept_len p) 0 (accepted p fs)) (sym r.holds.same)
-    (capturable p tap r.layout 0 0 0 r.holds.records r.holds.parse.good (omega (arith, r.holds.parse.bounded)) (omega arith)) in
+    (capturable p tap r.layout 0 0 0 r.holds.packets r.holds.parse.good (omega (arith, r.holds.parse.bounded)) (omega arith)) in
     rw capture_text-accepted (whole_capture network most late (kept_len p) (accepted p frames) fits few)

@@ -2,20 +2,18 @@
 use Rattle.std.specs.Prelude.{◌≡◌, ◌⊎◌, ℕ, ◌+◌, ◌^◌, ◌≤◌, ◌<◌, min, List, [], ◌∷◌, ◌++◌, length, take, drop, Option, Ok, Err, IfSome, ◌==◌, if◌then◌else◌}
 use Rattle.std.specs.Io.KnownBytes.{Appends, prepend_known}
 use Rattle.afdx_frame.specs.Frame.{Frame}
-use Rattle.afdx_frame.specs.declared.bounds.TheConstants.{MAX_SNAPLEN}
 use Rattle.afdx_frame.specs.declared.key.Network.{Network}
 use Rattle.afdx_frame.specs.declared.key.Network.TheVariants as networks
 use Rattle.bpf_isa.specs.declared.packed.Packed.{Packed}
 use Rattle.filter_workers.specs.Filters.{answer_for}
-use Rattle.pcap_io.specs.Capture.{capture_header, record_text}
+use Rattle.pcap_io.specs.Capture.{capture_header, packet_text}
 use Rattle.pcap_io.specs.Device.{AppendsPrefix, CountsFailure, TakesAtMost, TakesFewer}
 use Rattle.pcap_io.specs.Layout.{header_of}
-use Rattle.pcap_io.specs.Position.{EndLeaves, Holds, LacksBytes, LacksMemory, Opens, Reads, start_at}
+use Rattle.pcap_io.specs.Position.{TakesAPacket, EndLeaves, Holds, LacksBytes, LacksMemory, Opens, Reads, start_at}
 use Rattle.pcap_io.specs.declared.layout.HeaderFault.{HeaderFault}
 use Rattle.pcap_io.specs.declared.layout.Layout.{Layout}
 use Rattle.pcap_io.specs.declared.layout.TheConstants.{FILE_HEADER_LEN}
 use Rattle.pcap_io.specs.declared.position.Position.{Position}
-use Rattle.pcap_io.specs.declared.record_header.TheConstants.{RECORD_HEADER_LEN}
 use Rattle.pcap_io.specs.declared.recording.Ending.{Ending}
 use Rattle.run_outcome.specs.declared.fault.Output.TheVariants as output
 use Rattle.run_outcome.specs.declared.fault.WatchFault.{WatchFault}
@@ -29,7 +27,7 @@ kept_len p f = min (answer_for p f) (length f.bytes)
 
 -- the packet of a frame in the capture; a rejected frame has none
 abbrev pub record_of : List Packed → Frame → List ℕ
-record_of p f = if answer_for p f == 0 then [] else record_text f (kept_len p f)
+record_of p f = if answer_for p f == 0 then [] else packet_text f (kept_len p f)
 
 -- the packets of the accepted frames, in order
 abbrev pub records_of : List Packed → List Frame → List ℕ
@@ -64,7 +62,7 @@ pub record IsCaptured (p : List Packed) (ending : Ending) (before after : Device
   pub read : HasReadTap networks.A 0 before.source.remaining frames position left
   pub complete : IfSome before.source.remaining (λ bytes. IsRecording networks.A 0 bytes frames ending)
   pub taken : EndLeaves left rest ending
-  pub gone : TakesAtMost (RECORD_HEADER_LEN + MAX_SNAPLEN) left rest
+  pub gone : TakesAPacket left rest
   pub ahead : List ℕ
   pub unread : LeavesUnread ahead rest after.source.remaining
   pub written : Appends before.sink.contents after.sink.contents (capture_text p frames)

@@ -2,16 +2,14 @@
 use Rattle.std.specs.Prelude.{◌≡◌, ℕ, ◌+◌, ◌≤◌, ◌<◌, List, [], ◌∷◌, ◌++◌, length, take, Option, Some, IfSome}
 use Rattle.std.specs.Io.KnownBytes.{Appends}
 use Rattle.afdx_frame.specs.Frame.{Frame}
-use Rattle.afdx_frame.specs.declared.bounds.TheConstants.{MAX_SNAPLEN}
 use Rattle.afdx_frame.specs.declared.key.Network.{Network}
 use Rattle.afdx_frame.specs.declared.key.Network.TheVariants as networks
 use Rattle.bpf_isa.specs.declared.packed.Packed.{Packed}
-use Rattle.pcap_io.specs.Device.{CountsFailure, TakesAtMost}
-use Rattle.pcap_io.specs.Position.{EndLeaves, LacksBytes, LacksMemory, Reading, Reads, ending_here}
+use Rattle.pcap_io.specs.Device.{CountsFailure}
+use Rattle.pcap_io.specs.Position.{TakesAPacket, EndLeaves, LacksBytes, LacksMemory, Reading, Reads, ending_here}
 use Rattle.pcap_io.specs.declared.position.Position.{Position}
 use Rattle.pcap_io.specs.declared.reader.OpenFault.{OpenFault}
 use Rattle.pcap_io.specs.declared.reader.OpenFault.TheVariants as opening
-use Rattle.pcap_io.specs.declared.record_header.TheConstants.{RECORD_HEADER_LEN}
 use Rattle.pcap_io.specs.declared.recording.Ending.{Ending}
 use Rattle.capture_run.specs.Capture.{record_of, records_of}
 use Rattle.run_outcome.specs.declared.fault.Output.TheVariants as output
@@ -43,7 +41,7 @@ pub record IsCopied (p : List Packed) (ending : Ending) (old new : Copying) : Ty
   pub bounded : position.count ≤ position.most
   pub ends : IfSome left (λ bytes. ending_here position bytes ≡ Some ending)
   pub taken : EndLeaves left new.reading.remaining ending
-  pub gone : TakesAtMost (RECORD_HEADER_LEN + MAX_SNAPLEN) left new.reading.remaining
+  pub gone : TakesAPacket left new.reading.remaining
   pub source : new.reading.failures ≡ old.reading.failures
   pub sink : new.failures ≡ old.failures
 

@@ -30,9 +30,9 @@ impl Check {
         Check { last: None }
     }
 
-    #[tactic(auto, using(crate::proofs::Ends::verdict_at_append, crate::proofs::Ends::stands_after_append))]
     /// Judges the frame with this sequence number, and remembers the number. `on` says whether the
     /// link has integrity checking on; where it is off, each frame is `Off`.
+    #[tactic(auto, using(crate::proofs::Ends::verdict_at_append, crate::proofs::Ends::stands_after_append))]
     #[inline(always)]
     pub fn judge(&mut self, on: bool, sn: u8) -> Integrity
         ensures verdict { (numbers : List ℕ) → StandsAfter self.old numbers →

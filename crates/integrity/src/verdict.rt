@@ -1,4 +1,4 @@
-//! What integrity checking says of a frame.
+//! The verdict, apart from the state that it is judged by, since crates above count and print it.
 
 ghost use Rattle.std.specs.Prelude.{◌≡◌};
 ghost use Rattle.integrity.specs.Sequence.{is_valid};

@@ -1,7 +1,6 @@
 pub mod Buffers
+pub mod Events
 pub mod Following
 pub mod Merging
 pub mod Recordings
 pub mod Rising
-pub mod Soundness
-pub mod Numbers

@@ -4,10 +4,9 @@ use Rattle.std.proofs.lemmas.List.{drop_more, take-append-drop, take_more}
 use Rattle.afdx_frame.specs.Frame.{Frame}
 use Rattle.afdx_frame.specs.declared.key.Network.{Network}
 use Rattle.ordered_merge.specs.Merge.{AreOfTap, new_tap, tap_after}
-use Rattle.ordered_merge.specs.Recording.{IsNextFrame, tap_at}
-use Rattle.ordered_merge.specs.Sound.{IsRecording}
+use Rattle.ordered_merge.specs.Recording.{IsNextFrame, tap_at, IsRecording}
 use Rattle.ordered_merge.proofs.Following.{of_tap_append}
-use Rattle.ordered_merge.proofs.Soundness.{next_of}
+use Rattle.ordered_merge.proofs.Events.Soundness.{next_of}
 
 pub recording_more : (network : Network) (late next : ℕ) (high : Option ℕ) (l : List Frame) (i : ℕ) (f : Frame) → i < length l → f ≡ get_or l i f
     → AreOfTap network late new_tap (take i l) (tap_at next high) → IsNextFrame network late next high f

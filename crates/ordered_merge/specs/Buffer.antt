@@ -20,7 +20,7 @@ buffered queue late = insert_frames (values_of late) queue
 abbrev pub pushed : BufferState → Frame → BufferState
 pushed s f = record { tap = tap_after f.stamp s.tap; frames = insert_frame f s.frames }
 
--- The number is below the next one, and the stamp fits 63 bits, as each frame's does.
+-- The number is below the next one, and the timestamp fits 63 bits, as each frame's does.
 abbrev pub IsKept : ℕ → Frame → Type 0
 IsKept next f = (f.number < next) × (f.stamp < 2 ^ 63)
 
@@ -37,6 +37,6 @@ pub record IsBuffer (queue : List Frame) (late : List (Key × Frame)) (next : �
 abbrev pub is_late : List Frame → Frame → Bool
 is_late queue f = option_map_or (is_before f) (slice_get queue (length queue - 1)) false
 
--- the stamp is below the bound
+-- the timestamp is below the bound
 abbrev pub is_below : ℕ → Frame → Bool
 is_below bound f = nat_lt f.stamp bound

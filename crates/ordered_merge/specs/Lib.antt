@@ -1,9 +1,6 @@
 pub mod Buffer
-pub mod Core
+pub mod Events
 pub mod Laws
 pub mod Merge
 pub mod Order
 pub mod Recording
-pub mod Round
-pub mod Side
-pub mod Sound

@@ -13,11 +13,11 @@ pub record Tap : Type 0 where
   pub ended : Bool
   -- the number of the next frame
   pub next : ℕ
-  -- the greatest stamp
+  -- the greatest timestamp
   pub high : Option ℕ
 
 pub record MergerState : Type 0 where
-  -- by how much a stamp may lie below the greatest one of its tap before it
+  -- by how much a timestamp may lie below the greatest one of its tap before it
   pub late : ℕ
   -- the frames that came and weren't cut, in order
   pub pending : List Frame
@@ -40,7 +40,7 @@ change_tap change B s = record s { b = change s.b }
 
 -- ---- frames that may come
 
--- the stamp is no further below the tap's greatest one than is allowed
+-- the timestamp is no further below the tap's greatest one than is allowed
 abbrev pub IsInTime : ℕ → Tap → Frame → Type 0
 IsInTime late tap f = ForSome tap.high (λ high. high ≤ f.stamp + late)
 
@@ -62,7 +62,7 @@ pub record MayCome (s : MergerState) (f : Frame) : Type 0 where
 abbrev pub highest : Option ℕ → ℕ → ℕ
 highest high stamp = option_map_or (λ h. max h stamp) high stamp
 
--- past a frame of this stamp
+-- past a frame of this timestamp
 abbrev pub tap_after : ℕ → Tap → Tap
 tap_after stamp tap = record { ended = tap.ended; next = tap.next + 1; high = Some (highest tap.high stamp) }
 
@@ -80,7 +80,7 @@ is_no_later None m = true
 is_no_later (Some h) None = false
 is_no_later (Some h) (Some m) = nat_le h m
 
--- The network has not ended, and of those its greatest stamp is the least; of two alike it is A.
+-- The network has not ended, and of those its greatest timestamp is the least; of two alike it is A.
 abbrev pub IsWanted : MergerState → Network → Type 0
 IsWanted s A = (s.a.ended ≡ false) × (s.b.ended ≡ false → is_no_later s.a.high s.b.high ≡ true)
 IsWanted s B = (s.b.ended ≡ false) × (s.a.ended ≡ false → is_no_later s.a.high s.b.high ≡ false)
@@ -91,16 +91,16 @@ Wants s None = (s.a.ended ≡ true) × (s.b.ended ≡ true)
 
 -- ---- safe frames
 
--- The tap gives no frame of a stamp below the moment less what is allowed.
+-- The tap gives no frame of a timestamp below the moment less what is allowed.
 abbrev pub reaches : ℕ → Tap → Bool
 reaches moment tap = tap.ended || option_map_or (λ high. nat_le moment high) tap.high false
 
--- The tap gives no frame of a stamp at or below it.
+-- The tap gives no frame of a timestamp at or below it.
 abbrev pub passes : ℕ → Tap → Bool
 passes moment tap = tap.ended || option_map_or (λ high. nat_lt moment high) tap.high false
 
--- No frame that may still come has a key below the frame's: its own tap and the other one are so far that none of an earlier stamp
--- follows, nor, for a frame of B, one of A of the same stamp.
+-- No frame that may still come has a key below the frame's: its own tap and the other one are so far that none of an earlier timestamp
+-- follows, nor, for a frame of B, one of A of the same timestamp.
 abbrev pub is_safe_of : Network → MergerState → ℕ → Bool
 is_safe_of A s moment = reaches moment s.a && reaches moment s.b
 is_safe_of B s moment = reaches moment s.b && passes moment s.a
@@ -126,7 +126,7 @@ after_cut s most = without_first (length (cut_frames s most)) s
 
 -- ---- a whole run
 
--- the frames of a tap's recording so far: the network, the number and the stamp of each fit what came before it
+-- the frames of a tap's recording so far: the network, the number and the timestamp of each fit what came before it
 abbrev pub AreOfTap : Network → ℕ → Tap → List Frame → Tap → Type 0
 AreOfTap network late tap [] last = (tap.next ≡ last.next) × (tap.high ≡ last.high)
 AreOfTap network late tap (f ∷ l) last =

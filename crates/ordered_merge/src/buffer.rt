@@ -70,7 +70,7 @@ impl TapBuffer {
         self.ended
     }
 
-    /// The greatest stamp so far, in nanoseconds.
+    /// The greatest timestamp so far, in nanoseconds.
     #[inline(always)]
     pub(crate) fn high(&self) -> Option<u64>
         ensures { result ≡ self.now.tap.high }
@@ -127,7 +127,7 @@ impl TapBuffer {
         }
     }
 
-    /// The bound of the stamps for which none lower follows, in nanoseconds, where a stamp may lie by
+    /// The bound of the timestamps for which none lower follows, in nanoseconds, where a timestamp may lie by
     /// `late` below the greatest one before it.
     pub(crate) fn reached_below(&self, late: u64) -> u64
         ensures { (stamp : ℕ) → stamp < 2 ^ 63 →
@@ -140,7 +140,7 @@ impl TapBuffer {
         }
     }
 
-    /// The bound of the stamps for which none as low follows.
+    /// The bound of the timestamps for which none as low follows.
     pub(crate) fn passed_below(&self, late: u64) -> u64
         ensures { (stamp : ℕ) → stamp < 2 ^ 63 →
             nat_lt stamp result ≡ passes (stamp + late) self.now.tap }
@@ -152,7 +152,7 @@ impl TapBuffer {
         }
     }
 
-    /// How many frames have a stamp below the bound, in nanoseconds; no more than `most`.
+    /// How many frames have a timestamp below the bound, in nanoseconds; no more than `most`.
     pub(crate) fn count_below(&self, bound: u64, most: usize) -> usize
         ensures count { result ≡ min most (count_by (is_below bound) self.now.frames) }
         ensures fit { AllByRecursion (λ f. f.stamp < 2 ^ 63) self.now.frames }

@@ -1,4 +1,4 @@
-//! The merger of both taps.
+//! The merger that programs run: frames in, rounds in order out.
 ghost use Rattle.std.specs.Prelude.{◌≡◌, ◌+◌, ◌++◌, ◌^◌, ◌<◌, if◌then◌else◌, IfErr, IfOk, IsTrue, ◌↔◌, OnErr, OnOk, length, nat_lt, slice_get, take, ℕ};
 ghost use Rattle.std.specs.List.{AllByRecursion};
 ghost use Rattle.ordered_merge.specs.Merge.{CanFetch, Wants, after_cut, cut_frames, ended, fetched, is_no_later, is_safe_of, new_state, without_first};
@@ -13,7 +13,7 @@ use std::marker::Model;
 /// Merges the frames of both networks into the one order of their keys.
 ///
 /// Frames come by [`fetch`](Merger::fetch), each network's in the order of its recording, in which a
-/// stamp may lie by some nanoseconds below the greatest one before it. A frame is safe once no frame
+/// timestamp may lie by some nanoseconds below the greatest one before it. A frame is safe once no frame
 /// that may still come has a lower key. [`cut`](Merger::cut) takes out the first safe frames, so that
 /// the frames of all cuts, one after another, are in order.
 #[derive(Debug, Drop)]
@@ -45,7 +45,7 @@ impl Model for Merger {
 }
 
 impl Merger {
-    /// A merger that has no frame yet. A stamp may lie by `late` nanoseconds below the greatest one of
+    /// A merger that has no frame yet. A timestamp may lie by `late` nanoseconds below the greatest one of
     /// its network before it. Keeps the allocator, and allocates nothing.
     pub fn new(alloc: Global, late: u64) -> Merger
         ensures { result ≡ new_state late }
@@ -58,8 +58,8 @@ impl Merger {
         }
     }
 
-    /// Whether the frame may come next: its network hasn't ended, its number is the next, and its stamp is
-    /// within the window.
+    /// Whether the frame may come next: its network hasn't ended, its number is the next, and its
+    /// timestamp is within the window.
     pub fn can_fetch(&self, frame: &TapFrame) -> bool
         ensures { IsTrue result ↔ CanFetch self.now frame.now }
     {
@@ -93,8 +93,8 @@ impl Merger {
         }
     }
 
-    /// The network whose next frame serves most: of those that haven't ended the one with the least
-    /// greatest stamp, one without a frame first, and of two alike A. None: both have ended.
+    /// The network to fetch from next, of those that haven't ended: one that has given no frame yet, or
+    /// else the one whose greatest timestamp is the least. Of two alike it is A. None: both have ended.
     pub fn wants(&self) -> Option<Network>
         ensures { Wants self.now result }
     {
@@ -125,7 +125,7 @@ impl Merger {
         Ok(round)
     }
 
-    /// The bound of the stamps, in nanoseconds, below which the frames of a network are safe.
+    /// The bound of the timestamps, in nanoseconds, below which the frames of a network are safe.
     fn safe_below(&self, network: Network) -> u64
         ensures { (stamp : ℕ) → stamp < 2 ^ 63 →
             nat_lt stamp result ≡ is_safe_of network self.now (stamp + self.now.late) }
@@ -180,7 +180,7 @@ fn leads(buffer: &TapBuffer, other: &TapBuffer) -> bool
     }
 }
 
-/// The network whose greatest stamp is less, of two alike A.
+/// The network whose greatest timestamp is less, of two alike A.
 fn earlier(a: Option<u64>, b: Option<u64>) -> Network
     ensures { result ≡ (if is_no_later a b then Network.A else Network.B) }
 {

@@ -1,13 +1,12 @@
 //! Whether frames are a tap's recording.
 ghost use Rattle.std.specs.Prelude.{◌+◌, ◌≤◌, IsTrue, ◌↔◌};
 ghost use Rattle.std.specs.Option.{ForSome};
-ghost use Rattle.ordered_merge.specs.Recording.{IsNextFrame};
-ghost use Rattle.ordered_merge.specs.Sound.{IsRecording};
+ghost use Rattle.ordered_merge.specs.Recording.{IsNextFrame, IsRecording};
 
 use crate::buffer::highest;
 use afdx_frame::{Network, TapFrame};
 
-/// Whether the frames are a recording of the network's tap: numbered from 0, and with no stamp further
+/// Whether the frames are a recording of the network's tap: numbered from 0, and with no timestamp further
 /// than `late` nanoseconds below the greatest one before it.
 pub fn is_recording(network: Network, late: u64, frames: &[TapFrame]) -> bool
     ensures { IsTrue result ↔ IsRecording network late frames.now }
@@ -24,14 +23,14 @@ pub fn is_recording(network: Network, late: u64, frames: &[TapFrame]) -> bool
     true
 }
 
-/// Whether the frame comes next of the network, after frames of this greatest stamp.
+/// Whether the frame comes next of the network, after frames of this greatest timestamp.
 fn is_next(network: Network, late: u64, next: u64, high: Option<u64>, frame: &TapFrame) -> bool
     ensures { IsTrue result ↔ IsNextFrame network late next high frame.now }
 {
     frame.network() == network && frame.number() == next && is_in_time(late, high, frame.stamp().0)
 }
 
-/// Whether a stamp is no further than `late` below the greatest one before it.
+/// Whether a timestamp is no further than `late` below the greatest one before it.
 pub(crate) fn is_in_time(late: u64, high: Option<u64>, stamp: u64) -> bool
     ensures { IsTrue result ↔ ForSome high (λ high. high ≤ stamp + late) }
 {

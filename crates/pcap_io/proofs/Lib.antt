@@ -3,6 +3,6 @@ pub mod Captures
 pub mod Draws
 pub mod FileHeader
 pub mod Parse
-pub mod RecordBytes
+pub mod PacketBytes
 pub mod Steps
 pub mod Transfers

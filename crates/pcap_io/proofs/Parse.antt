@@ -5,26 +5,26 @@ use Rattle.std.proofs.lemmas.Bool.{cases_lt, ltb-false, eqb-false}
 use Rattle.std.proofs.lemmas.List.{append_assoc, append_cancel_left, length-append, take_at, drop_at, take-append-drop, length-take-le, length-drop, length-take, get_or-take, get_or_past}
 use Rattle.afdx_frame.specs.Frame.{Frame}
 use Rattle.pcap_io.specs.Bytes.{IsBytes}
-use Rattle.pcap_io.specs.Recording.{Record, IsGood, Parses, record_bytes, stamp_of, high_after, frames_of, frame_of, header_fields, ending_after, ending_at, header_bytes}
-use Rattle.pcap_io.proofs.RecordBytes.{good_goes_on, header-record_bytes, header_with, length-record_bytes, fractions_fit, fine_from_none, IsFine, header_bytes_read_back, number_fits, none_of, IsBytes-drop}
+use Rattle.pcap_io.specs.Recording.{Packet, IsGood, Parses, packet_bytes, stamp_of, high_after, frames_of, frame_of, header_fields, ending_after, ending_at, header_bytes}
+use Rattle.pcap_io.proofs.PacketBytes.{good_goes_on, header-packet_bytes, header_with, length-packet_bytes, fractions_fit, fine_from_none, IsFine, header_bytes_read_back, number_fits, none_of, IsBytes-drop}
 use Rattle.pcap_io.specs.Position.{Holds, IsNext, Reads, TakesFrame, after_frame, after_item, ending_here}
 use Rattle.pcap_io.specs.declared.layout.Layout.{Layout}
-use Rattle.pcap_io.specs.declared.record_header.RecordHeader.{RecordHeader}
+use Rattle.pcap_io.specs.declared.packet_header.PacketHeader.{PacketHeader}
 use Rattle.pcap_io.specs.declared.recording.BadReason.{BadReason}
 use Rattle.pcap_io.specs.declared.recording.Ending.{Ending}
 use Rattle.pcap_io.specs.declared.position.Position.{Position}
 use Rattle.pcap_io.specs.declared.item.Item.TheVariants as items
 
--- ---- one more record before the others
+-- ---- one more packet before the others
 
 pub parses_end : (l : Layout) (most late n high : ℕ) (bytes : List ℕ) (e : Ending) → n ≤ most → ending_at l most late n high bytes ≡ Some e
     → Parses l most late n high bytes [] bytes e
 parses_end l most late n high bytes e few ends = record { complete = refl; good = tt; bounded = omega arith; ends = rw add-zero ends }
 
-pub parses_more : (l : Layout) (most late n high : ℕ) (r : Record) (bytes : List ℕ) (rs : List Record) (rest : List ℕ) (e : Ending) → IsGood l late high r
-    → Parses l most late (n + 1) (max high (stamp_of l r)) bytes rs rest e → Parses l most late n high (record_bytes l r ++ bytes) (r ∷ rs) rest e
+pub parses_more : (l : Layout) (most late n high : ℕ) (r : Packet) (bytes : List ℕ) (rs : List Packet) (rest : List ℕ) (e : Ending) → IsGood l late high r
+    → Parses l most late (n + 1) (max high (stamp_of l r)) bytes rs rest e → Parses l most late n high (packet_bytes l r ++ bytes) (r ∷ rs) rest e
 parses_more l most late n high r bytes rs rest e good s = record {
-  complete = ap (λ (b : List ℕ). record_bytes l r ++ b) s.complete ∙ sym (append_assoc (record_bytes l r) (flat_map (record_bytes l) rs) rest);
+  complete = ap (λ (b : List ℕ). packet_bytes l r ++ b) s.complete ∙ sym (append_assoc (packet_bytes l r) (flat_map (packet_bytes l) rs) rest);
   good = (good, s.good);
   bounded = omega (arith, s.bounded);
   ends = subst (λ (m : ℕ). ending_at l most late m (high_after l (max high (stamp_of l r)) rs) rest ≡ Some e) (omega arith) s.ends;
@@ -32,37 +32,37 @@ parses_more l most late n high r bytes rs rest e good s = record {
 
 -- ---- only one parse
 
-abbrev record_with : ℕ → ℕ → ℕ → List ℕ → Record
-record_with s f w b = record { seconds = s; fraction = f; original_len = w; bytes = b }
+abbrev packet_with : ℕ → ℕ → ℕ → List ℕ → Packet
+packet_with s f w b = record { seconds = s; fraction = f; original_len = w; bytes = b }
 
-same_record : (s f w s' f' w' : ℕ) (b b' : List ℕ) → s ≡ s' → f ≡ f' → w ≡ w' → b ≡ b' → record_with s f w b ≡ record_with s' f' w' b'
-same_record s f w s' f' w' b b' p q r t =
-    ap (λ (x : ℕ). record_with x f w b) p ∙ ap (λ (x : ℕ). record_with s' x w b) q ∙ ap (λ (x : ℕ). record_with s' f' x b) r ∙ ap (λ (x : List ℕ). record_with s' f' w' x) t
+same_packet : (s f w s' f' w' : ℕ) (b b' : List ℕ) → s ≡ s' → f ≡ f' → w ≡ w' → b ≡ b' → packet_with s f w b ≡ packet_with s' f' w' b'
+same_packet s f w s' f' w' b b' p q r t =
+    ap (λ (x : ℕ). packet_with x f w b) p ∙ ap (λ (x : ℕ). packet_with s' x w b) q ∙ ap (λ (x : ℕ). packet_with s' f' x b) r ∙ ap (λ (x : List ℕ). packet_with s' f' w' x) t
 
--- no good record's text begins another's
-pub same_front : (l : Layout) (late high : ℕ) (r s : Record) (x y : List ℕ) → IsGood l late high r → IsGood l late high s
-    → record_bytes l r ++ x ≡ record_bytes l s ++ y → (r ≡ s) × (x ≡ y)
+-- no good packet's text begins another's
+pub same_front : (l : Layout) (late high : ℕ) (r s : Packet) (x y : List ℕ) → IsGood l late high r → IsGood l late high s
+    → packet_bytes l r ++ x ≡ packet_bytes l s ++ y → (r ≡ s) × (x ≡ y)
 same_front l late high r s x y good fine e =
-    let a = header-record_bytes l r x good.seconds_fit (fractions_fit l.precision r.fraction good.within_second) (omega (arith, good.few_bytes)) good.original_len_fits in
-    let b = header-record_bytes l s y fine.seconds_fit (fractions_fit l.precision s.fraction fine.within_second) (omega (arith, fine.few_bytes)) fine.original_len_fits in
+    let a = header-packet_bytes l r x good.seconds_fit (fractions_fit l.precision r.fraction good.within_second) (omega (arith, good.few_bytes)) good.original_len_fits in
+    let b = header-packet_bytes l s y fine.seconds_fit (fractions_fit l.precision s.fraction fine.within_second) (omega (arith, fine.few_bytes)) fine.original_len_fits in
     let heads : header_with r.seconds r.fraction (length r.bytes) r.original_len ≡ header_with s.seconds s.fraction (length s.bytes) s.original_len =
     sym a ∙ ap (λ (t : List ℕ). header_fields l (take 16 t)) e ∙ b in
-    let seconds : r.seconds ≡ s.seconds = ap (λ (h : RecordHeader). h.seconds) heads in
-    let fraction : r.fraction ≡ s.fraction = ap (λ (h : RecordHeader). h.fraction) heads in
-    let size : length r.bytes ≡ length s.bytes = ap (λ (h : RecordHeader). h.captured_len) heads in
-    let wire : r.original_len ≡ s.original_len = ap (λ (h : RecordHeader). h.original_len) heads in
+    let seconds : r.seconds ≡ s.seconds = ap (λ (h : PacketHeader). h.seconds) heads in
+    let fraction : r.fraction ≡ s.fraction = ap (λ (h : PacketHeader). h.fraction) heads in
+    let size : length r.bytes ≡ length s.bytes = ap (λ (h : PacketHeader). h.captured_len) heads in
+    let wire : r.original_len ≡ s.original_len = ap (λ (h : PacketHeader). h.original_len) heads in
     let text : header_bytes l r.seconds r.fraction (length r.bytes) r.original_len ≡ header_bytes l s.seconds s.fraction (length s.bytes) s.original_len =
-    ap (λ (h : RecordHeader). header_bytes l h.seconds h.fraction h.captured_len h.original_len) heads in
+    ap (λ (h : PacketHeader). header_bytes l h.seconds h.fraction h.captured_len h.original_len) heads in
     let bodies : r.bytes ++ x ≡ s.bytes ++ y =
     append_cancel_left (header_bytes l s.seconds s.fraction (length s.bytes) s.original_len) (r.bytes ++ x) (s.bytes ++ y)
     (ap (λ (t : List ℕ). t ++ (r.bytes ++ x)) (sym text) ∙ sym (append_assoc _ r.bytes x) ∙ e ∙ append_assoc _ s.bytes y) in
     let body : r.bytes ≡ s.bytes = sym (take_at r.bytes x (length r.bytes) refl) ∙ ap (take (length r.bytes)) bodies ∙ take_at s.bytes y (length r.bytes) (sym size) in
     let behind : x ≡ y = sym (drop_at r.bytes x (length r.bytes) refl) ∙ ap (drop (length r.bytes)) bodies ∙ drop_at s.bytes y (length r.bytes) (sym size) in
-    (same_record _ _ _ _ _ _ _ _ seconds fraction wire body, behind)
+    (same_packet _ _ _ _ _ _ _ _ seconds fraction wire body, behind)
 
--- the same records, the same rest and the same ending
-pub record IsSame (rs ss : List Record) (rest other : List ℕ) (e f : Ending) : Type 0 where
-  pub same_records : rs ≡ ss
+-- the same packets, the same rest and the same ending
+pub record IsSame (rs ss : List Packet) (rest other : List ℕ) (e f : Ending) : Type 0 where
+  pub same_packets : rs ≡ ss
   pub same_rest : rest ≡ other
   pub same_ending : e ≡ f
 
@@ -72,9 +72,9 @@ some_same x y e = cc
 none_some : {A : Type 0} (o : Option A) (x : A) → o ≡ None → o ≡ Some x → ⊥
 none_some o x p q = cc
 
--- the parse after the first record
-pub tail_parse : (l : Layout) (most late n high : ℕ) (bytes : List ℕ) (r : Record) (rs : List Record) (rest : List ℕ) (e : Ending)
-    → Parses l most late n high bytes (r ∷ rs) rest e → Parses l most late (n + 1) (max high (stamp_of l r)) (flat_map (record_bytes l) rs ++ rest) rs rest e
+-- the parse after the first packet
+pub tail_parse : (l : Layout) (most late n high : ℕ) (bytes : List ℕ) (r : Packet) (rs : List Packet) (rest : List ℕ) (e : Ending)
+    → Parses l most late n high bytes (r ∷ rs) rest e → Parses l most late (n + 1) (max high (stamp_of l r)) (flat_map (packet_bytes l) rs ++ rest) rs rest e
 tail_parse l most late n high bytes r rs rest e s = record {
   complete = refl;
   good = s.good.1;
@@ -82,41 +82,41 @@ tail_parse l most late n high bytes r rs rest e s = record {
   ends = subst (λ (m : ℕ). ending_at l most late m (high_after l (max high (stamp_of l r)) rs) rest ≡ Some e) (omega arith) s.ends;
 }
 
-pub same_parse : (l : Layout) (most late n high : ℕ) (bytes : List ℕ) (rs ss : List Record) (rest other : List ℕ) (e f : Ending)
+pub same_parse : (l : Layout) (most late n high : ℕ) (bytes : List ℕ) (rs ss : List Packet) (rest other : List ℕ) (e f : Ending)
     → Parses l most late n high bytes rs rest e → Parses l most late n high bytes ss other f → IsSame rs ss rest other e f
 same_parse l most late n high bytes [] [] rest other e f s t =
     let same : rest ≡ other = sym s.complete ∙ t.complete in
-    record { same_records = refl; same_rest = same; same_ending = some_same e f (sym s.ends ∙ ap (λ (x : List ℕ). ending_at l most late (n + 0) high x) same ∙ t.ends) }
+    record { same_packets = refl; same_rest = same; same_ending = some_same e f (sym s.ends ∙ ap (λ (x : List ℕ). ending_at l most late (n + 0) high x) same ∙ t.ends) }
 same_parse l most late n high bytes [] (q ∷ ss) rest other e f s t =
-    let text : rest ≡ record_bytes l q ++ (flat_map (record_bytes l) ss ++ other) = sym s.complete ∙ t.complete ∙ append_assoc (record_bytes l q) (flat_map (record_bytes l) ss) other in
-    let goes = good_goes_on l most late (n + 0) high q (flat_map (record_bytes l) ss ++ other) t.good.0 (omega (arith, t.bounded)) in
+    let text : rest ≡ packet_bytes l q ++ (flat_map (packet_bytes l) ss ++ other) = sym s.complete ∙ t.complete ∙ append_assoc (packet_bytes l q) (flat_map (packet_bytes l) ss) other in
+    let goes = good_goes_on l most late (n + 0) high q (flat_map (packet_bytes l) ss ++ other) t.good.0 (omega (arith, t.bounded)) in
     absurd (none_some _ e (ap (ending_at l most late (n + 0) high) text ∙ goes) s.ends)
 same_parse l most late n high bytes (r ∷ rs) [] rest other e f s t =
-    let text : other ≡ record_bytes l r ++ (flat_map (record_bytes l) rs ++ rest) = sym t.complete ∙ s.complete ∙ append_assoc (record_bytes l r) (flat_map (record_bytes l) rs) rest in
-    let goes = good_goes_on l most late (n + 0) high r (flat_map (record_bytes l) rs ++ rest) s.good.0 (omega (arith, s.bounded)) in
+    let text : other ≡ packet_bytes l r ++ (flat_map (packet_bytes l) rs ++ rest) = sym t.complete ∙ s.complete ∙ append_assoc (packet_bytes l r) (flat_map (packet_bytes l) rs) rest in
+    let goes = good_goes_on l most late (n + 0) high r (flat_map (packet_bytes l) rs ++ rest) s.good.0 (omega (arith, s.bounded)) in
     absurd (none_some _ f (ap (ending_at l most late (n + 0) high) text ∙ goes) t.ends)
 same_parse l most late n high bytes (r ∷ rs) (q ∷ ss) rest other e f s t =
-    let first = same_front l late high r q (flat_map (record_bytes l) rs ++ rest) (flat_map (record_bytes l) ss ++ other) s.good.0 t.good.0
-    (sym (append_assoc (record_bytes l r) (flat_map (record_bytes l) rs) rest) ∙ sym s.complete ∙ t.complete ∙ append_assoc (record_bytes l q) (flat_map (record_bytes l) ss) other) in
-    let left : Parses l most late (n + 1) (max high (stamp_of l r)) (flat_map (record_bytes l) rs ++ rest) rs rest e = tail_parse l most late n high bytes r rs rest e s in
-    let right : Parses l most late (n + 1) (max high (stamp_of l q)) (flat_map (record_bytes l) ss ++ other) ss other f = tail_parse l most late n high bytes q ss other f t in
-    let moved : Parses l most late (n + 1) (max high (stamp_of l r)) (flat_map (record_bytes l) rs ++ rest) ss other f =
+    let first = same_front l late high r q (flat_map (packet_bytes l) rs ++ rest) (flat_map (packet_bytes l) ss ++ other) s.good.0 t.good.0
+    (sym (append_assoc (packet_bytes l r) (flat_map (packet_bytes l) rs) rest) ∙ sym s.complete ∙ t.complete ∙ append_assoc (packet_bytes l q) (flat_map (packet_bytes l) ss) other) in
+    let left : Parses l most late (n + 1) (max high (stamp_of l r)) (flat_map (packet_bytes l) rs ++ rest) rs rest e = tail_parse l most late n high bytes r rs rest e s in
+    let right : Parses l most late (n + 1) (max high (stamp_of l q)) (flat_map (packet_bytes l) ss ++ other) ss other f = tail_parse l most late n high bytes q ss other f t in
+    let moved : Parses l most late (n + 1) (max high (stamp_of l r)) (flat_map (packet_bytes l) rs ++ rest) ss other f =
     subst (λ (x : List ℕ). Parses l most late (n + 1) (max high (stamp_of l r)) x ss other f) (sym first.1)
-    (subst (λ (x : Record). Parses l most late (n + 1) (max high (stamp_of l x)) (flat_map (record_bytes l) ss ++ other) ss other f) (sym first.0) right) in
-    let more = same_parse l most late (n + 1) (max high (stamp_of l r)) (flat_map (record_bytes l) rs ++ rest) rs ss rest other e f left moved in
-    record { same_records = ap (λ (x : Record). x ∷ rs) first.0 ∙ ap (λ (xs : List Record). q ∷ xs) more.same_records; same_rest = more.same_rest; same_ending = more.same_ending }
+    (subst (λ (x : Packet). Parses l most late (n + 1) (max high (stamp_of l x)) (flat_map (packet_bytes l) ss ++ other) ss other f) (sym first.0) right) in
+    let more = same_parse l most late (n + 1) (max high (stamp_of l r)) (flat_map (packet_bytes l) rs ++ rest) rs ss rest other e f left moved in
+    record { same_packets = ap (λ (x : Packet). x ∷ rs) first.0 ∙ ap (λ (xs : List Packet). q ∷ xs) more.same_packets; same_rest = more.same_rest; same_ending = more.same_ending }
 
 -- ---- some parse
 
--- where nothing ends, a good record stands
+-- where nothing ends, a good packet stands
 pub record StandsGood (l : Layout) (most late n high : ℕ) (bytes : List ℕ) : Type 0 where
-  pub first : Record
+  pub first : Packet
   pub more : List ℕ
   pub good : IsGood l late high first
   pub few : n ≢ most
-  pub same : bytes ≡ record_bytes l first ++ more
+  pub same : bytes ≡ packet_bytes l first ++ more
 
-none_behind : (n : ℕ) (head : RecordHeader) (left : ℕ) (o : Option BadReason) → ending_after n head left o ≡ None → (o ≡ None) × (head.captured_len ≤ left)
+none_behind : (n : ℕ) (head : PacketHeader) (left : ℕ) (o : Option BadReason) → ending_after n head left o ≡ None → (o ≡ None) × (head.captured_len ≤ left)
 none_behind n head left (Some reason) e = cc
 none_behind n head left None e = (refl, ltb-false left head.captured_len (none_of _ _ _ e).0)
 
@@ -150,7 +150,7 @@ pub goes_on : (l : Layout) (most late n high : ℕ) (bytes : List ℕ) → IsByt
 goes_on l most late n high bytes fits e =
     let stands = standing l most late n high bytes e in
     let head : List ℕ = take 16 bytes in
-    let fields : RecordHeader = header_fields l head in
+    let fields : PacketHeader = header_fields l head in
     let size : length head ≡ 16 = length-take-le 16 bytes stands.enough in
     let head_fits : IsBytes head = IsBytes-take 16 bytes fits in
     let rest : List ℕ = drop 16 bytes in
@@ -177,7 +177,7 @@ goes_on l most late n high bytes fits e =
 
 -- a parse
 abbrev pub HasParse : Layout → ℕ → ℕ → ℕ → ℕ → List ℕ → Type 0
-HasParse l most late n high bytes = (records : List Record) × (rest : List ℕ) × (ending : Ending) × Parses l most late n high bytes records rest ending
+HasParse l most late n high bytes = (packets : List Packet) × (rest : List ℕ) × (ending : Ending) × Parses l most late n high bytes packets rest ending
 
 option_cases : {A : Type 0} (o : Option A) → ((x : A) × (o ≡ Some x)) ⊎ (o ≡ None)
 option_cases None = inr refl
@@ -185,12 +185,12 @@ option_cases (Some x) = inl (x, refl)
 
 shorter : (l : Layout) (most late n high fuel : ℕ) (bytes : List ℕ) (g : StandsGood l most late n high bytes) → length bytes ≤ fuel → length g.more + 16 ≤ fuel
 shorter l most late n high fuel bytes g short =
-    omega (arith, ap length g.same, length-append (record_bytes l g.first) g.more, length-record_bytes l g.first)
+    omega (arith, ap length g.same, length-append (packet_bytes l g.first) g.more, length-packet_bytes l g.first)
 
 more_fit : (l : Layout) (most late n high : ℕ) (bytes : List ℕ) (g : StandsGood l most late n high bytes) → IsBytes bytes → IsBytes g.more
 more_fit l most late n high bytes g fits =
-    let behind : drop (length (record_bytes l g.first)) bytes ≡ g.more = ap (drop (length (record_bytes l g.first))) g.same ∙ drop_at (record_bytes l g.first) g.more (length (record_bytes l g.first)) refl in
-    subst IsBytes behind (IsBytes-drop (length (record_bytes l g.first)) bytes fits)
+    let behind : drop (length (packet_bytes l g.first)) bytes ≡ g.more = ap (drop (length (packet_bytes l g.first))) g.same ∙ drop_at (packet_bytes l g.first) g.more (length (packet_bytes l g.first)) refl in
+    subst IsBytes behind (IsBytes-drop (length (packet_bytes l g.first)) bytes fits)
 
 pub some_parse : (fuel : ℕ) (l : Layout) (most late n high : ℕ) (bytes : List ℕ) → length bytes ≤ fuel → IsBytes bytes → n ≤ most → HasParse l most late n high bytes
 some_parse zero l most late n high bytes short fits within = elim (option_cases (ending_at l most late n high bytes)) [
@@ -215,7 +215,7 @@ some_parse (suc fuel) l most late n high bytes short fits within = elim (option_
 
 pub holds_end : (p : Position) (bytes : List ℕ) (e : Ending) → p.count ≤ p.most → ending_here p bytes ≡ Some e → Holds p bytes [] e
 holds_end p bytes e within ends = record {
-  records = [];
+  packets = [];
   rest = bytes;
   parse = parses_end p.layout p.most p.late p.count p.high bytes e within ends;
   same = refl;
@@ -227,35 +227,35 @@ pub holds_more : (p : Position) (bytes more : List ℕ) (f : Frame) (fs : List F
 holds_more p bytes more f fs e t h =
     let l = p.layout in
     let stamp : f.stamp ≡ stamp_of l t.taken = ap (λ (x : Frame). x.stamp) t.same in
-    let parse : Parses l p.most p.late (p.count + 1) (max p.high (stamp_of l t.taken)) more h.records h.rest e =
-    subst (λ (x : ℕ). Parses l p.most p.late (p.count + 1) (max p.high x) more h.records h.rest e) stamp h.parse in
+    let parse : Parses l p.most p.late (p.count + 1) (max p.high (stamp_of l t.taken)) more h.packets h.rest e =
+    subst (λ (x : ℕ). Parses l p.most p.late (p.count + 1) (max p.high x) more h.packets h.rest e) stamp h.parse in
     record {
-      records = t.taken ∷ h.records;
+      packets = t.taken ∷ h.packets;
       rest = h.rest;
-      parse = subst (λ (x : List ℕ). Parses l p.most p.late p.count p.high x (t.taken ∷ h.records) h.rest e) (sym t.gone)
-          (parses_more l p.most p.late p.count p.high t.taken more h.records h.rest e t.good parse);
+      parse = subst (λ (x : List ℕ). Parses l p.most p.late p.count p.high x (t.taken ∷ h.packets) h.rest e) (sym t.gone)
+          (parses_more l p.most p.late p.count p.high t.taken more h.packets h.rest e t.good parse);
       same = ap (λ (x : Frame). x ∷ fs) t.same ∙ ap (λ (xs : List Frame). frame_of p.network l p.count t.taken ∷ xs) h.same;
     }
 
 -- no others are held
 pub one_holds : (p : Position) (bytes : List ℕ) (fs gs : List Frame) (e d : Ending) → Holds p bytes fs e → Holds p bytes gs d → (fs ≡ gs) × (e ≡ d)
 one_holds p bytes fs gs e d h k =
-    let one = same_parse p.layout p.most p.late p.count p.high bytes h.records k.records h.rest k.rest e d h.parse k.parse in
-    (h.same ∙ ap (frames_of p.network p.layout p.count) one.same_records ∙ sym k.same, one.same_ending)
+    let one = same_parse p.layout p.most p.late p.count p.high bytes h.packets k.packets h.rest k.rest e d h.parse k.parse in
+    (h.same ∙ ap (frames_of p.network p.layout p.count) one.same_packets ∙ sym k.same, one.same_ending)
 
 -- after the first frame the others are held
-pub tail_holds : (p : Position) (bytes more : List ℕ) (f : Frame) (all : List Frame) (e : Ending) (rs : List Record) (rest : List ℕ) → TakesFrame p (Some bytes) (Some more) f
+pub tail_holds : (p : Position) (bytes more : List ℕ) (f : Frame) (all : List Frame) (e : Ending) (rs : List Packet) (rest : List ℕ) → TakesFrame p (Some bytes) (Some more) f
     → Parses p.layout p.most p.late p.count p.high bytes rs rest e → all ≡ frames_of p.network p.layout p.count rs
     → (others : List Frame) × (all ≡ f ∷ others) × Holds (after_frame p f.stamp) more others e
 tail_holds p bytes more f all e [] rest t s same =
     let l = p.layout in
-    let text : rest ≡ record_bytes l t.taken ++ more = sym s.complete ∙ t.gone in
+    let text : rest ≡ packet_bytes l t.taken ++ more = sym s.complete ∙ t.gone in
     let goes = good_goes_on l p.most p.late (p.count + 0) p.high t.taken more t.good (omega (arith, t.bounded)) in
     absurd (none_some _ e (ap (ending_at l p.most p.late (p.count + 0) p.high) text ∙ goes) s.ends)
 tail_holds p bytes more f all e (r ∷ rs) rest t s same =
     let l = p.layout in
-    let behind : List ℕ = flat_map (record_bytes l) rs ++ rest in
-    let first = same_front l p.late p.high r t.taken behind more s.good.0 t.good (sym (append_assoc (record_bytes l r) (flat_map (record_bytes l) rs) rest) ∙ sym s.complete ∙ t.gone) in
+    let behind : List ℕ = flat_map (packet_bytes l) rs ++ rest in
+    let first = same_front l p.late p.high r t.taken behind more s.good.0 t.good (sym (append_assoc (packet_bytes l r) (flat_map (packet_bytes l) rs) rest) ∙ sym s.complete ∙ t.gone) in
     let frame : frame_of p.network l p.count r ≡ f = ap (frame_of p.network l p.count) first.0 ∙ sym t.same in
     let stamp : stamp_of l r ≡ f.stamp = ap (λ (x : Frame). x.stamp) frame in
     let tail : Parses l p.most p.late (p.count + 1) (max p.high (stamp_of l r)) behind rs rest e = tail_parse l p.most p.late p.count p.high bytes r rs rest e s in
@@ -264,7 +264,7 @@ tail_holds p bytes more f all e (r ∷ rs) rest t s same =
     (subst (λ (b : List ℕ). Parses l p.most p.late (p.count + 1) (max p.high (stamp_of l r)) b rs rest e) first.1 tail) in (
       frames_of p.network l (p.count + 1) rs,
       same ∙ ap (λ (x : Frame). x ∷ frames_of p.network l (p.count + 1) rs) frame,
-      record { records = rs; rest = rest; parse = moved; same = refl },
+      record { packets = rs; rest = rest; parse = moved; same = refl },
     )
 
 -- calls up to an ending
@@ -286,7 +286,7 @@ reads_prefix p q bytes left [] all e (here, same) held =
     (all, refl, subst (λ (x : Option (List ℕ)). IfSome x (λ rest. Holds q rest all e)) same moved)
 reads_prefix p q bytes left (f ∷ fs) all e (None, t, more) held = absurd t.gone
 reads_prefix p q bytes left (f ∷ fs) all e (Some mid, t, more) held =
-    let tail = tail_holds p bytes mid f all e held.records held.rest t held.parse held.same in
+    let tail = tail_holds p bytes mid f all e held.packets held.rest t held.parse held.same in
     let next = reads_prefix (after_frame p f.stamp) q mid left fs tail.0 e more tail.2 in
     (next.0, tail.1 ∙ ap (λ (x : List Frame). f ∷ x) next.1, next.2)
 

@@ -10,7 +10,7 @@ use Rattle.pcap_io.specs.Bytes.{IsBytes}
 use Rattle.pcap_io.specs.Device.{CountsFailure, TakesAtMost}
 use Rattle.pcap_io.specs.Recording.{header_bytes, header_fields, reason_at, stamp_at}
 use Rattle.pcap_io.specs.Position.{EndsShort, IsReadFault, IsStart, IsStartOf, LacksBytes, LacksMemory, StartLeaves, TakesFrame, TakesHeader, ending_here, frame_at}
-use Rattle.pcap_io.specs.declared.record_header.RecordHeader.{RecordHeader}
+use Rattle.pcap_io.specs.declared.packet_header.PacketHeader.{PacketHeader}
 use Rattle.pcap_io.specs.declared.recording.BadReason.{BadReason}
 use Rattle.pcap_io.specs.declared.recording.Ending.TheVariants.{Clean, Cut, Bad}
 use Rattle.pcap_io.specs.declared.position.Position.{Position}
@@ -18,7 +18,7 @@ use Rattle.pcap_io.specs.declared.position.Start.{Start}
 use Rattle.pcap_io.specs.declared.position.Start.TheVariants as starts
 use Rattle.pcap_io.specs.declared.item.ReadFault.{ReadFault}
 use Rattle.pcap_io.specs.declared.item.ReadFault.TheVariants as faults
-use Rattle.pcap_io.proofs.RecordBytes.{header_bytes_read_back, fine_from_none, number_fits, IsBytes-drop}
+use Rattle.pcap_io.proofs.PacketBytes.{header_bytes_read_back, fine_from_none, number_fits, IsBytes-drop}
 
 -- 16 bytes whose fields are wrong end the recording, whatever follows
 pub bad_at_head : (p : Position) (head more : List ℕ) (reason : BadReason) → length head ≡ 16 → p.count ≢ p.most
@@ -33,7 +33,7 @@ bad_at_head p head more reason size few wrong =
     ap (λ (h : List ℕ). reason_at p.layout p.late p.high (header_fields p.layout h)) (take_at head more 16 size) ∙ wrong in
     rw (some, other, long, reads) refl
 
--- fine fields with fewer bytes behind them than they announce cut the recording
+-- fine fields that fewer bytes follow than they claim: the recording is truncated
 pub cut_at_head : (p : Position) (head body : List ℕ) → length head ≡ 16 → p.count ≢ p.most
     → reason_at p.layout p.late p.high (header_fields p.layout head) ≡ None → length body < (header_fields p.layout head).captured_len
     → ending_here p (head ++ body) ≡ Some (Cut p.count)
@@ -59,7 +59,7 @@ start_from p before after head came (starts.Header fields) size fits gone end (a
     size = size;
     are_bytes = fits;
     bounded = few;
-    fine = subst (λ (h : RecordHeader). reason_at p.layout p.late p.high h ≡ None) read fine;
+    fine = subst (λ (h : PacketHeader). reason_at p.layout p.late p.high h ≡ None) read fine;
     gone = subst (Consumes before after) (take_all came head (omega (arith, size, all))) gone;
   },
   read,
@@ -68,7 +68,7 @@ start_from p None after head came (starts.End e) size fits gone end found = tt
 start_from p (Some xs) None head came (starts.End e) size fits gone end found = absurd gone
 start_from p (Some xs) (Some ys) head came (starts.End e) size fits gone end found = ap (ending_here p) gone ∙ found ys end
 
--- fine fields and their bytes are a good record's frame
+-- fine fields and their bytes are a good packet's frame
 pub step_frame : (p : Position) (before mid after : Option (List ℕ)) (head body : List ℕ) (f : Frame) → p.count ≤ p.most → TakesHeader p before mid head
     → length body ≡ (header_fields p.layout head).captured_len → Consumes mid after body
     → f ≡ frame_at p (header_fields p.layout head) body
@@ -102,12 +102,12 @@ step_cut p (Some xs) mid after head body t gone short end =
 
 -- ---- how much a step takes
 
--- the fields of a record that may stand here, and no more behind them than they announce
-pub takes_record : (p : Position) (before mid after : Option (List ℕ)) (fields : RecordHeader) → IsStart p before mid (starts.Header fields) → TakesAtMost fields.captured_len mid after
+-- the fields of a packet that may stand here, and no more bytes after them than they claim
+pub takes_packet : (p : Position) (before mid after : Option (List ℕ)) (fields : PacketHeader) → IsStart p before mid (starts.Header fields) → TakesAtMost fields.captured_len mid after
     → TakesAtMost 262160 before after
-takes_record p before mid after fields (head, t, same) (gone, few, rest) =
+takes_packet p before mid after fields (head, t, same) (gone, few, rest) =
     let fine = fine_from_none p.layout p.late p.high (header_fields p.layout head) t.fine in
-    let held = ap (λ (h : RecordHeader). h.captured_len) same in
+    let held = ap (λ (h : PacketHeader). h.captured_len) same in
     (head ++ gone, omega (arith, length-append head gone, t.size, held, few, fine.few), Consumes-trans before mid after head gone t.gone rest)
 
 -- what the first reads leave
@@ -118,25 +118,25 @@ start_leaves before after came (starts.End (Clean n)) end taken short = end shor
 start_leaves before after came (starts.End (Cut n)) end taken short = end short
 start_leaves before after came (starts.End (Bad n reason)) end taken short = taken
 
--- ---- a record whose header was read
+-- ---- a packet whose header was read
 
 -- all of its bytes came
-pub frame_found : (p : Position) (before mid after : Option (List ℕ)) (fields : RecordHeader) (body : List ℕ) (f : Frame) → p.count ≤ p.most
+pub frame_found : (p : Position) (before mid after : Option (List ℕ)) (fields : PacketHeader) (body : List ℕ) (f : Frame) → p.count ≤ p.most
     → IsStart p before mid (starts.Header fields) → length body ≡ fields.captured_len → Consumes mid after body → f ≡ frame_at p fields body
     → TakesFrame p before after f
 frame_found p before mid after fields body f within (header, t, same) size gone made =
-    step_frame p before mid after header body f within t (size ∙ ap (λ (h : RecordHeader). h.captured_len) same) gone (made ∙ ap (λ (h : RecordHeader). frame_at p h body) same)
+    step_frame p before mid after header body f within t (size ∙ ap (λ (h : PacketHeader). h.captured_len) same) gone (made ∙ ap (λ (h : PacketHeader). frame_at p h body) same)
 
 -- too few came
-pub cut_found : (p q : Position) (before mid after : Option (List ℕ)) (fields : RecordHeader) (body : List ℕ) → q ≡ p → IsStart p before mid (starts.Header fields)
+pub cut_found : (p q : Position) (before mid after : Option (List ℕ)) (fields : PacketHeader) (body : List ℕ) → q ≡ p → IsStart p before mid (starts.Header fields)
     → Consumes mid after body → length body < fields.captured_len → IsAtEnd after → IfSome before (λ bytes. ending_here p bytes ≡ Some (Cut q.count))
 cut_found p q before mid after fields body stands (header, t, same) gone short end =
-    let size : length body < (header_fields p.layout header).captured_len = omega (arith, ap (λ (h : RecordHeader). h.captured_len) same) in
+    let size : length body < (header_fields p.layout header).captured_len = omega (arith, ap (λ (h : PacketHeader). h.captured_len) same) in
     let found : IfSome before (λ bytes. ending_here p bytes ≡ Some (Cut p.count)) = step_cut p before mid after header body t gone size end in
     subst (λ (n : ℕ). IfSome before (λ bytes. ending_here p bytes ≡ Some (Cut n))) (sym (ap (λ (x : Position). x.count) stands)) found
 
--- the frame that is lent is the record's
-pub lent_same : (p q : Position) (fields : RecordHeader) (stamp whole : ℕ) (body : List ℕ) → q ≡ p → stamp ≡ stamp_at q.layout fields.seconds fields.fraction
+-- the frame that is lent is the packet's
+pub lent_same : (p q : Position) (fields : PacketHeader) (stamp whole : ℕ) (body : List ℕ) → q ≡ p → stamp ≡ stamp_at q.layout fields.seconds fields.fraction
     → whole ≡ max fields.original_len fields.captured_len → length body ≡ fields.captured_len → frame_with q.network q.count stamp whole body ≡ frame_at p fields body
 lent_same p q fields stamp whole body stands came size held =
     ap (λ (s : ℕ). frame_with q.network q.count s whole body) came
@@ -148,24 +148,24 @@ kept_header p before mid after header t kept =
     record { size = t.size; are_bytes = t.are_bytes; bounded = t.bounded; fine = t.fine; gone = Consumes-kept before mid after header t.gone kept }
 
 -- no memory for its bytes
-pub lacks_memory : (p : Position) (before mid after : Option (List ℕ)) (fields : RecordHeader) → IsStart p before mid (starts.Header fields) → Keeps mid after
+pub lacks_memory : (p : Position) (before mid after : Option (List ℕ)) (fields : PacketHeader) → IsStart p before mid (starts.Header fields) → Keeps mid after
     → 0 < fields.captured_len → LacksMemory p before after
 lacks_memory p before mid after fields (header, t, same) kept some =
-    (header, kept_header p before mid after header t kept, omega (arith, ap (λ (h : RecordHeader). h.captured_len) same))
+    (header, kept_header p before mid after header t kept, omega (arith, ap (λ (h : PacketHeader). h.captured_len) same))
 
 -- a fault as its bytes were drawn
-pub body_fault : (p : Position) (before mid after : Option (List ℕ)) (old m new : ℕ) (fields : RecordHeader) (f : ReadFault) → IsStart p before mid (starts.Header fields)
+pub body_fault : (p : Position) (before mid after : Option (List ℕ)) (old m new : ℕ) (fields : PacketHeader) (f : ReadFault) → IsStart p before mid (starts.Header fields)
     → Keeps mid after → m ≡ old → IsDrawFault fields.captured_len m new f → IsReadFault p before after old new f
 body_fault p before mid after old m new fields faults.Device start kept same fault = subst (λ (n : ℕ). CountsFailure n new) same fault
 body_fault p before mid after old m new fields faults.Memory start kept same fault =
     (fault.0 ∙ same, lacks_memory p before mid after fields start kept fault.1)
 body_fault p before mid after old m new fields faults.Failed start kept same fault = absurd fault
 
-pub lacks_body : (p : Position) (before mid after : Option (List ℕ)) (fields : RecordHeader) (unread : List ℕ) → IsStart p before mid (starts.Header fields) → Keeps mid after
+pub lacks_body : (p : Position) (before mid after : Option (List ℕ)) (fields : PacketHeader) (unread : List ℕ) → IsStart p before mid (starts.Header fields) → Keeps mid after
     → length unread < fields.captured_len → LacksBytes p before after unread
 lacks_body p before mid after fields unread (header, t, same) kept few =
-    inr (header, kept_header p before mid after header t kept, omega (arith, few, ap (λ (h : RecordHeader). h.captured_len) same))
+    inr (header, kept_header p before mid after header t kept, omega (arith, few, ap (λ (h : PacketHeader). h.captured_len) same))
 
-pub takes_head : (p : Position) (before mid after : Option (List ℕ)) (fields : RecordHeader) → IsStart p before mid (starts.Header fields) → Keeps mid after
+pub takes_head : (p : Position) (before mid after : Option (List ℕ)) (fields : PacketHeader) → IsStart p before mid (starts.Header fields) → Keeps mid after
     → TakesAtMost 262160 before after
 takes_head p before mid after fields (header, t, same) kept = (header, omega (arith, t.size), (kept_header p before mid after header t kept).gone)

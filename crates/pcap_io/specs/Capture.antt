@@ -3,7 +3,7 @@ use Rattle.std.specs.Prelude.{ℕ, ◌+◌, ◌/◌, ◌%◌, ◌^◌, ◌<◌, 
 use Rattle.afdx_frame.specs.Frame.{Frame, IsFrame, frame_with}
 use Rattle.afdx_frame.specs.declared.key.Network.{Network}
 use Rattle.pcap_io.specs.Recording.{header_bytes}
-use Rattle.pcap_io.specs.declared.layout.Order.TheVariants.{Little}
+use Rattle.pcap_io.specs.declared.layout.ByteOrder.TheVariants.{Little}
 use Rattle.pcap_io.specs.declared.layout.Precision.TheVariants.{Nanoseconds}
 use Rattle.pcap_io.specs.declared.layout.Layout.{Layout}
 
@@ -16,17 +16,17 @@ capture_header =
     0x4d ∷ 0x3c ∷ 0xb2 ∷ 0xa1 ∷ 2 ∷ 0 ∷ 4 ∷ 0 ∷ 0 ∷ 0 ∷ 0 ∷ 0 ∷ 0 ∷ 0 ∷ 0 ∷ 0 ∷ 0 ∷ 0 ∷ 4 ∷ 0 ∷ 1 ∷ 0 ∷ 0 ∷ 0 ∷ []
 
 -- its header: seconds, nanoseconds, captured length, original length
-abbrev pub record_header : Frame → ℕ → List ℕ
-record_header f keep =
+abbrev pub packet_header : Frame → ℕ → List ℕ
+packet_header f keep =
     header_bytes capture_layout (f.stamp / 1000000000) (f.stamp % 1000000000) keep f.whole
 
--- the record of a frame of which `keep` bytes are kept
-unfoldable pub record_text : Frame → ℕ → List ℕ
-record_text f keep = record_header f keep ++ take keep f.bytes
+-- the packet of a frame of which `keep` bytes are kept
+unfoldable pub packet_text : Frame → ℕ → List ℕ
+packet_text f keep = packet_header f keep ++ take keep f.bytes
 
 -- the capture of frames, of each of which so many bytes are kept
 abbrev pub capture_of : (Frame → ℕ) → List Frame → List ℕ
-capture_of keep frames = capture_header ++ flat_map (λ f. record_text f (keep f)) frames
+capture_of keep frames = capture_header ++ flat_map (λ f. packet_text f (keep f)) frames
 
 -- the frames that are read from it, numbered from n
 abbrev pub capture_frames : Network → ℕ → (Frame → ℕ) → List Frame → List Frame
@@ -34,7 +34,7 @@ capture_frames network n keep [] = []
 capture_frames network n keep (f ∷ fs) =
     frame_with network n f.stamp f.whole (take (keep f) f.bytes) ∷ capture_frames network (n + 1) keep fs
 
--- A frame of which so many bytes can be kept after frames whose greatest stamp is `high`.
+-- A frame of which so many bytes can be kept after frames whose greatest timestamp is `high`.
 pub record IsCapturable (keep : Frame → ℕ) (high : ℕ) (f : Frame) : Type 0 where
   pub fits : IsFrame f
   pub whole_fits : f.whole < 2 ^ 32

@@ -1,4 +1,4 @@
--- After its header each recording parses in one way into good records and a rest that ends it; a reader's calls give that parse;
+-- After its header each recording parses in one way into good packets and a rest that ends it; a reader's calls give that parse;
 -- and the capture of frames is a recording that gives the frames back.
 use Rattle.std.specs.Prelude.{◌≡◌, ℕ, ◌≤◌, List, ◌++◌, length, drop, Option, Some, Ok, IfSome}
 use Rattle.afdx_frame.specs.Frame.{Frame}
@@ -7,7 +7,7 @@ use Rattle.pcap_io.specs.Bytes.{IsBytes}
 use Rattle.pcap_io.specs.Capture.{AreCapturable, capture_frames, capture_layout, capture_of}
 use Rattle.pcap_io.specs.Layout.{header_of}
 use Rattle.pcap_io.specs.Position.{Holds, IsNext, Reads, start_at}
-use Rattle.pcap_io.specs.Recording.{Record, Parses}
+use Rattle.pcap_io.specs.Recording.{Packet, Parses}
 use Rattle.pcap_io.specs.declared.item.Item.TheVariants as items
 use Rattle.pcap_io.specs.declared.layout.Layout.{Layout}
 use Rattle.pcap_io.specs.declared.layout.TheConstants.{FILE_HEADER_LEN}
@@ -17,12 +17,12 @@ use Rattle.pcap_io.specs.declared.recording.Ending.TheVariants.{Clean}
 
 abbrev pub EveryRecordingParses : Type 0
 EveryRecordingParses = (layout : Layout) (most late : ℕ) (bytes : List ℕ) → IsBytes bytes
-    → (records : List Record) × (rest : List ℕ) × (ending : Ending) × Parses layout most late 0 0 bytes records rest ending
+    → (packets : List Packet) × (rest : List ℕ) × (ending : Ending) × Parses layout most late 0 0 bytes packets rest ending
 
 abbrev pub OneParse : Type 0
-OneParse = (layout : Layout) (most late : ℕ) (bytes : List ℕ) (records others : List Record) (rest left : List ℕ) (ending last : Ending)
-    → Parses layout most late 0 0 bytes records rest ending → Parses layout most late 0 0 bytes others left last
-    → (records ≡ others) × (rest ≡ left) × (ending ≡ last)
+OneParse = (layout : Layout) (most late : ℕ) (bytes : List ℕ) (packets others : List Packet) (rest left : List ℕ) (ending last : Ending)
+    → Parses layout most late 0 0 bytes packets rest ending → Parses layout most late 0 0 bytes others left last
+    → (packets ≡ others) × (rest ≡ left) × (ending ≡ last)
 
 -- From a position on, bytes hold one list of frames and one ending.
 abbrev pub HoldsOne : Type 0

@@ -2,8 +2,8 @@
 -- finely all numbers are written.
 use Rattle.std.specs.Prelude.{ℕ, ◌&&◌, List, length, take, drop, Option, Some, None, Result, Ok, Err, nat_lt, ◌==◌, if◌then◌else◌}
 use Rattle.byteorder.specs.Endian.{little_number, big_number, little_bytes, big_bytes}
-use Rattle.pcap_io.specs.declared.layout.Order.{Order}
-use Rattle.pcap_io.specs.declared.layout.Order.TheVariants.{Little, Big}
+use Rattle.pcap_io.specs.declared.layout.ByteOrder.{ByteOrder}
+use Rattle.pcap_io.specs.declared.layout.ByteOrder.TheVariants.{Little, Big}
 use Rattle.pcap_io.specs.declared.layout.Precision.{Precision}
 use Rattle.pcap_io.specs.declared.layout.Precision.TheVariants.{Nanoseconds, Microseconds}
 use Rattle.pcap_io.specs.declared.layout.Layout.{Layout}
@@ -12,12 +12,12 @@ use Rattle.pcap_io.specs.declared.layout.HeaderFault.{HeaderFault}
 use Rattle.pcap_io.specs.declared.layout.HeaderFault.TheVariants.{Short, Magic, Version, LinkType}
 
 -- the number in the first `size` bytes
-abbrev pub number_in : Order → ℕ → List ℕ → ℕ
+abbrev pub number_in : ByteOrder → ℕ → List ℕ → ℕ
 number_in Little size bytes = little_number size bytes
 number_in Big size bytes = big_number size bytes
 
 -- the number in `size` bytes
-abbrev pub bytes_in : Order → ℕ → ℕ → List ℕ
+abbrev pub bytes_in : ByteOrder → ℕ → ℕ → List ℕ
 bytes_in Little size n = little_bytes size n
 bytes_in Big size n = big_bytes size n
 

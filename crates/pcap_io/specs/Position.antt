@@ -2,16 +2,15 @@
 use Rattle.std.specs.Prelude.{◌≡◌, ◌≢◌, ◌⊎◌, ℕ, ◌+◌, ◌<◌, ◌≤◌, max, List, ◌++◌, [], ◌∷◌, length, take, drop, Option, Some, None, Result, Ok, Err, IfOk, IfErr, IfSome, OnOk, OnErr, ⊤}
 use Rattle.std.specs.Io.KnownBytes.{Consumes, IsAtEnd}
 use Rattle.afdx_frame.specs.Frame.{Frame, frame_with}
-use Rattle.afdx_frame.specs.declared.bounds.TheConstants.{MAX_SNAPLEN}
 use Rattle.afdx_frame.specs.declared.key.Network.{Network}
 use Rattle.pcap_io.specs.Bytes.{IsBytes}
 use Rattle.pcap_io.specs.Device.{CountsFailure, TakesAtMost, TakesFewer}
 use Rattle.pcap_io.specs.Layout.{header_of}
-use Rattle.pcap_io.specs.Recording.{Record, IsGood, Parses, record_bytes, frame_of, frames_of, header_fields, reason_at, stamp_at, ending_at}
+use Rattle.pcap_io.specs.Recording.{Packet, IsGood, Parses, packet_bytes, frame_of, frames_of, header_fields, reason_at, stamp_at, ending_at}
 use Rattle.pcap_io.specs.declared.layout.Layout.{Layout}
 use Rattle.pcap_io.specs.declared.layout.TheConstants.{FILE_HEADER_LEN}
-use Rattle.pcap_io.specs.declared.record_header.RecordHeader.{RecordHeader}
-use Rattle.pcap_io.specs.declared.record_header.TheConstants.{RECORD_HEADER_LEN}
+use Rattle.pcap_io.specs.declared.packet_header.PacketHeader.{PacketHeader}
+use Rattle.pcap_io.specs.declared.packet_header.TheConstants.{MAX_PACKET_LEN, PACKET_HEADER_LEN}
 use Rattle.pcap_io.specs.declared.recording.Ending.{Ending}
 use Rattle.pcap_io.specs.declared.recording.Ending.TheVariants.{Clean, Cut, Bad}
 use Rattle.pcap_io.specs.declared.recording.Stage.TheVariants as stages
@@ -27,7 +26,7 @@ use Rattle.pcap_io.specs.declared.item.ReadFault.TheVariants as faults
 use Rattle.pcap_io.specs.declared.reader.OpenFault.{OpenFault}
 use Rattle.pcap_io.specs.declared.reader.OpenFault.TheVariants as openings
 
--- at the first record
+-- at the first packet
 abbrev pub start_at : Network → Layout → ℕ → ℕ → Position
 start_at network layout most late = record {
   network = network;
@@ -39,11 +38,11 @@ start_at network layout most late = record {
   stage = stages.Going;
 }
 
--- the ending of the bytes that are left, None where another good record stands there
+-- the ending of the bytes that are left, None where another good packet stands there
 abbrev pub ending_here : Position → List ℕ → Option Ending
 ending_here p rest = ending_at p.layout p.most p.late p.count p.high rest
 
--- past a frame of this stamp
+-- past a frame of this timestamp
 abbrev pub after_frame : Position → ℕ → Position
 after_frame p stamp = record p { count = p.count + 1; high = max p.high stamp }
 
@@ -59,24 +58,29 @@ found_item f (founds.End e) = items.End e
 
 -- ---- what a call of a reader does
 
--- The frame is that of a good record, which leaves the bytes.
+-- The frame is that of a good packet, which leaves the bytes.
 pub record TakesFrame (p : Position) (before after : Option (List ℕ)) (f : Frame) : Type 0 where
-  pub taken : Record
+  pub taken : Packet
   pub good : IsGood p.layout p.late p.high taken
   pub bounded : p.count < p.most
   pub same : f ≡ frame_of p.network p.layout p.count taken
-  pub gone : Consumes before after (record_bytes p.layout taken)
+  pub gone : Consumes before after (packet_bytes p.layout taken)
+
+-- No more than one packet is gone, with its header: a reader that stops, whatever stopped it, has read no more of its source past the
+-- last frame that it gave.
+abbrev pub TakesAPacket : Option (List ℕ) → Option (List ℕ) → Type 0
+TakesAPacket before after = TakesAtMost MAX_PACKET_LEN before after
 
 -- what a reader that stands here gives, and what it takes from the bytes left
 abbrev pub IsNext : Position → Option (List ℕ) → Option (List ℕ) → Item → Type 0
 IsNext p before after (items.Frame f) = TakesFrame p before after f
 IsNext p before after (items.End e) = IfSome before (λ bytes. ending_here p bytes ≡ Some e)
 
--- A clean and a cut ending leave no bytes. A bad one takes no more of them than a record's header.
+-- A clean and a cut ending leave no bytes. A bad one takes no more of them than a packet's header.
 abbrev pub EndLeaves : Option (List ℕ) → Option (List ℕ) → Ending → Type 0
 EndLeaves before after (Clean n) = IsAtEnd after
 EndLeaves before after (Cut n) = IsAtEnd after
-EndLeaves before after (Bad n reason) = TakesAtMost RECORD_HEADER_LEN before after
+EndLeaves before after (Bad n reason) = TakesAtMost PACKET_HEADER_LEN before after
 
 -- what an item says of the bytes left, where it is an ending
 abbrev pub ItemLeaves : Option (List ℕ) → Option (List ℕ) → Item → Type 0
@@ -88,15 +92,15 @@ abbrev pub HasRoom : Position → Item → Type 0
 HasRoom p (items.Frame f) = p.count < p.most
 HasRoom p (items.End e) = ⊤
 
--- A header of a record that may stand here, which leaves the bytes.
+-- A header of a packet that may stand here, which leaves the bytes.
 pub record TakesHeader (p : Position) (before after : Option (List ℕ)) (header : List ℕ) : Type 0 where
-  pub size : length header ≡ RECORD_HEADER_LEN
+  pub size : length header ≡ PACKET_HEADER_LEN
   pub are_bytes : IsBytes header
   pub bounded : p.count ≢ p.most
   pub fine : reason_at p.layout p.late p.high (header_fields p.layout header) ≡ None
   pub gone : Consumes before after header
 
--- The header of a record of at least one byte is gone, and no more.
+-- The header of a packet of at least one byte is gone, and no more.
 abbrev pub LacksMemory : Position → Option (List ℕ) → Option (List ℕ) → Type 0
 LacksMemory p before after =
     (header : List ℕ) × TakesHeader p before after header × (0 < (header_fields p.layout header).captured_len)
@@ -105,11 +109,18 @@ LacksMemory p before after =
 -- claims are left unread.
 abbrev pub LacksBytes : Position → Option (List ℕ) → Option (List ℕ) → List ℕ → Type 0
 LacksBytes p before after unread =
-    (TakesFewer RECORD_HEADER_LEN before after × (unread ≡ []))
+    (TakesFewer PACKET_HEADER_LEN before after × (unread ≡ []))
     ⊎ ((header : List ℕ) × TakesHeader p before after header × (length unread < (header_fields p.layout header).captured_len))
 
+-- More memory is needed than there is: fewer bytes came than the next packet needs, or a header is gone that claims more bytes than the
+-- `room` that the caller gave for them.
+abbrev pub LacksRoom : ℕ → Position → Option (List ℕ) → Option (List ℕ) → List ℕ → Type 0
+LacksRoom room p before after unread =
+    LacksBytes p before after unread
+    ⊎ ((header : List ℕ) × TakesHeader p before after header × (room < (header_fields p.layout header).captured_len))
+
 -- What a fault says of a call, by how often the source had failed before and after it. Memory is missing only after the header of a
--- good record that claims at least one byte, which is gone.
+-- good packet that claims at least one byte, which is gone.
 abbrev pub IsReadFault : Position → Option (List ℕ) → Option (List ℕ) → ℕ → ℕ → ReadFault → Type 0
 IsReadFault p before after old new faults.Device = CountsFailure old new
 IsReadFault p before after old new faults.Memory = (new ≡ old) × LacksMemory p before after
@@ -124,15 +135,15 @@ pub record Reading : Type 0 where
 -- What a call says that goes on to the next item, of what stood before it and stands after it. `as_item` is the item of what
 -- it returned.
 pub record Advances {A : Type 0} (as_item : A → Item) (old new : Reading) (r : Result A ReadFault) : Type 0 where
-  -- the next good record's frame, or the ending of what is left
+  -- the next good packet's frame, or the ending of what is left
   pub item : old.position.stage ≡ stages.Going → IfOk r (λ a. IsNext old.position old.remaining new.remaining (as_item a))
   pub after : IfOk r (λ a. new.position ≡ after_item old.position (as_item a))
   pub after_fault : OnErr r (new.position ≡ record old.position { stage = stages.Failed })
   pub bounded : new.position.count ≤ new.position.most
   pub no_failure : OnOk r (new.failures ≡ old.failures)
   pub fault : IfErr r (IsReadFault old.position old.remaining new.remaining old.failures new.failures)
-  -- whatever it returns, no more than one record is gone
-  pub taken : TakesAtMost (RECORD_HEADER_LEN + MAX_SNAPLEN) old.remaining new.remaining
+  -- whatever it returns, no more than one packet is gone
+  pub taken : TakesAPacket old.remaining new.remaining
   pub left : old.position.stage ≡ stages.Going → IfOk r (λ a. ItemLeaves old.remaining new.remaining (as_item a))
 
 -- ---- many calls
@@ -145,23 +156,23 @@ Reads p before (f ∷ fs) q after =
 
 -- From this position on the bytes hold these frames, and then this ending.
 pub record Holds (p : Position) (bytes : List ℕ) (frames : List Frame) (ending : Ending) : Type 0 where
-  pub records : List Record
+  pub packets : List Packet
   pub rest : List ℕ
-  pub parse : Parses p.layout p.most p.late p.count p.high bytes records rest ending
-  pub same : frames ≡ frames_of p.network p.layout p.count records
+  pub parse : Parses p.layout p.most p.late p.count p.high bytes packets rest ending
+  pub same : frames ≡ frames_of p.network p.layout p.count packets
 
 -- ---- what the parts of a reader find
 
--- 16 bytes, of which `came` are those left, begin a record, or the ending is found in them
+-- 16 bytes, of which `came` are those left, begin a packet, or the ending is found in them
 abbrev pub IsStartOf : Position → List ℕ → ℕ → Start → Type 0
 IsStartOf p bytes came (starts.Header header) =
-    (came ≡ RECORD_HEADER_LEN) × (p.count ≢ p.most) × (header ≡ header_fields p.layout bytes)
+    (came ≡ PACKET_HEADER_LEN) × (p.count ≢ p.most) × (header ≡ header_fields p.layout bytes)
     × (reason_at p.layout p.late p.high header ≡ None)
 IsStartOf p bytes came (starts.End e) =
-    (more : List ℕ) → (came < RECORD_HEADER_LEN → more ≡ []) → ending_here p (take came bytes ++ more) ≡ Some e
+    (more : List ℕ) → (came < PACKET_HEADER_LEN → more ≡ []) → ending_here p (take came bytes ++ more) ≡ Some e
 
 -- the frame of a header and the bytes that follow it
-abbrev pub frame_at : Position → RecordHeader → List ℕ → Frame
+abbrev pub frame_at : Position → PacketHeader → List ℕ → Frame
 frame_at p header bytes =
     frame_with p.network p.count (stamp_at p.layout header.seconds header.fraction) (max header.original_len (length bytes)) bytes
 
@@ -173,8 +184,8 @@ IsStart p before after (starts.End e) = IfSome before (λ bytes. ending_here p b
 -- a clean and a cut ending are found where less than a header is left
 abbrev pub EndsShort : ℕ → Start → Type 0
 EndsShort came (starts.Header header) = ⊤
-EndsShort came (starts.End (Clean n)) = came < RECORD_HEADER_LEN
-EndsShort came (starts.End (Cut n)) = came < RECORD_HEADER_LEN
+EndsShort came (starts.End (Clean n)) = came < PACKET_HEADER_LEN
+EndsShort came (starts.End (Cut n)) = came < PACKET_HEADER_LEN
 EndsShort came (starts.End (Bad n reason)) = ⊤
 
 abbrev pub StartLeaves : Option (List ℕ) → Option (List ℕ) → Start → Type 0

@@ -11,14 +11,14 @@ use crate::transfer::fill;
 use afdx_frame::MAX_SNAPLEN;
 use std::alloc::{AllocError, Global};
 
-/// The bytes of a block, unless its source asks for others or a record is longer.
+/// The bytes of a block, unless its source asks for others or a packet is longer.
 const BLOCK_LEN: usize = 65_536;
 
 /// A source, and a block of the bytes that were read ahead from it.
 #[derive(Debug, Drop)]
 pub struct BlockSource<S> {
     source: S,
-    /// The length of the block, unless a record is longer.
+    /// The length of the block, unless a packet is longer.
     block_len: usize,
     /// None until bytes are drawn that it has to hold.
     block: Option<Vec<u8>>,
@@ -91,7 +91,7 @@ impl<S: TapSource> BlockSource<S> {
         }
     }
 
-    /// The same source, whose block will have `len` bytes, at most 262144, unless a record is longer.
+    /// The same source, whose block will have `len` bytes, at most 262144, unless a packet is longer.
     /// A block that was made before stays.
     pub fn with_block_len(self, len: usize) -> BlockSource<S>
         ensures source { block_source result ≡ block_source self }
@@ -306,14 +306,6 @@ impl<S: TapSource> BlockSource<S> {
     pub fn into_source(self) -> S
         ensures { result ≡ block_source self }
     {
-        let BlockSource {
-            source,
-            block_len: _,
-            block: _,
-            from: _,
-            start: _,
-            end: _,
-        } = self;
-        source
+        self.source
     }
 }

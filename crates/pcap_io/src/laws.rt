@@ -1,14 +1,14 @@
 //! Laws of recordings, which hold of the definitions alone.
 ghost use Rattle.pcap_io.specs.Laws.{CaptureIsRead, EveryRecordingParses, HoldsOne, OneParse, ReadsPrefix, ReadsToEnd};
 
-/// The bytes after a file header parse into good records, and a rest that ends the recording.
+/// The bytes after a file header parse into good packets, and a rest that ends the recording.
 pub fn every_recording_parses()
     ensures { EveryRecordingParses }
 {}
 
 /// They parse in one way only.
 pub fn one_parse()
-    ensures records { OneParse }
+    ensures packets { OneParse }
     ensures frames { HoldsOne }
 {}
 

@@ -1,20 +1,20 @@
-//! The file header of a recording: its byte order, and the unit of its stamps.
+//! The file header of a recording: its byte order, and the unit of its timestamps.
 ghost use Rattle.std.specs.Prelude.{◌≡◌, ◌≤◌, length, Some};
 ghost use Rattle.pcap_io.specs.Layout.{number_in, layout_of_magic, header_of, checked};
 
-use byteorder::{BigEndian, ByteOrder, LittleEndian};
+use byteorder::{BigEndian, ByteOrder as Endian, LittleEndian};
 use thiserror::Error;
 
 /// The byte order of a number.
 #[derive(Clone, Copy, Debug, PartialEq, Eq)]
-pub enum Order {
+pub enum ByteOrder {
     /// Little-endian: the least significant byte stands first.
     Little,
     /// Big-endian: the most significant byte stands first.
     Big,
 }
 
-/// The unit of the fraction of a second in a stamp.
+/// The unit of the fraction of a second in a timestamp.
 #[derive(Clone, Copy, Debug, PartialEq, Eq)]
 pub enum Precision {
     /// Nanosecond pcap.
@@ -26,7 +26,7 @@ pub enum Precision {
 /// How a recording writes its numbers.
 #[derive(Clone, Copy, Debug, PartialEq, Eq)]
 pub struct Layout {
-    pub order: Order,
+    pub order: ByteOrder,
     pub precision: Precision,
 }
 
@@ -52,24 +52,24 @@ pub const FILE_HEADER_LEN: usize = 24;
 
 /// The number in the first four bytes.
 #[inline(always)]
-pub fn number_of(order: Order, bytes: &[u8]) -> u32
+pub fn read_u32(order: ByteOrder, bytes: &[u8]) -> u32
     requires { 4 ≤ length bytes.now }
     ensures { result ≡ number_in order 4 bytes.now }
 {
     match order {
-        Order::Little => LittleEndian::read_u32(bytes),
-        Order::Big => BigEndian::read_u32(bytes),
+        ByteOrder::Little => LittleEndian::read_u32(bytes),
+        ByteOrder::Big => BigEndian::read_u32(bytes),
     }
 }
 
 /// The number in the first two bytes.
-fn short_number_of(order: Order, bytes: &[u8]) -> u16
+fn read_u16(order: ByteOrder, bytes: &[u8]) -> u16
     requires { 2 ≤ length bytes.now }
     ensures { result ≡ number_in order 2 bytes.now }
 {
     match order {
-        Order::Little => LittleEndian::read_u16(bytes),
-        Order::Big => BigEndian::read_u16(bytes),
+        ByteOrder::Little => LittleEndian::read_u16(bytes),
+        ByteOrder::Big => BigEndian::read_u16(bytes),
     }
 }
 
@@ -78,10 +78,10 @@ fn layout_of_magic(magic: u32) -> Option<Layout>
     ensures { result ≡ layout_of_magic magic }
 {
     let (order, precision) = match magic {
-        0x4d3c_b2a1 => (Order::Little, Precision::Nanoseconds),
-        0xa1b2_3c4d => (Order::Big, Precision::Nanoseconds),
-        0xd4c3_b2a1 => (Order::Little, Precision::Microseconds),
-        0xa1b2_c3d4 => (Order::Big, Precision::Microseconds),
+        0x4d3c_b2a1 => (ByteOrder::Little, Precision::Nanoseconds),
+        0xa1b2_3c4d => (ByteOrder::Big, Precision::Nanoseconds),
+        0xd4c3_b2a1 => (ByteOrder::Little, Precision::Microseconds),
+        0xa1b2_c3d4 => (ByteOrder::Big, Precision::Microseconds),
         _ => return None,
     };
     Some(Layout { order, precision })
@@ -95,12 +95,12 @@ pub fn layout_of(header: &[u8]) -> Result<Layout, HeaderFault>
     let Some(layout) = layout_of_magic(BigEndian::read_u32(header)) else {
         return Err(HeaderFault::Magic);
     };
-    let major = short_number_of(layout.order, &header[4..]);
-    let minor = short_number_of(layout.order, &header[6..]);
+    let major = read_u16(layout.order, &header[4..]);
+    let minor = read_u16(layout.order, &header[6..]);
     if major != 2 || minor != 4 {
         return Err(HeaderFault::Version);
     }
-    if number_of(layout.order, &header[20..]) != 1 {
+    if read_u32(layout.order, &header[20..]) != 1 {
         return Err(HeaderFault::LinkType);
     }
     Ok(layout)

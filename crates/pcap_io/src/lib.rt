@@ -1,7 +1,7 @@
 //! Recordings of a network tap in the pcap savefile format 2.4, read and written a frame at a time.
 //!
-//! A tap of an AFDX network writes its frames to a pcap file: a file header, and then one record for
-//! each frame. [`TapReader`] reads such a recording from a [`TapSource`], checks each record, and
+//! A tap of an AFDX network writes its frames to a pcap file: a file header, and then one packet for
+//! each frame. [`TapReader`] reads such a recording from a [`TapSource`], checks each packet, and
 //! lends one frame after another out of its own block of bytes, up to the recording's [`Ending`].
 //! [`CaptureWriter`] writes the frames that a filter accepts to an [`OutSink`], as a recording that
 //! the reader reads back. Filters are in the crates `bpf_loader` and `bpf_machine`; the crate
@@ -35,10 +35,10 @@ mod laws;
 mod layout;
 mod mem_sink;
 mod mem_source;
+mod packet_header;
 mod position;
 mod read_source;
 mod reader;
-mod record_header;
 mod recording;
 mod script;
 mod transfer;
@@ -51,6 +51,7 @@ pub use laws::{capture_is_read, every_recording_parses, one_parse, reading_gives
 pub use layout::HeaderFault;
 pub use mem_sink::MemSink;
 pub use mem_source::MemSource;
+pub use packet_header::MAX_PACKET_LEN;
 pub use read_source::ReadSource;
 pub use reader::{OpenFault, OpenRefused, TapReader};
 pub use recording::{BadReason, Ending};

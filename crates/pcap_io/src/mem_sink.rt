@@ -1,4 +1,4 @@
-//! A sink over memory.
+//! A sink for tests and laws: its bytes can be looked at, and it fails where its script says so.
 ghost use Rattle.std.specs.Prelude.{◌≡◌, ◌++◌, ◌≤◌, ◌<◌, [], Some, take, length, IfOk, OnOk, OnErr};
 ghost use Rattle.std.specs.Io.KnownBytes.{WriteAppends};
 ghost use Rattle.pcap_io.specs.Script.{start_of, passed_count, answer_of, after_call};

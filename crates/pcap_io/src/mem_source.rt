@@ -1,4 +1,4 @@
-//! A source over memory.
+//! A source for tests and laws: its bytes are known, and it fails where its script says so.
 ghost use Rattle.std.specs.Prelude.{◌≡◌, ◌++◌, ◌≤◌, Some, take, drop, length, IfOk, OnOk, OnErr};
 ghost use Rattle.std.specs.Io.KnownBytes.{ReadConsumes};
 ghost use Rattle.pcap_io.specs.Script.{start_of, passed_count, answer_of, after_call};

@@ -1,4 +1,4 @@
-//! Where a reader stands in its recording, and what the bytes there begin.
+//! The part of a reader that needs no source: its place, and what the bytes at that place begin.
 ghost use Rattle.std.specs.Prelude.{◌≡◌, ◌<◌, ◌≤◌, ◌^◌, length, vec_len};
 ghost use Rattle.afdx_frame.specs.Frame.{IsFrame};
 ghost use Rattle.pcap_io.specs.Bytes.{IsBytes};
@@ -6,7 +6,7 @@ ghost use Rattle.pcap_io.specs.Layout.{fractions_of};
 ghost use Rattle.pcap_io.specs.Position.{EndsShort, IsStartOf, frame_at, after_frame};
 
 use crate::layout::Layout;
-use crate::record_header::{RECORD_HEADER_LEN, RecordHeader};
+use crate::packet_header::{PACKET_HEADER_LEN, PacketHeader};
 use crate::recording::{BadReason, Ending, Stage};
 use afdx_frame::{MAX_SNAPLEN, Network, Stamp, TapFrame};
 
@@ -15,19 +15,19 @@ use afdx_frame::{MAX_SNAPLEN, Network, Stamp, TapFrame};
 pub struct Position {
     pub network: Network,
     pub layout: Layout,
-    /// How many records are read at most.
+    /// How many packets are read at most.
     pub most: u64,
-    /// How far below the greatest stamp before it a stamp may lie, in nanoseconds.
+    /// How far below the greatest timestamp before it a timestamp may lie, in nanoseconds.
     pub late: u64,
-    /// How many records were read.
+    /// How many packets were read.
     pub count: u64,
-    /// Their greatest stamp, 0 where there is none.
+    /// Their greatest timestamp, 0 where there is none.
     pub high: u64,
     pub stage: Stage,
 }
 
 impl Position {
-    /// Goes past a frame of this stamp.
+    /// Goes past a frame of this timestamp.
     #[inline(always)]
     pub fn pass_frame(&mut self, stamp: u64)
         requires { self.old.count < self.old.most }
@@ -37,9 +37,9 @@ impl Position {
         self.high = self.high.max(stamp);
     }
 
-    /// The frame of a record that stands here.
+    /// The frame of a packet that stands here.
     #[inline(always)]
-    pub fn frame(&self, header: &RecordHeader, bytes: Vec<u8>) -> TapFrame
+    pub fn frame(&self, header: &PacketHeader, bytes: Vec<u8>) -> TapFrame
         requires bounded { self.now.count < 2 ^ 32 }
         requires within_second { header.now.fraction < fractions_of self.now.layout.precision }
         requires few_bytes { vec_len bytes ≤ MAX_SNAPLEN }
@@ -53,8 +53,8 @@ impl Position {
 
 /// What stands at a reader's place.
 pub enum Start {
-    /// The header of a record that may stand there.
-    Header(RecordHeader),
+    /// The header of a packet that may stand there.
+    Header(PacketHeader),
     /// The ending.
     End(Ending),
 }
@@ -62,8 +62,8 @@ pub enum Start {
 /// What the bytes at a reader's place begin, the first `came` of which are there.
 #[inline(always)]
 pub fn start_of(position: &Position, bytes: &[u8], came: usize) -> Start
-    requires size { length bytes.now ≡ RECORD_HEADER_LEN }
-    requires within { came ≤ RECORD_HEADER_LEN }
+    requires size { length bytes.now ≡ PACKET_HEADER_LEN }
+    requires within { came ≤ PACKET_HEADER_LEN }
     ensures found { IsStartOf position.now bytes.now came result }
     ensures short { EndsShort came result }
     ensures fits { IsBytes bytes.now }
@@ -75,10 +75,10 @@ pub fn start_of(position: &Position, bytes: &[u8], came: usize) -> Start
     if count == position.most {
         return Start::End(Ending::Bad(count, BadReason::TooMany));
     }
-    if came < RECORD_HEADER_LEN {
+    if came < PACKET_HEADER_LEN {
         return Start::End(Ending::Cut(count));
     }
-    let header = RecordHeader::read(position.layout, bytes);
+    let header = PacketHeader::read(position.layout, bytes);
     match header.reason(position.layout, position.late, position.high) {
         Some(reason) => Start::End(Ending::Bad(count, reason)),
         None => Start::Header(header),

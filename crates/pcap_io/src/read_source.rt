@@ -1,4 +1,4 @@
-//! A source over a reader of std.
+//! Files, pipes and other readers of std as sources: their errors become counted failures.
 ghost use Rattle.std.specs.Prelude.{◌≡◌};
 ghost use Rattle.pcap_io.specs.Bytes.{known_bytes};
 ghost use Rattle.pcap_io.specs.Std.{read_answer};
@@ -32,11 +32,7 @@ impl<R: Read> ReadSource<R> {
         ensures { known_bytes (R.remaining result)
             ≡ ⟦<ReadSource<R> as TapSource>⟧.remaining self }
     {
-        let ReadSource {
-            reader,
-            failures: _,
-        } = self;
-        reader
+        self.reader
     }
 }
 

@@ -6,15 +6,15 @@ ghost use Rattle.pcap_io.specs.Device.{CountsFailure, TakesAtMost, TakesFewer};
 ghost use Rattle.pcap_io.specs.Layout.{header_of};
 ghost use Rattle.afdx_frame.specs.declared.bounds.TheConstants.{MAX_SNAPLEN};
 ghost use Rattle.pcap_io.specs.declared.layout.TheConstants.{FILE_HEADER_LEN};
-ghost use Rattle.pcap_io.specs.declared.record_header.TheConstants.{RECORD_HEADER_LEN};
-ghost use Rattle.pcap_io.specs.Position.{Advances, HasRoom, IsNext, IsOpenFault, IsReadFault, IsStart, ItemLeaves, LacksBytes, Opens, StartLeaves, after_item, found_item, start_at};
+ghost use Rattle.pcap_io.specs.declared.packet_header.TheConstants.{PACKET_HEADER_LEN};
+ghost use Rattle.pcap_io.specs.Position.{Advances, HasRoom, IsNext, IsOpenFault, IsReadFault, IsStart, ItemLeaves, LacksBytes, LacksRoom, Opens, StartLeaves, TakesAPacket, after_item, found_item, start_at};
 
 use crate::block::BlockSource;
 use crate::device::{DeviceFault, TapSource};
 use crate::item::{Found, Item, ReadFault};
 use crate::layout::{FILE_HEADER_LEN, HeaderFault, Layout, layout_of};
+use crate::packet_header::PACKET_HEADER_LEN;
 use crate::position::{Position, Start, start_of};
-use crate::record_header::RECORD_HEADER_LEN;
 use crate::recording::{Ending, Stage};
 use crate::transfer::fill;
 use afdx_frame::{LentFrame, Network, Stamp};
@@ -78,11 +78,12 @@ fn read_layout<S: TapSource>(source: &mut S) -> Result<Layout, OpenFault>
     Ok(layout_of(&header)?)
 }
 
-/// An empty buffer with room for so many bytes: the spare one, if it has the room.
+/// An empty buffer with room for so many bytes: the spare one, if it has the room. Otherwise it
+/// allocates.
 fn emptied(alloc: Global, spare: Vec<u8>, len: usize) -> Result<Vec<u8>, AllocError>
     ensures items { IfOk result (λ bytes. bytes.items ≡ []) }
     ensures room { IfOk result (λ bytes. len ≤ vec_capacity bytes) }
-    ensures needed { OnErr result (0 < len) }
+    ensures needed { OnErr result (vec_capacity spare < len) }
 {
     if spare.capacity() < len {
         return Vec::with_capacity(alloc, len);
@@ -94,14 +95,14 @@ fn emptied(alloc: Global, spare: Vec<u8>, len: usize) -> Result<Vec<u8>, AllocEr
 
 /// Reads the frames of one network's recording (pcap savefile format 2.4), one after another.
 ///
-/// It reads the data of its source ahead, a block of 64 KiB at a time, or more for a longer record.
+/// It reads the data of its source ahead, a block of 64 KiB at a time, or more for a longer packet.
 /// `advance` goes on to the next frame, which `frame` lends out of the block; `next` gives a frame
 /// that owns its bytes.
 #[derive(Debug, Drop)]
 pub struct TapReader<S> {
     input: BlockSource<S>,
     position: Position,
-    /// Of the frame that was found last.
+    /// The index, the timestamp and the length on the wire of the frame that was found last.
     number: u64,
     stamp: u64,
     whole: u32,
@@ -118,8 +119,8 @@ impl<S: TapSource> TapReader<S> {
     ghost use Rattle.pcap_io.specs.Reader.{lent_of, position_of, reading_of, remaining_of};
     ghost use Rattle.pcap_io.specs.Reader.{source_of, unread_of};
 
-    /// Reads the file header, and stands at the first record. At most `most` records are read, and
-    /// a stamp may lie `late` nanoseconds below the greatest before it. A refusal gives the source
+    /// Reads the file header, and stands at the first packet. At most `most` packets are read, and
+    /// a timestamp may lie `late` nanoseconds below the greatest before it. A refusal gives the source
     /// back. Allocates nothing.
     pub fn open(
         source: S,
@@ -167,7 +168,7 @@ impl<S: TapSource> TapReader<S> {
     }
 
     /// The same reader, which reads ahead in blocks of `len` bytes, at most 262144, and not of 64
-    /// KiB. A longer record still has its room. A reader that has found frames keeps the block
+    /// KiB. A longer packet still has its room. A reader that has found frames keeps the block
     /// that it has.
     pub fn with_block_len(self, len: usize) -> TapReader<S>
         ensures position { position_of result ≡ position_of self }
@@ -180,7 +181,7 @@ impl<S: TapSource> TapReader<S> {
         reader
     }
 
-    /// Reads the header of the next record.
+    /// Reads the header of the next packet.
     #[inline(always)]
     fn read_header(&mut self) -> Result<Start, DeviceFault>
         ensures start { IfOk result (IsStart (position_of self.old)
@@ -190,20 +191,20 @@ impl<S: TapSource> TapReader<S> {
             (S.failures (source_of self.new) ≡ S.failures (source_of self.old)) }
         ensures fault { OnErr result (CountsFailure
             (S.failures (source_of self.old)) (S.failures (source_of self.new))) }
-        ensures taken { TakesAtMost RECORD_HEADER_LEN
+        ensures taken { TakesAtMost PACKET_HEADER_LEN
             (remaining_of S.remaining self.old) (remaining_of S.remaining self.new) }
-        ensures unfinished { OnErr result (TakesFewer RECORD_HEADER_LEN
+        ensures unfinished { OnErr result (TakesFewer PACKET_HEADER_LEN
             (remaining_of S.remaining self.old) (remaining_of S.remaining self.new)) }
         ensures none_unread { OnErr result (unread_of self.new ≡ []) }
         ensures left { IfOk result (StartLeaves
             (remaining_of S.remaining self.old) (remaining_of S.remaining self.new)) }
     {
-        let mut bytes = [0u8; RECORD_HEADER_LEN];
+        let mut bytes = [0u8; PACKET_HEADER_LEN];
         let came = self.input.draw_into(&mut bytes)?;
         Ok(start_of(&self.position, &bytes, came))
     }
 
-    /// Draws the next record, or finds the ending.
+    /// Draws the next packet, or finds the ending.
     #[inline(always)]
     fn find(&mut self, alloc: Global) -> Result<Found, ReadFault>
         ensures item { IfOk result (λ a. IsNext (position_of self.old)
@@ -219,7 +220,7 @@ impl<S: TapSource> TapReader<S> {
         ensures unfinished { OnErr result (LacksBytes (position_of self.old)
             (remaining_of S.remaining self.old) (remaining_of S.remaining self.new)
             (unread_of self.new)) }
-        ensures taken { TakesAtMost (RECORD_HEADER_LEN + MAX_SNAPLEN)
+        ensures taken { TakesAPacket
             (remaining_of S.remaining self.old) (remaining_of S.remaining self.new) }
         ensures left { IfOk result (λ a. ItemLeaves (remaining_of S.remaining self.old)
             (remaining_of S.remaining self.new) (found_item (lent_of self.new) a)) }
@@ -238,7 +239,7 @@ impl<S: TapSource> TapReader<S> {
         Ok(Found::Frame)
     }
 
-    /// Draws the next record into a frame of its own, in the spare where that has the room, or
+    /// Draws the next packet into a frame of its own, in the spare where that has the room, or
     /// finds the ending.
     #[inline(always)]
     fn take(&mut self, alloc: Global, spare: Vec<u8>) -> Result<Item, ReadFault>
@@ -251,11 +252,15 @@ impl<S: TapSource> TapReader<S> {
         ensures fault { IfErr result (IsReadFault (position_of self.old)
             (remaining_of S.remaining self.old) (remaining_of S.remaining self.new)
             (S.failures (source_of self.old)) (S.failures (source_of self.new))) }
-        ensures taken { TakesAtMost (RECORD_HEADER_LEN + MAX_SNAPLEN)
+        ensures taken { TakesAPacket
             (remaining_of S.remaining self.old) (remaining_of S.remaining self.new) }
         ensures left { IfOk result (λ a. ItemLeaves (remaining_of S.remaining self.old)
             (remaining_of S.remaining self.new) a) }
         ensures unfinished { result ≡ Err faults.Device → LacksBytes (position_of self.old)
+            (remaining_of S.remaining self.old) (remaining_of S.remaining self.new)
+            (unread_of self.new) }
+        ensures memory { result ≡ Err faults.Memory
+            → LacksRoom (vec_capacity spare) (position_of self.old)
             (remaining_of S.remaining self.old) (remaining_of S.remaining self.new)
             (unread_of self.new) }
     {
@@ -274,13 +279,13 @@ impl<S: TapSource> TapReader<S> {
     /// Goes on to the next frame, which `frame` lends, or to the ending, which is found again at
     /// each later call. After a fault each later call returns `Failed`.
     ///
-    /// It allocates only where a block is first made, and where a record is longer than the block.
+    /// It allocates only where a block is first made, and where a packet is longer than the block.
     #[inline(always)]
     pub fn advance(&mut self, alloc: Global) -> Result<Found, ReadFault>
         ensures advances { Advances (found_item (lent_of self.new))
             (reading_of S.remaining S.failures self.old)
             (reading_of S.remaining S.failures self.new) result }
-        // Fewer bytes came than the next record needs: no frame that came whole is lost.
+        // Fewer bytes came than the next packet needs: no frame that came whole is lost.
         ensures unfinished { (position_of self.old).stage ≡ Going → OnErr result
             (LacksBytes (position_of self.old) (remaining_of S.remaining self.old)
             (remaining_of S.remaining self.new) (unread_of self.new)) }
@@ -334,7 +339,7 @@ impl<S: TapSource> TapReader<S> {
     pub fn next(&mut self, alloc: Global) -> Result<Item, ReadFault>
         ensures advances { Advances (λ item. item) (reading_of S.remaining S.failures self.old)
             (reading_of S.remaining S.failures self.new) result }
-        // The source failed before it gave a whole record: no frame that came whole is lost.
+        // The source failed before it gave a whole packet: no frame that came whole is lost.
         ensures unfinished { (position_of self.old).stage ≡ Going → result ≡ Err faults.Device
             → LacksBytes (position_of self.old) (remaining_of S.remaining self.old)
             (remaining_of S.remaining self.new) (unread_of self.new) }
@@ -346,15 +351,21 @@ impl<S: TapSource> TapReader<S> {
         self.next_into(alloc, Vec::new(alloc))
     }
 
-    /// `next`, whose frame's bytes stand in the memory of the spare where that has the room for
-    /// them. What the spare holds is lost.
+    /// As `next`, but the frame's bytes stand in the memory of the spare, if that has room for them.
+    /// What the spare holds is lost. `Memory` comes only where the packet wasn't read ahead whole, or
+    /// its bytes have no room in the spare.
     pub fn next_into(&mut self, alloc: Global, spare: Vec<u8>) -> Result<Item, ReadFault>
         ensures advances { Advances (λ item. item) (reading_of S.remaining S.failures self.old)
             (reading_of S.remaining S.failures self.new) result }
-        // The source failed before it gave a whole record: no frame that came whole is lost.
+        // The source failed before it gave a whole packet: no frame that came whole is lost.
         ensures unfinished { (position_of self.old).stage ≡ Going → result ≡ Err faults.Device
             → LacksBytes (position_of self.old) (remaining_of S.remaining self.old)
             (remaining_of S.remaining self.new) (unread_of self.new) }
+        // Neither the block nor the spare had room: a frame that came whole and fits is not lost.
+        ensures memory { (position_of self.old).stage ≡ Going → result ≡ Err faults.Memory
+            → LacksRoom (vec_capacity spare) (position_of self.old)
+            (remaining_of S.remaining self.old) (remaining_of S.remaining self.new)
+            (unread_of self.new) }
         ensures ended { (e : Ending) → (position_of self.old).stage ≡ Ended e
             → (result ≡ Ok (items.End e)) × (self.new ≡ self.old) }
         ensures failed { (position_of self.old).stage ≡ Failed
@@ -386,13 +397,6 @@ impl<S: TapSource> TapReader<S> {
         ensures source { result ≡ source_of self }
         ensures lost { length (unread_of self) ≤ MAX_SNAPLEN }
     {
-        let TapReader {
-            input,
-            position: _,
-            number: _,
-            stamp: _,
-            whole: _,
-        } = self;
-        input.into_source()
+        self.input.into_source()
     }
 }

@@ -1,4 +1,4 @@
-//! What a device over memory does, call by call.
+//! Failures on demand: devices over memory share them, so that reads and writes fail alike.
 ghost use Rattle.std.specs.Prelude.{◌≡◌, IsTrue, ◌↔◌};
 
 use crate::device::DeviceFault;

@@ -1,4 +1,4 @@
-//! A sink over a writer of std.
+//! Files, pipes and other writers of std as sinks: their errors become counted failures.
 ghost use Rattle.std.specs.Prelude.{◌≡◌};
 ghost use Rattle.pcap_io.specs.Std.{write_answer};
 
@@ -29,11 +29,7 @@ impl<W: Write> WriteSink<W> {
     pub fn into_writer(self) -> W
         ensures { W.contents result ≡ ⟦<WriteSink<W> as OutSink>⟧.contents self }
     {
-        let WriteSink {
-            writer,
-            failures: _,
-        } = self;
-        writer
+        self.writer
     }
 }
 

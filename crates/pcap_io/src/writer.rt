@@ -1,21 +1,21 @@
-//! Writes a capture: the frames that a filter accepts.
+//! The other direction of a reader: what is written here, a reader reads back.
 ghost use Rattle.std.specs.Prelude.{◌≡◌, ◌≤◌, true, false, length, Err, IfOk, IfErr, OnOk, OnErr};
 ghost use Rattle.afdx_frame.specs.LentFrame.{frame_of_lent};
 ghost use Rattle.pcap_io.specs.Device.{Writes};
-ghost use Rattle.pcap_io.specs.Capture.{capture_header, record_header, record_text};
+ghost use Rattle.pcap_io.specs.Capture.{capture_header, packet_header, packet_text};
 
 use crate::device::{DeviceFault, OutSink};
 use crate::layout::FILE_HEADER_LEN;
-use crate::record_header::RECORD_HEADER_LEN;
+use crate::packet_header::PACKET_HEADER_LEN;
 use crate::transfer::write_all;
 use afdx_frame::{LentFrame, TapFrame};
 use byteorder::{ByteOrder, LittleEndian};
 use thiserror::Error;
 
-/// Why a record wasn't written.
+/// Why a packet wasn't written.
 #[derive(Clone, Copy, Debug, PartialEq, Eq, Error)]
 pub enum WriteFault {
-    /// The sink failed. It took a prefix of the record.
+    /// The sink failed. It took a prefix of the packet.
     #[error("the device failed")]
     Device,
     /// The writer had failed before.
@@ -29,13 +29,13 @@ const HEADER: [u8; FILE_HEADER_LEN] = [
     0x4d, 0x3c, 0xb2, 0xa1, 2, 0, 4, 0, 0, 0, 0, 0, 0, 0, 0, 0, 0, 0, 4, 0, 1, 0, 0, 0,
 ];
 
-/// The header of a frame's record.
+/// The header of a frame's packet.
 #[inline]
-fn record_header(frame: &LentFrame<'_>, keep: u32) -> [u8; RECORD_HEADER_LEN]
-    ensures { result ≡ record_header (frame_of_lent frame.now) keep }
+fn packet_header(frame: &LentFrame<'_>, keep: u32) -> [u8; PACKET_HEADER_LEN]
+    ensures { result ≡ packet_header (frame_of_lent frame.now) keep }
 {
     let stamp = frame.stamp().0;
-    let mut header = [0u8; RECORD_HEADER_LEN];
+    let mut header = [0u8; PACKET_HEADER_LEN];
     LittleEndian::write_u32(&mut header, (stamp / 1_000_000_000) as u32);
     LittleEndian::write_u32(&mut header[4..], (stamp % 1_000_000_000) as u32);
     LittleEndian::write_u32(&mut header[8..], keep);
@@ -43,9 +43,9 @@ fn record_header(frame: &LentFrame<'_>, keep: u32) -> [u8; RECORD_HEADER_LEN]
     header
 }
 
-/// Writes a frame's record: the header, and then the first `keep` of its bytes.
+/// Writes a frame's packet: the header, and then the first `keep` of its bytes.
 #[inline]
-fn write_record<W: OutSink>(
+fn write_packet<W: OutSink>(
     sink: &mut W,
     frame: &LentFrame<'_>,
     keep: u32,
@@ -53,14 +53,14 @@ fn write_record<W: OutSink>(
     requires { keep ≤ length (frame_of_lent frame.now).bytes }
     ensures { Writes result (W.contents sink.old) (W.contents sink.new)
         (W.failures sink.old) (W.failures sink.new)
-        (record_text (frame_of_lent frame.now) keep) }
+        (packet_text (frame_of_lent frame.now) keep) }
 {
-    write_all(sink, &record_header(frame, keep))?;
+    write_all(sink, &packet_header(frame, keep))?;
     let bytes = frame.view().bytes();
     write_all(sink, &bytes[..keep as usize])
 }
 
-/// Writes a capture to a sink that it holds: a file header, and then records.
+/// Writes a capture to a sink that it holds: a file header, and then packets.
 #[derive(Debug, Drop)]
 pub struct CaptureWriter<W> {
     sink: W,
@@ -71,8 +71,8 @@ impl<W: OutSink> CaptureWriter<W> {
     ghost use Rattle.pcap_io.specs.declared.writer.WriteFault.TheVariants.{Device, Failed};
     ghost use Rattle.pcap_io.specs.Writer.{sink_of, has_failed, sink_after};
 
-    #[tactic(auto, unfolding(crate::specs::Capture::capture_header))]
     /// Writes the file header. An `Err` gives the sink back, which failed after a prefix of it.
+    #[tactic(auto, unfolding(crate::specs::Capture::capture_header))]
     pub fn begin(sink: W) -> Result<CaptureWriter<W>, W>
         ensures written { Writes result (W.contents sink) (W.contents (sink_after result))
             (W.failures sink) (W.failures (sink_after result)) capture_header }
@@ -88,7 +88,7 @@ impl<W: OutSink> CaptureWriter<W> {
         }
     }
 
-    /// Writes the record of a frame, with the first `keep` of its bytes. After a fault each later
+    /// Writes the packet of a frame, with the first `keep` of its bytes. After a fault each later
     /// call returns `Failed` and writes nothing.
     #[inline]
     pub fn put(&mut self, frame: &TapFrame, keep: u32) -> Result<(), WriteFault>
@@ -96,7 +96,7 @@ impl<W: OutSink> CaptureWriter<W> {
         ensures written { has_failed self.old ≡ false → Writes result
             (W.contents (sink_of self.old)) (W.contents (sink_of self.new))
             (W.failures (sink_of self.old)) (W.failures (sink_of self.new))
-            (record_text frame.now keep) }
+            (packet_text frame.now keep) }
         ensures fault { has_failed self.old ≡ false → IfErr result (λ f. f ≡ Device) }
         ensures failed { has_failed self.old ≡ true
             → (result ≡ Err Failed) × (self.new ≡ self.old) }
@@ -114,7 +114,7 @@ impl<W: OutSink> CaptureWriter<W> {
         ensures written { has_failed self.old ≡ false → Writes result
             (W.contents (sink_of self.old)) (W.contents (sink_of self.new))
             (W.failures (sink_of self.old)) (W.failures (sink_of self.new))
-            (record_text (frame_of_lent frame.now) keep) }
+            (packet_text (frame_of_lent frame.now) keep) }
         ensures fault { has_failed self.old ≡ false → IfErr result (λ f. f ≡ Device) }
         ensures failed { has_failed self.old ≡ true
             → (result ≡ Err Failed) × (self.new ≡ self.old) }
@@ -125,7 +125,7 @@ impl<W: OutSink> CaptureWriter<W> {
         if self.failed {
             return Err(WriteFault::Failed);
         }
-        match write_record(&mut self.sink, frame, keep) {
+        match write_packet(&mut self.sink, frame, keep) {
             Ok(()) => Ok(()),
             Err(DeviceFault) => {
                 self.failed = true;
@@ -138,7 +138,6 @@ impl<W: OutSink> CaptureWriter<W> {
     pub fn finish(self) -> W
         ensures { result ≡ sink_of self }
     {
-        let CaptureWriter { sink, failed: _ } = self;
-        sink
+        self.sink
     }
 }

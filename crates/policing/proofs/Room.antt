@@ -113,7 +113,7 @@ same_test true b f g = sym (f refl)
 same_test false true f g = g refl
 same_test false false f g = refl
 
--- after a frame there is a last stamp
+-- after a frame there is a last timestamp
 last_after-some : (stamp : ℕ) (entries : List Entry) → None ≡ last_after (Some stamp) entries → ⊥
 last_after-some stamp [] e = cc
 last_after-some stamp (x ∷ xs) e = last_after-some x.stamp xs e

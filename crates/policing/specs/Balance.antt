@@ -3,7 +3,7 @@ use Rattle.std.specs.Prelude.{◌≡◌, ℕ, ◌+◌, ◌-◌, ◌*◌, ◌≤�
 use Rattle.vl_config.specs.Link.{VirtualLink}
 use Rattle.policing.specs.Windows.{Entry, cap_of, credit, charges}
 
--- an account: the parameters of its link, what it held after the last frame, and that frame's stamp
+-- an account: the parameters of its link, what it held after the last frame, and that frame's timestamp
 pub record Balance : Type 0 where
   pub smax : ℕ
   pub bag : ℕ
@@ -19,7 +19,7 @@ content_since (Some last) smax cap content stamp = min cap (content + smax * (st
 abbrev pub content_at : Balance → ℕ → ℕ
 content_at balance stamp = content_since balance.last balance.smax balance.cap balance.content stamp
 
--- the stamp of the last frame
+-- the timestamp of the last frame
 abbrev pub last_after : Option ℕ → List Entry → Option ℕ
 last_after last [] = last
 last_after last (entry ∷ entries) = last_after (Some entry.stamp) entries
@@ -41,7 +41,7 @@ FillsOne link now [] content = content ≡ cap_of link
 FillsOne link now (entry ∷ entries) content =
     (content + charges link (entry ∷ entries) ≡ cap_of link + credit link (now - entry.stamp)) ⊎ FillsOne link now entries content
 
--- What an account knows after these frames: the last stamp, and the least room that a window up to then has left.
+-- What an account knows after these frames: the last timestamp, and the least room that a window up to then has left.
 pub record StandsAfter (balance : Balance) (link : VirtualLink) (entries : List Entry) : Type 0 where
   pub smax : balance.smax ≡ link.smax
   pub bag : balance.bag ≡ link.bag

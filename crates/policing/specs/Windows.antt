@@ -34,7 +34,7 @@ abbrev pub charges : VirtualLink → List Entry → ℕ
 charges link [] = 0
 charges link (entry ∷ entries) = charge link entry.size entry.policing + charges link entries
 
--- Every window that a frame of this stamp and size ends has room for it: the window from each earlier frame on, whose charges and
+-- Every window that a frame of this timestamp and size ends has room for it: the window from each earlier frame on, whose charges and
 -- the frame's cost fit the cap and the credit of the window's time, and the window of the frame alone.
 abbrev pub has_room : VirtualLink → List Entry → ℕ → ℕ → Bool
 has_room link [] stamp size = nat_le (cost link size) (cap_of link)

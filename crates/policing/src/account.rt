@@ -59,11 +59,11 @@ impl Account {
         }
     }
 
-    /// Judges a frame by its stamp and its size in bytes, the frame check sequence included, and
+    /// Judges a frame by its timestamp and its size in bytes, the frame check sequence included, and
     /// charges it where it is within. A frame that takes all that the account holds is within (this
     /// project's profile).
     ///
-    /// The stamp is not below that of the frame before.
+    /// The timestamp is not below that of the frame before.
     #[inline(always)]
     pub fn judge(&mut self, stamp: Stamp, size: u32) -> Policing
         requires { ForSome self.old.last (λ last. last ≤ stamp.0) }

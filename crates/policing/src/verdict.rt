@@ -1,4 +1,4 @@
-//! What policing says of a frame.
+//! The verdict, apart from the state that it is judged by, since crates above count and print it.
 
 /// What policing says of a frame.
 #[derive(Clone, Copy, Debug, PartialEq, Eq)]

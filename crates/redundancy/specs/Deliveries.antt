@@ -56,10 +56,10 @@ StandsAfter latest entries =
     (number : ℕ) → number < 256 →
     slice_index_or latest number None ≡ option_map delivery_of (latest_delivery entries number)
 
--- a delivery came no later than the stamp
+-- a delivery came no later than the timestamp
 abbrev pub IsNotLater : Option Delivery → ℕ → Type 0
 IsNotLater latest stamp = IfSome latest (λ delivery. delivery.stamp.0 ≤ stamp)
 
--- no delivery that a pair keeps came later than the stamp
+-- no delivery that a pair keeps came later than the timestamp
 abbrev pub NoneLater : List (Option Delivery) → ℕ → Type 0
 NoneLater latest stamp = (number : ℕ) → number < 256 → IsNotLater (slice_index_or latest number None) stamp

@@ -47,7 +47,7 @@ impl Pair {
     /// number was on the other network and at most `skew` earlier (that the bound is included is this
     /// project's profile).
     ///
-    /// The stamp is not below that of any delivery that the pair keeps.
+    /// The timestamp is not below that of any delivery that the pair keeps.
     #[inline(always)]
     pub fn judge(
         &mut self,

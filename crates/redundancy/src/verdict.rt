@@ -1,4 +1,7 @@
-//! What redundancy management says of a frame.
+//! The verdict, apart from the state that it is judged by, since crates above count and print it.
+
+ghost use Rattle.std.specs.Prelude.{◌≡◌};
+ghost use Rattle.redundancy.specs.Deliveries.{is_delivered};
 
 /// What redundancy management says of a frame. `Deliver` and `Both` are delivered.
 #[derive(Clone, Copy, Debug, PartialEq, Eq)]
@@ -10,4 +13,14 @@ pub enum Redundancy {
     Copy,
     /// The link has redundancy management off, so the frames of both networks are delivered.
     Both,
+}
+
+impl Redundancy {
+    /// Is the frame delivered? Every verdict but `Copy` says so.
+    #[inline(always)]
+    pub fn is_delivered(self) -> bool
+        ensures { result ≡ is_delivered self }
+    {
+        !matches!(self, Redundancy::Copy)
+    }
 }

@@ -6,12 +6,11 @@ use Rattle.afdx_frame.specs.declared.bounds.TheConstants.{MAX_SNAPLEN}
 use Rattle.afdx_frame.specs.declared.key.Network.{Network}
 use Rattle.pcap_io.specs.Device.{TakesAtMost, TakesFewer}
 use Rattle.pcap_io.specs.Layout.{header_of}
-use Rattle.pcap_io.specs.Position.{EndLeaves, Holds, Opens, Reads, ending_here, start_at}
+use Rattle.pcap_io.specs.Position.{TakesAPacket, EndLeaves, Holds, Opens, Reads, ending_here, start_at}
 use Rattle.pcap_io.specs.declared.layout.HeaderFault.{HeaderFault}
 use Rattle.pcap_io.specs.declared.layout.Layout.{Layout}
 use Rattle.pcap_io.specs.declared.layout.TheConstants.{FILE_HEADER_LEN}
 use Rattle.pcap_io.specs.declared.position.Position.{Position}
-use Rattle.pcap_io.specs.declared.record_header.TheConstants.{RECORD_HEADER_LEN}
 use Rattle.pcap_io.specs.declared.recording.Ending.{Ending}
 use Rattle.run_outcome.specs.Device.{SourceView}
 
@@ -25,10 +24,6 @@ pub record IsRecording (network : Network) (late : ℕ) (bytes : List ℕ) (fram
   pub layout : Layout
   pub header : header_of bytes ≡ Ok layout
   pub holds : Holds (start_at network layout (2 ^ 32) late) (drop FILE_HEADER_LEN bytes) frames ending
-
--- no more than a packet is gone
-abbrev pub TakesAPacket : Option (List ℕ) → Option (List ℕ) → Type 0
-TakesAPacket before after = TakesAtMost (RECORD_HEADER_LEN + MAX_SNAPLEN) before after
 
 -- the recording ends here: with this ending, which leaves no more gone than stated
 pub record Ends (q : Position) (before after : Option (List ℕ)) (ending : Ending) : Type 0 where
@@ -56,7 +51,7 @@ pub record IsReadPart (network : Network) (late : ℕ) (before after : SourceVie
   pub rest : Option (List ℕ)
   pub ahead : List ℕ
   pub read : HasReadTap network late before.remaining frames position left
-  pub gone : TakesAtMost (RECORD_HEADER_LEN + MAX_SNAPLEN) left rest
+  pub gone : TakesAPacket left rest
   pub unread : LeavesUnread ahead rest after.remaining
 
 -- The recording was read to its ending: these are all its frames. Of the source nothing is left after a clean or a truncated

@@ -19,9 +19,9 @@ pub struct Fed<S> {
 }
 
 /// Reads a recording into a ring, up to its ending or the first fault. It waits where the ring is
-/// full, and stops where the taker is gone. Want of memory is the item `Failed`. The gate is told
-/// once, before the first frame is read. A frame's bytes stand in the memory of the oldest one that
-/// was handed back, if that has the room; else that is freed.
+/// full, and stops where the taker is gone. Out of memory, it puts the item `Failed`. The gate is
+/// called once, before the first frame is read. A frame's bytes stand in the memory of the oldest one
+/// that was handed back, if that has the room; else that is freed.
 pub fn feed<R: Wait, S: TapSource, G: TapGate>(
     rt: &R,
     alloc: Global,

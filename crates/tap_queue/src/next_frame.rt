@@ -1,18 +1,18 @@
-//! What a network's next frame has to be.
+//! The check of each frame that is taken off a ring, so that no frame is lost, repeated or out of place.
 ghost use Rattle.std.specs.Prelude.{◌≡◌, ◌+◌, ◌^◌, ◌≤◌, max, ◌↔◌, IsTrue, IsFalse};
 ghost use Rattle.tap_queue.specs.Items.{Follows};
 
 use afdx_frame::{Network, TapFrame};
 
-/// What a network's next frame has to be.
+/// What is required of a network's next frame.
 #[derive(Clone, Copy, Debug)]
 pub(crate) struct NextFrame {
     pub(crate) network: Network,
-    /// By how many nanoseconds its stamp may lie below the greatest one before it.
+    /// By how many nanoseconds its timestamp may lie below the greatest one before it.
     pub(crate) late: u64,
-    /// Its number: that of the frames before it.
+    /// Its number, which is the number of frames before it.
     pub(crate) number: u64,
-    /// The greatest stamp before it, 0 where there is none.
+    /// The greatest timestamp before it, 0 where there is none.
     pub(crate) high: u64,
 }
 
@@ -29,7 +29,7 @@ impl NextFrame {
         }
     }
 
-    /// Goes past the frame if it is the next one. False: it isn't.
+    /// Is the frame the next one? If it is, the frame after it is required from now on.
     #[inline]
     pub(crate) fn pass(&mut self, frame: &TapFrame) -> bool
         ensures next { IsTrue result ↔

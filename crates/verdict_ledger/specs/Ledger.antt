@@ -1,5 +1,6 @@
 -- What contracts see of a ledger.
 use Rattle.std.specs.Prelude.{◌≡◌, ℕ, ◌<◌, Bool, List, slice_index_or, Result, Ok, Err}
+use Rattle.afdx_frame.specs.declared.key.TheConstants.{VL_ID_COUNT}
 use Rattle.vl_config.specs.Document.{VlTable}
 use Rattle.verdict_ledger.specs.Entry.{Entry}
 use Rattle.verdict_ledger.specs.Tally.{totals_of, link_counts}
@@ -34,7 +35,7 @@ finished_sink (Err refused) = refused.sink
 -- The tally of these entries. It has counts for each identifier of 16 bits.
 pub record IsTallyOf (entries : List Entry) (tally : Tally) : Type 0 where
   pub totals : tally.totals ≡ totals_of entries
-  pub links : (id : ℕ) (none : LinkCounts) → id < 65536 → slice_index_or tally.counts.items id none ≡ link_counts entries (record { 0 = id })
+  pub links : (id : ℕ) (none : LinkCounts) → id < VL_ID_COUNT → slice_index_or tally.counts.items id none ≡ link_counts entries (record { 0 = id })
 
 -- The ledger has the lines of these entries, under this table and this number of filters.
 pub record StandsAfter {W : Type 0} (ledger : Ledger W) (vl_table : VlTable) (number : ℕ) (entries : List Entry) : Type 0 where

@@ -1,4 +1,5 @@
 pub mod Entry
+pub mod Laws
 pub mod Ledger
 pub mod Tally
 pub mod Text

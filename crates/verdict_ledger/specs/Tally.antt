@@ -8,8 +8,9 @@ use Rattle.policing.specs.declared.verdict.Policing.{Policing}
 use Rattle.policing.specs.declared.verdict.Policing.TheVariants.{Excess}
 use Rattle.integrity.specs.declared.verdict.Integrity.{Integrity}
 use Rattle.integrity.specs.declared.verdict.Integrity.TheVariants.{Out}
+use Rattle.redundancy.specs.Deliveries as redundancy
 use Rattle.redundancy.specs.declared.verdict.Redundancy.{Redundancy}
-use Rattle.redundancy.specs.declared.verdict.Redundancy.TheVariants.{Deliver, Copy, Both}
+use Rattle.redundancy.specs.declared.verdict.Redundancy.TheVariants.{Copy}
 use Rattle.vl_judge.specs.Judgement.{Judgement}
 use Rattle.vl_judge.specs.Verdicts.{is_of}
 use Rattle.verdict_ledger.specs.Entry.{Entry}
@@ -40,11 +41,6 @@ abbrev pub is_copy_redundancy : Redundancy → Bool
 is_copy_redundancy Copy = true
 is_copy_redundancy _ = false
 
-abbrev pub is_delivery : Redundancy → Bool
-is_delivery Deliver = true
-is_delivery Both = true
-is_delivery _ = false
-
 abbrev pub is_excess : Judgement → Bool
 is_excess j = option_map_or is_excess_policing j.policing false
 
@@ -55,7 +51,7 @@ abbrev pub is_copy : Judgement → Bool
 is_copy j = option_map_or is_copy_redundancy j.redundancy false
 
 abbrev pub is_delivered : Judgement → Bool
-is_delivered j = option_map_or is_delivery j.redundancy false
+is_delivered j = option_map_or redundancy.is_delivered j.redundancy false
 
 -- the frame's link is configured
 abbrev pub is_on_a_link : Class → Bool
@@ -75,7 +71,7 @@ class_count class entries = count_by (λ e. is_class class e.verdict.class) entr
 abbrev pub filter_count : List Entry → ℕ → ℕ
 filter_count entries i = count_by (λ e. has_bit i e.mask) entries
 
--- the counts of all frames; of filters that there aren't they are 0
+-- the counts of all frames
 unfoldable pub totals_of : List Entry → Totals
 totals_of entries = record {
   frames = length entries;

@@ -77,7 +77,7 @@ optional_field number = option_map_or number_field number (codes " -")
 
 -- ---- the line of a frame
 
--- the classes of frames whose link and sequence number are told: the bytes of the others may not say them
+-- the classes of frames whose link and sequence number are written: the bytes of the others may not hold them
 abbrev pub is_addressed : Class → Bool
 is_addressed class.Unconfigured = true
 is_addressed class.TooLong = true
@@ -105,7 +105,7 @@ hex_digit n = slice_index (codes "0123456789abcdef") n
 abbrev pub mask_text : ℕ → List ℕ
 mask_text mask = hex_digit (mask / 16) ∷ hex_digit (mask % 16) ∷ []
 
--- stamp, network, number, link, sequence number, class, policing, integrity, redundancy, bytes kept, and the mask of filters
+-- timestamp, network, number, link, sequence number, class, policing, integrity, redundancy, bytes kept, and the mask of filters
 unfoldable pub line_text : Entry → List ℕ
 line_text e =
     decimal e.frame.stamp

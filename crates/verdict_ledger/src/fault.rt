@@ -1,4 +1,4 @@
-//! Why a line isn't in the ledger.
+//! The faults of a ledger, and how those of the crates below become one of them.
 ghost use Rattle.std.specs.Prelude.{◌≡◌};
 
 use pcap_io::DeviceFault;

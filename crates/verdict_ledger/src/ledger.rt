@@ -1,10 +1,11 @@
 //! The ledger: lines of frames, and then the counts.
-ghost use Rattle.std.specs.Prelude.{◌≡◌, ◌+◌, ◌<◌, ◌≤◌, ◌∷◌, ◌++◌, ◌^◌, ℕ, List, [], true, false, length, Ok, Err, IfOk, IfErr, OnOk, OnErr};
+ghost use Rattle.std.specs.Prelude.{◌≡◌, ◌+◌, ◌<◌, ◌≤◌, ◌∷◌, ◌++◌, ℕ, List, [], true, false, length, Ok, Err, IfOk, IfErr, OnOk, OnErr};
 ghost use Rattle.vl_config.specs.Document.{VlTable};
 ghost use Rattle.verdict_ledger.specs.Entry.{Entry, entry_with, entries_of};
 ghost use Rattle.verdict_ledger.specs.Tally.{totals_of};
 ghost use Rattle.verdict_ledger.specs.Text.{ledger_head, line_text, lines_text, rest_text};
 ghost use Rattle.verdict_ledger.specs.Writing.{IsAppended, fault_of, refusal_of};
+ghost use Rattle.verdict_ledger.specs.declared.bounds.TheConstants.{MAX_FILTERS, MAX_LINES};
 
 use crate::fault::{LedgerFault, LedgerRefused};
 use crate::kept::kept_of;
@@ -31,20 +32,22 @@ pub struct Ledger<W> {
     links: Vec<Link>,
     filters: u32,
     tally: Tally,
-    ghost few_filters: { filters ≤ 8 },
+    ghost few_filters: { filters ≤ MAX_FILTERS },
 }
 
 impl<W: OutSink> Ledger<W> {
     ghost use Rattle.verdict_ledger.specs.declared.fault.LedgerFault.TheVariants.{Memory, Failed};
     ghost use Rattle.verdict_ledger.specs.Ledger.{StandsAfter, begun_sink, finished_sink, has_failed, sink_of, totals_in};
 
-    #[tactic(auto, unfolding(crate::specs::Text::ledger_head))]
-    /// Writes the first line of the ledger of a table, for 1 to 8 filters.
+    /// Writes the first line of the ledger of a table, for 1 to [`MAX_FILTERS`](crate::MAX_FILTERS)
+    /// filters.
     ///
     /// # Errors
     ///
     /// `Device` if the sink failed, after a prefix of the line, and `Memory` before anything was
-    /// written. Either gives the sink back.
+    /// written. Either gives the sink back. Whatever the table, the counts of all identifiers are
+    /// allocated, so `Memory` may come for any.
+    #[tactic(auto, unfolding(crate::specs::Text::ledger_head))]
     pub fn begin(
         alloc: Global,
         config: &Config,
@@ -52,7 +55,7 @@ impl<W: OutSink> Ledger<W> {
         sink: W,
     ) -> Result<Ledger<W>, LedgerRefused<W>>
         requires some_filters { 1 ≤ filters }
-        requires few_filters { filters ≤ 8 }
+        requires few_filters { filters ≤ MAX_FILTERS }
         ensures written { IsAppended (refusal_of result)
             (W.contents sink) (W.contents (begun_sink result))
             (W.failures sink) (W.failures (begun_sink result)) ledger_head }
@@ -87,12 +90,13 @@ impl<W: OutSink> Ledger<W> {
 
     /// Writes the line of a frame, and counts it. `verdict` is its verdict under the ledger's table,
     /// `keep` how many of its captured bytes are kept, where a filter accepts it, and bit i of `mask` is
-    /// set where filter i does. A ledger has at most 2^34 lines.
+    /// set where filter i does. A ledger has at most [`MAX_LINES`](crate::MAX_LINES) lines.
     ///
     /// # Errors
     ///
     /// `Device` if the sink failed, after a prefix of the line, and `Memory` before anything was
-    /// written; the frame isn't counted. Each later call returns `Failed`, and writes nothing.
+    /// written, which may come for any line; the frame isn't counted. Each later call returns `Failed`,
+    /// and writes nothing.
     pub fn line(
         &mut self,
         frame: &TapFrame,
@@ -100,7 +104,7 @@ impl<W: OutSink> Ledger<W> {
         keep: Option<u32>,
         mask: u8,
     ) -> Result<(), LedgerFault>
-        requires { (totals_in self.old).frames < 2 ^ 34 }
+        requires { (totals_in self.old).frames < MAX_LINES }
         ensures written { has_failed self.old ≡ false → IsAppended (fault_of result)
             (W.contents (sink_of self.old)) (W.contents (sink_of self.new))
             (W.failures (sink_of self.old)) (W.failures (sink_of self.new))
@@ -142,7 +146,8 @@ impl<W: OutSink> Ledger<W> {
     /// # Errors
     ///
     /// `Device` if the sink failed and `Memory`, each after a prefix of the lines; none of the frames
-    /// is counted. Each later call returns `Failed`, and writes nothing.
+    /// is counted. Each later call returns `Failed`, and writes nothing. `Memory` comes only of a round
+    /// with frames.
     pub fn round(
         &mut self,
         frames: &[TapFrame],
@@ -153,11 +158,12 @@ impl<W: OutSink> Ledger<W> {
         requires verdicts { length verdicts.now ≡ length frames.now }
         requires keeps { length keeps.now ≡ length frames.now }
         requires masks { length masks.now ≡ length frames.now }
-        requires room { (totals_in self.old).frames + length frames.now ≤ 2 ^ 34 }
+        requires room { (totals_in self.old).frames + length frames.now ≤ MAX_LINES }
         ensures written { has_failed self.old ≡ false → IsAppended (fault_of result)
             (W.contents (sink_of self.old)) (W.contents (sink_of self.new))
             (W.failures (sink_of self.old)) (W.failures (sink_of self.new))
             (lines_text (entries_of frames.now verdicts.now keeps.now masks.now)) }
+        ensures memory { result ≡ Err Memory → 0 < length frames.now }
         ensures failed { has_failed self.old ≡ true
             → (result ≡ Err Failed) × (self.new ≡ self.old) }
         ensures going { OnOk result
@@ -203,7 +209,8 @@ impl<W: OutSink> Ledger<W> {
     /// # Errors
     ///
     /// `Device` if the sink failed and `Memory`, each after a prefix of the lines; `Failed` if a call
-    /// has met a fault before, and then nothing is written. Each gives the sink back.
+    /// has met a fault before, and then nothing is written. Each gives the sink back. There are always
+    /// lines to write, so `Memory` may come for any ledger.
     pub fn finish(self, a: Ending, b: Ending) -> Result<(W, Totals), LedgerRefused<W>>
         ensures written { has_failed self ≡ false
             → (vl_table : VlTable) (filters : ℕ) (entries : List Entry)
@@ -242,13 +249,6 @@ impl<W: OutSink> Ledger<W> {
     pub fn into_sink(self) -> W
         ensures { result ≡ sink_of self }
     {
-        let Ledger {
-            spool,
-            failed: _,
-            links: _,
-            filters: _,
-            tally: _,
-        } = self;
-        spool.into_sink()
+        self.spool.into_sink()
     }
 }

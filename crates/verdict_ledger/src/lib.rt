@@ -24,11 +24,13 @@
 //! ```
 //!
 //! - [`Ledger`], with its faults [`LedgerFault`] and [`LedgerRefused`].
-//! - [`Totals`], the counts of all frames.
+//! - [`Totals`], the counts of all frames. Each frame counts in one column of its line ([`counts_add_up`]).
 #![tactic(auto)]
 
+mod bounds;
 mod fault;
 mod kept;
+mod laws;
 mod ledger;
 mod line;
 mod link_counts;
@@ -38,6 +40,8 @@ mod tally;
 mod totals;
 mod words;
 
+pub use bounds::{MAX_FILTERS, MAX_LINES};
 pub use fault::{LedgerFault, LedgerRefused};
+pub use laws::counts_add_up;
 pub use ledger::Ledger;
 pub use totals::Totals;

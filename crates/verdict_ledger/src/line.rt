@@ -112,7 +112,7 @@ fn push_mask(text: &mut Vec<u8>, mask: u8) -> Result<(), AllocError>
     text.extend_from_slice(&[b' ', high, low, b'\n'])
 }
 
-/// Appends the stamp, the network and the number of a frame.
+/// Appends the timestamp, the network and the number of a frame.
 #[inline]
 fn push_key(text: &mut Vec<u8>, frame: &TapFrame) -> Result<(), AllocError>
     ensures { OnOk result (text.new.items ≡ text.old.items ++ (decimal frame.now.stamp

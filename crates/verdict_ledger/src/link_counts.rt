@@ -1,7 +1,8 @@
-//! The counts of one link.
-ghost use Rattle.std.specs.Prelude.{◌≡◌, ◌+◌, ◌<◌, ◌^◌, List, [], ◌∷◌, ◌++◌, length, cond};
+//! The counts of a line `link`, and which verdicts count in which column.
+ghost use Rattle.std.specs.Prelude.{◌≡◌, ◌+◌, ◌<◌, List, [], ◌∷◌, ◌++◌, length, cond};
 ghost use Rattle.verdict_ledger.specs.Entry.{Entry};
 ghost use Rattle.verdict_ledger.specs.Tally.{counts_of, is_class, is_excess, is_out, is_copy, is_delivered};
+ghost use Rattle.verdict_ledger.specs.declared.bounds.TheConstants.{MAX_LINES};
 
 use integrity::Integrity;
 use policing::Policing;
@@ -21,8 +22,8 @@ pub struct LinkCounts {
 }
 
 impl LinkCounts {
-    #[tactic(auto, unfolding(crate::specs::Tally::counts_of))]
     /// The counts of no frame.
+    #[tactic(auto, unfolding(crate::specs::Tally::counts_of))]
     pub fn new() -> LinkCounts
         ensures { result ≡ counts_of [] }
     {
@@ -39,7 +40,7 @@ impl LinkCounts {
     /// The counts with one more frame, which has this verdict.
     #[inline]
     pub fn with(&self, verdict: &Verdict) -> LinkCounts
-        ensures { (entries : List Entry) (e : Entry) → length entries < 2 ^ 34
+        ensures { (entries : List Entry) (e : Entry) → length entries < MAX_LINES
             → verdict.now ≡ e.verdict → self.now ≡ counts_of entries
             → result ≡ counts_of (entries ++ e ∷ []) }
     {
@@ -54,11 +55,11 @@ impl LinkCounts {
     }
 }
 
-/// The count, and one more where a frame counts. It never comes near 2^64: a ledger has at most 2^34
-/// lines.
+/// The count, and one more where a frame counts. It never comes near 2^64: a ledger has at most
+/// [`MAX_LINES`](crate::MAX_LINES) lines.
 #[inline(always)]
 pub fn plus(count: u64, counts: bool) -> u64
-    ensures { count < 2 ^ 34 → result ≡ count + cond counts 1 0 }
+    ensures { count < MAX_LINES → result ≡ count + cond counts 1 0 }
 {
     count.saturating_add(u64::from(counts))
 }
@@ -100,8 +101,8 @@ pub fn is_copy(verdict: &Verdict) -> bool
 pub fn is_delivered(verdict: &Verdict) -> bool
     ensures { result ≡ is_delivered verdict.now }
 {
-    matches!(
-        verdict.redundancy,
-        Some(Redundancy::Deliver | Redundancy::Both)
-    )
+    match verdict.redundancy {
+        Some(redundancy) => redundancy.is_delivered(),
+        None => false,
+    }
 }

@@ -1,11 +1,12 @@
 //! Text on its way to a sink.
-ghost use Rattle.std.specs.Prelude.{◌≡◌, ◌≤◌, [], List, length, Err, IfErr, OnOk};
+ghost use Rattle.std.specs.Prelude.{◌≡◌, ◌<◌, ◌≤◌, [], List, length, Err, IfErr, OnErr, OnOk};
 ghost use Rattle.verdict_ledger.specs.Entry.{Entry, entry_with, entries_of};
 ghost use Rattle.verdict_ledger.specs.Tally.{totals_of, link_counts};
 ghost use Rattle.verdict_ledger.specs.Ledger.{IsTallyOf};
 ghost use Rattle.verdict_ledger.specs.Text.{line_text, lines_text, link_line, link_lines, summary_text};
 ghost use Rattle.verdict_ledger.specs.Writing.{IsAppended, IsSpooled, fault_of};
 ghost use Rattle.verdict_ledger.specs.declared.fault.LedgerFault.TheVariants.{Device, Memory};
+ghost use Rattle.verdict_ledger.specs.declared.bounds.TheConstants.{MAX_FILTERS};
 
 use crate::fault::LedgerFault;
 use crate::line::push_line;
@@ -39,8 +40,7 @@ impl<W: OutSink> Spool<W> {
     pub fn into_sink(self) -> W
         ensures { result ≡ self.sink }
     {
-        let Spool { sink, text: _ } = self;
-        sink
+        self.sink
     }
 
     /// Writes the text that waits.
@@ -101,14 +101,15 @@ impl<W: OutSink> Spool<W> {
         requires verdicts { length verdicts.now ≡ length frames.now }
         requires keeps { length keeps.now ≡ length frames.now }
         requires masks { length masks.now ≡ length frames.now }
-        ensures { IsSpooled (fault_of result)
+        ensures written { IsSpooled (fault_of result)
             (W.contents self.old.sink) (W.contents self.new.sink)
             (W.failures self.old.sink) (W.failures self.new.sink)
             self.old.text.items self.new.text.items
             (lines_text (entries_of frames.now verdicts.now keeps.now masks.now)) }
+        ensures some { OnErr result (0 < length frames.now) }
     {
-        for place in 0..frames.len() {
-            self.add_line(&frames[place], &verdicts[place], keeps[place], masks[place])?;
+        for index in 0..frames.len() {
+            self.add_line(&frames[index], &verdicts[index], keeps[index], masks[index])?;
         }
         Ok(())
     }
@@ -158,7 +159,7 @@ impl<W: OutSink> Spool<W> {
         self.flush()
     }
 
-    /// Writes the lines of a round's frames.
+    /// Writes the lines of a round's frames. A round of no frames needs no memory.
     pub fn write_lines(
         &mut self,
         frames: &[TapFrame],
@@ -169,10 +170,11 @@ impl<W: OutSink> Spool<W> {
         requires verdicts { length verdicts.now ≡ length frames.now }
         requires keeps { length keeps.now ≡ length frames.now }
         requires masks { length masks.now ≡ length frames.now }
-        ensures { IsAppended (fault_of result)
+        ensures written { IsAppended (fault_of result)
             (W.contents self.old.sink) (W.contents self.new.sink)
             (W.failures self.old.sink) (W.failures self.new.sink)
             (lines_text (entries_of frames.now verdicts.now keeps.now masks.now)) }
+        ensures memory { result ≡ Err Memory → 0 < length frames.now }
     {
         self.text.clear();
         self.add_lines(frames, verdicts, keeps, masks)?;
@@ -188,7 +190,7 @@ impl<W: OutSink> Spool<W> {
         a: Ending,
         b: Ending,
     ) -> Result<(), LedgerFault>
-        requires { filters ≤ 8 }
+        requires { filters ≤ MAX_FILTERS }
         ensures { (entries : List Entry) → IsTallyOf entries tally.now
             → IsAppended (fault_of result)
             (W.contents self.old.sink) (W.contents self.new.sink)

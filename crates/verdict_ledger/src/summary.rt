@@ -1,6 +1,7 @@
 //! The lines after those of the frames.
 ghost use Rattle.std.specs.Prelude.{◌≡◌, ◌≤◌, ◌++◌, OnOk, take, length, codes};
 ghost use Rattle.verdict_ledger.specs.Text.{count_field, judged_text, classes_text, ending_text, end_text, link_line, filter_lines, filter_line, tap_line, total_line};
+ghost use Rattle.verdict_ledger.specs.declared.bounds.TheConstants.{MAX_FILTERS};
 
 use crate::line::{push_number_field, push_word};
 use crate::link_counts::LinkCounts;
@@ -143,7 +144,7 @@ pub fn push_end(
     a: Ending,
     b: Ending,
 ) -> Result<(), AllocError>
-    requires { filters ≤ 8 }
+    requires { filters ≤ MAX_FILTERS }
     ensures { OnOk result (text.new.items ≡ text.old.items ++ end_text totals.now filters a b) }
 {
     push_filters(text, &totals.filters[..filters as usize])?;

@@ -1,17 +1,16 @@
 //! The counts that a ledger keeps.
-ghost use Rattle.std.specs.Prelude.{◌≡◌, ◌<◌, ◌≤◌, ◌+◌, ◌^◌, List, [], ◌∷◌, ◌++◌, length, None, IfOk, vec_len, if◌then◌else◌};
+ghost use Rattle.std.specs.Prelude.{◌≡◌, ◌<◌, ◌≤◌, ◌+◌, List, [], ◌∷◌, ◌++◌, length, None, IfOk, vec_len, if◌then◌else◌};
 ghost use Rattle.afdx_frame.specs.View.{link_of};
 ghost use Rattle.verdict_ledger.specs.Tally.{is_on_a_link, link_counts};
+ghost use Rattle.afdx_frame.specs.declared.key.TheConstants.{VL_ID_COUNT};
+ghost use Rattle.verdict_ledger.specs.declared.bounds.TheConstants.{MAX_LINES};
 
 use crate::link_counts::LinkCounts;
 use crate::totals::Totals;
-use afdx_frame::{TapFrame, VlId};
+use afdx_frame::{TapFrame, VL_ID_COUNT, VlId};
 use std::alloc::{AllocError, Global};
 use vl_config::Class;
 use vl_judge::Verdict;
-
-/// The number of virtual link identifiers, which have 16 bits (ARINC 664 Part 7).
-const IDENTIFIERS: usize = 65536;
 
 /// The counts of all frames, and those of each identifier, so that a frame costs the same whatever the
 /// number of links.
@@ -20,7 +19,7 @@ pub struct Tally {
     totals: Totals,
     /// The counts of the frames of configured links, by their identifiers.
     counts: Vec<LinkCounts>,
-    ghost complete: { vec_len counts ≡ 65536 },
+    ghost complete: { vec_len counts ≡ VL_ID_COUNT },
 }
 
 impl Tally {
@@ -33,7 +32,7 @@ impl Tally {
     {
         Ok(Tally {
             totals: Totals::new(),
-            counts: vec![in alloc; LinkCounts::new(); IDENTIFIERS]?,
+            counts: vec![in alloc; LinkCounts::new(); VL_ID_COUNT]?,
         })
     }
 
@@ -55,13 +54,13 @@ impl Tally {
     /// Counts a frame.
     #[inline]
     pub fn count(&mut self, frame: &TapFrame, verdict: &Verdict, keep: Option<u32>, mask: u8)
-        ensures { (entries : List Entry) → length entries < 2 ^ 34 → IsTallyOf entries self.old
+        ensures { (entries : List Entry) → length entries < MAX_LINES → IsTallyOf entries self.old
             → IsTallyOf (entries ++ entry_with frame.now verdict.now keep mask ∷ []) self.new }
     {
         self.totals = self.totals.with(verdict, keep, mask);
         if let Some(id) = counted_link(frame, verdict) {
-            let place = usize::from(id.0);
-            self.counts[place] = self.counts[place].with(verdict);
+            let index = usize::from(id.0);
+            self.counts[index] = self.counts[index].with(verdict);
         }
     }
 
@@ -76,12 +75,12 @@ impl Tally {
         requires verdicts { length verdicts.now ≡ length frames.now }
         requires keeps { length keeps.now ≡ length frames.now }
         requires masks { length masks.now ≡ length frames.now }
-        ensures { (entries : List Entry) → length entries + length frames.now ≤ 2 ^ 34
+        ensures { (entries : List Entry) → length entries + length frames.now ≤ MAX_LINES
             → IsTallyOf entries self.old → IsTallyOf
             (entries ++ entries_of frames.now verdicts.now keeps.now masks.now) self.new }
     {
-        for place in 0..frames.len() {
-            self.count(&frames[place], &verdicts[place], keeps[place], masks[place]);
+        for index in 0..frames.len() {
+            self.count(&frames[index], &verdicts[index], keeps[index], masks[index]);
         }
     }
 }

@@ -1,8 +1,10 @@
-//! The counts of all frames.
-ghost use Rattle.std.specs.Prelude.{◌≡◌, ◌<◌, ◌^◌, List, [], ◌∷◌, ◌++◌, length};
+//! The counts of the line `total` and of the lines `filter`.
+ghost use Rattle.std.specs.Prelude.{◌≡◌, ◌<◌, List, [], ◌∷◌, ◌++◌, length};
 ghost use Rattle.verdict_ledger.specs.Entry.{Entry};
 ghost use Rattle.verdict_ledger.specs.Tally.{totals_of, has_bit, filter_count};
+ghost use Rattle.verdict_ledger.specs.declared.bounds.TheConstants.{MAX_LINES};
 
+use crate::bounds::MAX_FILTERS;
 use crate::link_counts::{is_class, is_copy, is_delivered, is_excess, is_out, plus};
 use vl_config::Class;
 use vl_judge::Verdict;
@@ -34,13 +36,13 @@ pub struct Totals {
     pub copy: u64,
     /// Those that are delivered.
     pub delivered: u64,
-    /// Those that each filter accepts, by the filter's number; 0 from the number of filters on.
-    pub filters: [u64; 8],
+    /// By a filter's number, those whose mask has its bit.
+    pub filters: [u64; MAX_FILTERS],
 }
 
 impl Totals {
-    #[tactic(auto, unfolding(crate::specs::Tally::totals_of))]
     /// The counts of no frame.
+    #[tactic(auto, unfolding(crate::specs::Tally::totals_of))]
     pub(crate) fn new() -> Totals
         ensures { result ≡ totals_of [] }
     {
@@ -57,14 +59,14 @@ impl Totals {
             out: 0,
             copy: 0,
             delivered: 0,
-            filters: [0; 8],
+            filters: [0; MAX_FILTERS],
         }
     }
 
     /// The counts with one more frame.
     #[inline]
     pub(crate) fn with(&self, verdict: &Verdict, keep: Option<u32>, mask: u8) -> Totals
-        ensures { (entries : List Entry) (e : Entry) → length entries < 2 ^ 34
+        ensures { (entries : List Entry) (e : Entry) → length entries < MAX_LINES
             → verdict.now ≡ e.verdict → keep ≡ e.keep → mask ≡ e.mask
             → self.now ≡ totals_of entries
             → result ≡ totals_of (entries ++ e ∷ []) }
@@ -91,7 +93,7 @@ impl Totals {
 /// Is bit `filter` of the mask set?
 #[inline(always)]
 fn has_bit(filter: u32, mask: u8) -> bool
-    requires { filter < 8 }
+    requires { filter < MAX_FILTERS }
     ensures { result ≡ has_bit filter mask }
 {
     (mask >> filter) & 1 == 1
@@ -99,8 +101,8 @@ fn has_bit(filter: u32, mask: u8) -> bool
 
 /// The counts of filters with one more frame.
 #[inline]
-fn filters_with(counts: &[u64; 8], mask: u8) -> [u64; 8]
-    ensures { (entries : List Entry) (e : Entry) → length entries < 2 ^ 34
+fn filters_with(counts: &[u64; MAX_FILTERS], mask: u8) -> [u64; MAX_FILTERS]
+    ensures { (entries : List Entry) (e : Entry) → length entries < MAX_LINES
         → mask ≡ e.mask → counts.now ≡ (totals_of entries).filters
         → result ≡ (totals_of (entries ++ e ∷ [])).filters }
 {

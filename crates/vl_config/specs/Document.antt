@@ -7,6 +7,7 @@ use Rattle.std.specs.Cmp.Lexicographic.{pointwise}
 use Rattle.toml.specs.Data.{Data, Items, no_items, item, Members, no_members, get_member, as_str, as_bool, as_array, as_table}
 use Rattle.toml.specs.Errors.{IsBlank}
 use Rattle.toml.specs.Parse.{parse_document}
+use Rattle.vl_config.specs.declared.config.TheConstants.{MAX_LINKS, MAX_TABLE_FILTERS}
 use Rattle.vl_config.specs.declared.fault.ConfigFault.{ConfigFault}
 use Rattle.vl_config.specs.declared.fault.ConfigFault.TheVariants.{Text, Kind, TwiceId, TwiceName, TooMany}
 use Rattle.vl_config.specs.declared.key.Key.{Key}
@@ -73,7 +74,7 @@ links_fault place (d ∷ ds) = option_or (link_fault place d) (links_fault (plac
 -- more than 4096 links, or than 7 filters
 abbrev pub count_fault : Members → Option ConfigFault
 count_fault members =
-    if nat_lt 4096 (length (items_at Link members)) || nat_lt 7 (length (items_at Filters members)) then Some TooMany else None
+    if nat_lt MAX_LINKS (length (items_at Link members)) || nat_lt MAX_TABLE_FILTERS (length (items_at Filters members)) then Some TooMany else None
 
 -- an earlier link has the identifier or the name of the link at an index
 abbrev pub has_id : VlId → VirtualLink → Bool
@@ -125,9 +126,9 @@ pub record VlTable : Type 0 where
 pub record IsVlTable (vl_table : VlTable) : Type 0 where
   pub rising : IsNonDecreasingBy (λ link. link.id.0) vl_table.links
   pub distinct : IsDistinct has_same_id vl_table.links
-  pub few_links : length vl_table.links ≤ 4096
+  pub few_links : length vl_table.links ≤ MAX_LINKS
   pub late : vl_table.late ≤ 1000000000
-  pub few_filters : length vl_table.filters ≤ 7
+  pub few_filters : length vl_table.filters ≤ MAX_TABLE_FILTERS
 
 -- the table that a document without a fault says, with its links by rising identifier
 pub record IsTableOf (members : Members) (vl_table : VlTable) : Type 0 where

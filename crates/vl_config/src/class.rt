@@ -1,4 +1,4 @@
-//! The class of a frame.
+//! What a frame is before any judgement: a class decides whether policing sees it.
 
 ghost use Rattle.std.specs.Prelude.{◌≡◌};
 ghost use Rattle.afdx_frame.specs.View.{constant_of};

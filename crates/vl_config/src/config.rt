@@ -1,4 +1,4 @@
-//! The table as a whole.
+//! The entry point: the text of a table comes in here, and what crates above ask of it is answered.
 
 ghost use Rattle.std.specs.Prelude.{◌≡◌, ◌≢◌, ◌≤◌, length, Some, None, IfOk, IfErr, OnOk, map, string_bytes};
 ghost use Rattle.std.specs.Option.{option_copied, option_map};
@@ -19,9 +19,10 @@ use std::marker::Model;
 use toml::Table;
 
 /// The most links of a table.
-const MAX_LINKS: usize = 4096;
-/// The most filters of a table, beside the one of the command line.
-const MAX_FILTERS: usize = 7;
+pub const MAX_LINKS: usize = 4096;
+
+/// The most filters of a table. A run has one more, that of the command line.
+pub const MAX_TABLE_FILTERS: usize = 7;
 
 /// The table of virtual links: the constant field of the system's addresses, its links, and what the
 /// analyser is told beside them.
@@ -82,7 +83,7 @@ impl Config {
         self.constant
     }
 
-    /// The links by rising identifier, at most 4096, no two of one identifier.
+    /// The links by rising identifier, at most [`MAX_LINKS`], no two of one identifier.
     pub fn links(&self) -> &[Link]
         ensures value { result.now ≡ self.now.links }
         ensures table { IsVlTable self.now }
@@ -95,7 +96,7 @@ impl Config {
         ensures { option_copied result ≡ link_with self.now.links id }
     {
         match self.links.binary_search_by_key(&id.0, |link| link.id.0) {
-            Ok(place) => Some(&self.links[place]),
+            Ok(index) => Some(&self.links[index]),
             Err(_) => None,
         }
     }
@@ -108,10 +109,10 @@ impl Config {
         self.late
     }
 
-    /// The table's filters in the numeric form, at most 7. None of them is read here.
+    /// The table's filters in the numeric form, at most [`MAX_TABLE_FILTERS`]. None of them is read here.
     pub fn filters(&self) -> &[String]
         ensures value { map string_bytes result.now ≡ self.now.filters }
-        ensures bound { length result.now ≤ 7 }
+        ensures bound { length result.now ≤ MAX_TABLE_FILTERS }
     {
         self.filters.as_slice()
     }
@@ -149,7 +150,7 @@ fn read_table(alloc: Global, table: &Table) -> Result<Config, ConfigFault>
     check_keys(&TOP_KEYS, None, table)?;
     let values = values_at(table, Key::Link);
     let texts = values_at(table, Key::Filters);
-    if values.len() > MAX_LINKS || texts.len() > MAX_FILTERS {
+    if values.len() > MAX_LINKS || texts.len() > MAX_TABLE_FILTERS {
         return Err(ConfigFault::TooMany);
     }
     let mut links = read_links(alloc, values)?;

@@ -1,4 +1,4 @@
-//! Why a table is refused.
+//! The faults, apart from the code that finds them: a fault line prints each.
 
 ghost use Rattle.std.specs.Prelude.{◌≡◌};
 ghost use Rattle.vl_config.specs.declared.fault.ConfigFault.TheVariants.{Memory};
@@ -31,7 +31,7 @@ pub enum ConfigFault {
     /// An earlier link has the name.
     #[error("an earlier link has the name")]
     TwiceName { link: Option<u32> },
-    /// More than 4096 links, or more than 7 filters.
+    /// More links than [`crate::MAX_LINKS`], or more filters than [`crate::MAX_TABLE_FILTERS`].
     #[error("too many links or filters")]
     TooMany,
     /// Out of memory.

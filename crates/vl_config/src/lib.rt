@@ -30,6 +30,6 @@ mod read;
 mod tables;
 
 pub use class::{CHECK_LENGTH, Class, class_by};
-pub use config::Config;
+pub use config::{Config, MAX_LINKS, MAX_TABLE_FILTERS};
 pub use fault::ConfigFault;
 pub use link::Link;

@@ -5,6 +5,7 @@ ghost use Rattle.std.specs.List.Sorted.{IsNonDecreasingBy};
 ghost use Rattle.toml.specs.View.{view, table_view};
 ghost use Rattle.vl_config.specs.Document.{link_of, link_in, link_fault, links_fault, twice_in, twice_fault, text_of, has_id, has_same_id, has_name, HasRanges};
 ghost use Rattle.std.specs.List.{list_any, IsDistinct};
+ghost use Rattle.vl_config.specs.declared.config.TheConstants.{MAX_LINKS};
 
 use crate::fault::ConfigFault;
 use crate::key::{Key, LINK_KEYS};
@@ -22,7 +23,7 @@ pub const MICROSECOND: u64 = 1000;
 /// Reads the links in the order of the document, or finds the first fault of their keys.
 #[tactic(auto, using(crate::proofs::Steps::links_fault_more))]
 pub fn read_links(alloc: Global, values: &[Value]) -> Result<Vec<Link>, ConfigFault>
-    requires { length values.now ≤ 4096 }
+    requires { length values.now ≤ MAX_LINKS }
     ensures links { IfOk result (λ links. links.items ≡ map link_in (map view values.now)) }
     ensures len { IfOk result (λ links. length links.items ≡ length values.now) }
     ensures no_fault { OnOk result (links_fault 0 (map view values.now) ≡ None) }
@@ -37,18 +38,18 @@ pub fn read_links(alloc: Global, values: &[Value]) -> Result<Vec<Link>, ConfigFa
     Ok(links)
 }
 
-#[tactic(auto, using(crate::proofs::Ranges::link_ranges))]
 /// Reads the link at an index, or finds the first fault of its keys.
-fn read_link(alloc: Global, value: &Value, place: u32) -> Result<Link, ConfigFault>
+#[tactic(auto, using(crate::proofs::Ranges::link_ranges))]
+fn read_link(alloc: Global, value: &Value, index: u32) -> Result<Link, ConfigFault>
     ensures link { IfOk result (λ link. link ≡ link_in (view value.now)) }
-    ensures no_fault { OnOk result (link_fault place (view value.now) ≡ None) }
+    ensures no_fault { OnOk result (link_fault index (view value.now) ≡ None) }
     ensures fault { IfErr result (λ fault. fault ≢ ConfigFault.Memory →
-        link_fault place (view value.now) ≡ Some fault) }
+        link_fault index (view value.now) ≡ Some fault) }
 {
     let Some(table) = value.as_table() else {
         return Err(ConfigFault::Kind { link: None });
     };
-    check_keys(&LINK_KEYS, Some(place), table)?;
+    check_keys(&LINK_KEYS, Some(index), table)?;
     make_link(alloc, table)
 }
 
@@ -74,7 +75,7 @@ fn make_link(alloc: Global, table: &Table) -> Result<Link, ConfigFault>
 /// Finds the first link whose identifier or name an earlier one has.
 #[tactic(auto, using(crate::proofs::Steps::twice_fault_more, crate::proofs::Distinct::links_distinct))]
 pub fn check_twice(links: &[Link]) -> Result<(), ConfigFault>
-    requires { length links.now ≤ 4096 }
+    requires { length links.now ≤ MAX_LINKS }
     ensures first { MatchResult result
         (λ _. twice_fault 0 [] links.now ≡ None)
         (λ fault. twice_fault 0 [] links.now ≡ Some fault) }
@@ -86,12 +87,12 @@ pub fn check_twice(links: &[Link]) -> Result<(), ConfigFault>
     Ok(())
 }
 
-fn check_link_twice(earlier: &[Link], link: &Link, place: u32) -> Result<(), ConfigFault>
+fn check_link_twice(earlier: &[Link], link: &Link, index: u32) -> Result<(), ConfigFault>
     ensures { MatchResult result
-        (λ _. twice_in place earlier.now link.now ≡ None)
-        (λ fault. twice_in place earlier.now link.now ≡ Some fault) }
+        (λ _. twice_in index earlier.now link.now ≡ None)
+        (λ fault. twice_in index earlier.now link.now ≡ Some fault) }
 {
-    let twice = Some(place);
+    let twice = Some(index);
     if is_any_with_id(earlier, link.id) {
         return Err(ConfigFault::TwiceId { link: twice });
     }

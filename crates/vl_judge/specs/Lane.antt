@@ -26,7 +26,7 @@ pub record LaneStandsAfter (lane : Lane) (link : VirtualLink) (frames : List Jud
   pub a : SideStandsAfter lane.a link A frames
   pub b : SideStandsAfter lane.b link B frames
 
--- the lane has seen no frame later than the stamp
+-- the lane has seen no frame later than the timestamp
 pub record NoneLater (lane : Lane) (stamp : ℕ) : Type 0 where
   pub pair : pair.NoneLater lane.pair stamp
   pub a : ForSome lane.a.account.last (λ last. last ≤ stamp)

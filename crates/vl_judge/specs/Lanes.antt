@@ -6,6 +6,7 @@ use Rattle.std.specs.declared.cmp.Ordering.TheVariants.{Less}
 use Rattle.afdx_frame.specs.Frame.{Frame, key_cmp, key_of}
 use Rattle.afdx_frame.specs.View.{link_of}
 use Rattle.afdx_frame.specs.declared.key.Key.{Key}
+use Rattle.afdx_frame.specs.declared.key.TheConstants.{VL_ID_COUNT}
 use Rattle.afdx_frame.specs.declared.key.VlId.{VlId}
 use Rattle.vl_config.specs.Link.{VirtualLink}
 use Rattle.vl_config.specs.Document.{VlTable}
@@ -36,9 +37,9 @@ place_of lanes frame = option_map_or (λ id. place_with lanes id.0) (link_of fra
 
 -- an index of all identifiers, which have 16 bits
 pub record IsIndexed (index : List ℕ) (lanes : List Lane) : Type 0 where
-  pub complete : length index ≡ 65536
-  pub fits : All (λ lane. lane.id.0 < 65536) lanes
-  pub places : (id : ℕ) → id < 65536 → slice_index index id ≡ place_with lanes id
+  pub complete : length index ≡ VL_ID_COUNT
+  pub fits : All (λ lane. lane.id.0 < VL_ID_COUNT) lanes
+  pub places : (id : ℕ) → id < VL_ID_COUNT → slice_index index id ≡ place_with lanes id
 
 -- no lane has seen a frame later than the last one
 abbrev pub NoneAfterLast : Option Key → List Lane → Type 0

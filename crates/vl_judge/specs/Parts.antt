@@ -5,6 +5,7 @@ use Rattle.std.specs.Option.{ForSome}
 use Rattle.afdx_frame.specs.Frame.{Frame}
 use Rattle.afdx_frame.specs.View.{link_of}
 use Rattle.afdx_frame.specs.declared.key.Key.{Key}
+use Rattle.afdx_frame.specs.declared.key.TheConstants.{VL_ID_COUNT}
 use Rattle.afdx_frame.specs.declared.key.VlId.{VlId}
 use Rattle.vl_config.specs.Document.{VlTable}
 use Rattle.vl_config.specs.Class.{link_with}
@@ -22,12 +23,12 @@ use Rattle.vl_judge.specs.Lanes.{FollowsOn, Knows, last_key, place_of}
 abbrev pub IsPlace : List ℕ → ℕ → ℕ → Option VlId → Option ℕ → Type 0
 IsPlace index first len link None = (id : VlId) (k : ℕ) → link ≡ Some id → slice_index index id.0 ≡ first + k → len ≤ k
 IsPlace index first len link (Some k) =
-    (k < len) × (id : VlId) × (link ≡ Some id) × (id.0 < 65536) × (slice_index index id.0 ≡ first + k)
+    (k < len) × (id : VlId) × (link ≡ Some id) × (id.0 < VL_ID_COUNT) × (slice_index index id.0 ≡ first + k)
 
 -- P of each identifier whose lane, by the index, is one of the part's
 abbrev pub ForLanes : List ℕ → ℕ → List Lane → (VlId → Lane → Type 0) → Type 0
 ForLanes index first lanes P =
-    (id : VlId) (k : ℕ) (lane : Lane) → id.0 < 65536 → slice_index index id.0 ≡ first + k → slice_get lanes k ≡ Some lane → P id lane
+    (id : VlId) (k : ℕ) (lane : Lane) → id.0 < VL_ID_COUNT → slice_index index id.0 ≡ first + k → slice_get lanes k ≡ Some lane → P id lane
 
 -- the part's lanes know these frames
 abbrev pub PartKnows : List ℕ → ℕ → List Lane → VlTable → List Frame → Type 0
@@ -61,7 +62,7 @@ ids_of lanes = map (λ (lane : Lane). lane.id) lanes
 
 -- the round follows on all that the part's lanes have seen
 pub record CanJudge (lent : Lent) (part : Part) : Type 0 where
-  pub complete : length lent.index.now ≡ 65536
+  pub complete : length lent.index.now ≡ VL_ID_COUNT
   pub follows : FollowsOn lent.last lent.round.now
   pub none_later : NonePartLater lent.index.now part.first part.lanes.items lent.last
 

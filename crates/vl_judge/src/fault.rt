@@ -1,4 +1,4 @@
-//! Why a round has no verdicts.
+//! The faults of threads and memory: the only ones, since each frame has a verdict.
 ghost use Rattle.std.specs.Prelude.{◌≡◌};
 
 use std::alloc::AllocError;

@@ -1,4 +1,4 @@
-//! The lane of one virtual link: all that its judgements keep.
+//! All that the judgements of one link keep, in one piece, so that a worker can own it.
 
 ghost use Rattle.std.specs.Prelude.{◌≡◌, ◌≤◌, ◌+◌, ℕ, List, [], ◌∷◌, ◌++◌, length, Some, None, false, is_some, IfOk, IsTrue, option_to_list, if◌then◌else◌};
 ghost use Rattle.std.specs.Option.{option_map, option_map_or, ForSome};

@@ -5,22 +5,23 @@ ghost use Rattle.std.specs.Option.{ForSome};
 ghost use Rattle.std.specs.declared.cmp.Ordering.TheVariants.{Less};
 ghost use Rattle.afdx_frame.specs.Frame.{Frame, key_of, key_cmp};
 ghost use Rattle.vl_config.specs.Document.{VlTable};
+ghost use Rattle.vl_config.specs.declared.config.TheConstants.{MAX_LINKS};
 ghost use Rattle.vl_judge.specs.Lanes.{AllNew, IsIndexed};
 
 use crate::fault::LaneFault;
 use crate::lane::LaneBox;
 use crate::part::{JudgedPart, Lent, Part};
-use crate::round::{count_marked, judge_part, last_key, place, without_lanes};
 use crate::verdict::Verdict;
-use afdx_frame::{Key, TapFrame};
+use crate::workers::{count_marked, judge_part, last_key, place, without_lanes};
+use afdx_frame::{Key, TapFrame, VL_ID_COUNT};
 use std::alloc::{AllocError, Global};
 use std::marker::Model;
 use std::sync::Wait;
 use std::thread::Threads;
 use vl_config::{Config, Link, class_by};
 
-/// The number of virtual link identifiers, which have 16 bits (ARINC 664 Part 7).
-const IDENTIFIERS: usize = 65536;
+/// The most workers of a round.
+pub const MAX_WORKERS: u32 = 8;
 
 /// The lanes of all links of a table. A lane keeps what the judgements of its link know.
 ///
@@ -58,7 +59,8 @@ impl Lanes {
     ghost use Rattle.vl_judge.specs.Verdicts.{verdicts};
     ghost use Rattle.vl_judge.specs.declared.fault.LaneFault.TheVariants.{Spawn};
 
-    /// The lanes of a table's links, which have seen no frame.
+    /// The lanes of a table's links, which have seen no frame. Whatever the table, the index of all
+    /// identifiers is allocated, so an `Err` may come for any.
     pub fn new(alloc: Global, config: &Config) -> Result<Lanes, AllocError>
         ensures { IfOk result (λ lanes. StandsAfter lanes config.now []) }
     {
@@ -105,9 +107,8 @@ impl Lanes {
         }
     }
 
-    /// Judges a round of frames by so many workers, 1 to 8. Worker 0 is the caller, and each other
-    /// one a thread that is started for the round. At place i of the verdicts stands that of frame
-    /// i.
+    /// Judges a round of frames by so many workers, 1 to [`MAX_WORKERS`]. Worker 0 is the caller, and
+    /// each other one a thread that is started for the round. Verdict i is that of frame i.
     ///
     /// While the round is judged each worker owns the lanes of its links: they are moved to it, and
     /// come back before the call returns. The frames are lent, and each worker reads them where
@@ -125,7 +126,7 @@ impl Lanes {
         workers: u32,
     ) -> Result<(Lanes, Vec<Verdict>), LaneFault>
         requires follows { FollowsOn self.last round.now }
-        requires workers { (1 ≤ workers) × (workers ≤ 8) }
+        requires workers { (1 ≤ workers) × (workers ≤ MAX_WORKERS) }
         ensures verdicts { IfOk result (λ said. (vl_table : VlTable) (frames : List Frame) →
             StandsAfter self vl_table frames →
             verdicts vl_table (frames ++ round.now) ≡ verdicts vl_table frames ++ said.1.items) }
@@ -144,12 +145,15 @@ impl Lanes {
                 return self.judge_shared(rt, round, &marks, marked, marked.min(workers as usize));
             }
         }
-        let said = self.judge_each(round)?;
+        let said = self.judge_frames(round)?;
         Ok((self, said))
     }
 
-    /// Judges the frames of a round one after the other.
-    fn judge_each(&mut self, round: &[TapFrame]) -> Result<Vec<Verdict>, AllocError>
+    /// Judges frames one after the other on the calling thread, each as `judge` does. The first one's
+    /// key is above that of the last frame, and each other one's above that of the frame before it.
+    ///
+    /// It takes one block of memory, for the verdicts, and of no frames none is taken.
+    pub fn judge_frames(&mut self, round: &[TapFrame]) -> Result<Vec<Verdict>, AllocError>
         requires { FollowsOn self.old.last round.now }
         ensures verdicts { IfOk result (λ said. (vl_table : VlTable) (frames : List Frame) →
             StandsAfter self.old vl_table frames →
@@ -260,10 +264,10 @@ fn make_lanes(alloc: Global, links: &[Link]) -> Result<Vec<LaneBox>, AllocError>
 
 /// The index of the lanes. Where two lanes have one identifier, which no table has, it is the first's.
 fn make_index(alloc: Global, lanes: &[LaneBox]) -> Result<Vec<u16>, AllocError>
-    requires { length lanes.now ≤ 4096 }
+    requires { length lanes.now ≤ MAX_LINKS }
     ensures { IfOk result (λ index. IsIndexed index.items lanes.now) }
 {
-    let mut index = repeated(alloc, lanes.len() as u16, IDENTIFIERS)?;
+    let mut index = repeated(alloc, lanes.len() as u16, VL_ID_COUNT)?;
     for place in (0..lanes.len()).rev() {
         index[lanes[place].id().0 as usize] = place as u16;
     }

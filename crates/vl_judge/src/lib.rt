@@ -10,8 +10,8 @@
 //! let verdict = lanes.judge(&frame);
 //! ```
 //!
-//! [`Lanes::judge_round`] judges a whole round of frames, by several threads if there is more than
-//! one worker. The lanes are moved to the workers and come back; the frames are borrowed. The
+//! [`Lanes::judge_frames`] judges a list of frames on the calling thread, and [`Lanes::judge_round`] a
+//! whole round of frames, by several threads if there is more than one worker. The lanes are moved to the workers and come back; the frames are borrowed. The
 //! verdicts are those of `judge`, frame by frame, whatever the number of workers.
 //!
 //! ```text
@@ -26,9 +26,9 @@ mod fault;
 mod lane;
 mod lanes;
 mod part;
-mod round;
 mod verdict;
+mod workers;
 
 pub use fault::LaneFault;
-pub use lanes::Lanes;
+pub use lanes::{Lanes, MAX_WORKERS};
 pub use verdict::Verdict;

@@ -1,6 +1,7 @@
 //! A part of the lanes, which its worker owns while a round is judged.
 ghost use Rattle.std.specs.Prelude.{◌≡◌, ◌+◌, ◌^◌, ◌<◌, ◌≤◌, IfOk, length};
 ghost use Rattle.afdx_frame.specs.View.{link_of};
+ghost use Rattle.afdx_frame.specs.declared.key.TheConstants.{VL_ID_COUNT};
 ghost use Rattle.vl_judge.specs.Parts.{AreHalves, AreJoined, CanJudge, IsJudged, IsPlace};
 
 use crate::lane::LaneBox;
@@ -80,7 +81,7 @@ impl<'a> Lent<'a> {
     /// The place in a part of the frame's lane, where that is one of the part's.
     #[inline(always)]
     fn place_in(&self, first: usize, len: usize, frame: &TapFrame) -> Option<usize>
-        requires { length self.now.index.now ≡ 65536 }
+        requires { length self.now.index.now ≡ VL_ID_COUNT }
         ensures { IsPlace self.now.index.now first len (link_of frame.now.bytes) result }
     {
         let id = frame.view().vl()?;

@@ -1,4 +1,4 @@
-//! The verdict of a frame.
+//! The verdicts, and which judgements a frame reaches: the type keeps it.
 
 ghost use Rattle.std.specs.Prelude.{◌≡◌, ◌≢◌};
 ghost use Rattle.vl_judge.specs.Judgement.{Judgement, stopped_verdict};

@@ -8,7 +8,7 @@ use Rattle.afdx_frame.specs.declared.key.Network.{Network}
 use Rattle.afdx_frame.specs.declared.key.Network.TheVariants.{A, B}
 use Rattle.ordered_merge.specs.Merge.{MergerState, Tap, CanFetch, Follows, IsInTime, after_cut, change_tap, cut_frames, ended, fetched, highest, tap_after, tap_of}
 use Rattle.ordered_merge.specs.Order.{IsOrder, insert_frame, is_before}
-use Rattle.pcap_io.specs.Position.{Reading, TakesFrame, after_frame, start_at}
+use Rattle.pcap_io.specs.Position.{TakesAPacket, Reading, TakesFrame, after_frame, start_at}
 use Rattle.pcap_io.proofs.Parse.{reads_more}
 use Rattle.std.proofs.KnownBytes.{Consumes-nil}
 use Rattle.pcap_io.specs.declared.position.Position.{Position}
@@ -16,7 +16,7 @@ use Rattle.pcap_io.specs.declared.recording.Ending.{Ending}
 use Rattle.pcap_io.specs.declared.recording.Stage.TheVariants.{Going}
 use Rattle.run_outcome.specs.Device.{SourceView}
 use Rattle.run_outcome.specs.Recording.{most_frames}
-use Rattle.run_outcome.specs.Recording.{Ends, TakesAPacket}
+use Rattle.run_outcome.specs.Recording.{Ends}
 use Rattle.watch_run.specs.Taps.{Agrees, Fits, HasRead, Merges, MergesNot, ReadsPart, SourceFails, turns_of}
 use Rattle.run_outcome.specs.declared.fault.WatchFault.{WatchFault}
 use Rattle.run_outcome.specs.declared.fault.WatchFault.TheVariants as watch

@@ -7,12 +7,12 @@ use Rattle.afdx_frame.specs.declared.key.Network.{Network}
 use Rattle.afdx_frame.specs.declared.key.Network.TheVariants.{A, B}
 use Rattle.ordered_merge.specs.Merge.{AreOfTap, Follows, MergerState, Tap, new_tap, tap_after}
 use Rattle.ordered_merge.specs.Order.{IsOrder}
-use Rattle.ordered_merge.specs.Sound.{IsRecording as IsTapRecording}
+use Rattle.ordered_merge.specs.Recording.{IsRecording as IsTapRecording}
 use Rattle.ordered_merge.proofs.Following.{one_order}
-use Rattle.ordered_merge.proofs.Soundness.{cut_comes_first}
+use Rattle.ordered_merge.proofs.Events.Soundness.{cut_comes_first}
 use Rattle.pcap_io.specs.Layout.{header_of}
 use Rattle.pcap_io.specs.Position.{Holds, Opens, Reading, Reads, after_frame, start_at}
-use Rattle.pcap_io.specs.Recording.{AreGood, Record, frames_of, stamp_of}
+use Rattle.pcap_io.specs.Recording.{AreGood, Packet, frames_of, stamp_of}
 use Rattle.pcap_io.specs.declared.layout.HeaderFault.{HeaderFault}
 use Rattle.pcap_io.specs.declared.layout.Layout.{Layout}
 use Rattle.pcap_io.specs.declared.layout.TheConstants.{FILE_HEADER_LEN}
@@ -29,7 +29,7 @@ use Rattle.run_outcome.proofs.Recording.{complete}
 
 -- ---- a recording's frames are those of a tap
 
-of_tap : (network : Network) (layout : Layout) (late n high : ℕ) (tap : Tap) (records : List Record) → tap.next ≡ n → high ≡ unwrap_or tap.high 0 →
+of_tap : (network : Network) (layout : Layout) (late n high : ℕ) (tap : Tap) (records : List Packet) → tap.next ≡ n → high ≡ unwrap_or tap.high 0 →
     AreGood layout late high records → (last : Tap) × AreOfTap network late tap (frames_of network layout n records) last
 of_tap network layout late n high tap [] next known good = (tap, (refl, refl))
 of_tap network layout late n high tap (r ∷ rs) next known good =
@@ -40,7 +40,7 @@ of_tap network layout late n high tap (r ∷ rs) next known good =
 pub recorded : (network : Network) (late : ℕ) (bytes : List ℕ) (frames : List Frame) (ending : Ending) → IsRecording network late bytes frames ending →
     IsTapRecording network late frames
 recorded network late bytes frames ending r =
-    subst (IsTapRecording network late) (sym r.holds.same) (of_tap network r.layout late 0 0 new_tap r.holds.records refl refl r.holds.parse.good)
+    subst (IsTapRecording network late) (sym r.holds.same) (of_tap network r.layout late 0 0 new_tap r.holds.packets refl refl r.holds.parse.good)
 
 -- ---- the frames that were read are the first of the recording
 

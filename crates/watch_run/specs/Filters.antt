@@ -3,7 +3,7 @@ use Rattle.std.specs.Prelude.{ℕ, min, List, [], ◌++◌, length, map, flat_ma
 use Rattle.std.specs.Option.{option_map_or}
 use Rattle.afdx_frame.specs.Frame.{Frame}
 use Rattle.bpf_isa.specs.declared.packed.Packed.{Packed}
-use Rattle.pcap_io.specs.Capture.{capture_header, record_text}
+use Rattle.pcap_io.specs.Capture.{capture_header, packet_text}
 use Rattle.vl_config.specs.Document.{VlTable}
 use Rattle.vl_judge.specs.Verdicts.{verdicts}
 use Rattle.verdict_ledger.specs.Entry.{Entry, entries_of}
@@ -18,7 +18,7 @@ keep_by ps f = keep_of (answer_by ps f) f
 
 -- the packet of a frame in the capture; a rejected frame has none
 abbrev pub kept_record : Frame → Option ℕ → List ℕ
-kept_record f keep = option_map_or (record_text f) keep []
+kept_record f keep = option_map_or (packet_text f) keep []
 
 abbrev pub packets_by : List (List Packed) → List Frame → List ℕ
 packets_by ps frames = flat_map (λ f. kept_record f (keep_by ps f)) frames

@@ -6,7 +6,7 @@ use Rattle.afdx_frame.specs.declared.key.Network.{Network}
 use Rattle.afdx_frame.specs.declared.key.Network.TheVariants.{A, B}
 use Rattle.bpf_isa.specs.declared.packed.Packed.{Packed}
 use Rattle.ordered_merge.specs.Order.{IsOrder}
-use Rattle.ordered_merge.specs.Sound.{IsRecording as IsTapRecording}
+use Rattle.ordered_merge.specs.Recording.{IsRecording as IsTapRecording}
 use Rattle.pcap_io.specs.Device.{CountsFailure}
 use Rattle.pcap_io.specs.Position.{LacksMemory, Reading}
 use Rattle.pcap_io.specs.declared.position.Position.{Position}

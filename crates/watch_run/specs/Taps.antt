@@ -1,16 +1,14 @@
 -- Two recordings as they are read and merged.
 use Rattle.std.specs.Prelude.{◌≡◌, ◌⊎◌, ℕ, ◌+◌, ◌*◌, ◌-◌, true, false, List, ◌++◌, length, Option, Some, None, is_some, unwrap_or, IfSome}
 use Rattle.afdx_frame.specs.Frame.{Frame}
-use Rattle.afdx_frame.specs.declared.bounds.TheConstants.{MAX_SNAPLEN}
 use Rattle.afdx_frame.specs.declared.key.Network.{Network}
 use Rattle.afdx_frame.specs.declared.key.Network.TheVariants.{A, B}
 use Rattle.ordered_merge.specs.Merge.{MergerState, CanFetch, Follows, ended, fetched, tap_of}
-use Rattle.pcap_io.specs.Device.{CountsFailure, TakesAtMost}
-use Rattle.pcap_io.specs.Position.{EndLeaves, Reading, TakesFrame, after_frame, ending_here}
+use Rattle.pcap_io.specs.Device.{CountsFailure}
+use Rattle.pcap_io.specs.Position.{TakesAPacket, EndLeaves, Reading, TakesFrame, after_frame, ending_here}
 use Rattle.pcap_io.specs.Reader.{position_of, reading_of}
 use Rattle.ordered_merge.specs.Order.{IsOrder}
 use Rattle.pcap_io.specs.declared.position.Position.{Position}
-use Rattle.pcap_io.specs.declared.record_header.TheConstants.{RECORD_HEADER_LEN}
 use Rattle.pcap_io.specs.declared.recording.Ending.{Ending}
 use Rattle.pcap_io.specs.declared.recording.Stage.TheVariants.{Going, Ended}
 use Rattle.run_outcome.specs.Recording.{HasReadTap, most_frames}
@@ -18,7 +16,7 @@ use Rattle.run_outcome.specs.Device.{SourceMembers, SourceView}
 use Rattle.run_outcome.specs.declared.fault.WatchFault.{WatchFault}
 use Rattle.run_outcome.specs.declared.fault.WatchFault.TheVariants as watch
 use Rattle.watch_run.specs.declared.taps.Taps.{Taps}
-use Rattle.run_outcome.specs.Recording.{TakesAPacket, Ends}
+use Rattle.run_outcome.specs.Recording.{Ends}
 use Rattle.watch_run.specs.Watch.{Fails, SourceA, SourceB}
 
 -- ---- one tap

@@ -2,7 +2,7 @@ use Rattle.std.proofs.Common.{inl, rules, ◌≡◌, length}
 use Rattle.std.proofs.lemmas.Result.{err_from_is_err_and}
 use Rattle.pcap_io.specs.Block.{drawn_bytes}
 use Rattle.pcap_io.specs.Reader.{position_of}
-use Rattle.pcap_io.proofs.Steps.{lacks_body, takes_head, body_fault, cut_found, frame_found, lent_same, takes_record}
+use Rattle.pcap_io.proofs.Steps.{lacks_body, takes_head, body_fault, cut_found, frame_found, lent_same, takes_packet}
 use Rattle.pcap_io.proofs.Draws.{on_err_from}
 use Rattle.pcap_io.proofs.reader.TapReader.find.Goals as goal
 
@@ -21,7 +21,7 @@ returns-then-not-branch-clause-item g c =
 pub returns-then-not-branch-clause-taken : goal.returns-then-not-branch-clause-taken
 returns-then-not-branch-clause-taken g c =
     let start = rw c.in-Header.is at c.in_ok-header.ensures.start in
-    takes_record _ _ _ _ _ start (drawn_bytes c.draw.new.self, search rules, c.in_ok-draw.ensures.bytes)
+    takes_packet _ _ _ _ _ start (drawn_bytes c.draw.new.self, search rules, c.in_ok-draw.ensures.bytes)
 
 pub returns-clause-item : goal.returns-clause-item
 returns-clause-item g c =
@@ -34,7 +34,7 @@ returns-clause-item g c =
 pub returns-clause-taken : goal.returns-clause-taken
 returns-clause-taken g c =
     let start = rw c.in-Header.is at c.in_ok-header.ensures.start in
-    takes_record _ _ _ _ _ start (drawn_bytes c.draw.new.self, search rules, c.in_ok-draw.ensures.bytes)
+    takes_packet _ _ _ _ _ start (drawn_bytes c.draw.new.self, search rules, c.in_ok-draw.ensures.bytes)
 
 pub returns-in_err-draw-clause-taken : goal.returns-in_err-draw-clause-taken
 returns-in_err-draw-clause-taken g c =

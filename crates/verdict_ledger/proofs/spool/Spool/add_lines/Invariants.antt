@@ -5,9 +5,9 @@ use Rattle.verdict_ledger.specs.Text.{lines_text}
 use Rattle.verdict_ledger.specs.Writing.{IsSpooled}
 use Rattle.verdict_ledger.proofs.spool.Spool.add_lines.Given as goal
 
-abbrev pub invariant-loop-place : goal.invariant-loop-place
-invariant-loop-place g l =
+abbrev pub invariant-loop-index : goal.invariant-loop-index
+invariant-loop-index g l =
     IsSpooled None (g.W.OutSink.contents l.initial.self.sink) (g.W.OutSink.contents l.self.sink)
     (g.W.OutSink.failures l.initial.self.sink) (g.W.OutSink.failures l.self.sink)
     l.initial.self.text.items l.self.text.items
-    (lines_text (take l.place (entries_of l.frames l.verdicts l.keeps l.masks)))
+    (lines_text (take l.index (entries_of l.frames l.verdicts l.keeps l.masks)))

@@ -4,6 +4,6 @@ use Rattle.verdict_ledger.specs.Entry.{Entry, entries_of}
 use Rattle.verdict_ledger.specs.Ledger.{IsTallyOf}
 use Rattle.verdict_ledger.proofs.tally.Tally.count_round.Given as goal
 
-abbrev pub invariant-loop-place : goal.invariant-loop-place
-invariant-loop-place l = (entries : List Entry) → length entries + length l.frames ≤ 2 ^ 34 → IsTallyOf entries l.initial.self →
-    IsTallyOf (entries ++ take l.place (entries_of l.frames l.verdicts l.keeps l.masks)) l.self
+abbrev pub invariant-loop-index : goal.invariant-loop-index
+invariant-loop-index l = (entries : List Entry) → length entries + length l.frames ≤ 2 ^ 34 → IsTallyOf entries l.initial.self →
+    IsTallyOf (entries ++ take l.index (entries_of l.frames l.verdicts l.keeps l.masks)) l.self

@@ -9,7 +9,7 @@ use Rattle.vl_config.proofs.config.Config.link.Goals as goal
 pub returns-in-Ok : goal.returns-in-Ok
 returns-in-Ok c =
     rw (← ap (λ (t : VlTable). t.links) c.self.view_is)
-    (search_found c.self.inside.links.items c.deref.result.now c.args.id.0 c.in-Ok.place c.index.result.now c.deref.ensures.value
+    (search_found c.self.inside.links.items c.deref.result.now c.args.id.0 c.in-Ok.index c.index.result.now c.deref.ensures.value
     c.self.invariant.distinct c.in-Ok.ensures.bound
     (c.in-Ok.ensures.position (λ (link : VirtualLink). link.id.0) (always_returns_same _ _ _ (λ a r q k. search rules)))
     c.index.ensures)

@@ -1,0 +1,3 @@
+-- Of the model over events.
+pub mod Numbers
+pub mod Soundness

@@ -1,0 +1,119 @@
+//! A round of frames, which workers answer.
+ghost use Rattle.std.specs.Prelude.{◌≡◌, ◌+◌, ◌++◌, ◌≤◌, ◌<◌, IfOk, length, slice_get, IsSome, IfSome, false, replicate, true};
+ghost use Rattle.std.specs.Vec.{vec_capacity, vec_len};
+ghost use Rattle.std.specs.Option.{MatchOption};
+ghost use Rattle.ordered_merge.specs.Events.Round.{after_claim, answered, claimed, is_answered, new_round, posted};
+
+use crate::model::event::{Answered, Work};
+use afdx_frame::TapFrame;
+use std::alloc::{AllocError, Global};
+use std::marker::Model;
+
+/// The most frames of a round.
+pub(crate) const ROUND_CAPACITY: usize = 256;
+
+/// What a worker does.
+#[derive(Clone, Copy, Debug)]
+pub(crate) enum Worker {
+    Idle,
+    /// It drew this number of the open round, and hasn't posted the answer.
+    Holding(usize),
+    /// It found no number left.
+    Through,
+}
+
+/// Frames that workers answer, each by its number.
+#[derive(Debug, Drop)]
+pub(crate) struct Round {
+    frames: Vec<TapFrame>,
+    next: usize,
+    answers: Vec<Option<u32>>,
+}
+
+impl Model for Round {
+    ghost use Rattle.ordered_merge.specs.Events.Round.{RoundState};
+    ghost use Rattle.std.specs.Prelude.{◌≡◌, ◌≤◌, length};
+
+    ghost Value = { RoundState };
+
+    ghost view = { λ r. record { frames = r.frames.items; next = r.next; answers = r.answers.items } };
+
+    ghost invariant = { λ r.
+        (r.next ≤ length r.frames.items) × (length r.answers.items ≡ length r.frames.items) };
+}
+
+impl Round {
+    /// A round of these frames, which has as many places for answers.
+    pub(crate) fn new(frames: Vec<TapFrame>, answers: Vec<Option<u32>>) -> Round
+        requires { answers.items ≡ (new_round frames.items).answers }
+        ensures { result ≡ new_round frames.items }
+    {
+        Round {
+            frames,
+            next: 0,
+            answers,
+        }
+    }
+
+    /// Draws the next number for a worker.
+    pub(crate) fn claim(&mut self) -> Worker
+        ensures worker { result ≡ claimed self.old }
+        ensures after { self.new ≡ after_claim self.old }
+    {
+        if self.next >= self.frames.len() {
+            return Worker::Through;
+        }
+        let number = self.next;
+        self.next += 1;
+        Worker::Holding(number)
+    }
+
+    /// Posts the answer to the frame of this number, if there is one.
+    pub(crate) fn post<W: Work>(&mut self, work: &W, number: usize) -> bool
+        ensures { MatchOption (slice_get self.old.frames number)
+            ((result ≡ false) × (self.new ≡ self.old))
+            (λ f. (result ≡ true) × (self.new ≡ posted number (W.answer_of work.now f) self.old)) }
+    {
+        if number >= self.frames.len() {
+            return false;
+        }
+        self.answers[number] = Some(work.answer(&self.frames[number]));
+        true
+    }
+
+    /// Whether each frame has its answer.
+    pub(crate) fn is_answered(&self) -> bool
+        ensures { result ≡ is_answered self.now }
+    {
+        self.answers.iter().all(|answer| answer.is_some())
+    }
+
+    /// How many frames it has.
+    pub(crate) fn len(&self) -> usize
+        ensures { result ≡ length self.now.frames }
+    {
+        self.frames.len()
+    }
+
+    /// Moves the frames, with their answers, to the end of the output.
+    pub(crate) fn gather(self, output: &mut Vec<Answered>)
+        requires room { vec_len output.old + length self.frames ≤ vec_capacity output.old }
+        requires answered { is_answered self ≡ true }
+        ensures { output.new.items ≡ output.old.items ++ answered self.frames self.answers }
+    {
+        let mut frames = self.frames.into_iter();
+        for answer in &self.answers {
+            output.push_reserved(Answered {
+                frame: frames.next().unwrap(),
+                answer: answer.unwrap(),
+            });
+        }
+    }
+}
+
+/// So many places, each without an answer.
+pub(crate) fn no_answers(alloc: Global, count: usize) -> Result<Vec<Option<u32>>, AllocError>
+    ensures { IfOk result (λ answers. answers.items ≡ replicate count None) }
+{
+    vec![in alloc; None; count]
+}

@@ -1,0 +1,102 @@
+//! What the model has of each tap: the frames to come, and its ring.
+ghost use Rattle.std.specs.Prelude.{◌≡◌, ◌<◌, [], ◌∷◌, ◌++◌, IfNone, IfOk, OnSome, length};
+ghost use Rattle.std.specs.Option.{option_to_list};
+ghost use Rattle.ordered_merge.specs.Events.Side.{Steps, end_step, new_side, put_step};
+
+use afdx_frame::TapFrame;
+use std::alloc::{AllocError, Global};
+use std::collections::VecDeque;
+use std::marker::Model;
+
+/// The most items on a tap's ring.
+pub(crate) const RING_CAPACITY: usize = 64;
+
+/// What a tap puts onto its ring.
+#[derive(Debug, Drop)]
+pub(crate) enum RingItem {
+    Frame(TapFrame),
+    End,
+}
+
+/// The frames of a tap that weren't put yet, and its ring.
+#[derive(Debug, Drop)]
+pub(crate) struct TapSide {
+    left: VecDeque<TapFrame>,
+    marked: bool,
+    ring: VecDeque<RingItem>,
+}
+
+impl Model for TapSide {
+    ghost use Rattle.std.specs.Prelude.{◌≤◌, length};
+    ghost use Rattle.std.specs.VecDeque.{deque_capacity};
+    ghost use Rattle.ordered_merge.specs.Events.Side.{SideState};
+    ghost use Rattle.ordered_merge.specs.declared.model.side.TheConstants.{RING_CAPACITY};
+
+    ghost Value = { SideState };
+
+    ghost view = { λ s. record { left = s.left.items; marked = s.marked; ring = s.ring.items } };
+
+    ghost invariant = { λ s. (RING_CAPACITY ≤ deque_capacity s.ring) × (length s.ring.items ≤ RING_CAPACITY) };
+}
+
+impl TapSide {
+    /// A tap that puts these frames.
+    pub(crate) fn new(alloc: Global, frames: Vec<TapFrame>) -> Result<TapSide, AllocError>
+        ensures { IfOk result (λ s. s ≡ new_side frames.items) }
+    {
+        Ok(TapSide {
+            left: VecDeque::from_vec(frames),
+            marked: false,
+            ring: VecDeque::with_capacity(alloc, RING_CAPACITY)?,
+        })
+    }
+
+    /// Puts the next frame onto the ring, if there is one and the ring has room.
+    pub(crate) fn put(&mut self) -> bool
+        ensures { Steps (put_step self.old) self.old result self.new }
+    {
+        if self.ring.len() >= RING_CAPACITY {
+            return false;
+        }
+        match self.left.pop_front() {
+            Some(frame) => {
+                self.ring.push_back_reserved(RingItem::Frame(frame));
+                true
+            }
+            None => false,
+        }
+    }
+
+    /// Puts the end mark onto the ring, if all frames were put and it wasn't, and the ring has room.
+    pub(crate) fn mark_end(&mut self) -> bool
+        ensures { Steps (end_step self.old) self.old result self.new }
+    {
+        if self.marked || !self.left.is_empty() || self.ring.len() >= RING_CAPACITY {
+            return false;
+        }
+        self.ring.push_back_reserved(RingItem::End);
+        self.marked = true;
+        true
+    }
+
+    /// Takes the oldest item off the ring.
+    pub(crate) fn take(&mut self) -> Option<RingItem>
+        ensures ring { self.old.ring ≡ option_to_list result ++ self.new.ring }
+        ensures left { self.new.left ≡ self.old.left }
+        ensures marked { self.new.marked ≡ self.old.marked }
+        ensures room { OnSome result (length self.new.ring < RING_CAPACITY) }
+        ensures none { IfNone result (self.old.ring ≡ []) }
+    {
+        self.ring.pop_front()
+    }
+
+    /// Puts an item back onto the ring, as its oldest.
+    pub(crate) fn put_back(&mut self, item: RingItem)
+        requires { length self.old.ring < RING_CAPACITY }
+        ensures ring { self.new.ring ≡ item ∷ self.old.ring }
+        ensures left { self.new.left ≡ self.old.left }
+        ensures marked { self.new.marked ≡ self.old.marked }
+    {
+        self.ring.push_front_reserved(item);
+    }
+}
