@@ -85,8 +85,8 @@ fn load_table_filters(
         × (programs.new.items ≡ programs.old.items ++ ps)) }
     ensures fault { IfErr result (IsFirstFilterFault 1 (map string_bytes texts.now)) }
 {
-    for place in 0..texts.len() {
-        let program = filter_of(alloc, &texts[place], Some(place as u8 + 1))?;
+    for index in 0..texts.len() {
+        let program = filter_of(alloc, &texts[index], Some(index as u8 + 1))?;
         programs.push_reserved(program);
     }
     Ok(())

@@ -4,7 +4,6 @@
 //! frames among workers. What stands after either is one definition (`IsWatched`).
 #![tactic(auto)]
 
-mod filters;
 mod gate;
 mod laws;
 mod one_thread;

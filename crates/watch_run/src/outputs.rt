@@ -5,7 +5,6 @@ ghost use Rattle.pcap_io.specs.Device.{Writes};
 ghost use Rattle.pcap_io.specs.Writer.{has_failed, sink_of};
 ghost use Rattle.vl_config.specs.Document.{VlTable};
 ghost use Rattle.vl_judge.specs.Lanes.{StandsAfter};
-ghost use Rattle.vl_judge.specs.Verdicts.{verdicts};
 ghost use Rattle.std.specs.Option.{ForSome};
 ghost use Rattle.filter_workers.specs.Filters.{mask_by};
 ghost use Rattle.watch_run.specs.Filters.{keep_by, kept_record};
@@ -18,11 +17,10 @@ ghost use Rattle.run_outcome.specs.Device.{SinkView, sink_at};
 ghost use Rattle.watch_run.specs.Round.{AreKept, AreSaid, IsShared, packets_kept};
 ghost use Rattle.vl_judge.specs.Lanes.{FollowsOn, LanesState};
 
-use crate::filters::filter_round;
-use crate::round::{Said, Sharing};
+use crate::round::{Said, Sharing, keep_round};
 use afdx_frame::TapFrame;
 use bpf_loader::Program;
-use filter_workers::RunGate;
+use filter_workers::{RunGate, filter_frames};
 use pcap_io::{CaptureWriter, Ending, OutSink};
 use run_outcome::{CAPTURE_FAILED, Output, WatchFault};
 use std::alloc::{AllocError, Global};
@@ -31,28 +29,6 @@ use std::thread::Threads;
 use verdict_ledger::{Ledger, LedgerFault, LedgerRefused, Totals};
 use vl_config::Config;
 use vl_judge::{Lanes, Verdict};
-
-/// The verdicts of a round, which follows on all that the lanes have judged.
-fn judge_round(
-    alloc: Global,
-    lanes: &mut Lanes,
-    round: &[TapFrame],
-) -> Result<Vec<Verdict>, AllocError>
-    requires { FollowsOn lanes.old.last round.now }
-    ensures verdicts { IfOk result (λ said. (vl_table : VlTable) (frames : List Frame) →
-        StandsAfter lanes.old vl_table frames →
-        verdicts vl_table (frames ++ round.now) ≡ verdicts vl_table frames ++ said.items) }
-    ensures after { OnOk result ((vl_table : VlTable) (frames : List Frame) →
-        StandsAfter lanes.old vl_table frames →
-        StandsAfter lanes.new vl_table (frames ++ round.now)) }
-    ensures complete { IfOk result (λ said. length said.items ≡ length round.now) }
-{
-    let mut said = Vec::with_capacity(alloc, round.len())?;
-    for frame in round {
-        said.push(lanes.judge(frame))?;
-    }
-    Ok(said)
-}
 
 /// Writes the packet of a frame of which some bytes are kept.
 #[inline]
@@ -92,8 +68,8 @@ fn write_packets<W: OutSink>(
     ensures going { OnOk result (has_failed capture.new ≡ false) }
     ensures fault { IfErr result (λ fault. fault ≡ WatchFault.Write Output.Capture) }
 {
-    for place in 0..round.len() {
-        write_kept(capture, &round[place], keeps[place])?;
+    for index in 0..round.len() {
+        write_kept(capture, &round[index], keeps[index])?;
     }
     Ok(())
 }
@@ -380,8 +356,9 @@ impl<W: OutSink, L: OutSink> Outputs<W, L> {
             (sink_at L.OutSink (ledger_sink self.new.ledger))
             (frames ++ round.now)) }
     {
-        let verdicts = judge_round(alloc, &mut self.lanes, round)?;
-        let (keeps, masks) = filter_round(alloc, programs, round)?;
+        let verdicts = self.lanes.judge_frames(round)?;
+        let decisions = filter_frames(alloc, programs, round)?;
+        let (keeps, masks) = keep_round(alloc, round, &decisions)?;
         write_entries(
             &mut self.capture,
             &mut self.ledger,

@@ -6,11 +6,10 @@ ghost use Rattle.filter_workers.specs.Filters.{decisions_by, mask_by};
 ghost use Rattle.vl_config.specs.Document.{VlTable};
 ghost use Rattle.vl_judge.specs.Lanes.{FollowsOn, StandsAfter};
 ghost use Rattle.vl_judge.specs.Verdicts.{verdicts};
-ghost use Rattle.watch_run.specs.Filters.{keep_by};
+ghost use Rattle.watch_run.specs.Filters.{keep_by, keep_of};
 ghost use Rattle.run_outcome.specs.Fault.{IsSayFault};
 ghost use Rattle.watch_run.specs.Round.{IsShared};
 
-use crate::filters::keep_of;
 use afdx_frame::TapFrame;
 use bpf_loader::Program;
 use filter_workers::{Decision, RunGate, filter_round};
@@ -38,8 +37,18 @@ pub struct Said {
     pub masks: Vec<u8>,
 }
 
+/// How many bytes are kept of a frame, by the greatest return value. None: it is rejected.
+fn keep_of(answer: u32, frame: &TapFrame) -> Option<u32>
+    ensures { result ≡ keep_of answer frame.now }
+{
+    if answer == 0 {
+        return None;
+    }
+    Some(answer.min(frame.view().bytes().len() as u32))
+}
+
 /// How many bytes are kept of each frame of a round, and its mask, by what the filters say of it.
-fn keep_round(
+pub fn keep_round(
     alloc: Global,
     round: &[TapFrame],
     decisions: &[Decision],
@@ -52,9 +61,9 @@ fn keep_round(
 {
     let mut keeps = Vec::with_capacity(alloc, round.len())?;
     let mut masks = Vec::with_capacity(alloc, round.len())?;
-    for place in 0..round.len() {
-        let Decision { mask, answer } = decisions[place];
-        keeps.push(keep_of(answer, &round[place]))?;
+    for index in 0..round.len() {
+        let Decision { mask, answer } = decisions[index];
+        keeps.push(keep_of(answer, &round[index]))?;
         masks.push(mask)?;
     }
     Ok((keeps, masks))

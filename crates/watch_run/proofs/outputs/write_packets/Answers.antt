@@ -15,24 +15,24 @@ returns-in_err-write_kept-clause-written g c =
     let p = err_from_is_err_and c.from_residual.result c.from_residual.ensures.1 in
     rw p.1 (record {
       complete = tt;
-      prefix = prefix_after _ _ _ _ _ _ _ c.loop-place.invariant.written told.prefix
-          (packets_around c.args.round.now c.args.keeps.now c.loop-place.place c.index-round-place.result c.requires.len c.loop-place-test.true c.index-round-place.is);
+      prefix = prefix_after _ _ _ _ _ _ _ c.loop-index.invariant.written told.prefix
+          (packets_around c.args.round.now c.args.keeps.now c.loop-index.index c.index-round-index.result c.requires.len c.loop-index-test.true c.index-round-index.is);
       no_failure = tt;
-      fault = subst (λ (x : ℕ). CountsFailure x (g.W.OutSink.failures (sink_of c.write_kept.new.capture))) c.loop-place.invariant.no_failure told.fault;
+      fault = subst (λ (x : ℕ). CountsFailure x (g.W.OutSink.failures (sink_of c.write_kept.new.capture))) c.loop-index.invariant.no_failure told.fault;
     })
 
 -- src/outputs.rt:79:5
-pub loop-place-preserved : goal.loop-place-preserved
-loop-place-preserved g c =
+pub loop-index-preserved : goal.loop-index-preserved
+loop-index-preserved g c =
     let told = c.in_ok-write_kept.ensures in
     let round = c.args.round.now in
     let keeps = c.args.keeps.now in
-    let place = c.loop-place.place in
+    let place = c.loop-index.index in
     record {
       written = subst (Appends (g.W.OutSink.contents (sink_of c.args.capture.now)) (g.W.OutSink.contents (sink_of c.write_kept.new.capture)))
-          (sym (packets_next round keeps place c.index-round-place.result c.requires.len c.loop-place-test.true c.index-round-place.is))
-          (Appends-trans _ _ _ _ _ c.loop-place.invariant.written told.written.complete);
-      no_failure = told.written.no_failure ∙ c.loop-place.invariant.no_failure;
-      within = (next_kept round keeps place c.index-round-place.result c.requires.len c.loop-place-test.true c.index-round-place.is c.loop-place.invariant.within).1;
+          (sym (packets_next round keeps place c.index-round-index.result c.requires.len c.loop-index-test.true c.index-round-index.is))
+          (Appends-trans _ _ _ _ _ c.loop-index.invariant.written told.written.complete);
+      no_failure = told.written.no_failure ∙ c.loop-index.invariant.no_failure;
+      within = (next_kept round keeps place c.index-round-index.result c.requires.len c.loop-index-test.true c.index-round-index.is c.loop-index.invariant.within).1;
       writing = told.going;
     }
