@@ -12,6 +12,7 @@
 #   make program      the built program's status, lines and files, on bin/afdxmon (needs python3)
 #   make allocations  refuses each allocation of the tests in turn
 #   make borrows      shows that what a frame lends can't outlive it
+#   make mutants-of-the-program   wrong programs that the prover passes: make program refuses each (takes most of an hour)
 
 RT ?= rt
 PROGRAM := bin/afdxmon
@@ -21,7 +22,7 @@ LIBRARIES := $(filter-out afdxmon system_tests,$(CRATES))
 NEEDED := $(filter $(LIBRARIES),$(shell sed -n 's/^afdxmon[ a-z=+_A-Z0-9]*://p' crates.txt))
 JOBS := $(shell nproc)
 
-.PHONY: demo test build check bench program allocations borrows toolchain begin $(LIBRARIES:%=proved-%)
+.PHONY: demo test build check bench program allocations borrows mutants-of-the-program toolchain begin $(LIBRARIES:%=proved-%)
 
 build: toolchain begin
 	@$(MAKE) --no-print-directory -j$(JOBS) proved-all
@@ -52,7 +53,7 @@ demo: build
 test: toolchain
 	@tests/gate
 
-check: test allocations borrows
+check: test allocations borrows mutants-of-the-program
 
 bench: build
 	@bench/run
@@ -65,6 +66,9 @@ allocations: toolchain
 
 borrows: toolchain
 	@tests/borrows.sh
+
+mutants-of-the-program: build
+	@tests/mutants/run
 
 toolchain:
 	@command -v $(RT) > /dev/null || { echo "afdxmon: the Rattle toolchain is missing: its command 'rt' is not on the PATH" >&2; exit 1; }

@@ -35,6 +35,7 @@ fail_each_allocation() {
     exit 1
 }
 
+fail_each_allocation assembler::allocation::
 fail_each_allocation capture::allocation::
 fail_each_allocation machine::allocation::
 fail_each_allocation judges::allocation::

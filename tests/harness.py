@@ -19,6 +19,7 @@ FIRST_64 = "1,6 0 0 64,"
 ODD = "7,128 0 0 0,20 0 0 1,7 0 0 0,80 0 0 0,69 0 1 1,6 0 0 4294967295,6 0 0 0,"
 USAGE, FAULT, SUCCESS = 2, 1, 0
 results = {"passed": 0, "failed": 0}
+patience = {"seconds": 60}
 
 
 def record(stamp, data, layout="<", unit=1, original=None):
@@ -71,11 +72,13 @@ def judge(name, ran, status, line, out=None):
 
 
 def ended(command, **how):
-    """Runs a command to its end. One that goes on for a minute is ended, which its status says."""
+    """Runs a command to its end. One that goes on for a minute is ended, which its status says; later ones have less time."""
     try:
-        return subprocess.run(command, timeout=60, **how)
+        return subprocess.run(command, timeout=patience["seconds"], **how)
     except subprocess.TimeoutExpired as late:
-        return subprocess.CompletedProcess(command, "none within a minute", late.stdout or b"", late.stderr or b"")
+        status = f"none within {patience['seconds']} seconds"
+        patience["seconds"] = 10
+        return subprocess.CompletedProcess(command, status, late.stdout or b"", late.stderr or b"")
 
 
 def run(arguments, **how):

@@ -56,31 +56,56 @@ fn a_sink_that_fails_after_each_byte(rt: HostRuntime) -> Result<(), Fail> {
     Ok(())
 }
 
-#[test]
-fn a_sink_of_single_bytes_that_misses_one(rt: HostRuntime) -> Result<(), Fail> {
-    let config = Config::read(rt.alloc(), ONE_LINK)?;
+/// Writes the ledger of two taps to a sink that takes a byte at a call and fails at one call alone: what was
+/// written before stays, and every later call writes nothing.
+fn fails_once(
+    rt: &(impl Abort + AllocGlobal),
+    config: &Config,
+    call: usize,
+) -> Result<(), Fail> {
     let script = Script {
         piece: 1,
         most: 4096,
-        miss: Some(20),
+        miss: Some(call as u64),
     };
-    let mut lanes = Lanes::new(rt.alloc(), &config)?;
-    let Ok(mut ledger) = Ledger::begin(rt.alloc(), &config, 1, MemSink::new(rt.alloc(), script)?)
-    else {
-        return Err("the ledger wasn't begun".into());
+    let mut lanes = Lanes::new(rt.alloc(), config)?;
+    let mut ledger = match Ledger::begin(rt.alloc(), config, 1, MemSink::new(rt.alloc(), script)?) {
+        Ok(ledger) => ledger,
+        Err(refused) => {
+            assert_eq!(rt; refused.fault, LedgerFault::Device);
+            assert_eq!(rt; refused.sink.taken(), &TWO_TAPS.as_bytes()[..call]);
+            return Ok(());
+        }
     };
-    let mut first = true;
+    let mut failed = false;
     for (frame, accepted) in two_taps(rt.alloc(), ONE_FILTER)? {
-        let verdict = judge_next(&rt, &mut lanes, &frame);
-        let answer = add_line(&rt, &mut ledger, &frame, &verdict, accepted);
-        let fault = if first {
-            LedgerFault::Device
-        } else {
-            LedgerFault::Failed
-        };
-        assert_eq!(rt; answer, Err(fault));
-        first = false;
+        let verdict = judge_next(rt, &mut lanes, &frame);
+        match add_line(rt, &mut ledger, &frame, &verdict, accepted) {
+            Ok(()) => assert!(rt; !failed, "call {call}"),
+            Err(fault) => {
+                let first = if failed { LedgerFault::Failed } else { LedgerFault::Device };
+                assert_eq!(rt; fault, first, "call {call}");
+                failed = true;
+            }
+        }
     }
-    assert_eq!(rt; ledger.into_sink().taken(), &TWO_TAPS.as_bytes()[..20]);
+    let sink = match ledger.finish(Ending::Clean(2), Ending::Clean(1)) {
+        Ok(_) => panic!(rt; "call {call}: no fault"),
+        Err(refused) => {
+            let first = if failed { LedgerFault::Failed } else { LedgerFault::Device };
+            assert_eq!(rt; refused.fault, first, "call {call}");
+            refused.sink
+        }
+    };
+    assert_eq!(rt; sink.taken(), &TWO_TAPS.as_bytes()[..call]);
+    Ok(())
+}
+
+#[test]
+fn a_sink_of_single_bytes_that_fails_at_each_call(rt: HostRuntime) -> Result<(), Fail> {
+    let config = Config::read(rt.alloc(), ONE_LINK)?;
+    for call in 0..TWO_TAPS.len() {
+        fails_once(&rt, &config, call)?;
+    }
     Ok(())
 }
