@@ -1,11 +1,13 @@
 """Tests of what the program tells a person, whole: advice and carets at a terminal, none elsewhere, and the help."""
 import os
+import resource
 import subprocess
 
-from harness import EVERY, FAULT, SUCCESS, USAGE, difference, header, run, run_at_terminal, say
+from harness import EVERY, FAULT, PROGRAM, SUCCESS, USAGE, difference, header, run, run_at_terminal, say
 from texts import ABOUT, ADVICE, PROGRAM_HELP, VERSION, advice_on, help_of
 from watching import LINK_5, TABLE
 
+MIB = 1 << 20
 FAR = b"\tjeq #0, l\n" + b"ret #0\n" * 256 + b"l: ret #0"
 # A refused source, its fault, and the line and caret that a terminal shows.
 SOURCES = (
@@ -94,7 +96,7 @@ def twice(name, line, shown, arguments, **how):
 
 
 def faults(desk):
-    """Each fault that can be had without want of memory has its own advice."""
+    """Each fault that can be had has its own advice."""
     told = [twice("a source", line, shown, ["asm"], input=source) for source, line, shown in SOURCES]
     told += [twice("a filter", line, "", ["capture", "--code", code], input=header()) for code, line in CODES]
     for code, line in BLANKS:
@@ -108,9 +110,28 @@ def faults(desk):
     desk.lay(filter=EVERY)
     debug = ["debug", "--filter", desk.paths["filter"], "--tap", places["missing"]]
     told.append(twice("a session", "file --tap", "", debug, stdin=subprocess.DEVNULL))
+    told += little_memory(desk)
     for key in ADVICE:
-        if key not in ("asm 8", "debug 4", "watch 5", "watch 7") and not any((line + " ").startswith(key) for line in told):
+        if not any((line + " ").startswith(key) for line in told):
             say("each advice", f"no case has the fault {key}")
+
+
+def little_memory(desk):
+    """A process of 16 MiB: a text of 16 MB doesn't fit, nor does the stack of a thread, which has 8 MiB."""
+
+    def limit():
+        resource.setrlimit(resource.RLIMIT_STACK, (8 * MIB, 8 * MIB))
+        resource.setrlimit(resource.RLIMIT_AS, (16 * MIB, 16 * MIB))
+
+    blanks = b" " * (16 * 10**6)
+    desk.lay(config=TABLE, filter=EVERY, a=header(), b=header())
+    debug = ["debug", "--filter", desk.paths["filter"], "--tap", desk.paths["a"]]
+    told = [twice("little memory", "watch 5 Spawn", "", desk.arguments(), stdin=subprocess.DEVNULL, preexec_fn=limit)]
+    told.append(twice("little memory", "asm 8 Memory", "", ["asm"], input=blanks + b"ret #0", preexec_fn=limit))
+    told.append(twice("little memory", "debug 4 Memory", "", debug, input=blanks, preexec_fn=limit))
+    desk.lay(config=TABLE, filter=blanks + EVERY.encode(), a=header(), b=header())
+    told.append(twice("little memory", "watch 7 Memory", "", desk.arguments(), stdin=subprocess.DEVNULL, preexec_fn=limit))
+    return told
 
 
 def helps():
@@ -119,6 +140,8 @@ def helps():
     for command in ABOUT:
         asked += [([command, "--help"], help_of(command)), ([command, "-h"], help_of(command)), (["help", command], help_of(command))]
     for arguments, text in asked:
+        # clap names the program by its file.
+        text = text.replace("Usage: afdxmon", "Usage: " + os.path.basename(PROGRAM))
         fault = difference(run(arguments, stdin=subprocess.DEVNULL, stdout=subprocess.PIPE), USAGE, lambda told: told == text, b"")
         ran = run_at_terminal(arguments, stdin=subprocess.DEVNULL)
         if not fault and (ran.returncode != USAGE or ran.stderr != text or ran.stdout):
