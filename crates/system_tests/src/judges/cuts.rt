@@ -1,7 +1,6 @@
-//! The worked table and one with every key, cut at every place and with every byte changed to every other
-//! value: the fault is that of a slow reader, and a table that reads has the values of the TOML value.
+//! A table with every key, cut at every byte and with every byte changed to every other value: the fault is
+//! that of a slow reader, and a table that reads has the values of the TOML document.
 
-use crate::judges::TABLE;
 use crate::judges::reference::slow_fault;
 use std::alloc::{AllocError, Global};
 use std::process::Abort;
@@ -9,12 +8,11 @@ use std::test::Fail;
 use toml::{Table, Value};
 use vl_config::{Config, ConfigFault, Link};
 
-/// A table with every key: of the network and of two links.
-const WHOLE: &str = "late_us = 7\nfilters = [\"1,6 0 0 8,\", \"\"]\nconstant = 50331648\n\
-    [[link]]\nid = 6\nname = \"flaps-2\"\nbag_ms = 8\njitter_us = 500\nsmax = 64\nintegrity = true\n\
-    redundancy = false\nskew_us = 0\n\
-    [[link]]\nid = 5\nname = \"brake_1\"\nbag_ms = 1\njitter_us = 0\nsmax = 200\nintegrity = false\n\
-    redundancy = true\nskew_us = 1000\n";
+/// The worked table with the keys of the network that may be absent, and integrity checking off.
+const WHOLE: &str =
+    "late_us = 7\nfilters = [\"1,6 0 0 8,\", \"\"]\nconstant = 50331648\n[[link]]\nid = 5\n\
+     name = \"brake_1\"\nbag_ms = 1\njitter_us = 0\nsmax = 200\nintegrity = false\nredundancy = true\n\
+     skew_us = 1000\n";
 
 /// The text's fault is that of the slow reader, and otherwise its values are the document's.
 fn agrees(rt: &(impl Abort + AllocGlobal), text: &str) {
@@ -28,7 +26,11 @@ fn agrees(rt: &(impl Abort + AllocGlobal), text: &str) {
         Ok(config) => {
             assert!(rt; slow_fault(&table).is_none(), "{text}");
             assert!(rt; is_top(&config, &table), "{text}");
-            assert_eq!(rt; config.links().len(), array_at(&table, "link").len(), "{text}");
+            assert_eq!(rt;
+                config.links().len(),
+                array_at(&table, "link").len(),
+                "{text}"
+            );
             for link in config.links() {
                 assert!(rt; is_in(link, &table), "{text}");
             }
@@ -66,9 +68,9 @@ fn integer_at(table: &Table, key: &str) -> Option<i64> {
 
 /// One of the document's links has these values.
 fn is_in(link: &Link, table: &Table) -> bool {
-    array_at(table, "link")
-        .iter()
-        .any(|value| value.as_table().is_some_and(|table| is_link(link, table)))
+    array_at(table, "link").iter().any(|value| value
+        .as_table()
+        .is_some_and(|table| is_link(link, table)))
 }
 
 fn is_link(link: &Link, table: &Table) -> bool {
@@ -92,8 +94,8 @@ fn is_link(link: &Link, table: &Table) -> bool {
 }
 
 /// The text's bytes with the byte at an index replaced.
-fn with_byte(alloc: Global, text: &str, index: usize, byte: u8) -> Result<Vec<u8>, AllocError> {
-    let mut bytes = Vec::from_slice(alloc, text.as_bytes())?;
+fn with_byte(alloc: Global, index: usize, byte: u8) -> Result<Vec<u8>, AllocError> {
+    let mut bytes = Vec::from_slice(alloc, WHOLE.as_bytes())?;
     if index < bytes.len() {
         bytes[index] = byte;
     }
@@ -102,11 +104,9 @@ fn with_byte(alloc: Global, text: &str, index: usize, byte: u8) -> Result<Vec<u8
 
 #[test]
 fn every_prefix(rt: HostRuntime) -> Result<(), Fail> {
-    for table in [TABLE, WHOLE] {
-        for len in 0..=table.len() {
-            if let Ok(text) = std::str::from_utf8(&table.as_bytes()[..len]) {
-                agrees(&rt, text);
-            }
+    for len in 0..=WHOLE.len() {
+        if let Ok(text) = std::str::from_utf8(&WHOLE.as_bytes()[..len]) {
+            agrees(&rt, text);
         }
     }
     Ok(())
@@ -114,13 +114,11 @@ fn every_prefix(rt: HostRuntime) -> Result<(), Fail> {
 
 #[test]
 fn every_changed_byte(rt: HostRuntime) -> Result<(), Fail> {
-    for table in [TABLE, WHOLE] {
-        for index in 0..table.len() {
-            for byte in 0..=255u8 {
-                let bytes = with_byte(rt.alloc(), table, index, byte)?;
-                if let Ok(text) = std::str::from_utf8(&bytes) {
-                    agrees(&rt, text);
-                }
+    for index in 0..WHOLE.len() {
+        for byte in 0..=255u8 {
+            let bytes = with_byte(rt.alloc(), index, byte)?;
+            if let Ok(text) = std::str::from_utf8(&bytes) {
+                agrees(&rt, text);
             }
         }
     }

@@ -58,11 +58,7 @@ fn a_sink_that_fails_after_each_byte(rt: HostRuntime) -> Result<(), Fail> {
 
 /// Writes the ledger of two taps to a sink that takes a byte at a call and fails at one call alone: what was
 /// written before stays, and every later call writes nothing.
-fn fails_once(
-    rt: &(impl Abort + AllocGlobal),
-    config: &Config,
-    call: usize,
-) -> Result<(), Fail> {
+fn fails_once(rt: &(impl Abort + AllocGlobal), config: &Config, call: usize) -> Result<(), Fail> {
     let script = Script {
         piece: 1,
         most: 4096,
@@ -83,7 +79,11 @@ fn fails_once(
         match add_line(rt, &mut ledger, &frame, &verdict, accepted) {
             Ok(()) => assert!(rt; !failed, "call {call}"),
             Err(fault) => {
-                let first = if failed { LedgerFault::Failed } else { LedgerFault::Device };
+                let first = if failed {
+                    LedgerFault::Failed
+                } else {
+                    LedgerFault::Device
+                };
                 assert_eq!(rt; fault, first, "call {call}");
                 failed = true;
             }
@@ -92,7 +92,11 @@ fn fails_once(
     let sink = match ledger.finish(Ending::Clean(2), Ending::Clean(1)) {
         Ok(_) => panic!(rt; "call {call}: no fault"),
         Err(refused) => {
-            let first = if failed { LedgerFault::Failed } else { LedgerFault::Device };
+            let first = if failed {
+                LedgerFault::Failed
+            } else {
+                LedgerFault::Device
+            };
             assert_eq!(rt; refused.fault, first, "call {call}");
             refused.sink
         }

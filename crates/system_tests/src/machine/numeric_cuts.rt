@@ -44,7 +44,11 @@ fn numbers_of(alloc: Global, bytes: &[u8]) -> Result<Vec<Number>, AllocError> {
             numbers.push(Number { at, value: digit })?;
         } else if is_digit {
             if let Some(number) = numbers.last_mut() {
-                number.value = number.value.saturating_mul(10).saturating_add(digit).min(LARGE);
+                number.value = number
+                    .value
+                    .saturating_mul(10)
+                    .saturating_add(digit)
+                    .min(LARGE);
             }
         }
         before = is_digit;
@@ -76,7 +80,10 @@ fn items_of(alloc: Global, bytes: &[u8]) -> Result<Vec<Vec<Number>>, AllocError>
 
 /// The first number that is too large.
 fn too_large(item: &[Number], most: &[u64]) -> Option<NumericFault> {
-    let (large, _) = item.iter().zip(most).find(|(number, most)| number.value > **most)?;
+    let (large, _) = item
+        .iter()
+        .zip(most)
+        .find(|(number, most)| number.value > **most)?;
     Some(NumericFault::Number { at: large.at })
 }
 
@@ -123,8 +130,17 @@ fn slow_fault(alloc: Global, text: &str) -> Result<Option<NumericFault>, AllocEr
 
 /// The instruction has the numbers of the item.
 fn is_word(word: Packed, item: &[Number]) -> bool {
-    let fields = [u64::from(word.code), u64::from(word.jt), u64::from(word.jf), u64::from(word.k)];
-    item.len() == 4 && item.iter().zip(fields).all(|(number, field)| number.value == field)
+    let fields = [
+        u64::from(word.code),
+        u64::from(word.jt),
+        u64::from(word.jf),
+        u64::from(word.k),
+    ];
+    item.len() == 4
+        && item
+            .iter()
+            .zip(fields)
+            .all(|(number, field)| number.value == field)
 }
 
 /// The text has the instructions or the fault that the reference reader finds.
@@ -136,7 +152,10 @@ fn agrees(rt: &(impl Abort + AllocGlobal), text: &str) -> Result<(), Fail> {
             let items = items_of(rt.alloc(), text.as_bytes())?;
             assert_eq!(rt; items.len(), words.len().saturating_add(1), "{text:?}");
             assert!(rt;
-                words.iter().zip(items.iter().skip(1)).all(|(word, item)| is_word(*word, item)),
+                words
+                    .iter()
+                    .zip(items.iter().skip(1))
+                    .all(|(word, item)| is_word(*word, item)),
                 "{text:?}"
             );
         }

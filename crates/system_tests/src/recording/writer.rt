@@ -8,8 +8,8 @@ use std::test::Fail;
 
 /// The capture of one frame of two bytes at 258 ns.
 const CAPTURE: [u8; 42] = [
-    0x4d, 0x3c, 0xb2, 0xa1, 2, 0, 4, 0, 0, 0, 0, 0, 0, 0, 0, 0, 0, 0, 4, 0, 1, 0, 0, 0, 0, 0, 0, 0, 2,
-    1, 0, 0, 2, 0, 0, 0, 2, 0, 0, 0, 9, 9,
+    0x4d, 0x3c, 0xb2, 0xa1, 2, 0, 4, 0, 0, 0, 0, 0, 0, 0, 0, 0, 0, 0, 4, 0, 1, 0, 0, 0, 0, 0, 0, 0,
+    2, 1, 0, 0, 2, 0, 0, 0, 2, 0, 0, 0, 9, 9,
 ];
 
 #[test]
@@ -49,11 +49,7 @@ fn a_sink_that_fails(rt: HostRuntime) -> Result<(), Fail> {
 
 /// Writes the frame to a sink that takes so many bytes at a call and fails at one call alone: the sink keeps
 /// what was written before, and the next frame writes nothing.
-fn fails_once(
-    rt: &(impl Abort + AllocGlobal),
-    piece: usize,
-    call: usize,
-) -> Result<(), Fail> {
+fn fails_once(rt: &(impl Abort + AllocGlobal), piece: usize, call: usize) -> Result<(), Fail> {
     let alloc = rt.alloc();
     let script = Script {
         piece,
