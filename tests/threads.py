@@ -133,26 +133,31 @@ def lost(desk, frames, least):
     return ""
 
 
+def failing_tap(desk, network, given, workers):
+    """One tap fails after so many frames, of which the other one has more."""
+    frames = 3000
+    whole = header() + long.packets(0, frames)
+    desk.lay(config=TABLE, filter=EVERY, a=whole, b=whole)
+    tap = FailingTap()
+    command = [PROGRAM, *desk.arguments(**{network: tap.path}), "--workers", workers]
+    child = subprocess.Popen(command, stdin=subprocess.DEVNULL, stdout=subprocess.PIPE, stderr=subprocess.PIPE)
+    taken = tap.pour(header() + long.packets(0, given) + long.packet(given)[:30])
+    rest(child)
+    tap.fail()
+    out, told = child.communicate(timeout=60)
+    tap.close()
+    good = taken and (child.returncode, told, out) == (FAULT, f"afdxmon: watch 3 Read {network.upper()}\n".encode(), b"")
+    fault = "" if good else f"status {child.returncode}, {told!r}"
+    # Of the frames up to the last that came, the last one of each tap isn't safe.
+    say(f"watch: tap {network.upper()} fails after {given} frames, {workers} workers", fault or lost(desk, frames, 2 * given - 2 - HELD))
+
+
 def failing_taps(desk):
-    """A tap fails in mid-run: the outputs have all that was safe but what a round and the rings hold."""
-    frames, given = 3000, 2000
-    whole, part = header() + long.packets(0, frames), header() + long.packets(0, given)
+    """A tap fails in mid-run: the outputs have all that was safe but what a round and the rings hold. Of 400 frames a tap
+    both outputs are within their buffers."""
     for network in ("a", "b"):
-        for workers in ("1", "2", "8"):
-            desk.lay(config=TABLE, filter=EVERY, a=whole, b=whole)
-            tap = FailingTap()
-            command = [PROGRAM, *desk.arguments(**{network: tap.path}), "--workers", workers]
-            child = subprocess.Popen(command, stdin=subprocess.DEVNULL, stdout=subprocess.PIPE, stderr=subprocess.PIPE)
-            taken = tap.pour(part + long.packet(given)[:30])
-            rest(child)
-            tap.fail()
-            out, told = child.communicate(timeout=60)
-            tap.close()
-            expected = f"afdxmon: watch 3 Read {network.upper()}\n".encode()
-            good = taken and (child.returncode, told, out) == (FAULT, expected, b"")
-            fault = "" if good else f"status {child.returncode}, {told!r}"
-            # Of the frames up to the last that came, the last one of each tap isn't safe.
-            say(f"watch: tap {network.upper()} fails in mid-run, {workers} workers", fault or lost(desk, frames, 2 * given - 2 - HELD))
+        for given, workers in ((400, "1"), (400, "2"), (2000, "2"), (2000, "8")):
+            failing_tap(desk, network, given, workers)
 
 
 def failing_outputs(desk):
