@@ -133,7 +133,8 @@ def cases(desk):
         say(f"watch at its bounds: {name}", desk.agrees(ran, expected.capture, expected.lines + expected.summary))
     # The largest identifiers of frames and the last timestamp stand alone, and nothing comes after them.
     alone = header() + record((LAST_SECOND + 1) * SECOND - 1, struct.pack(">IH", 0x03000000, 65535) + bytes(53) + b"\xff")
-    config = "constant = 50331648\n" + LINK.format(id=65535, name="x", bag_ms=128, jitter_us=10**5, smax=64, integrity="true", redundancy="true", skew_us=10**6)
+    link = {"id": 65535, "name": "x", "bag_ms": 128, "jitter_us": 10**5, "smax": 64, "integrity": "true", "redundancy": "true", "skew_us": 10**6}
+    config = "constant = 50331648\n" + LINK.format(**link)
     expected = watch(config, EVERY, alone, alone)
     desk.lay(config=config, filter=EVERY, a=alone, b=alone)
     say("watch at its bounds: the last nanosecond", desk.agrees(desk.watch(), expected.capture, expected.lines + expected.summary))

@@ -129,7 +129,8 @@ def faults(files):
 
 
 # What is typed: the walk, and commands with tabs around them, which are none.
-TYPED = (*WALK[:-1], ("\tquit", "fault 0 BadCommand\n"), ("quit\t", "fault 0 BadCommand\n"), ("quit \t ", "fault 0 BadCommand\n"), ("  quit  ", "bye\n"))
+NO_COMMANDS = tuple((line, "fault 0 BadCommand\n") for line in ("\tquit", "quit\t", "quit \t ", "select\t0"))
+TYPED = (*WALK[:-1], *NO_COMMANDS, ("  quit  ", "bye\n"))
 
 
 def told_up_to(ours, end):

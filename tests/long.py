@@ -106,7 +106,8 @@ def a_million(desk):
     fault = fault or compared(desk.paths["capture"], [header(), b"".join(one * 2 for one in ones)])
     say(f"watch: {frames} frames a tap", fault or compared(desk.paths["ledger"], ledger_of(frames, of_255, 2 * len(ones))))
     with open(path, "rb") as given:
-        judge(f"capture: {frames} frames", run(["capture", "--code", ONE_OF_255], stdin=given, stdout=subprocess.PIPE), SUCCESS, "", header() + b"".join(ones))
+        ran = run(["capture", "--code", ONE_OF_255], stdin=given, stdout=subprocess.PIPE)
+    judge(f"capture: {frames} frames", ran, SUCCESS, "", header() + b"".join(ones))
     with open(path, "rb") as given, open(desk.paths["capture"], "wb") as out:
         fault = difference(run(["capture", "--code", EVERY], stdin=given, stdout=out), SUCCESS, "")
     say(f"capture: {frames} frames, all", fault or compared(desk.paths["capture"], pieces(frames)))

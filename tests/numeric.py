@@ -11,6 +11,10 @@ from harness import FAULT, header, run, say
 TEXT = b"4,40 0 0 12,21 0 1 2054,6 0 0 4294967295,6 0 0 0,"
 # Each byte of the form, its neighbours, and others that look like blanks, signs or the beginning of a number.
 BYTES = b"0123456789, \t\r\n/:;.-+xXa\x01\v\f\x1c\x7f'"
+OTHERS = (
+    *(b"1,6 0 0 0", b"\n\n1\n\n6 0 0 0\r\n", b"0,", b",,,", b"1 1,6 0 0 0", b"99999999999999999999,", b"4294967296", b"5000,6"),
+    *(b"1,65536 0 0 0", b"1,6 0 256 0", b"1,6 0 0 4294967296", b"1,6 0 0 0 0", b"2,6 0 0 0,6 300 0 0,x", b"1,6 0 0 0,6 0 0 0,6"),
+)
 MOST = (2**16 - 1, 2**8 - 1, 2**8 - 1, 2**32 - 1)
 
 
@@ -24,9 +28,11 @@ def refuse(number, name, at):
 
 def items_of(text):
     """The items that have a number: of each the numbers, each with the byte offset of its first digit."""
-    items = [[(number.start(), int(number.group())) for number in re.finditer(rb"[0-9]+", text[item.start(): item.end()])] for item in re.finditer(rb"[^,\n]+", text)]
-    starts = [item.start() for item in re.finditer(rb"[^,\n]+", text)]
-    return [[(start + at, value) for at, value in item] for start, item in zip(starts, items) if item]
+    items = []
+    for item in re.finditer(rb"[^,\n]+", text):
+        numbers = re.finditer(rb"[0-9]+", item.group())
+        items.append([(item.start() + number.start(), int(number.group())) for number in numbers])
+    return [item for item in items if item]
 
 
 def limited(numbers, most):
@@ -89,6 +95,5 @@ def cases(_desk):
     texts = list(changed())
     faults = [fault for fault in map(agrees, texts) if fault]
     say(f"the numeric form: {len(texts)} texts that differ in a byte", "; ".join(faults[:3]))
-    for text in (b"1,6 0 0 0", b"\n\n1\n\n6 0 0 0\r\n", b"0,", b",,,", b"1 1,6 0 0 0", b"99999999999999999999,", b"4294967296", b"1,65536 0 0 0", b"1,6 0 256 0",
-                 b"1,6 0 0 4294967296", b"1,6 0 0 0 0", b"5000,6", b"2,6 0 0 0,6 300 0 0,x", b"1,6 0 0 0,6 0 0 0,6"):
+    for text in OTHERS:
         say(f"the numeric form: {text!r}", agrees(text))

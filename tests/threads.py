@@ -40,7 +40,7 @@ def most_threads(command):
 def counted(desk):
     """More workers show more threads at once. A run of one worker has the calling thread and those of the taps."""
     table = f"filters = {[LONGEST] * 7}\n" + TABLE
-    given = header() + long.packets(0, 1500)
+    given = header() + long.packets(0, 2500)
     desk.lay(config=table, filter=LONGEST, a=given, b=given)
     found, statuses = [], set()
     for workers in (1, 2, 4, 8):
@@ -66,12 +66,13 @@ def on_one_processor(desk):
     for name, given, out in (
         ("the flight of examples", example, (made.capture, made.lines + made.summary)),
         ("3000 frames a tap", {"config": TABLE, "filter": EVERY, "a": steady, "b": steady}, steady_out),
-        ("three filters, two of them of 4096 steps", {"config": heavy, "filter": ODD, "a": short, "b": short}, (slow.capture, slow.lines + slow.summary)),
+        ("filters of 4096 steps", {"config": heavy, "filter": ODD, "a": short, "b": short}, (slow.capture, slow.lines + slow.summary)),
     ):
         for workers in ("1", "2", "8"):
             desk.lay(**given)
             command = [PROGRAM, *desk.arguments(), "--workers", workers]
-            ran = ended(command, stdin=subprocess.DEVNULL, stdout=subprocess.PIPE, stderr=subprocess.PIPE, preexec_fn=lambda: os.sched_setaffinity(0, {only}))
+            pipes = {"stdin": subprocess.DEVNULL, "stdout": subprocess.PIPE, "stderr": subprocess.PIPE}
+            ran = ended(command, preexec_fn=lambda: os.sched_setaffinity(0, {only}), **pipes)
             say(f"watch on one processor: {name}, {workers} workers", desk.agrees(ran, *out))
 
 
