@@ -1,6 +1,8 @@
 #!/usr/bin/env bash
 # Each call that allocates says so where an allocation fails, and never anything else that is wrong.
 #
+#   tests/allocations.sh [PART..]      parts as `merge`; all of them by default
+#
 # Runs the tests of crates/system_tests/src/*/allocation.rt with their first allocation failing, then with their second,
 # and so on, until a run in which none fails. A test `refusal_..` has to pass each time; a test `ample_..` fails where an
 # allocation of its call failed, and so counts them.
@@ -35,14 +37,13 @@ fail_each_allocation() {
     exit 1
 }
 
-fail_each_allocation capture::allocation::
-fail_each_allocation machine::allocation::
-fail_each_allocation judges::allocation::
-fail_each_allocation text::allocation::
-fail_each_allocation merge::allocation::
-fail_each_allocation ledger::allocation::
-fail_each_allocation watch::allocation::
-fail_each_allocation workers::allocation::
-fail_each_allocation debugger::allocation::
-fail_each_allocation rings::allocation::
+parts=("$@")
+if [ "${#parts[@]}" -eq 0 ]; then
+    for file in src/*/allocation.rt; do
+        parts+=("$(basename "$(dirname "$file")")")
+    done
+fi
+for part in "${parts[@]}"; do
+    fail_each_allocation "$part::allocation::"
+done
 printf 'allocations: all passed\n'

@@ -2,11 +2,13 @@
 import os
 import pty
 import re
+import select
 import subprocess
 import tempfile
 
 from harness import EVERY, FAULT, HERE, PROGRAM, SUCCESS, USAGE
 from harness import frame, header, judge, record, run, say
+from texts import COMMANDS
 
 STORING = "5,0 0 0 7,2 0 0 3,97 0 0 3,135 0 0 0,22 0 0 0,"
 ZEROS = " 0" * 16
@@ -59,7 +61,7 @@ def sessions(files):
         ("a last line without its newline", "tally", "tally accepted 1 rejected 0\n"),
         ("commands after quit", "quit\ntally\n", "bye\n"),
         ("carriage returns in commands", "quit\r\nselect 0\r\n\r\n", "fault 0 BadCommand\n" * 3),
-        ("tabs in commands", "\tquit\n\t\nselect\t0\n", "fault 0 BadCommand\n" * 3),
+        ("tabs in commands", "\tquit\nquit\t\nquit \t\n\t\nselect\t0\nquit\v\n", "fault 0 BadCommand\n" * 6),
         ("spaces in commands", "  select   00  \n", START),
     ):
         answered(name, command, given, "frames 1\n" + out)
@@ -126,10 +128,15 @@ def faults(files):
         judge(name, run(arguments, input=b"", stdout=subprocess.PIPE), USAGE, lambda told: "--tap <FILE>" in told or "more" in told, b"")
 
 
+# What is typed: the walk, and commands with tabs around them, which are none.
+NO_COMMANDS = tuple((line, "fault 0 BadCommand\n") for line in ("\tquit", "quit\t", "quit \t ", "select\t0"))
+TYPED = (*WALK[:-1], *NO_COMMANDS, ("  quit  ", "bye\n"))
+
+
 def told_up_to(ours, end):
-    """What comes from a terminal up to `end`, or up to its close."""
+    """What comes from a terminal up to `end`, up to its close, or for half a minute."""
     told = b""
-    while not told.endswith(end):
+    while not told.endswith(end) and select.select([ours], [], [], 30)[0]:
         try:
             told += os.read(ours, 65536)
         except OSError:
@@ -137,25 +144,33 @@ def told_up_to(ours, end):
     return told
 
 
+def typed_at(child, ours, sees):
+    """What a session says on standard output and, where it sees a terminal there, on standard error."""
+    said, told = child.stdout.readline(), b""
+    try:
+        for line, _ in TYPED:
+            if sees:
+                told += told_up_to(ours, b"> ")
+            os.write(ours, line.encode() + b"\n")
+            said += child.stdout.readline()
+    except OSError:
+        pass  # the session has ended before its time
+    told = told + told_up_to(ours, b"> ") if sees else child.stderr.read()
+    return said + child.stdout.read(), told
+
+
 def typed(files):
     """Commands that are typed at a terminal are answered one by one, as they would be from a file. There are prompts only
     where standard error is a terminal too."""
-    command, expected = files.command(), "frames 1\n" + "".join(text for _, text in WALK)
+    command, expected = files.command(), "frames 1\n" + "".join(text for _, text in TYPED)
+    shown = COMMANDS + "\r\n> " + "".join(line + "\r\n> " for line, _ in TYPED)[:-2]
     for name, sees in (("commands at a terminal", False), ("commands at a terminal, with prompts", True)):
         ours, theirs = pty.openpty()
         child = subprocess.Popen([PROGRAM, *command], stdin=theirs, stdout=subprocess.PIPE, stderr=theirs if sees else subprocess.PIPE)
         os.close(theirs)
-        said, told, shown = child.stdout.readline(), b"", b""
-        for line, _ in WALK:
-            if sees:
-                told += told_up_to(ours, b"> ")
-            os.write(ours, line.encode() + b"\n")
-            shown += line.encode() + b"\r\n> "
-            said += child.stdout.readline()
-        told = told + told_up_to(ours, b"> ") if sees else child.stderr.read()
-        help_line = b"commands: select N, step [+|-]N, cont, breakpoint N, disassemble, tally, quit\r\n> "
+        said, told = typed_at(child, ours, sees)
         status = child.wait(timeout=60)
-        good = status == SUCCESS and said == expected.encode() and told == ((help_line + shown)[:-2] if sees else b"")
+        good = status == SUCCESS and said == expected.encode() and told == (shown.encode() if sees else b"")
         say(name, "" if good else f"status {status}, {said!r}, {told!r}")
         child.stdout.close()
         os.close(ours)

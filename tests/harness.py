@@ -3,6 +3,7 @@
 The program is the first argument, bin/afdxmon by default.
 """
 import os
+import pty
 import random
 import struct
 import subprocess
@@ -18,6 +19,7 @@ FIRST_64 = "1,6 0 0 64,"
 ODD = "7,128 0 0 0,20 0 0 1,7 0 0 0,80 0 0 0,69 0 1 1,6 0 0 4294967295,6 0 0 0,"
 USAGE, FAULT, SUCCESS = 2, 1, 0
 results = {"passed": 0, "failed": 0}
+patience = {"seconds": 60}
 
 
 def record(stamp, data, layout="<", unit=1, original=None):
@@ -47,6 +49,9 @@ def recording(frames, layout="<", unit=1, sizes=(60, 1514)):
 def say(name, fault):
     results["failed" if fault else "passed"] += 1
     print(f"program: {name}: {'FAILED: ' + fault if fault else 'ok'}", flush=True)
+    if fault and os.environ.get("AFDXMON_FIRST_FAILURE"):
+        print(f"{results['passed']} passed, {results['failed']} failed")
+        sys.exit(1)
 
 
 def difference(ran, status, line, out=None):
@@ -66,5 +71,40 @@ def judge(name, ran, status, line, out=None):
     say(name, difference(ran, status, line, out))
 
 
+def ended(command, **how):
+    """Runs a command to its end. One that goes on for a minute is ended, which its status says; later ones have less time."""
+    try:
+        return subprocess.run(command, timeout=patience["seconds"], **how)
+    except subprocess.TimeoutExpired as late:
+        status = f"none within {patience['seconds']} seconds"
+        patience["seconds"] = 10
+        return subprocess.CompletedProcess(command, status, late.stdout or b"", late.stderr or b"")
+
+
 def run(arguments, **how):
-    return subprocess.run([PROGRAM, *arguments], stderr=subprocess.PIPE, timeout=60, **how)
+    return ended([PROGRAM, *arguments], stderr=subprocess.PIPE, **how)
+
+
+def told_to(terminal):
+    """All that is written to a terminal up to its close, with the newlines of a file."""
+    told = b""
+    while True:
+        try:
+            piece = os.read(terminal, 65536)
+        except OSError:
+            piece = b""  # nobody has the terminal open any more
+        if not piece:
+            return told.decode("utf-8", "replace").replace("\r\n", "\n")
+        told += piece
+
+
+def run_at_terminal(arguments, **how):
+    """Runs with standard error at a terminal. Standard error is a text."""
+    ours, theirs = pty.openpty()
+    try:
+        ran = ended([PROGRAM, *arguments], stdout=subprocess.PIPE, stderr=theirs, **how)
+    finally:
+        os.close(theirs)
+    ran.stderr = told_to(ours)
+    os.close(ours)
+    return ran

@@ -208,6 +208,7 @@ def config_faults(desk):
     other = LINK_5.replace("= 5", "= 6").replace("brake", "flaps")
     cases = [
         ("[", "1 Text"),
+        ("[\n" + TABLE, "1 Text"),
         ("constant = 9223372036854775808\n" + LINK_5, "1 Text"),
         (LINK_5, "2 Missing top"),
         ('constant = "3"\n' + LINK_5, "3 Kind top"),

@@ -5,6 +5,7 @@ mod allocation;
 pub(crate) mod generated;
 mod loading;
 mod numeric;
+mod numeric_cuts;
 mod programs;
 pub(crate) mod reference;
 mod sizes;

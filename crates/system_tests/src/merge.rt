@@ -1,4 +1,5 @@
-//! The one order of both taps' frames: worked examples, the core over many lists of events, and refused growth.
+//! The one order of both taps' frames: worked examples, the core over many lists of events, and failing
+//! allocations.
 
 use afdx_frame::{Key, Network, Stamp, TapFrame};
 use ordered_merge::Merger;
@@ -50,7 +51,11 @@ fn cut_into(merger: &mut Merger, most: usize, keys: &mut Vec<Key>) -> Result<(),
     Ok(())
 }
 
-/// The stamps of a list of keys.
-fn stamps_of(alloc: Global, keys: &[Key]) -> Result<Vec<u64>, AllocError> {
-    keys.iter().map(|key| key.stamp.0).collect(alloc)
+/// The timestamp, the network and the number of each key of a list.
+fn parts_of(alloc: Global, keys: &[Key]) -> Result<Vec<(u64, Network, u64)>, AllocError> {
+    let mut parts = Vec::new(alloc);
+    for key in keys {
+        parts.push((key.stamp.0, key.network, key.number))?;
+    }
+    Ok(parts)
 }

@@ -47,6 +47,20 @@ pub const FIRST_RUN: [u8; 176] = [
     0, 0, 0, 0, 0, 0, 0, 0, 0, 0, 0, 0, 1,
 ];
 
+/// The recording of tap A of the two-tap ledger: two frames of 60 bytes, 176 bytes in all.
+pub const TAP_A: [u8; 176] = [
+    // The file header: little-endian nanoseconds, version 2.4, Ethernet.
+    0x4d, 0x3c, 0xb2, 0xa1, 2, 0, 4, 0, 0, 0, 0, 0, 0, 0, 0, 0, 0, 0, 4, 0, 1, 0, 0, 0,
+    // 0 ns, 60 bytes captured of 60: a frame of link 5 with number 1.
+    0, 0, 0, 0, 0, 0, 0, 0, 60, 0, 0, 0, 60, 0, 0, 0, 3, 0, 0, 0, 0, 5, 0, 0, 0, 0, 0, 0, 0, 0, 0,
+    0, 0, 0, 0, 0, 0, 0, 0, 0, 0, 0, 0, 0, 0, 0, 0, 0, 0, 0, 0, 0, 0, 0, 0, 0, 0, 0, 0, 0, 0, 0, 0,
+    0, 0, 0, 0, 0, 0, 0, 0, 0, 0, 0, 0, 1,
+    // 100 ns, 60 bytes captured of 60: a frame of link 5 with number 2.
+    0, 0, 0, 0, 100, 0, 0, 0, 60, 0, 0, 0, 60, 0, 0, 0, 3, 0, 0, 0, 0, 5, 0, 0, 0, 0, 0, 0, 0, 0,
+    0, 0, 0, 0, 0, 0, 0, 0, 0, 0, 0, 0, 0, 0, 0, 0, 0, 0, 0, 0, 0, 0, 0, 0, 0, 0, 0, 0, 0, 0, 0, 0,
+    0, 0, 0, 0, 0, 0, 0, 0, 0, 0, 0, 0, 0, 2,
+];
+
 /// A frame of so many bytes: the constant field, the link's identifier, zeros and the sequence
 /// number.
 pub(crate) fn frame(alloc: Global, link: u8, len: usize, last: u8) -> Result<Vec<u8>, AllocError> {

@@ -56,31 +56,72 @@ fn a_sink_that_fails_after_each_byte(rt: HostRuntime) -> Result<(), Fail> {
     Ok(())
 }
 
-#[test]
-fn a_sink_of_single_bytes_that_misses_one(rt: HostRuntime) -> Result<(), Fail> {
-    let config = Config::read(rt.alloc(), ONE_LINK)?;
+/// The fault of a call after which the sink has failed: its first failure, or one after that.
+fn fault_after(failed: bool) -> LedgerFault {
+    if failed {
+        LedgerFault::Failed
+    } else {
+        LedgerFault::Device
+    }
+}
+
+/// Adds the lines of two taps. Returns whether the sink has failed, after which each line fails.
+fn adds_lines(
+    rt: &(impl Abort + AllocGlobal),
+    config: &Config,
+    ledger: &mut Ledger<MemSink>,
+) -> Result<bool, Fail> {
+    let mut lanes = Lanes::new(rt.alloc(), config)?;
+    let mut failed = false;
+    for (frame, accepted) in two_taps(rt.alloc(), ONE_FILTER)? {
+        let verdict = judge_next(rt, &mut lanes, &frame);
+        match add_line(rt, ledger, &frame, &verdict, accepted) {
+            Ok(()) => assert!(rt; !failed),
+            Err(fault) => {
+                assert_eq!(rt; fault, fault_after(failed));
+                failed = true;
+            }
+        }
+    }
+    Ok(failed)
+}
+
+/// Writes the ledger of two taps to a sink that takes a byte at a call and fails at one call alone: what was
+/// written before stays, and every later call writes nothing.
+fn fails_once(
+    rt: &(impl Abort + AllocGlobal),
+    config: &Config,
+    call: usize,
+) -> Result<MemSink, Fail> {
     let script = Script {
         piece: 1,
         most: 4096,
-        miss: Some(20),
+        miss: Some(call as u64),
     };
-    let mut lanes = Lanes::new(rt.alloc(), &config)?;
-    let Ok(mut ledger) = Ledger::begin(rt.alloc(), &config, 1, MemSink::new(rt.alloc(), script)?)
-    else {
-        return Err("the ledger wasn't begun".into());
-    };
-    let mut first = true;
-    for (frame, accepted) in two_taps(rt.alloc(), ONE_FILTER)? {
-        let verdict = judge_next(&rt, &mut lanes, &frame);
-        let answer = add_line(&rt, &mut ledger, &frame, &verdict, accepted);
-        let fault = if first {
-            LedgerFault::Device
-        } else {
-            LedgerFault::Failed
-        };
-        assert_eq!(rt; answer, Err(fault));
-        first = false;
+    match Ledger::begin(rt.alloc(), config, 1, MemSink::new(rt.alloc(), script)?) {
+        Ok(mut ledger) => {
+            let failed = adds_lines(rt, config, &mut ledger)?;
+            match ledger.finish(Ending::Clean(2), Ending::Clean(1)) {
+                Ok(_) => panic!(rt; "call {call}: no fault"),
+                Err(refused) => {
+                    assert_eq!(rt; refused.fault, fault_after(failed), "call {call}");
+                    Ok(refused.sink)
+                }
+            }
+        }
+        Err(refused) => {
+            assert_eq!(rt; refused.fault, LedgerFault::Device);
+            Ok(refused.sink)
+        }
     }
-    assert_eq!(rt; ledger.into_sink().taken(), &TWO_TAPS.as_bytes()[..20]);
+}
+
+#[test]
+fn a_sink_of_single_bytes_that_fails_at_each_call(rt: HostRuntime) -> Result<(), Fail> {
+    let config = Config::read(rt.alloc(), ONE_LINK)?;
+    for call in 0..TWO_TAPS.len() {
+        let sink = fails_once(&rt, &config, call)?;
+        assert_eq!(rt; sink.taken(), &TWO_TAPS.as_bytes()[..call]);
+    }
     Ok(())
 }

@@ -99,3 +99,34 @@ fn canonical_form(rt: HostRuntime) -> Result<(), Fail> {
     assert_eq!(rt; program.insns(), [loaded].as_slice());
     Ok(())
 }
+
+#[test]
+fn one_instruction_too_many(rt: HostRuntime) -> Result<(), Fail> {
+    let word = Packed {
+        code: 6,
+        jt: 0,
+        jf: 0,
+        k: 0,
+    };
+    for (count, fault) in [
+        (0, Some(LoadFault::Length)),
+        (1, None),
+        (4095, None),
+        (4096, None),
+        (4097, Some(LoadFault::Length)),
+        (65_536, Some(LoadFault::Length)),
+    ] {
+        let words = vec![in rt.alloc(); word; count]?;
+        match Program::load(words) {
+            Ok(program) => {
+                assert!(rt; fault.is_none(), "{count} instructions");
+                assert_eq!(rt; program.len(), count);
+            }
+            Err(refused) => {
+                assert_eq!(rt; Some(refused.fault), fault, "{count} instructions");
+                assert_eq!(rt; refused.words.len(), count);
+            }
+        }
+    }
+    Ok(())
+}

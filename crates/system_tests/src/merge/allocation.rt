@@ -4,10 +4,39 @@
 //! The script `tests/allocations.sh` has each allocation in them fail in turn. A test `refusal_..` then
 //! passes by either answer, and a test `ample_..` by the right one alone.
 
-use crate::merge::{cut_into, fetch, stamps_of};
-use afdx_frame::Network::{A, B};
-use ordered_merge::Merger;
+use crate::merge::cores::{Digits, core_of, is_prefix};
+use crate::merge::{cut_into, fetch, parts_of};
+use afdx_frame::Key;
+use afdx_frame::Network::{self, A, B};
+use ordered_merge::{Core, Event, Merger};
 use std::process::Abort;
+
+/// The order of the frames that are merged here: timestamp, network and number.
+const ORDER: [(u64, Network, u64); 4] = [(5, A, 1), (7, A, 2), (10, A, 0), (12, B, 0)];
+
+/// Cuts all that is left. A call that lacks the memory changes nothing, so it is made once more. Returns
+/// whether no call lacked it. None: there was no memory for the list.
+fn cuts_all(
+    rt: &(impl Abort + AllocGlobal),
+    merger: &mut Merger,
+    keys: &mut Vec<Key>,
+) -> Option<bool> {
+    let mut ample = true;
+    let round = match merger.cut(9) {
+        Ok(round) => round,
+        Err(_) => {
+            ample = false;
+            match merger.cut(9) {
+                Ok(round) => round,
+                Err(_) => panic!(rt; "one allocation alone fails"),
+            }
+        }
+    };
+    for frame in &round {
+        keys.push(frame.key()).ok()?;
+    }
+    Some(ample)
+}
 
 /// Merges some frames, late ones among them. Returns whether there was the memory; a call that lacks it
 /// is made once more.
@@ -17,21 +46,81 @@ fn merges(rt: &(impl Abort + AllocGlobal)) -> bool {
     for (network, number, stamp) in [(A, 0, 10), (A, 1, 5), (B, 0, 12), (A, 2, 7)] {
         if !fetch(rt, &mut merger, network, number, stamp) {
             ample = false;
-            if !fetch(rt, &mut merger, network, number, stamp) {
-                return false;
-            }
+            assert!(rt; fetch(rt, &mut merger, network, number, stamp));
         }
     }
     merger.end(A);
     merger.end(B);
     let mut keys = Vec::new(rt.alloc());
-    if cut_into(&mut merger, 9, &mut keys).is_err() {
-        return false;
-    }
-    let Ok(stamps) = stamps_of(rt.alloc(), &keys) else {
+    let Some(cut) = cuts_all(rt, &mut merger, &mut keys) else {
         return false;
     };
-    assert_eq!(rt; stamps.as_slice(), [5, 7, 10, 12].as_slice());
+    let Ok(parts) = parts_of(rt.alloc(), &keys) else {
+        return false;
+    };
+    assert_eq!(rt; parts.as_slice(), ORDER.as_slice());
+    // Nothing is left, and a round of no frames takes no memory.
+    assert!(rt; cut_into(&mut merger, 9, &mut keys).is_ok());
+    assert_eq!(rt; keys.len(), 4);
+    ample && cut
+}
+
+/// The events of a run over the frames of `ORDER`, with two workers.
+const EVENTS: [Event; 24] = [
+    Event::Put(A),
+    Event::Put(A),
+    Event::Put(A),
+    Event::End(A),
+    Event::Put(B),
+    Event::End(B),
+    Event::Fetch(A),
+    Event::Fetch(A),
+    Event::Fetch(A),
+    Event::Fetch(A),
+    Event::Fetch(B),
+    Event::Fetch(B),
+    Event::Cut,
+    Event::Claim(0),
+    Event::Claim(1),
+    Event::Post(0),
+    Event::Post(1),
+    Event::Claim(0),
+    Event::Claim(1),
+    Event::Post(0),
+    Event::Post(1),
+    Event::Claim(0),
+    Event::Claim(1),
+    Event::Gather,
+];
+
+/// Lets an event happen that can. Out of memory the output is as it was, and the event happens once more.
+/// Returns whether there was the memory.
+fn happens(rt: &(impl Abort + AllocGlobal), core: &mut Core, event: Event) -> bool {
+    let before = core.output().len();
+    match core.event(&Digits, event) {
+        Ok(happened) => {
+            assert!(rt; happened, "{event:?}");
+            true
+        }
+        Err(_) => {
+            assert_eq!(rt; core.output().len(), before);
+            assert!(rt; matches!(core.event(&Digits, event), Ok(true)), "{event:?}");
+            false
+        }
+    }
+}
+
+/// Runs the core to its end. Returns whether there was the memory.
+fn runs_a_core(rt: &(impl Abort + AllocGlobal)) -> bool {
+    let Ok(mut core) = core_of(rt, 5, &[10, 5, 7], &[12]) else {
+        return false;
+    };
+    let mut ample = true;
+    for event in EVENTS {
+        ample = happens(rt, &mut core, event) && ample;
+    }
+    assert_eq!(rt; core.output().len(), 4);
+    is_prefix(rt, &core, &[(5, A), (7, A), (10, A), (12, B)]);
     ample
 }
 
@@ -43,4 +132,14 @@ fn refusal_in_merging(rt: HostRuntime) {
 #[test]
 fn ample_for_merging(rt: HostRuntime) {
     assert!(rt; merges(&rt));
+}
+
+#[test]
+fn refusal_in_a_core(rt: HostRuntime) {
+    runs_a_core(&rt);
+}
+
+#[test]
+fn ample_for_a_core(rt: HostRuntime) {
+    assert!(rt; runs_a_core(&rt));
 }

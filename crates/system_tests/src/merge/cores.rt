@@ -10,7 +10,7 @@ use std::process::Abort;
 use std::test::Fail;
 
 /// Answers each frame by the last digits of its stamp.
-struct Digits;
+pub struct Digits;
 
 impl Work for Digits {
     ghost use Rattle.std.specs.Prelude.{◌%◌};
@@ -70,7 +70,7 @@ fn step(core: &mut Core, event: Event) -> Result<bool, AllocError> {
 }
 
 /// Compares the output with the order: stamp and network of each frame.
-fn is_prefix(rt: &impl Abort, core: &Core, order: &[(u64, Network)]) {
+pub fn is_prefix(rt: &impl Abort, core: &Core, order: &[(u64, Network)]) {
     assert!(rt; core.output().len() <= order.len());
     for (answered, (stamp, network)) in core.output().iter().zip(order) {
         let Key {

@@ -1,20 +1,20 @@
 //! Worked examples of merging, step by step.
 
-use crate::merge::{cut_into, fetch, stamps_of};
-use afdx_frame::Network::{A, B};
+use crate::merge::{cut_into, fetch, parts_of};
+use afdx_frame::Network::{self, A, B};
 use ordered_merge::Merger;
 use std::process::Abort;
 use std::test::Fail;
 
-/// Cuts, and compares the stamps of the round.
+/// Cuts, and compares the timestamp, the network and the number of each frame of the round.
 fn cuts(
     rt: &(impl Abort + AllocGlobal),
     merger: &mut Merger,
-    expected: &[u64],
+    expected: &[(u64, Network, u64)],
 ) -> Result<(), Fail> {
     let mut keys = Vec::new(rt.alloc());
     cut_into(merger, 256, &mut keys)?;
-    assert_eq!(rt; stamps_of(rt.alloc(), &keys)?.as_slice(), expected);
+    assert_eq!(rt; parts_of(rt.alloc(), &keys)?.as_slice(), expected);
     Ok(())
 }
 
@@ -26,16 +26,16 @@ fn four_frames_merged(rt: HostRuntime) -> Result<(), Fail> {
     cuts(&rt, &mut merger, &[])?;
     assert_eq!(rt; merger.wants(), Some(B));
     fetch(&rt, &mut merger, B, 0, 5);
-    cuts(&rt, &mut merger, &[1])?;
+    cuts(&rt, &mut merger, &[(1, A, 0)])?;
     assert_eq!(rt; merger.wants(), Some(A));
     fetch(&rt, &mut merger, A, 1, 9);
-    cuts(&rt, &mut merger, &[5])?;
+    cuts(&rt, &mut merger, &[(5, B, 0)])?;
     fetch(&rt, &mut merger, B, 1, 9);
-    cuts(&rt, &mut merger, &[9])?;
+    cuts(&rt, &mut merger, &[(9, A, 1)])?;
     assert_eq!(rt; merger.wants(), Some(A));
     merger.end(A);
     assert_eq!(rt; merger.wants(), Some(B));
-    cuts(&rt, &mut merger, &[9])?;
+    cuts(&rt, &mut merger, &[(9, B, 1)])?;
     merger.end(B);
     assert_eq!(rt; merger.wants(), None);
     Ok(())
@@ -47,13 +47,13 @@ fn late_frames_merged(rt: HostRuntime) -> Result<(), Fail> {
     fetch(&rt, &mut merger, A, 0, 10);
     fetch(&rt, &mut merger, A, 1, 5);
     fetch(&rt, &mut merger, B, 0, 12);
-    cuts(&rt, &mut merger, &[5])?;
+    cuts(&rt, &mut merger, &[(5, A, 1)])?;
     merger.end(A);
     cuts(&rt, &mut merger, &[])?;
     fetch(&rt, &mut merger, B, 1, 7);
-    cuts(&rt, &mut merger, &[7])?;
+    cuts(&rt, &mut merger, &[(7, B, 1)])?;
     merger.end(B);
-    cuts(&rt, &mut merger, &[10, 12])?;
+    cuts(&rt, &mut merger, &[(10, A, 0), (12, B, 0)])?;
     Ok(())
 }
 

@@ -1,10 +1,10 @@
-//! The first run's recording, truncated at every byte offset and with every byte changed to every
-//! other value, and read and written in pieces: the copy and the ending are those of the reference
-//! parser.
+//! The recordings of the first run and of tap A of the two-tap ledger, truncated at every byte offset and
+//! with every byte changed to every other value, and read and written in pieces: the copy and the ending
+//! are those of the reference parser.
 
 use crate::recording::copies::{WAYS, Way, copy, room, source};
 use crate::recording::reference::{End, slow_capture};
-use crate::support::{FIRST_RUN, ROOM};
+use crate::support::{FIRST_RUN, ROOM, TAP_A};
 use std::process::Abort;
 use std::test::Fail;
 
@@ -43,6 +43,7 @@ fn every_prefix(rt: HostRuntime) -> Result<(), Fail> {
             for len in 0..=176 {
                 for way in WAYS {
                     agrees(&rt, &FIRST_RUN[..len], keep, pieces, way)?;
+                    agrees(&rt, &TAP_A[..len], keep, pieces, way)?;
                 }
             }
         }
@@ -50,20 +51,31 @@ fn every_prefix(rt: HostRuntime) -> Result<(), Fail> {
     Ok(())
 }
 
+/// The recording with each byte changed to each other value.
+fn every_change(
+    rt: &(impl Abort + AllocGlobal),
+    recording: [u8; 176],
+    keep: u32,
+) -> Result<(), Fail> {
+    let mut bytes = recording;
+    for at in 0..176 {
+        let before = bytes[at];
+        for change in 1..=255u8 {
+            bytes[at] = before ^ change;
+            for way in WAYS {
+                agrees(rt, &bytes, keep, (usize::MAX, usize::MAX), way)?;
+            }
+        }
+        bytes[at] = before;
+    }
+    Ok(())
+}
+
 #[test]
 fn every_changed_byte(rt: HostRuntime) -> Result<(), Fail> {
-    let mut bytes = FIRST_RUN;
     for keep in KEEPS {
-        for at in 0..176 {
-            let before = bytes[at];
-            for change in 1..=255u8 {
-                bytes[at] = before ^ change;
-                for way in WAYS {
-                    agrees(&rt, &bytes, keep, (usize::MAX, usize::MAX), way)?;
-                }
-            }
-            bytes[at] = before;
-        }
+        every_change(&rt, FIRST_RUN, keep)?;
+        every_change(&rt, TAP_A, keep)?;
     }
     Ok(())
 }

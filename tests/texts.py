@@ -1,0 +1,147 @@
+"""What the program tells a person: the advice on each fault, the help of each command, and what a session begins with.
+
+These are the texts as they are meant to be, whole. The tests compare what the program prints with them.
+"""
+NOT_NUMERIC = "not the numeric form of a filter: 'tcpdump -y EN10MB -ddd EXPRESSION' prints it"
+NO_MEMORY = "the system has no memory left for it"
+NO_FILE = "the file can't be opened or read, or is longer than 16 MiB or not UTF-8"
+NO_RECORDING = "the recording can't be opened"
+NO_OUTPUT = "the file can't be created"
+UNREADABLE = "the recording can't be read: is it a file or a pipe?"
+FEW_INSTRUCTIONS = "a filter has at most 4096 instructions"
+# The first words of a fault line after `afdxmon: `, and the line that a terminal shows last.
+ADVICE = {
+    "file --config": NO_FILE,
+    "file --filter": NO_FILE,
+    "file --a": NO_RECORDING,
+    "file --b": NO_RECORDING,
+    "file --tap": NO_RECORDING,
+    "file --capture": NO_OUTPUT,
+    "file --ledger": NO_OUTPUT,
+    "file -": "standard input or output fails, or the text is longer than 16 MiB or not UTF-8",
+    "config 1": "not a TOML document",
+    "config 2": "a key is missing: docs/TABLE.md lists them",
+    "config 3": "a value has another type than its key's",
+    "config 4": "a value is out of its key's range: docs/TABLE.md has the ranges",
+    "config 5": "a key that the table doesn't have",
+    "config 6": "an earlier link has the identifier",
+    "config 7": "an earlier link has the name",
+    "config 8": "there are at most 4096 links, and at most 7 filters in a table",
+    "asm 1 Text 1": "no token begins with this byte",
+    "asm 1 Text 2": "not a number, or too large: 0x1f, 0b11, 017 and 31 are numbers",
+    "asm 1 Text 3": "the statement doesn't go on like this",
+    "asm 1 Text 4": "a word of the language can't be a label",
+    "asm 2": "there is no statement",
+    "asm 3": FEW_INSTRUCTIONS,
+    "asm 4": "an earlier statement has the same label",
+    "asm 5": "no statement has the label that the jump names",
+    "asm 6": "a jump only goes forward, to a later statement",
+    "asm 7": "a conditional jump skips at most 255 statements: use ja on the way",
+    "asm 8": NO_MEMORY,
+    "debug 4": NO_MEMORY,
+    "numeric 1": NOT_NUMERIC,
+    "numeric 2": NOT_NUMERIC,
+    "numeric 3": NOT_NUMERIC,
+    "numeric 4": "the first number says how many instructions follow, and another number of them does",
+    "numeric 5": FEW_INSTRUCTIONS,
+    "load 1": "a filter has 1 to 4096 instructions",
+    "load 2": "not one of the 49 instructions of classic BPF, of Linux's extensions only 'len'",
+    "load 3": "a division by the constant 0",
+    "load 4": "a shift by 32 bits or more",
+    "load 5": "scratch memory has the slots M[0] to M[15]",
+    "load 6": "an offset is at most 2147483647: there are no negative offsets",
+    "load 7": "a jump leads past the last instruction",
+    "load 8": "the last instruction must be a return",
+    "load 9": "a scratch memory slot is read that some path to the instruction hasn't stored",
+    "watch 1": "there are 1 to 8 workers",
+    "watch 2 Header A 1": "not a pcap file: it has fewer than the 24 bytes of a file header",
+    "watch 2 Header A 2": "not a pcap file; if pcapng: editcap -F nsecpcap in.pcapng out.pcap; if compressed: gunzip",
+    "watch 2 Header A 3": "a pcap file of another version than 2.4",
+    "watch 2 Header B 4": "a pcap file of another link type than 1, Ethernet",
+    "watch 3 Read A": UNREADABLE,
+    "watch 3 Read B": UNREADABLE,
+    "watch 4 Write capture": "the capture can't be written: is the disk full, or the pipe closed?",
+    "watch 4 Write ledger": "the ledger can't be written: is the disk full, or the pipe closed?",
+    "watch 5": "the system starts no more threads",
+    "watch 7": NO_MEMORY,
+}
+
+
+def advice_on(line):
+    """The advice on a fault line without `afdxmon: `."""
+    words = line.split()
+    known = [" ".join(words[:count]) for count in range(len(words), 0, -1) if " ".join(words[:count]) in ADVICE]
+    return ADVICE[known[0]]
+
+
+ABOUT = {
+    "capture": "Copies the frames that a filter accepts, from standard input to standard output",
+    "asm": "Assembles a filter's source from standard input, and prints its numeric form",
+    "watch": "Judges the frames of two recordings, and writes those that a filter accepts",
+    "debug": "Steps through a filter on the frames of a recording, by commands from standard input",
+}
+# What each command's help says after the line of what it does.
+HELP = {
+    "capture": r"""
+Usage: afdxmon capture --code <FILTER>
+
+Options:
+      --code <FILTER>  The filter in the numeric form, as `tcpdump -ddd` prints it
+  -h, --help           Print help
+
+Example: keep the frames of virtual link 5
+  afdxmon capture --code "$(tcpdump -y EN10MB -ddd 'ether[4:2] = 5')" < recording.pcap > link5.pcap
+""",
+    "asm": r"""
+Usage: afdxmon asm
+
+Options:
+  -h, --help  Print help
+
+Example: keep the frames of virtual link 5
+  printf 'ldh [4]\njne #5, drop\nret #-1\ndrop: ret #0\n' | afdxmon asm
+""",
+    "watch": r"""
+Usage: afdxmon watch [OPTIONS] --config <FILE> --filter <FILE> --a <FILE> --b <FILE> --capture <FILE> --ledger <FILE>
+
+Options:
+      --config <FILE>   The table of virtual links, a TOML document
+      --filter <FILE>   The filter in the numeric form, as `afdxmon asm` prints it
+      --a <FILE>        The recording of network A, a pcap file
+      --b <FILE>        The recording of network B, a pcap file
+      --capture <FILE>  The capture to write, a nanosecond pcap file
+      --ledger <FILE>   The ledger of verdicts to write
+      --workers <N>     The number of workers, 1 to 8 [default: 2]
+  -h, --help            Print help
+
+Example: keep the frames that examples/flight.filter accepts, and judge them all
+  afdxmon watch --config flight.toml --filter flight.filter --a a.pcap --b b.pcap \
+    --capture kept.pcap --ledger verdicts.ledger
+""",
+    "debug": r"""
+Usage: afdxmon debug --filter <FILE> --tap <FILE>
+
+Options:
+      --filter <FILE>  The filter in the numeric form, as `afdxmon asm` prints it
+      --tap <FILE>     The recording, a pcap file
+  -h, --help           Print help
+
+Commands: select <n>, step [+|-]<n>, cont, breakpoint <n>, disassemble, tally, quit
+
+Example: the state before the filter's first three instructions on frame 0
+  printf 'select 0\nstep 1\nstep 1\n' | afdxmon debug --filter flight.filter --tap a.pcap
+""",
+}
+PROGRAM_HELP = (
+    "Analyses recordings of AFDX networks (ARINC 664 Part 7)\n\nUsage: afdxmon <COMMAND>\n\nCommands:\n"
+    + "".join(f"  {name:7}  {about}\n" for name, about in ABOUT.items())
+    + "  help     Print this message or the help of the given subcommand(s)\n\n"
+    + "Options:\n  -h, --help     Print help\n  -V, --version  Print version\n"
+)
+VERSION = "afdxmon 0.1.0\n"
+# What a session at a terminal begins with.
+COMMANDS = "commands: select N, step [+|-]N, cont, breakpoint N, disassemble, tally, quit"
+
+
+def help_of(command):
+    return ABOUT[command] + "\n" + HELP[command]
