@@ -1,3 +1,4 @@
 pub mod Lists
 pub mod Recording
+pub mod Results
 pub mod Written

@@ -1,3 +1,4 @@
 pub mod Device
 pub mod Fault
+pub mod Opening
 pub mod Recording

@@ -24,24 +24,28 @@ use Rattle.tap_queue.specs.declared.end.TapEnd.{TapEnd}
 use Rattle.tap_queue.specs.declared.item.TapItem.TheVariants as items
 use Rattle.vl_config.specs.Document.{VlTable}
 use Rattle.run_outcome.specs.Recording.{IsRecording, LeavesUnread}
-use Rattle.watch_run.specs.Filters.{capture_by}
-use Rattle.watch_run.specs.Outputs.{SinkFails, StopsWriting, effect_of}
-use Rattle.watch_run.specs.Rings.{AreFirst, EndsWith, RingsFault, StopsTaking, TakesOn, TapFault}
-use Rattle.watch_run.specs.Running.{AbortsBegun, AbortsRunning, FailsAmong, HasWholeRounds, IsReadOut, IsRunningFault, IsSettled, IsStarted, LosesRing, MayFail, StopsRunning}
-use Rattle.watch_run.specs.Taps.{HasRead, ReadsPart}
+use Rattle.round_output.specs.Filters.{capture_by}
+use Rattle.round_output.specs.Outputs.{SinkFails, StopsWriting, effect_of}
+use Rattle.tap_merge.specs.Rings.{AreFirst, EndsWith, RingsFault, StopsTaking, TakesOn, TapFault}
+use Rattle.watch_run.specs.Running.{AbortsBegun, AbortsRunning, FailsAmong, HasWholeRounds, IsReadOut, IsRunningFault, LosesRing, StopsRunning}
+use Rattle.tap_merge.specs.Threads.{IsSettled, IsStarted}
+use Rattle.run_outcome.specs.Fault.{MayFail}
+use Rattle.tap_merge.specs.Taps.{HasRead, ReadsPart}
 use Rattle.run_outcome.specs.Device.{SourceMembers, AppendsSome, SinkView, SourceView, source_at}
 use Rattle.run_outcome.specs.Recording.{IsReadPart, most_frames}
-use Rattle.watch_run.specs.Watch.{HasWholes, StopsRun, WatchDevices, lines_by, watch_devices}
+use Rattle.watch_run.specs.Watch.{HasWholes, StopsRun}
+use Rattle.run_outcome.specs.Opening.{WatchDevices, watch_devices}
+use Rattle.round_output.specs.Filters.{lines_by}
 use Rattle.run_outcome.specs.declared.fault.Output.TheVariants as output
 use Rattle.run_outcome.specs.declared.fault.WatchFault.{WatchFault}
 use Rattle.run_outcome.specs.declared.fault.WatchFault.TheVariants as watch
-use Rattle.watch_run.proofs.FedTaps.{IsOut, IsTapRun, tap_run}
+use Rattle.tap_merge.proofs.FedTaps.{IsOut, IsTapRun, tap_run}
 use Rattle.watch_run.proofs.Returned.{whole_given}
-use Rattle.watch_run.proofs.RingItems.{ends_on, stops_on}
-use Rattle.watch_run.proofs.TwoTaps.{high_after, in_time}
+use Rattle.tap_merge.proofs.RingItems.{ends_on, stops_on}
+use Rattle.tap_merge.proofs.TwoTaps.{high_after, in_time}
 use Rattle.watch_run.proofs.Watching.{first_of_all, wholes_before}
 use Rattle.watch_run.proofs.WholeOrder.{IsFirst, goes_on, recorded}
-use Rattle.watch_run.proofs.Writing.{capture_all, capture_longer, lines_all, lines_longer}
+use Rattle.round_output.proofs.Writing.{capture_all, capture_longer, lines_all, lines_longer}
 
 -- ---- a tap whose ring is settled
 

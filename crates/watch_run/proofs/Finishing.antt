@@ -14,19 +14,21 @@ use Rattle.tap_queue.specs.declared.item.TapItem.TheVariants as items
 use Rattle.verdict_ledger.specs.Ledger.{sink_of as ledger_sink}
 use Rattle.verdict_ledger.specs.declared.totals.Totals.{Totals}
 use Rattle.vl_config.specs.Document.{VlTable}
-use Rattle.watch_run.specs.Outputs.{IsFinished, StopsFinishing}
-use Rattle.watch_run.specs.Rings.{EndsWith, HasEnding, HasTaken}
+use Rattle.round_output.specs.Outputs.{IsFinished, StopsFinishing}
+use Rattle.tap_merge.specs.Rings.{EndsWith, HasEnding, HasTaken}
 use Rattle.watch_run.specs.Running.{AbortsBegun, FailsAmong, IsRunning, IsRunningFault, StopsRunning}
 use Rattle.run_outcome.specs.Device.{SinkMembers, SinkView, SourceView, sink_at}
-use Rattle.watch_run.specs.Watch.{FailsOnly, IsNumber, IsRunFault, IsWatched, WatchDevices, watch_devices}
+use Rattle.run_outcome.specs.Opening.{FailsOnly, WatchDevices, watch_devices}
+use Rattle.watch_run.specs.Watch.{IsRunFault, IsWatched}
+use Rattle.round_output.specs.Round.{IsFilterCount}
 use Rattle.run_outcome.specs.declared.fault.Output.TheVariants as output
 use Rattle.run_outcome.specs.declared.fault.WatchFault.{WatchFault}
 use Rattle.run_outcome.specs.declared.fault.WatchFault.TheVariants as watch
-use Rattle.watch_run.specs.declared.outputs.Outputs.{Outputs}
-use Rattle.watch_run.specs.declared.rings.Rings.{Rings}
+use Rattle.round_output.specs.declared.outputs.Outputs.{Outputs}
+use Rattle.tap_merge.specs.declared.rings.Rings.{Rings}
 use Rattle.watch_run.proofs.Aborting.{IsTapSettled}
 use Rattle.watch_run.proofs.Returned.{Returned, StopsAtEnd, stopped_at_the_end, watched}
-use Rattle.watch_run.proofs.RingItems.{stops_with, takes_none}
+use Rattle.tap_merge.proofs.RingItems.{stops_with, takes_none}
 
 -- ---- clauses of one result together
 
@@ -55,7 +57,7 @@ settled_return late before after rings settled_a settled_b = record {
 pub finishes : (ps : List (List Packed)) (vl_table : VlTable) (before after : WatchDevices) (rings : Rings) (cut : List Frame) (end_a end_b : Ending) (totals : Totals) →
     IsTapSettled A vl_table.late before.a rings.a after.a → IsTapSettled B vl_table.late before.b rings.b after.b → HasTaken vl_table.late cut rings →
     rings.end_a ≡ Some end_a → rings.end_b ≡ Some end_b → rings.merger.pending ≡ [] →
-    IsFinished ps vl_table before.capture before.ledger after.capture after.ledger cut end_a end_b totals → IsNumber (length ps) →
+    IsFinished ps vl_table before.capture before.ledger after.capture after.ledger cut end_a end_b totals → IsFilterCount (length ps) →
     IsWatched ps vl_table (end_a ∷ end_b ∷ []) totals before after
 finishes ps vl_table before after rings cut end_a end_b totals settled_a settled_b h is_a is_b none f number =
     watched ps vl_table before after (frames_in (taken_items rings.a)) (frames_in (taken_items rings.b)) cut end_a end_b totals rings.merger settled_a.reading settled_b.reading

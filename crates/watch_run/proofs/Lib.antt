@@ -1,14 +1,8 @@
 pub mod Aborting
-pub mod FedTaps
 pub mod Finishing
 pub mod Returned
-pub mod RingItems
-pub mod Rounds
 pub mod RoundsTaken
 pub mod SameBytes
-pub mod Sharing
 pub mod Starting
-pub mod TwoTaps
 pub mod Watching
 pub mod WholeOrder
-pub mod Writing

@@ -15,18 +15,21 @@ use Rattle.pcap_io.specs.declared.recording.Ending.{Ending}
 use Rattle.verdict_ledger.specs.declared.totals.Totals.{Totals}
 use Rattle.vl_config.specs.Document.{VlTable}
 use Rattle.run_outcome.specs.Recording.{IsRecording, LeavesUnread}
-use Rattle.watch_run.specs.Outputs.{IsFinished, SinkFails, StopsFinishing}
+use Rattle.round_output.specs.Outputs.{IsFinished, SinkFails, StopsFinishing}
 use Rattle.watch_run.specs.Run.{StopsWatching, reading_view}
-use Rattle.watch_run.specs.Taps.{HasRead, ReadsPart}
-use Rattle.watch_run.specs.Filters.{capture_by}
+use Rattle.tap_merge.specs.Taps.{HasRead, ReadsPart}
+use Rattle.round_output.specs.Filters.{capture_by}
 use Rattle.run_outcome.specs.Device.{AppendsSome, SourceView}
 use Rattle.run_outcome.specs.Recording.{IsReadPart, IsReadWhole}
-use Rattle.watch_run.specs.Watch.{AbortsRun, FailsOnly, HasFirstOfAll, ledger_by, HasLines, IsRunFault, StopsRun, IsNumber, IsWatched, WatchDevices, watch_devices}
+use Rattle.watch_run.specs.Watch.{AbortsRun, HasFirstOfAll, HasLines, IsRunFault, StopsRun, IsWatched}
+use Rattle.run_outcome.specs.Opening.{FailsOnly, WatchDevices, watch_devices}
+use Rattle.round_output.specs.Filters.{ledger_by}
+use Rattle.round_output.specs.Round.{IsFilterCount}
 use Rattle.run_outcome.specs.declared.fault.Output.TheVariants as output
 use Rattle.run_outcome.specs.declared.fault.WatchFault.{WatchFault}
 use Rattle.run_outcome.specs.declared.fault.WatchFault.TheVariants as watch
-use Rattle.watch_run.proofs.TwoTaps.{part_of}
-use Rattle.watch_run.proofs.Writing.{capture_all}
+use Rattle.tap_merge.proofs.TwoTaps.{part_of}
+use Rattle.round_output.proofs.Writing.{capture_all}
 use Rattle.run_outcome.proofs.Recording.{complete}
 use Rattle.watch_run.proofs.WholeOrder.{goes_on}
 
@@ -83,26 +86,6 @@ fails_given watch.Spawn before mid after (a, b, c, l) sa sb sc sl = (sa ∙ a, s
 fails_given watch.RingLost before mid after (a, b, c, l) sa sb sc sl = (sa ∙ a, sb ∙ b, sc ∙ c, sl ∙ l)
 fails_given watch.Filters before mid after (a, b, c, l) sa sb sc sl = (sa ∙ a, sb ∙ b, sc ∙ c, sl ∙ l)
 
--- ---- both sources came back
-
-pub with_both : {X Y : Type 0} (a : Option X) (b : Option Y) (P Q : X → Y → Type 0) → ((x : X) (y : Y) → P x y → Q x y) → IfSome a (λ x. IfSome b (λ y. P x y)) →
-    IfSome a (λ x. IfSome b (λ y. Q x y))
-with_both None b P Q f h = tt
-with_both (Some x) None P Q f h = tt
-with_both (Some x) (Some y) P Q f h = f x y h
-
-pub with_ok : {X E : Type 0} (r : Result X E) (P Q : X → Type 0) → ((x : X) → P x → Q x) → IfOk r P → IfOk r Q
-with_ok (Ok x) P Q f h = f x h
-with_ok (Err e) P Q f h = tt
-
-pub with_on_ok : {X E : Type 0} (r : Result X E) (P Q : Type 0) → (P → Q) → OnOk r P → OnOk r Q
-with_on_ok (Ok x) P Q f h = f h
-with_on_ok (Err e) P Q f h = tt
-
-pub with_err : {X E : Type 0} (r : Result X E) (P Q : E → Type 0) → ((e : E) → P e → Q e) → IfErr r P → IfErr r Q
-with_err (Ok x) P Q f h = tt
-with_err (Err e) P Q f h = f e h
-
 -- ---- the whole run
 
 -- the devices were given back after readers and sinks stood so
@@ -134,7 +117,7 @@ aborted fault ps vl_table before after a b unread_a unread_b r s = (
 pub watched : (ps : List (List Packed)) (vl_table : VlTable) (before after : WatchDevices) (fa fb cut : List Frame) (end_a end_b : Ending) (totals : Totals)
     (m : MergerState) (a b : Reading) (unread_a unread_b : List ℕ) → Returned a b unread_a unread_b after →
     HasRead networks.A vl_table.late before.a fa (Some end_a) a → HasRead networks.B vl_table.late before.b fb (Some end_b) b → Follows m fa fb cut → m.pending ≡ [] →
-    IsFinished ps vl_table before.capture before.ledger after.capture after.ledger cut end_a end_b totals → IsNumber (length ps) →
+    IsFinished ps vl_table before.capture before.ledger after.capture after.ledger cut end_a end_b totals → IsFilterCount (length ps) →
     IsWatched ps vl_table (end_a ∷ end_b ∷ []) totals before after
 watched ps vl_table before after fa fb cut end_a end_b totals m a b unread_a unread_b r read_a read_b follows none f number = record {
   filters = number;

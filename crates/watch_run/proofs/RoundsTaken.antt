@@ -7,8 +7,8 @@ use Rattle.afdx_frame.specs.Frame.{Frame}
 use Rattle.tap_queue.specs.Items.{frames_in}
 use Rattle.tap_queue.specs.Ring.{taken_items}
 use Rattle.vl_judge.specs.Lanes.{FollowsOn, last_key}
-use Rattle.watch_run.specs.Rings.{HasTaken}
-use Rattle.watch_run.specs.declared.rings.Rings.{Rings}
+use Rattle.tap_merge.specs.Rings.{HasTaken}
+use Rattle.tap_merge.specs.declared.rings.Rings.{Rings}
 use Rattle.watch_run.proofs.Watching.{round_follows}
 
 -- the round that was cut

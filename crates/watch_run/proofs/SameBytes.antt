@@ -13,9 +13,9 @@ use Rattle.ordered_merge.proofs.Following.{one_order}
 use Rattle.ordered_merge.specs.Order.{IsOrder}
 use Rattle.run_outcome.specs.Recording.{IsRecording, most_frames}
 use Rattle.verdict_ledger.specs.Tally.{totals_of}
-use Rattle.watch_run.specs.Filters.{capture_by, entries_by}
+use Rattle.round_output.specs.Filters.{capture_by, entries_by}
 use Rattle.watch_run.specs.Laws.{SameBytesInSameBytesOut}
-use Rattle.watch_run.specs.Watch.{ledger_by}
+use Rattle.round_output.specs.Filters.{ledger_by}
 use Rattle.afdx_frame.specs.declared.key.Network.TheVariants.{A, B}
 
 -- bytes are a recording in one way

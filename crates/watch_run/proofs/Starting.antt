@@ -21,18 +21,19 @@ use Rattle.tap_queue.specs.declared.item.TapItem.{TapItem}
 use Rattle.tap_queue.specs.declared.ring.TapPut.{TapPut}
 use Rattle.verdict_ledger.specs.Ledger.{has_failed as ledger_has_failed, sink_of as ledger_sink}
 use Rattle.vl_config.specs.Document.{VlTable}
-use Rattle.watch_run.specs.Outputs.{HasWritten}
+use Rattle.round_output.specs.Outputs.{HasWritten}
 use Rattle.watch_run.specs.Ready.{AreTwoRings, IsReady, ready_of}
-use Rattle.watch_run.specs.Rings.{HasEnding}
-use Rattle.watch_run.specs.Taps.{Agree, Agrees, Fits, HasMerged, HasRead}
-use Rattle.watch_run.specs.declared.taps.Taps.{Taps}
-use Rattle.watch_run.specs.Running.{AbortsBegun, HasWholeRounds, IsRunning, IsSettled, IsStarted, StopsRunning}
+use Rattle.tap_merge.specs.Rings.{HasEnding}
+use Rattle.tap_merge.specs.Taps.{Agree, Agrees, Fits, HasMerged, HasRead}
+use Rattle.tap_merge.specs.declared.taps.Taps.{Taps}
+use Rattle.watch_run.specs.Running.{AbortsBegun, HasWholeRounds, IsRunning, StopsRunning}
+use Rattle.tap_merge.specs.Threads.{IsSettled, IsStarted}
 use Rattle.run_outcome.specs.Device.{SourceMembers, SinkMembers, SinkView, SourceView, sink_at, source_at}
 use Rattle.run_outcome.specs.Recording.{WasOpened, most_frames}
-use Rattle.watch_run.specs.Watch.{WatchDevices}
+use Rattle.run_outcome.specs.Opening.{WatchDevices}
 use Rattle.run_outcome.specs.declared.fault.WatchFault.TheVariants as watch
-use Rattle.watch_run.specs.declared.outputs.Outputs.{Outputs}
-use Rattle.watch_run.specs.declared.rings.Rings.{Rings}
+use Rattle.round_output.specs.declared.outputs.Outputs.{Outputs}
+use Rattle.tap_merge.specs.declared.rings.Rings.{Rings}
 use Rattle.watch_run.specs.declared.threads.Ready.{Ready}
 use Rattle.watch_run.proofs.Aborting.{begun_loses, may_fail_back, part_back, settled_of}
 

@@ -21,22 +21,24 @@ use Rattle.verdict_ledger.specs.Tally.{totals_of}
 use Rattle.verdict_ledger.specs.declared.totals.Totals.{Totals}
 use Rattle.vl_config.specs.Document.{VlTable}
 use Rattle.vl_judge.specs.Lanes.{last_key}
-use Rattle.watch_run.specs.Filters.{capture_by, entries_by}
-use Rattle.watch_run.specs.Outputs.{HasWritten, SinkFails, StopsWriting}
+use Rattle.round_output.specs.Filters.{capture_by, entries_by}
+use Rattle.round_output.specs.Outputs.{HasWritten, SinkFails, StopsWriting}
 use Rattle.vl_judge.specs.Lanes.{FollowsOn}
 use Rattle.watch_run.specs.Run.{IsWatching, StopsWatching}
-use Rattle.watch_run.specs.declared.taps.Taps.{Taps}
-use Rattle.watch_run.specs.declared.outputs.Outputs.{Outputs}
-use Rattle.watch_run.specs.Taps.{Agree, HasMerged, ReadsPart, SourceFails, StopsMerging}
+use Rattle.tap_merge.specs.declared.taps.Taps.{Taps}
+use Rattle.round_output.specs.declared.outputs.Outputs.{Outputs}
+use Rattle.tap_merge.specs.Taps.{Agree, HasMerged, ReadsPart, SourceFails, StopsMerging}
 use Rattle.run_outcome.specs.Device.{SourceMembers, SinkMembers, AppendsSome, SinkView, SourceView}
 use Rattle.run_outcome.specs.Recording.{HasReadTap, most_frames}
-use Rattle.watch_run.specs.Watch.{HasFirstOfAll, WatchDevices, ledger_by, lines_by}
+use Rattle.watch_run.specs.Watch.{HasFirstOfAll}
+use Rattle.run_outcome.specs.Opening.{WatchDevices}
+use Rattle.round_output.specs.Filters.{ledger_by, lines_by}
 use Rattle.run_outcome.specs.declared.fault.Output.TheVariants as output
 use Rattle.run_outcome.specs.declared.fault.WatchFault.{WatchFault}
 use Rattle.run_outcome.specs.declared.fault.WatchFault.TheVariants as watch
 use Rattle.watch_run.proofs.WholeOrder.{IsFirst}
 use Rattle.verdict_ledger.specs.Text.{ledger_head, lines_text, rest_text}
-use Rattle.watch_run.proofs.Writing.{capture_all, lines_all, some_longer, capture_longer, capture_some, entries_length, lines_longer, lines_some}
+use Rattle.round_output.proofs.Writing.{capture_all, lines_all, some_longer, capture_longer, capture_some, entries_length, lines_longer, lines_some}
 
 -- ---- the number of filters
 

@@ -20,11 +20,11 @@ use Rattle.pcap_io.specs.declared.position.Position.{Position}
 use Rattle.pcap_io.specs.declared.recording.Ending.{Ending}
 use Rattle.pcap_io.proofs.Parse.{one_holds, reads_prefix}
 use Rattle.run_outcome.specs.Recording.{IsRecording}
-use Rattle.watch_run.specs.Taps.{Agree, Agrees, HasMerged, HasRead}
+use Rattle.tap_merge.specs.Taps.{Agree, Agrees, HasMerged, HasRead}
 use Rattle.run_outcome.specs.Device.{SourceMembers, SourceView}
 use Rattle.run_outcome.specs.Recording.{most_frames}
-use Rattle.watch_run.specs.declared.taps.Taps.{Taps}
-use Rattle.watch_run.proofs.TwoTaps.{high_after, in_time, is_ended}
+use Rattle.tap_merge.specs.declared.taps.Taps.{Taps}
+use Rattle.tap_merge.proofs.TwoTaps.{high_after, in_time, is_ended}
 use Rattle.run_outcome.proofs.Recording.{complete}
 
 -- ---- a recording's frames are those of a tap

@@ -4,7 +4,8 @@ use Rattle.bpf_isa.specs.declared.packed.Packed.{Packed}
 use Rattle.pcap_io.specs.declared.recording.Ending.{Ending}
 use Rattle.verdict_ledger.specs.declared.totals.Totals.{Totals}
 use Rattle.vl_config.specs.Document.{VlTable}
-use Rattle.watch_run.specs.Watch.{IsWatched, WatchDevices}
+use Rattle.watch_run.specs.Watch.{IsWatched}
+use Rattle.run_outcome.specs.Opening.{WatchDevices}
 
 -- Two sets of devices expose the same bytes: both recordings, and what the outputs held.
 pub record HoldSameBytes (one other : WatchDevices) : Type 0 where

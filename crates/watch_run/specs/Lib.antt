@@ -1,10 +1,5 @@
-pub mod Filters
 pub mod Laws
-pub mod Outputs
 pub mod Ready
-pub mod Rings
-pub mod Round
 pub mod Run
 pub mod Running
-pub mod Taps
 pub mod Watch

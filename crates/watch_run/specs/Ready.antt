@@ -10,14 +10,17 @@ use Rattle.tap_queue.specs.declared.end.TapEnd.{TapEnd}
 use Rattle.tap_queue.specs.declared.ring.TapPut.{TapPut}
 use Rattle.verdict_ledger.specs.Ledger.{has_failed as ledger_has_failed}
 use Rattle.vl_config.specs.Document.{VlTable}
-use Rattle.watch_run.specs.Outputs.{HasWritten}
-use Rattle.watch_run.specs.Rings.{HasTaken}
-use Rattle.watch_run.specs.Running.{AbortsBegun, IsStarted}
+use Rattle.round_output.specs.Outputs.{HasWritten}
+use Rattle.tap_merge.specs.Rings.{HasTaken}
+use Rattle.watch_run.specs.Running.{AbortsBegun}
+use Rattle.tap_merge.specs.Threads.{IsStarted}
 use Rattle.run_outcome.specs.Device.{SourceMembers, SinkMembers, sink_at, source_at}
-use Rattle.watch_run.specs.Watch.{IsNumber, IsWatched, WatchDevices, devices_at}
+use Rattle.round_output.specs.Round.{IsFilterCount}
+use Rattle.watch_run.specs.Watch.{IsWatched}
+use Rattle.run_outcome.specs.Opening.{WatchDevices, devices_at}
 use Rattle.run_outcome.specs.declared.refused.WatchRefused.{WatchRefused}
-use Rattle.watch_run.specs.declared.outputs.Outputs.{Outputs}
-use Rattle.watch_run.specs.declared.taps.Taps.{Taps}
+use Rattle.round_output.specs.declared.outputs.Outputs.{Outputs}
+use Rattle.tap_merge.specs.declared.taps.Taps.{Taps}
 use Rattle.watch_run.specs.declared.threads.Ready.{Ready}
 use Rattle.watch_run.specs.declared.one_thread.Watched.{Watched}
 
@@ -45,7 +48,7 @@ abbrev pub Runs : {S T W L : Type 0} → SourceMembers S → SourceMembers T
     → SinkMembers W → SinkMembers L
     → List (List Packed) → Ready S T W L → Result (Watched S T W L) (WatchRefused S T W L) → Type 0
 Runs s t w l ps ready result =
-    (vl_table : VlTable) (before : WatchDevices) → IsNumber (length ps)
+    (vl_table : VlTable) (before : WatchDevices) → IsFilterCount (length ps)
     → IsReady s t w l ps vl_table before ready
     → MatchResult result
     (λ done. IsWatched ps vl_table done.endings done.totals before

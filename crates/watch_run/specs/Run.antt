@@ -8,14 +8,15 @@ use Rattle.pcap_io.specs.Position.{Reading}
 use Rattle.pcap_io.specs.Writer.{has_failed}
 use Rattle.verdict_ledger.specs.Ledger.{has_failed as ledger_has_failed}
 use Rattle.vl_config.specs.Document.{VlTable}
-use Rattle.watch_run.specs.Filters.{capture_by}
-use Rattle.watch_run.specs.Outputs.{HasWritten}
-use Rattle.watch_run.specs.Taps.{Agree, HasMerged, ReadsPart}
+use Rattle.round_output.specs.Filters.{capture_by}
+use Rattle.round_output.specs.Outputs.{HasWritten}
+use Rattle.tap_merge.specs.Taps.{Agree, HasMerged, ReadsPart}
 use Rattle.run_outcome.specs.Device.{SourceMembers, SinkMembers, AppendsSome, SinkView, SourceView}
-use Rattle.watch_run.specs.Watch.{FailsOnly, HasFirstOfAll, HasLines, HasWholes, IsRunFault, WatchDevices, watch_devices}
+use Rattle.run_outcome.specs.Opening.{FailsOnly, WatchDevices, watch_devices}
+use Rattle.watch_run.specs.Watch.{HasFirstOfAll, HasLines, HasWholes, IsRunFault}
 use Rattle.run_outcome.specs.declared.fault.WatchFault.{WatchFault}
-use Rattle.watch_run.specs.declared.outputs.Outputs.{Outputs}
-use Rattle.watch_run.specs.declared.taps.Taps.{Taps}
+use Rattle.round_output.specs.declared.outputs.Outputs.{Outputs}
+use Rattle.tap_merge.specs.declared.taps.Taps.{Taps}
 
 -- These frames were read, and those that were cut, the first in order, were judged, filtered and written.
 pub record IsWatching {S T W L : Type 0} (s : SourceMembers S) (t : SourceMembers T)

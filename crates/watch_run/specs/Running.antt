@@ -23,40 +23,21 @@ use Rattle.tap_queue.specs.declared.ring.TapPut.{TapPut}
 use Rattle.run_outcome.specs.Recording.{LeavesUnread}
 use Rattle.verdict_ledger.specs.Ledger.{has_failed as ledger_has_failed}
 use Rattle.vl_config.specs.Document.{VlTable}
-use Rattle.watch_run.specs.Filters.{capture_by}
-use Rattle.watch_run.specs.Outputs.{HasWritten, StopsWriting, effect_of}
-use Rattle.watch_run.specs.Rings.{HasTaken, RingsFault, StopsTaking}
-use Rattle.watch_run.specs.Taps.{HasRead}
+use Rattle.round_output.specs.Filters.{capture_by}
+use Rattle.round_output.specs.Outputs.{HasWritten, StopsWriting, effect_of}
+use Rattle.tap_merge.specs.Rings.{HasTaken, RingsFault, StopsTaking}
+use Rattle.tap_merge.specs.Taps.{HasRead}
 use Rattle.run_outcome.specs.Device.{SourceMembers, SinkMembers, AppendsSome, SinkView, SourceView}
 use Rattle.run_outcome.specs.Recording.{HasReadTap, IsReadPart, IsReadWhole, WasOpened, most_frames}
-use Rattle.watch_run.specs.Watch.{CaptureSink, Fails, LedgerSink, SourceA, SourceB, names, AbortsAtOpening, AbortsRun, IsNumber, StopsRun, WatchDevices, lines_by, watch_devices}
+use Rattle.run_outcome.specs.Fault.{CaptureSink, Fails, LedgerSink, SourceA, SourceB, names}
+use Rattle.run_outcome.specs.Opening.{AbortsAtOpening, WatchDevices, watch_devices}
+use Rattle.watch_run.specs.Watch.{AbortsRun, StopsRun}
+use Rattle.round_output.specs.Round.{IsFilterCount, IsWorkerCount}
+use Rattle.round_output.specs.Filters.{lines_by}
 use Rattle.run_outcome.specs.declared.fault.WatchFault.{WatchFault}
 use Rattle.run_outcome.specs.declared.fault.WatchFault.TheVariants as watch
-use Rattle.watch_run.specs.declared.outputs.Outputs.{Outputs}
-use Rattle.watch_run.specs.declared.rings.Rings.{Rings}
-
--- ---- a tap's thread
-
--- a reader that was opened and has read nothing more
-pub record IsStarted (network : Network) (late : ℕ) (before : SourceView) (reading : Reading) : Type 0 where
-  pub read : HasRead network late before [] None reading
-  pub going : reading.position.stage ≡ Going
-  pub most : reading.position.most ≡ most_frames
-
--- what the thread of a tap hands back: the reader's items were put into the ring
-abbrev pub IsReadInto : {S : Type 0} → SourceMembers S → TapReader S → TapPut → Fed S → Type 0
-IsReadInto s reader put fed =
-    SamePut put (put_of fed) × IsFed (reading_of s.remaining s.failures reader) (put_items (put_of fed)) (reading_of s.remaining s.failures (reader_of fed))
-
--- All items of a reader, up to an ending or a fault, were taken from the ring, and its source came back.
-pub record IsSettled {S : Type 0} (s : SourceMembers S) (reader : TapReader S) (end : TapEnd) (source : S) : Type 0 where
-  pub reading : Reading
-  pub ahead : List ℕ
-  pub gives : Gives (reading_of s.remaining s.failures reader) (taken_items end) reading
-  pub over : is_over (taken_items end) ≡ true
-  pub sound : has_lost end ≡ false
-  pub leaves : LeavesUnread ahead reading.remaining (s.remaining source)
-  pub same_failures : s.failures source ≡ reading.failures
+use Rattle.round_output.specs.declared.outputs.Outputs.{Outputs}
+use Rattle.tap_merge.specs.declared.rings.Rings.{Rings}
 
 -- ---- between the start of the threads and their end
 
@@ -84,10 +65,6 @@ pub record StopsRunning (fault : WatchFault) (ps : List (List Packed)) (vl_table
       ⊎ StopsWriting (effect_of fault) ps vl_table capture ledger capture' ledger' cut
 
 -- ---- what is left of an aborted run
-
--- a device failed once more, or not
-abbrev pub MayFail : ℕ → ℕ → Type 0
-MayFail old new = (new ≡ old) ⊎ CountsFailure old new
 
 -- a source that is named failed once, and another may have
 abbrev pub MayFailWhere : Bool → ℕ → ℕ → Type 0
@@ -176,7 +153,7 @@ IsNotBegun ps vl_table fault before after =
 -- Why a run was aborted, and what it leaves. What is looked at first: the number of workers, that of filters, the recordings, A first.
 abbrev pub IsRunningAborted : ℕ → List (List Packed) → VlTable → WatchFault → WatchDevices → Option SourceView → Option SourceView → SinkView → SinkView → Type 0
 IsRunningAborted workers ps vl_table fault before a b capture ledger =
-    ((fault ≡ watch.Workers) × (IsNumber workers → ⊥) × BothBack a b (λ x y. watch_devices x y capture ledger ≡ before))
-    ⊎ ((fault ≡ watch.Filters) × IsNumber workers × (IsNumber (length ps) → ⊥) × BothBack a b (λ x y. watch_devices x y capture ledger ≡ before))
-    ⊎ (IsNumber workers × IsNumber (length ps) × BothBack a b (λ x y. IsNotBegun ps vl_table fault before (watch_devices x y capture ledger)))
-    ⊎ (IsNumber workers × IsNumber (length ps) × AbortsBegun fault ps vl_table before a b capture ledger)
+    ((fault ≡ watch.Workers) × (IsWorkerCount workers → ⊥) × BothBack a b (λ x y. watch_devices x y capture ledger ≡ before))
+    ⊎ ((fault ≡ watch.Filters) × IsWorkerCount workers × (IsFilterCount (length ps) → ⊥) × BothBack a b (λ x y. watch_devices x y capture ledger ≡ before))
+    ⊎ (IsWorkerCount workers × IsFilterCount (length ps) × BothBack a b (λ x y. IsNotBegun ps vl_table fault before (watch_devices x y capture ledger)))
+    ⊎ (IsWorkerCount workers × IsFilterCount (length ps) × AbortsBegun fault ps vl_table before a b capture ledger)

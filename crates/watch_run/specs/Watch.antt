@@ -19,45 +19,22 @@ use Rattle.verdict_ledger.specs.Text.{ledger_head, ledger_text, lines_text}
 use Rattle.verdict_ledger.specs.declared.totals.Totals.{Totals}
 use Rattle.vl_config.specs.Document.{VlTable}
 use Rattle.run_outcome.specs.Recording.{IsRecording, LeavesUnread}
-use Rattle.watch_run.specs.Filters.{capture_by, entries_by}
 use Rattle.run_outcome.specs.declared.fault.Output.TheVariants as output
 use Rattle.run_outcome.specs.declared.fault.WatchFault.{WatchFault}
 use Rattle.run_outcome.specs.declared.fault.WatchFault.TheVariants as watch
 use Rattle.run_outcome.specs.Device.{AppendsSome, SinkMembers, SinkView, SourceMembers, SourceView, sink_at, source_at}
 use Rattle.run_outcome.specs.Recording.{IsReadPart, IsReadWhole, HasHeaderFault, FailsAtHeader, WasOpened}
-
--- ---- what a run sees of its devices
-
-pub record WatchDevices : Type 0 where
-  pub a : SourceView
-  pub b : SourceView
-  pub capture : SinkView
-  pub ledger : SinkView
-
-abbrev pub watch_devices : SourceView → SourceView → SinkView → SinkView → WatchDevices
-watch_devices a b capture ledger = record { a = a; b = b; capture = capture; ledger = ledger }
-
-abbrev pub devices_at : {S T W L : Type 0} → SourceMembers S → SourceMembers T → SinkMembers W → SinkMembers L → S → T → W → L → WatchDevices
-devices_at s t w l a b capture ledger = watch_devices (source_at s a) (source_at t b) (sink_at w capture) (sink_at l ledger)
+use Rattle.round_output.specs.Filters.{capture_by, entries_by, ledger_by, lines_by}
+use Rattle.round_output.specs.Round.{IsFilterCount}
+use Rattle.run_outcome.specs.Fault.{CaptureSink, Fails, LedgerSink, SourceA, SourceB}
+use Rattle.run_outcome.specs.Opening.{AbortsAtOpening, FailsOnly, WatchDevices}
 
 -- ---- a whole run
-
--- of frames the ledger's first line and their lines
-abbrev pub lines_by : List (List Packed) → VlTable → List Frame → List ℕ
-lines_by ps vl_table frames = ledger_head ++ lines_text (entries_by ps vl_table frames)
-
--- the whole ledger of frames
-abbrev pub ledger_by : List (List Packed) → VlTable → List Frame → Ending → Ending → List ℕ
-ledger_by ps vl_table frames a b = ledger_text vl_table (length ps) (entries_by ps vl_table frames) a b
-
--- 1 to 8: how many filters a run has, and how many workers
-abbrev pub IsNumber : ℕ → Type 0
-IsNumber n = (1 ≤ n) × (n ≤ 8)
 
 -- Both recordings were read to their endings. The capture is that of all their frames in the one order, the ledger has a line for
 -- each, with the verdicts along that order, and the totals count them.
 pub record IsWatched (ps : List (List Packed)) (vl_table : VlTable) (endings : List Ending) (totals : Totals) (before after : WatchDevices) : Type 0 where
-  pub filters : IsNumber (length ps)
+  pub filters : IsFilterCount (length ps)
   pub a : Ending
   pub b : Ending
   pub endings_are : endings ≡ a ∷ b ∷ []
@@ -74,55 +51,6 @@ pub record IsWatched (ps : List (List Packed)) (vl_table : VlTable) (endings : L
   pub ledger_failures : after.ledger.failures ≡ before.ledger.failures
 
 -- ---- an aborted run
-
--- the devices of a run
-pub data Device : Type 0 where
-  SourceA : Device
-  SourceB : Device
-  CaptureSink : Device
-  LedgerSink : Device
-
--- which device a fault names, if it names one
-abbrev pub names : WatchFault → Device → Bool
-names (watch.Read A) SourceA = true
-names (watch.Read B) SourceB = true
-names (watch.Write output.Capture) CaptureSink = true
-names (watch.Write output.Ledger) LedgerSink = true
-names _ _ = false
-
--- a device that is named failed, just once, and another didn't
-abbrev pub FailsWhere : Bool → ℕ → ℕ → Type 0
-FailsWhere true old new = CountsFailure old new
-FailsWhere false old new = new ≡ old
-
--- the device failed where the fault names it
-abbrev pub Fails : WatchFault → Device → ℕ → ℕ → Type 0
-Fails fault device old new = FailsWhere (names fault device) old new
-
--- Only the device that the fault names failed, if it names one, and just once.
-abbrev pub FailsOnly : WatchFault → WatchDevices → WatchDevices → Type 0
-FailsOnly fault before after =
-    Fails fault SourceA before.a.failures after.a.failures × Fails fault SourceB before.b.failures after.b.failures
-    × Fails fault CaptureSink before.capture.failures after.capture.failures × Fails fault LedgerSink before.ledger.failures after.ledger.failures
-
-abbrev pub OutputsUntouched : WatchDevices → WatchDevices → Type 0
-OutputsUntouched before after = (after.capture ≡ before.capture) × (after.ledger ≡ before.ledger)
-
--- A recording wasn't opened, that of A first. Nothing was written.
-abbrev pub StopsAtOpening : WatchFault → WatchDevices → WatchDevices → Type 0
-StopsAtOpening (watch.Header A f) before after =
-    HasHeaderFault f before.a after.a × (after.b ≡ before.b) × OutputsUntouched before after
-StopsAtOpening (watch.Header B f) before after =
-    WasOpened before.a after.a × HasHeaderFault f before.b after.b × OutputsUntouched before after
-StopsAtOpening (watch.Read A) before after =
-    FailsAtHeader before.a after.a × (after.b ≡ before.b) × OutputsUntouched before after
-StopsAtOpening (watch.Read B) before after =
-    WasOpened before.a after.a × FailsAtHeader before.b after.b × OutputsUntouched before after
-StopsAtOpening fault before after = ⊥
-
--- and only the device that the fault names failed, if it names one
-abbrev pub AbortsAtOpening : WatchFault → WatchDevices → WatchDevices → Type 0
-AbortsAtOpening fault before after = FailsOnly fault before after × StopsAtOpening fault before after
 
 -- both recordings have ended so
 pub record HaveEnded (late : ℕ) (before : WatchDevices) (frames_a frames_b : List Frame) (a b : Ending) : Type 0 where
@@ -178,5 +106,5 @@ AbortsRun fault ps vl_table before after = FailsOnly fault before after × IsRun
 -- why a run was aborted, and what it leaves: the number of filters is the first thing that is looked at
 abbrev pub IsWatchAborted : List (List Packed) → VlTable → WatchFault → WatchDevices → WatchDevices → Type 0
 IsWatchAborted ps vl_table fault before after =
-    ((fault ≡ watch.Filters) × (IsNumber (length ps) → ⊥) × (after ≡ before))
-    ⊎ (IsNumber (length ps) × (AbortsAtOpening fault before after ⊎ AbortsRun fault ps vl_table before after))
+    ((fault ≡ watch.Filters) × (IsFilterCount (length ps) → ⊥) × (after ≡ before))
+    ⊎ (IsFilterCount (length ps) × (AbortsAtOpening fault before after ⊎ AbortsRun fault ps vl_table before after))

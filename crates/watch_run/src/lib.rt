@@ -7,12 +7,7 @@
 mod gate;
 mod laws;
 mod one_thread;
-mod outputs;
-mod rings;
-mod round;
 mod running;
-mod tap_thread;
-mod taps;
 mod threads;
 
 pub use gate::OpenGate;

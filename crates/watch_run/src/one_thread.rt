@@ -7,17 +7,19 @@ ghost use Rattle.pcap_io.specs.Reader.{reading_of};
 ghost use Rattle.pcap_io.specs.Writer.{sink_of};
 ghost use Rattle.verdict_ledger.specs.Ledger.{has_failed as ledger_has_failed, sink_of as ledger_sink};
 ghost use Rattle.watch_run.specs.Run.{IsWatching, StopsWatching};
-ghost use Rattle.watch_run.specs.Taps.{HasEnded};
+ghost use Rattle.tap_merge.specs.Taps.{HasEnded};
 ghost use Rattle.run_outcome.specs.Device.{sink_at, source_at};
-ghost use Rattle.watch_run.specs.Watch.{AbortsRun, IsNumber, IsWatchAborted, IsWatched, WatchDevices, devices_at, watch_devices};
+ghost use Rattle.watch_run.specs.Watch.{AbortsRun, IsWatchAborted, IsWatched};
+ghost use Rattle.run_outcome.specs.Opening.{WatchDevices, devices_at, watch_devices};
+ghost use Rattle.round_output.specs.Round.{IsFilterCount};
 
-use crate::outputs::{Outputs, Unwritten};
-use crate::taps::{Taps, Unopened};
 use bpf_loader::Program;
 use filter_workers::MAX_FILTERS;
 use pcap_io::{Ending, OutSink, TapSource};
+use round_output::{Outputs, Unwritten};
 use run_outcome::{WatchFault, WatchRefused};
 use std::alloc::Global;
+use tap_merge::{Taps, Unopened};
 use verdict_ledger::Totals;
 use vl_config::Config;
 
@@ -104,7 +106,7 @@ fn finish<S: TapSource, T: TapSource, W: OutSink, L: OutSink>(
     ensures watched { IfOk result (λ done.
         (ps : List (List Packed)) (vl_table : VlTable) (before : WatchDevices)
         → IsWatching S.TapSource T.TapSource W.OutSink L.OutSink ps vl_table before taps outputs
-        → IsNumber (length ps) → IsWatched ps vl_table done.endings done.totals before
+        → IsFilterCount (length ps) → IsWatched ps vl_table done.endings done.totals before
         (devices_at S.TapSource T.TapSource W.OutSink L.OutSink
         done.a done.b done.capture done.ledger)) }
     ensures aborted { IfErr result (λ refused. IfSome refused.a (λ a. IfSome refused.b (λ b.

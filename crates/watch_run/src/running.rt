@@ -4,29 +4,30 @@ ghost use Rattle.std.specs.Option.{option_map};
 ghost use Rattle.bpf_isa.specs.declared.packed.Packed.{Packed};
 ghost use Rattle.pcap_io.specs.Reader.{reading_of};
 ghost use Rattle.vl_config.specs.Document.{VlTable};
-ghost use Rattle.watch_run.specs.Round.{IsShared};
+ghost use Rattle.round_output.specs.Round.{CanRun};
 ghost use Rattle.tap_queue.specs.Ring.{SameEnd};
-ghost use Rattle.watch_run.specs.Running.{AbortsBegun, IsRunning, IsStarted, StopsRunning};
-ghost use Rattle.watch_run.specs.Outputs.{HasWritten, IsFinished, StopsFinishing};
+ghost use Rattle.watch_run.specs.Running.{AbortsBegun, IsRunning, StopsRunning};
+ghost use Rattle.tap_merge.specs.Threads.{IsStarted};
+ghost use Rattle.round_output.specs.Outputs.{HasWritten, IsFinished, StopsFinishing};
 ghost use Rattle.run_outcome.specs.Device.{SinkView};
-ghost use Rattle.watch_run.specs.Watch.{IsNumber, IsWatched, WatchDevices, devices_at};
+ghost use Rattle.round_output.specs.Round.{IsFilterCount};
+ghost use Rattle.watch_run.specs.Watch.{IsWatched};
+ghost use Rattle.run_outcome.specs.Opening.{WatchDevices, devices_at};
 ghost use Rattle.run_outcome.specs.Device.{sink_at, source_at};
-ghost use Rattle.watch_run.specs.Watch.{watch_devices};
+ghost use Rattle.run_outcome.specs.Opening.{watch_devices};
 ghost use Rattle.verdict_ledger.specs.Ledger.{has_failed as ledger_has_failed};
 ghost use Rattle.afdx_frame.specs.Frame.{Frame};
 
 use crate::one_thread::Watched;
-use crate::outputs::{Outputs, Unwritten};
-use crate::rings::{Rings, drain};
-use crate::round::Sharing;
-use crate::tap_thread::{TapThread, settle_tap};
 use afdx_frame::Network;
 use filter_workers::RunGate;
 use pcap_io::{Ending, OutSink, TapSource};
+use round_output::{Outputs, Sharing, Unwritten};
 use run_outcome::{WatchFault, WatchRefused};
 use std::alloc::Global;
 use std::sync::Wait;
 use std::thread::Threads;
+use tap_merge::{Rings, TapThread, drain, settle_tap};
 
 /// Takes and merges all frames, and shares each round of them among workers, until both recordings have
 /// ended.
@@ -37,7 +38,7 @@ pub fn write_rounds<R: Threads + Wait + Sync, W: OutSink, L: OutSink, G: RunGate
     rings: &mut Rings,
     outputs: Outputs<W, L>,
 ) -> Result<Outputs<W, L>, Unwritten<W, L>>
-    requires shared { IsShared sharing.now.programs.now sharing.now.workers }
+    requires shared { CanRun sharing.now.programs.now sharing.now.workers }
     requires begun { (vl_table : VlTable) × (capture : SinkView) × (ledger : SinkView)
         × IsRunning W.OutSink L.OutSink
         sharing.now.programs.now vl_table capture ledger rings.old outputs }
@@ -149,7 +150,7 @@ impl<S: TapSource + Drop, T: TapSource + Drop> Running<S, T> {
             (reading_of T.remaining T.failures self.b.promise.reader.value)
             → IsRunning W.OutSink L.OutSink
             ps vl_table before.capture before.ledger self.rings outputs
-            → IsNumber (length ps) → IsWatched ps vl_table done.endings done.totals before
+            → IsFilterCount (length ps) → IsWatched ps vl_table done.endings done.totals before
             (devices_at S.TapSource T.TapSource W.OutSink L.OutSink
             done.a done.b done.capture done.ledger)) }
         ensures aborted { IfErr result (λ refused.

@@ -6,29 +6,28 @@ ghost use Rattle.bpf_isa.specs.declared.packed.Packed.{Packed};
 ghost use Rattle.pcap_io.specs.Writer.{sink_of};
 ghost use Rattle.verdict_ledger.specs.Ledger.{sink_of as ledger_sink};
 ghost use Rattle.vl_config.specs.Document.{VlTable};
-ghost use Rattle.watch_run.specs.Round.{IsShared};
+ghost use Rattle.round_output.specs.Round.{CanRun};
 ghost use Rattle.watch_run.specs.Ready.{AreNew, AreTwoRings, IsReady, Runs, ready_of};
 ghost use Rattle.watch_run.specs.Running.{AbortsBegun, IsNotBegun, IsRunningAborted};
-ghost use Rattle.watch_run.specs.Watch.{IsNumber, IsWatched, WatchDevices, devices_at};
+ghost use Rattle.round_output.specs.Round.{IsFilterCount, IsWorkerCount};
+ghost use Rattle.watch_run.specs.Watch.{IsWatched};
+ghost use Rattle.run_outcome.specs.Opening.{WatchDevices, devices_at};
 ghost use Rattle.run_outcome.specs.Device.{sink_at, source_at};
-ghost use Rattle.watch_run.specs.Watch.{watch_devices};
+ghost use Rattle.run_outcome.specs.Opening.{watch_devices};
 
 use crate::one_thread::Watched;
-use crate::outputs::{Outputs, Unwritten};
-use crate::rings::{Rings, drain};
-use crate::round::Sharing;
 use crate::running::{Running, write_rounds};
-use crate::tap_thread::{settle_tap, start_tap};
-use crate::taps::{Taps, Unopened};
 use afdx_frame::Network;
 use bpf_loader::Program;
 use filter_workers::{MAX_FILTERS, MAX_WORKERS, RunGate};
 use pcap_io::{OutSink, TapReader, TapSource};
+use round_output::{Outputs, Sharing, Unwritten};
 use run_outcome::{WatchFault, WatchRefused};
 use std::alloc::{AllocError, Global};
 use std::sync::Wait;
 use std::thread;
 use std::thread::{Scope, Threads};
+use tap_merge::{Rings, Taps, Unopened, drain, settle_tap, start_tap};
 use tap_queue::{TapEnd, TapGate, TapPut, tap_ring};
 use vl_config::Config;
 
@@ -146,7 +145,7 @@ where
     W: OutSink,
     L: OutSink,
     G: RunGate + TapGate + Sync,
-    requires shared { IsShared sharing.now.programs.now sharing.now.workers }
+    requires shared { CanRun sharing.now.programs.now sharing.now.workers }
     requires new { AreNew ready }
     requires ready { (vl_table : VlTable) × (before : WatchDevices)
         × IsReady S.TapSource T.TapSource W.OutSink L.OutSink
@@ -173,7 +172,7 @@ fn prepare<S: TapSource, T: TapSource, W: OutSink, L: OutSink>(
     capture: W,
     ledger: L,
 ) -> Result<Ready<S, T, W, L>, WatchRefused<S, T, W, L>>
-    requires number { IsNumber (length programs.now) }
+    requires number { IsFilterCount (length programs.now) }
     ensures new { IfOk result AreNew }
     ensures ready { IfOk result (IsReady S.TapSource T.TapSource W.OutSink L.OutSink programs.now config.now
         (devices_at S.TapSource T.TapSource W.OutSink L.OutSink a b capture ledger)) }
@@ -301,7 +300,7 @@ where
     W: OutSink + Drop,
     L: OutSink + Drop,
     G: RunGate + TapGate + Sync,
-    ensures watched { IfOk result (λ done. IsNumber workers × IsWatched programs.now config.now
+    ensures watched { IfOk result (λ done. IsWorkerCount workers × IsWatched programs.now config.now
         done.endings done.totals
         (devices_at S.TapSource T.TapSource W.OutSink L.OutSink a b capture ledger)
         (devices_at S.TapSource T.TapSource W.OutSink L.OutSink
@@ -346,7 +345,7 @@ where
     W: OutSink + Drop,
     L: OutSink + Drop,
     G: RunGate + TapGate + Sync,
-    requires shared { IsShared sharing.now.programs.now sharing.now.workers }
+    requires shared { CanRun sharing.now.programs.now sharing.now.workers }
     requires new { AreNew ready }
     requires ready { (vl_table : VlTable) × (before : WatchDevices)
         × IsReady S.TapSource T.TapSource W.OutSink L.OutSink
@@ -359,7 +358,7 @@ where
         thread::scope_env(),
         rt,
         |scope| -> Result<Watched<S, T, W, L>, WatchRefused<S, T, W, L>>
-            requires { IsSome slot × IsShared sharing.now.programs.now sharing.now.workers
+            requires { IsSome slot × CanRun sharing.now.programs.now sharing.now.workers
                 × IfSome slot (λ ready. AreNew ready × ((vl_table : VlTable) × (before : WatchDevices)
                 × IsReady S.TapSource T.TapSource W.OutSink L.OutSink
                 sharing.now.programs.now vl_table before ready)) }

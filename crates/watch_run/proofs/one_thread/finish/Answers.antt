@@ -1,7 +1,7 @@
 use Rattle.std.proofs.Common.{subst}
 use Rattle.pcap_io.specs.Reader.{reading_of}
 use Rattle.afdx_frame.specs.declared.key.Network.TheVariants as networks
-use Rattle.watch_run.specs.Taps.{HasRead}
+use Rattle.tap_merge.specs.Taps.{HasRead}
 use Rattle.watch_run.proofs.Returned.{stopped_at_the_end, watched}
 use Rattle.watch_run.proofs.one_thread.finish.Goals as goal
 

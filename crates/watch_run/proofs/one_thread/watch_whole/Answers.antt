@@ -1,9 +1,10 @@
 use Rattle.std.proofs.Common.{inr, [], subst, rules}
-use Rattle.watch_run.specs.Taps.{HasMerged}
+use Rattle.tap_merge.specs.Taps.{HasMerged}
 use Rattle.run_outcome.specs.Device.{sink_at, source_at}
-use Rattle.watch_run.specs.Watch.{watch_devices}
-use Rattle.watch_run.proofs.Returned.{aborted, with_both, with_ok}
-use Rattle.watch_run.proofs.TwoTaps.{part_of}
+use Rattle.run_outcome.specs.Opening.{watch_devices}
+use Rattle.watch_run.proofs.Returned.{aborted}
+use Rattle.run_outcome.proofs.Results.{with_both, with_ok}
+use Rattle.tap_merge.proofs.TwoTaps.{part_of}
 use Rattle.watch_run.proofs.Watching.{has_begun, none_first, some_filters, stops_by_writing}
 use Rattle.watch_run.proofs.one_thread.watch_whole.Goals as goal
 

@@ -1,8 +1,8 @@
 -- Rounds were read and written.
 use Rattle.vl_config.specs.Document.{VlTable}
 use Rattle.watch_run.specs.Run.{IsWatching}
-use Rattle.watch_run.specs.Taps.{work_left}
-use Rattle.watch_run.specs.Watch.{WatchDevices}
+use Rattle.tap_merge.specs.Taps.{work_left}
+use Rattle.run_outcome.specs.Opening.{WatchDevices}
 use Rattle.watch_run.proofs.one_thread.write_rounds.Given as goal
 
 abbrev pub invariant-loop-round : goal.invariant-loop-round

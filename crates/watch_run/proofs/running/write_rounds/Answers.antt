@@ -1,6 +1,6 @@
 use Rattle.std.proofs.Common.{◌++◌, inl, inr, subst, sym}
 use Rattle.vl_judge.specs.Lanes.{FollowsOn}
-use Rattle.watch_run.proofs.RingItems.{same_trans, stops_with, takes_none}
+use Rattle.tap_merge.proofs.RingItems.{same_trans, stops_with, takes_none}
 use Rattle.watch_run.proofs.RoundsTaken.{none_taken, some_taken, taken_follows, taken_room}
 use Rattle.watch_run.proofs.Watching.{frames_counted}
 use Rattle.watch_run.proofs.running.write_rounds.Goals as goal

@@ -1,0 +1,80 @@
+-- The outputs of a run, round by round.
+use Rattle.std.specs.Prelude.{◌≡◌, ℕ, List, length, Option}
+use Rattle.std.specs.Io.KnownBytes.{Appends}
+use Rattle.afdx_frame.specs.Frame.{Frame}
+use Rattle.bpf_isa.specs.declared.packed.Packed.{Packed}
+use Rattle.pcap_io.specs.Device.{CountsFailure}
+use Rattle.pcap_io.specs.Writer.{sink_of}
+use Rattle.pcap_io.specs.declared.recording.Ending.{Ending}
+use Rattle.verdict_ledger.specs.Ledger.{StandsAfter as LedgerStandsAfter, sink_of as ledger_sink}
+use Rattle.verdict_ledger.specs.Tally.{totals_of}
+use Rattle.verdict_ledger.specs.declared.totals.Totals.{Totals}
+use Rattle.verdict_ledger.specs.declared.fault.LedgerFault.{LedgerFault}
+use Rattle.verdict_ledger.specs.declared.fault.LedgerFault.TheVariants as ledger_faults
+use Rattle.vl_config.specs.Document.{VlTable}
+use Rattle.vl_judge.specs.Lanes.{LanesState, StandsAfter}
+use Rattle.pcap_io.specs.declared.writer.CaptureWriter.{CaptureWriter}
+use Rattle.verdict_ledger.specs.declared.ledger.Ledger.{Ledger}
+use Rattle.round_output.specs.Filters.{capture_by, entries_by}
+use Rattle.run_outcome.specs.Device.{SinkMembers, AppendsSome, SinkView}
+use Rattle.run_outcome.specs.Fault.{CaptureSink, Fails, LedgerSink}
+use Rattle.round_output.specs.Filters.{ledger_by, lines_by}
+use Rattle.run_outcome.specs.declared.fault.Output.TheVariants as output
+use Rattle.run_outcome.specs.declared.fault.WatchFault.{WatchFault}
+use Rattle.run_outcome.specs.declared.fault.WatchFault.TheVariants as watch
+use Rattle.round_output.specs.declared.outputs.Outputs.{Outputs}
+
+-- what a fault of the ledger is to a run
+abbrev pub ledger_fault : LedgerFault → WatchFault
+ledger_fault ledger_faults.Device = watch.Write output.Ledger
+ledger_fault ledger_faults.Memory = watch.Memory
+ledger_fault ledger_faults.Failed = watch.Write output.Ledger
+
+-- the outputs of a run, by their parts
+abbrev pub outputs_of : {W L : Type 0} → LanesState → CaptureWriter W → Ledger L → Outputs W L
+outputs_of lanes capture ledger = record { lanes = lanes; capture = capture; ledger = ledger }
+
+-- what a fault leaves of the outputs: a thread that couldn't be started leaves what no memory leaves
+abbrev pub effect_of : WatchFault → WatchFault
+effect_of watch.Spawn = watch.Memory
+effect_of fault = fault
+
+-- The capture and the ledger of these frames were written, and the lanes know them.
+pub record HasWritten {W L : Type 0} (w : SinkMembers W) (l : SinkMembers L)
+    (ps : List (List Packed)) (vl_table : VlTable) (capture ledger : SinkView) (frames : List Frame) (outputs : Outputs W L) : Type 0 where
+  pub lanes : StandsAfter outputs.lanes vl_table frames
+  pub tally : LedgerStandsAfter outputs.ledger vl_table (length ps) (entries_by ps vl_table frames)
+  pub packets : Appends capture.contents (w.contents (sink_of outputs.capture)) (capture_by ps frames)
+  pub lines : Appends ledger.contents (l.contents (ledger_sink outputs.ledger)) (lines_by ps vl_table frames)
+  pub capture_failures : w.failures (sink_of outputs.capture) ≡ capture.failures
+  pub ledger_failures : l.failures (ledger_sink outputs.ledger) ≡ ledger.failures
+
+-- a fault that writing finds, and this
+abbrev pub OfWriting : WatchFault → Type 0 → Type 0
+OfWriting (watch.Write out) P = P
+OfWriting watch.Memory P = P
+OfWriting fault P = ⊥
+
+-- only the sink that the fault names failed, if it names one
+abbrev pub SinkFails : WatchFault → ℕ → ℕ → ℕ → ℕ → Type 0
+SinkFails fault c c' l l' = OfWriting fault (Fails fault CaptureSink c c' × Fails fault LedgerSink l l')
+
+-- Each sink has a prefix of what belongs to these frames.
+pub record StopsWriting (fault : WatchFault) (ps : List (List Packed)) (vl_table : VlTable) (capture ledger capture' ledger' : SinkView) (frames : List Frame) : Type 0 where
+  pub packets : AppendsSome capture.contents capture'.contents (capture_by ps frames)
+  pub lines : AppendsSome ledger.contents ledger'.contents (lines_by ps vl_table frames)
+  pub fails : SinkFails fault capture.failures capture'.failures ledger.failures ledger'.failures
+
+-- Both outputs are complete, with these counts.
+pub record IsFinished (ps : List (List Packed)) (vl_table : VlTable) (capture ledger capture' ledger' : SinkView) (frames : List Frame) (a b : Ending) (totals : Totals) : Type 0 where
+  pub packets : Appends capture.contents capture'.contents (capture_by ps frames)
+  pub text : Appends ledger.contents ledger'.contents (ledger_by ps vl_table frames a b)
+  pub totals_are : totals ≡ totals_of (entries_by ps vl_table frames)
+  pub capture_failures : capture'.failures ≡ capture.failures
+  pub ledger_failures : ledger'.failures ≡ ledger.failures
+
+-- The capture is complete, and the ledger has a prefix of its text.
+pub record StopsFinishing (fault : WatchFault) (ps : List (List Packed)) (vl_table : VlTable) (capture ledger capture' ledger' : SinkView) (frames : List Frame) (a b : Ending) : Type 0 where
+  pub packets : Appends capture.contents capture'.contents (capture_by ps frames)
+  pub text : AppendsSome ledger.contents ledger'.contents (ledger_by ps vl_table frames a b)
+  pub fails : SinkFails fault capture.failures capture'.failures ledger.failures ledger'.failures

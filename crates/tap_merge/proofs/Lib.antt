@@ -1,0 +1,3 @@
+pub mod FedTaps
+pub mod RingItems
+pub mod TwoTaps

@@ -1,0 +1,312 @@
+-- Items that are taken of rings, and merged.
+use Rattle.std.proofs.Common.{◌≡◌, ◌++◌, ◌∷◌, [], ℕ, ◌+◌, ◌≤◌, List, Option, Some, None, is_some, true, false, length, take, suc, refl, sym, subst, ap, ◌∙◌, append-nil, append_assoc, arith}
+use Rattle.std.specs.List.{AllByRecursion}
+use Rattle.std.specs.Option.{ForSome}
+use Rattle.std.proofs.lemmas.Bool.{false≢true}
+use Rattle.std.proofs.lemmas.List.{length-take}
+use Rattle.afdx_frame.specs.Frame.{Frame}
+use Rattle.afdx_frame.specs.declared.key.Network.{Network}
+use Rattle.afdx_frame.specs.declared.key.Network.TheVariants.{A, B}
+use Rattle.ordered_merge.specs.Merge.{AreOfTap, CanFetch, Follows, IsInTime, MergerState, Tap, highest, new_tap, tap_after, tap_of}
+use Rattle.tap_queue.specs.Items.{IsNextFrame, frames_in, is_last, is_over}
+use Rattle.tap_queue.specs.Ring.{has_lost, late_of, network_of, taken_items}
+use Rattle.tap_queue.specs.declared.end.TapEnd.{TapEnd}
+use Rattle.tap_queue.specs.declared.item.TapItem.{TapItem}
+use Rattle.tap_queue.specs.declared.item.TapItem.TheVariants as items
+use Rattle.run_outcome.specs.Recording.{most_frames}
+use Rattle.tap_merge.specs.declared.rings.Rings.{Rings}
+use Rattle.pcap_io.specs.declared.recording.Ending.{Ending}
+use Rattle.ordered_merge.proofs.Following.{follows_cut, follows_end, follows_fetch_a, follows_fetch_b}
+use Rattle.tap_queue.specs.Ring.{SameEnd}
+use Rattle.ordered_merge.specs.Merge.{after_cut, change_tap, cut_frames, fetched}
+use Rattle.tap_merge.specs.Rings.{MergesItem, AgreesWith, AreFirst, EndsWith, HasEnding, HasTaken, StopsTaking, TakesOn}
+
+-- ---- what the merger knows of a network
+
+of_tap_count : (network : Network) (late : ℕ) (tap : Tap) (l : List Frame) (last : Tap) → AreOfTap network late tap l last → last.next ≡ tap.next + length l
+of_tap_count network late tap [] last h = sym h.0 ∙ plus_none tap.next
+  where
+    plus_none : (n : ℕ) → n ≡ n + 0
+    plus_none n = omega arith
+of_tap_count network late tap (f ∷ l) last h = one_more tap.next (length l) last.next (of_tap_count network late (tap_after f.stamp tap) l last h.3)
+  where
+    one_more : (n m k : ℕ) → k ≡ n + 1 + m → k ≡ n + suc m
+    one_more n m k e = omega (arith, e)
+
+highest_bounded : (high : Option ℕ) (stamp bound : ℕ) → ForSome high (λ h. h ≤ bound) → stamp ≤ bound → highest high stamp ≤ bound
+highest_bounded None stamp bound known less = less
+highest_bounded (Some h) stamp bound known less = (let own : h ≤ bound = known h refl in omega (arith, own, less))
+
+some_is : (x y bound : ℕ) → x ≤ bound → Some x ≡ Some y → y ≤ bound
+some_is x y bound less is = (let same : x ≡ y = cc is in subst (λ n. n ≤ bound) same less)
+
+of_tap_bounded : (network : Network) (late : ℕ) (tap : Tap) (l : List Frame) (last : Tap) (bound : ℕ) → AreOfTap network late tap l last →
+    ForSome tap.high (λ h. h ≤ bound) → AllByRecursion (λ (g : Frame). g.stamp ≤ bound) l → ForSome last.high (λ h. h ≤ bound)
+of_tap_bounded network late tap [] last bound h known all = subst (λ high. ForSome high (λ n. n ≤ bound)) h.1 known
+of_tap_bounded network late tap (f ∷ l) last bound h known all =
+    of_tap_bounded network late (tap_after f.stamp tap) l last bound h.3
+    (λ x is. some_is (highest tap.high f.stamp) x bound (highest_bounded tap.high f.stamp bound known all.0) is) all.1
+
+none_plus : (n : ℕ) → 0 + n ≡ n
+none_plus n = omega arith
+
+no_high : (bound : ℕ) → ForSome None (λ (h : ℕ). h ≤ bound)
+no_high bound = λ h is. (let wrong : ⊥ = cc is in absurd wrong)
+
+pub agrees_a : (late : ℕ) (cut : List Frame) (rings : Rings) → HasTaken late cut rings → rings.merger.a.ended ≡ false → AgreesWith A rings.a rings.merger
+agrees_a late cut rings h going = record {
+  network_is = h.network_a;
+  late_is = h.late_a ∙ sym h.late_is;
+  going = going;
+  number = of_tap_count A rings.merger.late new_tap (frames_in (taken_items rings.a)) rings.merger.a h.follows.a ∙ none_plus (length (frames_in (taken_items rings.a)));
+  high = λ bound all. of_tap_bounded A rings.merger.late new_tap (frames_in (taken_items rings.a)) rings.merger.a bound h.follows.a (no_high bound) all;
+}
+
+pub agrees_b : (late : ℕ) (cut : List Frame) (rings : Rings) → HasTaken late cut rings → rings.merger.b.ended ≡ false → AgreesWith B rings.b rings.merger
+agrees_b late cut rings h going = record {
+  network_is = h.network_b;
+  late_is = h.late_b ∙ sym h.late_is;
+  going = going;
+  number = of_tap_count B rings.merger.late new_tap (frames_in (taken_items rings.b)) rings.merger.b h.follows.b ∙ none_plus (length (frames_in (taken_items rings.b)));
+  high = λ bound all. of_tap_bounded B rings.merger.late new_tap (frames_in (taken_items rings.b)) rings.merger.b bound h.follows.b (no_high bound) all;
+}
+
+-- ---- a frame that may be taken may be merged
+
+pub can_merge : (network : Network) (end : TapEnd) (m : MergerState) (f : Frame) → AgreesWith network end m → IsNextFrame (network_of end) (late_of end) (frames_in (taken_items end)) f →
+    (f.network ≡ network) × CanFetch m f
+can_merge network end m f agrees next =
+    let same : f.network ≡ network = next.network_is ∙ agrees.network_is in (
+      same,
+      subst (λ n. (n ≡ network) → CanFetch m f) refl (λ _. record {
+        going = ap (λ n. (tap_of m n).ended) same ∙ agrees.going;
+        number = next.number ∙ sym agrees.number ∙ ap (λ n. (tap_of m n).next) (sym same);
+        in_time = subst (λ n. IsInTime m.late (tap_of m n) f) (sym same)
+            (agrees.high (f.stamp + m.late) (subst (λ l. AllByRecursion (λ (g : Frame). g.stamp ≤ f.stamp + l) (frames_in (taken_items end))) agrees.late_is next.in_time));
+      }) same,
+    )
+
+-- ---- what is known of a ring, item by item
+
+pub frames_append : (xs ys : List TapItem) → frames_in (xs ++ ys) ≡ frames_in xs ++ frames_in ys
+frames_append [] ys = refl
+frames_append (items.Frame f ∷ xs) ys = ap (λ (l : List Frame). f ∷ l) (frames_append xs ys)
+frames_append (items.End e ∷ xs) ys = frames_append xs ys
+frames_append (items.Failed fault ∷ xs) ys = frames_append xs ys
+
+pub over_with : (xs : List TapItem) (item : TapItem) → is_last item ≡ true → is_over (xs ++ item ∷ []) ≡ true
+over_with [] (items.Frame f) last = absurd (false≢true last)
+over_with [] (items.End e) last = refl
+over_with [] (items.Failed fault) last = refl
+over_with (items.Frame f ∷ xs) item last = over_with xs item last
+over_with (items.End e ∷ xs) item last = refl
+over_with (items.Failed fault ∷ xs) item last = refl
+
+pub takes_none : (end : TapEnd) → TakesOn end end
+takes_none end = record {
+  same = (((refl, refl, refl, refl), refl), refl, refl);
+  going = λ h. h;
+  more = λ h. ([], sym (append-nil (taken_items end)), λ over. refl);
+}
+
+-- ---- an item was merged
+
+frames_with : (xs : List TapItem) (f : Frame) (ys : List TapItem) → ys ≡ xs ++ items.Frame f ∷ [] → frames_in xs ++ f ∷ [] ≡ frames_in ys
+frames_with xs f ys is = sym (frames_append xs (items.Frame f ∷ [])) ∙ ap frames_in (sym is)
+
+frames_to_end : (xs : List TapItem) (e : Ending) (ys : List TapItem) → ys ≡ xs ++ items.End e ∷ [] → frames_in xs ≡ frames_in ys
+frames_to_end xs e ys is = sym (append-nil (frames_in xs)) ∙ sym (frames_append xs (items.End e ∷ [])) ∙ ap frames_in (sym is)
+
+-- what is known of the merger and of both networks' items
+pub record Known (late : ℕ) (cut : List Frame) (m : MergerState) (xs ys : List TapItem) (end_a end_b : Option Ending) : Type 0 where
+  pub late_is : m.late ≡ late
+  pub follows : Follows m (frames_in xs) (frames_in ys) cut
+  pub ended_a : HasEnding end_a m.a xs
+  pub ended_b : HasEnding end_b m.b ys
+
+fetched_late : (m : MergerState) (f : Frame) (network : Network) → f.network ≡ network → (fetched m f).late ≡ m.late
+fetched_late m f A e = ap (λ n. (change_tap (tap_after f.stamp) n m).late) e
+fetched_late m f B e = ap (λ n. (change_tap (tap_after f.stamp) n m).late) e
+
+same_tap_a : (m : MergerState) (f : Frame) → f.network ≡ B → (fetched m f).a ≡ m.a
+same_tap_a m f e = ap (λ n. (change_tap (tap_after f.stamp) n m).a) e
+
+same_tap_b : (m : MergerState) (f : Frame) → f.network ≡ A → (fetched m f).b ≡ m.b
+same_tap_b m f e = ap (λ n. (change_tap (tap_after f.stamp) n m).b) e
+
+own_a_goes_on : (m : MergerState) (f : Frame) → f.network ≡ A → (fetched m f).a.ended ≡ m.a.ended
+own_a_goes_on m f e = ap (λ n. (change_tap (tap_after f.stamp) n m).a.ended) e
+
+own_b_goes_on : (m : MergerState) (f : Frame) → f.network ≡ B → (fetched m f).b.ended ≡ m.b.ended
+own_b_goes_on m f e = ap (λ n. (change_tap (tap_after f.stamp) n m).b.ended) e
+
+pub merged_of_a : (late : ℕ) (cut : List Frame) (m m' : MergerState) (old new : TapEnd) (ys : List TapItem) (end end_a end_b : Option Ending) → m.a.ended ≡ false →
+    Known late cut m (taken_items old) ys end_a end_b → MergesItem A end old new m m' → Known late cut m' (taken_items new) ys end end_b
+merged_of_a late cut m m' old new ys None end_a end_b going k (f, taken, net, can, is) = record {
+  late_is = ap (λ (s : MergerState). s.late) is ∙ fetched_late m f A net ∙ k.late_is;
+  follows = subst (λ (l : List Frame). Follows m' l (frames_in ys) cut) (frames_with (taken_items old) f (taken_items new) taken)
+      (subst (λ (s : MergerState). Follows s (frames_in (taken_items old) ++ f ∷ []) (frames_in ys) cut) (sym is)
+      (follows_fetch_a m (frames_in (taken_items old)) (frames_in ys) cut f k.follows can net));
+  ended_a = ap (λ (s : MergerState). s.a.ended) is ∙ own_a_goes_on m f net ∙ going;
+  ended_b = subst (λ (t : Tap). HasEnding end_b t ys) (sym (ap (λ (s : MergerState). s.b) is ∙ same_tap_b m f net)) k.ended_b;
+}
+merged_of_a late cut m m' old new ys (Some e) end_a end_b going k (taken, is) = record {
+  late_is = ap (λ (s : MergerState). s.late) is ∙ k.late_is;
+  follows = subst (λ (l : List Frame). Follows m' l (frames_in ys) cut) (frames_to_end (taken_items old) e (taken_items new) taken)
+      (subst (λ (s : MergerState). Follows s (frames_in (taken_items old)) (frames_in ys) cut) (sym is) (follows_end m (frames_in (taken_items old)) (frames_in ys) cut A k.follows));
+  ended_a = (ap (λ (s : MergerState). s.a.ended) is, (taken_items old, taken));
+  ended_b = subst (λ (t : Tap). HasEnding end_b t ys) (sym (ap (λ (s : MergerState). s.b) is)) k.ended_b;
+}
+
+pub merged_of_b : (late : ℕ) (cut : List Frame) (m m' : MergerState) (old new : TapEnd) (xs : List TapItem) (end end_a end_b : Option Ending) → m.b.ended ≡ false →
+    Known late cut m xs (taken_items old) end_a end_b → MergesItem B end old new m m' → Known late cut m' xs (taken_items new) end_a end
+merged_of_b late cut m m' old new xs None end_a end_b going k (f, taken, net, can, is) = record {
+  late_is = ap (λ (s : MergerState). s.late) is ∙ fetched_late m f B net ∙ k.late_is;
+  follows = subst (λ (l : List Frame). Follows m' (frames_in xs) l cut) (frames_with (taken_items old) f (taken_items new) taken)
+      (subst (λ (s : MergerState). Follows s (frames_in xs) (frames_in (taken_items old) ++ f ∷ []) cut) (sym is)
+      (follows_fetch_b m (frames_in xs) (frames_in (taken_items old)) cut f k.follows can net));
+  ended_a = subst (λ (t : Tap). HasEnding end_a t xs) (sym (ap (λ (s : MergerState). s.a) is ∙ same_tap_a m f net)) k.ended_a;
+  ended_b = ap (λ (s : MergerState). s.b.ended) is ∙ own_b_goes_on m f net ∙ going;
+}
+merged_of_b late cut m m' old new xs (Some e) end_a end_b going k (taken, is) = record {
+  late_is = ap (λ (s : MergerState). s.late) is ∙ k.late_is;
+  follows = subst (λ (l : List Frame). Follows m' (frames_in xs) l cut) (frames_to_end (taken_items old) e (taken_items new) taken)
+      (subst (λ (s : MergerState). Follows s (frames_in xs) (frames_in (taken_items old)) cut) (sym is) (follows_end m (frames_in xs) (frames_in (taken_items old)) cut B k.follows));
+  ended_a = subst (λ (t : Tap). HasEnding end_a t xs) (sym (ap (λ (s : MergerState). s.a) is)) k.ended_a;
+  ended_b = (ap (λ (s : MergerState). s.b.ended) is, (taken_items old, taken));
+}
+
+pub known_of : (late : ℕ) (cut : List Frame) (rings : Rings) → HasTaken late cut rings →
+    Known late cut rings.merger (taken_items rings.a) (taken_items rings.b) rings.end_a rings.end_b
+known_of late cut rings h = record { late_is = h.late_is; follows = h.follows; ended_a = h.ended_a; ended_b = h.ended_b }
+
+-- ---- merging stops
+
+over_at_end : (end : Option Ending) (tap : Tap) (xs : List TapItem) → HasEnding end tap xs → tap.ended ≡ true → is_over xs ≡ true
+over_at_end None tap xs h done = absurd (false≢true (sym h ∙ done))
+over_at_end (Some e) tap xs (is, (before, all)) done = ap is_over all ∙ over_with before (items.End e) refl
+
+ends_at_end : (end : Option Ending) (tap : Tap) (xs : List TapItem) → HasEnding end tap xs → tap.ended ≡ true → (ending : Ending) × EndsWith (items.End ending) xs
+ends_at_end None tap xs h done = absurd (false≢true (sym h ∙ done))
+ends_at_end (Some e) tap xs (is, ends) done = (e, ends)
+
+pub are_first : (end : Option Ending) (tap : Tap) (old new : TapEnd) → HasEnding end tap (taken_items old) → TakesOn old new → has_lost new ≡ false →
+    AreFirst (frames_in (taken_items old)) tap (taken_items new)
+are_first end tap old new has takes sound =
+    let m = takes.more sound in
+    record {
+      more = frames_in m.0;
+      all = ap frames_in m.1 ∙ frames_append (taken_items old) m.0;
+      over = λ done.
+          (let ending = ends_at_end end tap (taken_items old) has done in
+          let none = m.2 (over_at_end end tap (taken_items old) has done) in
+          (ap frames_in none, ending.0, subst (λ (l : List TapItem). EndsWith (items.End ending.0) l) (sym (m.1 ∙ ap (λ (l : List TapItem). taken_items old ++ l) none ∙ append-nil (taken_items old))) ending.1));
+    }
+
+-- with what was taken since
+pub stops_with : (late : ℕ) (cut : List Frame) (rings : Rings) (a b : TapEnd) → HasTaken late cut rings → TakesOn rings.a a → TakesOn rings.b b → StopsTaking late cut a b
+stops_with late cut rings a b h takes_a takes_b = record {
+  merger = rings.merger;
+  frames_a = frames_in (taken_items rings.a);
+  frames_b = frames_in (taken_items rings.b);
+  late_is = h.late_is;
+  follows = h.follows;
+  first_a = are_first rings.end_a rings.merger.a rings.a a h.ended_a takes_a;
+  first_b = are_first rings.end_b rings.merger.b rings.b b h.ended_b takes_b;
+}
+
+pub same_trans : (x y z : TapEnd) → SameEnd x y → SameEnd y z → SameEnd x z
+same_trans x y z (((w, s, n, h), c), t, l) (((w', s', n', h'), c'), t', l') = (((w' ∙ w, s' ∙ s, n' ∙ n, h' ∙ h), c' ∙ c), t' ∙ t, l' ∙ l)
+
+-- ---- a round is cut
+
+pub at_most : (n : ℕ) (l : List Frame) → length (take n l) ≤ n
+at_most n l = (let size = length-take n l in omega (arith, size))
+
+pub is_met : (end : Option Ending) (tap : Tap) (xs : List TapItem) → HasEnding end tap xs → tap.ended ≡ true → is_some end ≡ true
+is_met None tap xs h done = absurd (false≢true (sym h ∙ done))
+is_met (Some e) tap xs h done = refl
+
+pub taken_after_cut : (late : ℕ) (cut : List Frame) (rings : Rings) (m : MergerState) (round : List Frame) → HasTaken late cut rings → m ≡ after_cut rings.merger 256 →
+    round ≡ cut_frames rings.merger 256 → HasTaken late (cut ++ round) (record rings { merger = m })
+taken_after_cut late cut rings m round h is round_is = record {
+  late_is = ap (λ (s : MergerState). s.late) is ∙ h.late_is;
+  network_a = h.network_a;
+  network_b = h.network_b;
+  late_a = h.late_a;
+  late_b = h.late_b;
+  few_a = h.few_a;
+  few_b = h.few_b;
+  follows = rw (is, round_is) (follows_cut rings.merger (frames_in (taken_items rings.a)) (frames_in (taken_items rings.b)) cut 256 h.follows);
+  ended_a = subst (λ (s : MergerState). HasEnding rings.end_a s.a (taken_items rings.a)) (sym is) h.ended_a;
+  ended_b = subst (λ (s : MergerState). HasEnding rings.end_b s.b (taken_items rings.b)) (sym is) h.ended_b;
+}
+
+-- ---- the rest of the rings is taken
+
+first_on : (frames : List Frame) (tap : Tap) (old new : TapEnd) → (has_lost old ≡ false → AreFirst frames tap (taken_items old)) → TakesOn old new → has_lost new ≡ false →
+    AreFirst frames tap (taken_items new)
+first_on frames tap old new known takes sound =
+    let k = known (takes.going sound) in
+    let m = takes.more sound in
+    record {
+      more = k.more ++ frames_in m.0;
+      all = ap frames_in m.1 ∙ frames_append (taken_items old) m.0 ∙ ap (λ (l : List Frame). l ++ frames_in m.0) k.all ∙ append_assoc frames k.more (frames_in m.0);
+      over = λ done.
+          (let ended = k.over done in
+          let none = m.2 (ap is_over ended.2.1 ∙ over_with ended.2.0 (items.End ended.1) refl) in (
+            ap (λ (l : List TapItem). k.more ++ frames_in l) none ∙ append-nil k.more ∙ ended.0,
+            ended.1,
+            subst (λ (l : List TapItem). EndsWith (items.End ended.1) l) (sym (m.1 ∙ ap (λ (l : List TapItem). taken_items old ++ l) none ∙ append-nil (taken_items old))) ended.2,
+          ));
+    }
+
+pub stops_on : (late : ℕ) (cut : List Frame) (a b a' b' : TapEnd) → StopsTaking late cut a b → TakesOn a a' → TakesOn b b' → StopsTaking late cut a' b'
+stops_on late cut a b a' b' s takes_a takes_b = record {
+  merger = s.merger;
+  frames_a = s.frames_a;
+  frames_b = s.frames_b;
+  late_is = s.late_is;
+  follows = s.follows;
+  first_a = first_on s.frames_a s.merger.a a a' s.first_a takes_a;
+  first_b = first_on s.frames_b s.merger.b b b' s.first_b takes_b;
+}
+
+-- a last item stays the last
+pub ends_on : (item : TapItem) (old new : TapEnd) → is_last item ≡ true → EndsWith item (taken_items old) → TakesOn old new → has_lost new ≡ false → EndsWith item (taken_items new)
+ends_on item old new last (before, all) takes sound =
+    let m = takes.more sound in
+    let none = m.2 (ap is_over all ∙ over_with before item last) in
+    subst (λ (l : List TapItem). EndsWith item l) (sym (m.1 ∙ ap (λ (l : List TapItem). taken_items old ++ l) none ∙ append-nil (taken_items old))) (before, all)
+
+-- ---- nothing more was taken
+
+pub same_taken_a : (late : ℕ) (cut : List Frame) (rings : Rings) (a : TapEnd) → SameEnd rings.a a → taken_items a ≡ taken_items rings.a → HasTaken late cut rings →
+    HasTaken late cut (record rings { a = a })
+same_taken_a late cut rings a same taken h = record {
+  late_is = h.late_is;
+  network_a = same.1 ∙ h.network_a;
+  network_b = h.network_b;
+  late_a = same.2 ∙ h.late_a;
+  late_b = h.late_b;
+  few_a = subst (λ (l : List TapItem). length (frames_in l) ≤ most_frames) (sym taken) h.few_a;
+  few_b = h.few_b;
+  follows = subst (λ (l : List TapItem). Follows rings.merger (frames_in l) (frames_in (taken_items rings.b)) cut) (sym taken) h.follows;
+  ended_a = subst (λ (l : List TapItem). HasEnding rings.end_a rings.merger.a l) (sym taken) h.ended_a;
+  ended_b = h.ended_b;
+}
+
+pub same_taken_b : (late : ℕ) (cut : List Frame) (rings : Rings) (b : TapEnd) → SameEnd rings.b b → taken_items b ≡ taken_items rings.b → HasTaken late cut rings →
+    HasTaken late cut (record rings { b = b })
+same_taken_b late cut rings b same taken h = record {
+  late_is = h.late_is;
+  network_a = h.network_a;
+  network_b = same.1 ∙ h.network_b;
+  late_a = h.late_a;
+  late_b = same.2 ∙ h.late_b;
+  few_a = h.few_a;
+  few_b = subst (λ (l : List TapItem). length (frames_in l) ≤ most_frames) (sym taken) h.few_b;
+  follows = subst (λ (l : List TapItem). Follows rings.merger (frames_in (taken_items rings.a)) (frames_in l) cut) (sym taken) h.follows;
+  ended_a = h.ended_a;
+  ended_b = subst (λ (l : List TapItem). HasEnding rings.end_b rings.merger.b l) (sym taken) h.ended_b;
+}

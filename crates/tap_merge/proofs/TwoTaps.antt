@@ -1,0 +1,377 @@
+-- Two recordings, as they are read and merged.
+use Rattle.std.proofs.Common.{◌≡◌, inl, inr, ℕ, ◌+◌, ◌-◌, ◌*◌, ◌<◌, ◌≤◌, max, Bool, true, false, cond, suc, List, [], ◌∷◌, ◌++◌, length, take, zero, Option, Some, None, is_some, refl, sym, subst, ap, ◌∙◌, arith}
+use Rattle.std.proofs.lemmas.Bool.{eqb-true, false≢true}
+use Rattle.std.specs.Prelude.{unwrap_or, ◌==◌}
+use Rattle.std.specs.Option.{ForSome}
+use Rattle.afdx_frame.specs.Frame.{Frame}
+use Rattle.afdx_frame.specs.declared.key.Network.{Network}
+use Rattle.afdx_frame.specs.declared.key.Network.TheVariants.{A, B}
+use Rattle.ordered_merge.specs.Merge.{MergerState, Tap, CanFetch, Follows, IsInTime, after_cut, change_tap, cut_frames, ended, fetched, highest, tap_after, tap_of}
+use Rattle.ordered_merge.specs.Order.{IsOrder, insert_frame, is_before}
+use Rattle.pcap_io.specs.Position.{TakesAPacket, Reading, TakesFrame, after_frame, start_at}
+use Rattle.pcap_io.proofs.Parse.{reads_more}
+use Rattle.std.proofs.KnownBytes.{Consumes-nil}
+use Rattle.pcap_io.specs.declared.position.Position.{Position}
+use Rattle.pcap_io.specs.declared.recording.Ending.{Ending}
+use Rattle.pcap_io.specs.declared.recording.Stage.TheVariants.{Going}
+use Rattle.run_outcome.specs.Device.{SourceView}
+use Rattle.run_outcome.specs.Recording.{most_frames}
+use Rattle.run_outcome.specs.Recording.{Ends}
+use Rattle.tap_merge.specs.Taps.{Agrees, Fits, HasRead, Merges, MergesNot, ReadsPart, SourceFails, turns_of}
+use Rattle.run_outcome.specs.declared.fault.WatchFault.{WatchFault}
+use Rattle.run_outcome.specs.declared.fault.WatchFault.TheVariants as watch
+use Rattle.ordered_merge.proofs.Following.{ended_is_safe, follows_end, follows_fetch_a, follows_fetch_b}
+use Rattle.pcap_io.specs.Device.{CountsFailure}
+
+-- ---- the next frame of a reader is the merger's next one
+
+network_of_frame : (q : Position) (before after : Option (List ℕ)) (f : Frame) → TakesFrame q before after f → f.network ≡ q.network
+network_of_frame q before after f t = ap (λ (g : Frame). g.network) t.same
+
+pub in_time : (late : ℕ) (tap : Tap) (high stamp : ℕ) → high ≡ unwrap_or tap.high 0 → high ≤ stamp + late → ForSome tap.high (λ h. h ≤ stamp + late)
+in_time late tap high stamp same bound = λ h is. subst (λ n. n ≤ stamp + late) (same ∙ ap (λ (known : Option ℕ). unwrap_or known 0) is) bound
+
+pub frame_fits : (network : Network) (q : Position) (m : MergerState) (before after : Option (List ℕ)) (f : Frame) → Fits network q m → TakesFrame q before after f →
+    (f.network ≡ network) × CanFetch m f
+frame_fits network q m before after f fits t =
+    let same : f.network ≡ network = network_of_frame q before after f t ∙ fits.network_is in (
+      same,
+      subst (λ n. (n ≡ network) → CanFetch m f) refl (λ _. record {
+        going = ap (λ n. (tap_of m n).ended) same ∙ fits.going;
+        number = ap (λ (g : Frame). g.number) t.same ∙ fits.number ∙ ap (λ n. (tap_of m n).next) (sym same);
+        in_time = subst (λ n. IsInTime m.late (tap_of m n) f) (sym same)
+            (in_time m.late (tap_of m network) q.high f.stamp fits.high
+            (subst (λ l. q.high ≤ f.stamp + l) fits.late (subst (λ s. q.high ≤ s + q.late) (sym (ap (λ (g : Frame). g.stamp) t.same)) t.good.in_time)));
+      }) same,
+    )
+
+-- ---- and stays so after it
+
+pub high_after : (high stamp : ℕ) (known : Option ℕ) → high ≡ unwrap_or known 0 → max high stamp ≡ highest known stamp
+high_after high stamp None e = grind (arith, e)
+high_after high stamp (Some h) e = ap (λ n. max n stamp) e
+
+-- the merger with a frame of A more, and of B
+fetched_a : (m : MergerState) (f : Frame) → f.network ≡ A → record m { pending = insert_frame f m.pending; a = tap_after f.stamp m.a } ≡ fetched m f
+fetched_a m f e = ap (λ (n : Network). record (change_tap (tap_after f.stamp) n m) { pending = insert_frame f m.pending }) (sym e)
+
+fetched_b : (m : MergerState) (f : Frame) → f.network ≡ B → record m { pending = insert_frame f m.pending; b = tap_after f.stamp m.b } ≡ fetched m f
+fetched_b m f e = ap (λ (n : Network). record (change_tap (tap_after f.stamp) n m) { pending = insert_frame f m.pending }) (sym e)
+
+pub fits_after : (network : Network) (q : Position) (m : MergerState) (f : Frame) → f.network ≡ network → Fits network q m →
+    Fits network (after_frame q f.stamp) (fetched m f)
+fits_after A q m f e fits = subst (Fits A (after_frame q f.stamp)) (fetched_a m f e) (record {
+  network_is = fits.network_is;
+  late = fits.late;
+  most = fits.most;
+  going = fits.going;
+  number = ap (λ n. n + 1) fits.number;
+  high = high_after q.high f.stamp m.a.high fits.high;
+})
+fits_after B q m f e fits = subst (Fits B (after_frame q f.stamp)) (fetched_b m f e) (record {
+  network_is = fits.network_is;
+  late = fits.late;
+  most = fits.most;
+  going = fits.going;
+  number = ap (λ n. n + 1) fits.number;
+  high = high_after q.high f.stamp m.b.high fits.high;
+})
+
+-- ---- the other network's reader still agrees
+
+same_b : (end : Option Ending) (q : Position) (m t : MergerState) → t.late ≡ m.late → t.b ≡ m.b → Agrees B end q m → Agrees B end q t
+same_b None q m t late same (going, fits) = (
+  going,
+  record {
+    network_is = fits.network_is;
+    late = fits.late ∙ sym late;
+    most = fits.most;
+    going = ap (λ (tap : Tap). tap.ended) same ∙ fits.going;
+    number = fits.number ∙ ap (λ (tap : Tap). tap.next) (sym same);
+    high = fits.high ∙ ap (λ (tap : Tap). unwrap_or tap.high 0) (sym same);
+  },
+)
+same_b (Some ending) q m t late same (stage, done) = (stage, ap (λ (tap : Tap). tap.ended) same ∙ done)
+
+same_a : (end : Option Ending) (q : Position) (m t : MergerState) → t.late ≡ m.late → t.a ≡ m.a → Agrees A end q m → Agrees A end q t
+same_a None q m t late same (going, fits) = (
+  going,
+  record {
+    network_is = fits.network_is;
+    late = fits.late ∙ sym late;
+    most = fits.most;
+    going = ap (λ (tap : Tap). tap.ended) same ∙ fits.going;
+    number = fits.number ∙ ap (λ (tap : Tap). tap.next) (sym same);
+    high = fits.high ∙ ap (λ (tap : Tap). unwrap_or tap.high 0) (sym same);
+  },
+)
+same_a (Some ending) q m t late same (stage, done) = (stage, ap (λ (tap : Tap). tap.ended) same ∙ done)
+
+pub b_stays_at_fetch : (end : Option Ending) (q : Position) (m : MergerState) (f : Frame) → f.network ≡ A → Agrees B end q m → Agrees B end q (fetched m f)
+b_stays_at_fetch end q m f e agrees =
+    subst (Agrees B end q) (fetched_a m f e) (same_b end q m (record m { pending = insert_frame f m.pending; a = tap_after f.stamp m.a }) refl refl agrees)
+
+pub a_stays_at_fetch : (end : Option Ending) (q : Position) (m : MergerState) (f : Frame) → f.network ≡ B → Agrees A end q m → Agrees A end q (fetched m f)
+a_stays_at_fetch end q m f e agrees =
+    subst (Agrees A end q) (fetched_b m f e) (same_a end q m (record m { pending = insert_frame f m.pending; b = tap_after f.stamp m.b }) refl refl agrees)
+
+pub b_stays_at_end : (end : Option Ending) (q : Position) (m : MergerState) → Agrees B end q m → Agrees B end q (ended m A)
+b_stays_at_end end q m agrees = same_b end q m (ended m A) refl refl agrees
+
+pub a_stays_at_end : (end : Option Ending) (q : Position) (m : MergerState) → Agrees A end q m → Agrees A end q (ended m B)
+a_stays_at_end end q m agrees = same_a end q m (ended m B) refl refl agrees
+
+pub has_ended : (network : Network) (m : MergerState) → (tap_of (ended m network) network).ended ≡ true
+has_ended A m = refl
+has_ended B m = refl
+
+-- ---- a network that is wanted goes on
+
+pub goes_on : (network : Network) (end : Option Ending) (q : Position) (m : MergerState) → Agrees network end q m → (tap_of m network).ended ≡ false →
+    (end ≡ None) × (q.stage ≡ Going) × Fits network q m
+goes_on network None q m (going, fits) on = (refl, going, fits)
+goes_on network (Some ending) q m (stage, done) on = absurd (false≢true (sym on ∙ done))
+
+pub is_ended : (network : Network) (end : Option Ending) (q : Position) (m : MergerState) → Agrees network end q m → (tap_of m network).ended ≡ true →
+    is_some end ≡ true
+is_ended network None q m (going, fits) off = absurd (false≢true (sym fits.going ∙ off))
+is_ended network (Some ending) q m agrees off = refl
+
+-- ---- what was read, with one item more
+
+pub read_frame : (network : Network) (late : ℕ) (before : SourceView) (frames : List Frame) (old new : Reading) (f : Frame) → old.position.most ≡ most_frames →
+    HasRead network late before frames None old → TakesFrame old.position old.remaining new.remaining f → new.position ≡ after_frame old.position f.stamp →
+    new.failures ≡ old.failures → HasRead network late before (frames ++ f ∷ []) None new
+read_frame network late before frames old new f most read t moved same =
+    let taken : TakesFrame read.position read.left new.remaining f =
+    subst (λ (q : Position). TakesFrame q read.left new.remaining f) read.stands.0 (subst (λ (l : Option (List ℕ)). TakesFrame old.position l new.remaining f) read.stands.1 t) in
+    let at : old.position.count ≡ read.position.count = ap (λ (q : Position). q.count) read.stands.0 in
+    record {
+      position = after_frame read.position f.stamp;
+      left = new.remaining;
+      read = record {
+        layout = read.read.layout;
+        opened = read.read.opened;
+        opens = read.read.opens;
+        reads = reads_more (start_at network read.read.layout most_frames late) read.position read.read.opened read.left new.remaining frames f read.read.reads taken;
+        bounded = one_more old.position.count read.position.count old.position.most most at t.bounded;
+      };
+      stands = (moved ∙ ap (λ (q : Position). after_frame q f.stamp) read.stands.0, refl);
+      failures = same ∙ read.failures;
+    }
+  where
+    one_more : (n m most : ℕ) → most ≡ most_frames → n ≡ m → n < most → m + 1 ≤ most_frames
+    one_more n m most e is less = omega (arith, subst (λ k. k < most) is less, e)
+
+pub read_end : (network : Network) (late : ℕ) (before : SourceView) (frames : List Frame) (old new : Reading) (ending : Ending) →
+    HasRead network late before frames None old → Ends old.position old.remaining new.remaining ending →
+    new.failures ≡ old.failures → HasRead network late before frames (Some ending) new
+read_end network late before frames old new ending read ends same = record {
+  position = read.position;
+  left = read.left;
+  read = read.read;
+  stands = subst (λ (q : Position). Ends q read.left new.remaining ending) read.stands.0
+      (subst (λ (l : Option (List ℕ)). Ends old.position l new.remaining ending) read.stands.1 ends);
+  failures = same ∙ read.failures;
+}
+
+none_gone : (a b : Option (List ℕ)) → a ≡ b → TakesAPacket a b
+none_gone a b e = subst (TakesAPacket a) e ([], grind arith, Consumes-nil a)
+
+pub part_of : (network : Network) (late : ℕ) (before : SourceView) (frames : List Frame) (end : Option Ending) (reading : Reading) →
+    HasRead network late before frames end reading → ReadsPart network late before frames reading
+part_of network late before frames None reading read = record {
+  position = read.position;
+  left = read.left;
+  read = read.read;
+  gone = none_gone read.left reading.remaining (sym read.stands.1);
+}
+part_of network late before frames (Some ending) reading read = record {
+  position = read.position;
+  left = read.left;
+  read = read.read;
+  gone = read.stands.gone;
+}
+
+-- a call took at most a packet, and gave no frame
+pub part_stopped : (network : Network) (late : ℕ) (before : SourceView) (frames : List Frame) (old new : Reading) →
+    HasRead network late before frames None old → TakesAPacket old.remaining new.remaining → ReadsPart network late before frames new
+part_stopped network late before frames old new read gone = record {
+  position = read.position;
+  left = read.left;
+  read = read.read;
+  gone = subst (λ (l : Option (List ℕ)). TakesAPacket l new.remaining) read.stands.1 gone;
+}
+
+-- ---- the work that is left
+
+insert_length : (f : Frame) (l : List Frame) → length (insert_frame f l) ≡ suc (length l)
+insert_length f [] = refl
+insert_length f (g ∷ l) = both (is_before f g) (insert_length f l)
+  where
+    both : (b : Bool) → length (insert_frame f l) ≡ suc (length l) → length (cond b (f ∷ g ∷ l) (g ∷ insert_frame f l)) ≡ suc (suc (length l))
+    both true rest = refl
+    both false rest = ap suc rest
+
+pub fetched_length : (m : MergerState) (f : Frame) → length (fetched m f).pending ≡ length m.pending + 1
+fetched_length m f = insert_length f m.pending ∙ plus_one (length m.pending)
+  where
+    plus_one : (n : ℕ) → suc n ≡ n + 1
+    plus_one n = omega arith
+
+turn_less : (most n n' k k' other : ℕ) → n < most → n' ≡ n + 1 → k' ≡ k + 1 →
+    ((most - n' + 1 + other) * 2 + k' < (most - n + 1 + other) * 2 + k) × ((other + (most - n' + 1)) * 2 + k' < (other + (most - n + 1)) * 2 + k)
+turn_less most n n' k k' other less e is = (omega arith, omega arith)
+
+last_less : (most n k k' other : ℕ) → k' ≡ k →
+    ((0 + other) * 2 + k' < (most - n + 1 + other) * 2 + k) × ((other + 0) * 2 + k' < (other + (most - n + 1)) * 2 + k)
+last_less most n k k' other is = (omega arith, omega arith)
+
+ended_length : (m : MergerState) (network : Network) → length (ended m network).pending ≡ length m.pending
+ended_length m A = refl
+ended_length m B = refl
+
+-- less work is left after an item, whether the tap's turns stand before the other's or after them
+pub less_work : (network : Network) (end : Option Ending) (old new : Reading) (m m' : MergerState) (other : ℕ) → old.position.most ≡ most_frames →
+    Merges network end old new m m' →
+    ((turns_of end new.position + other) * 2 + length m'.pending < (turns_of None old.position + other) * 2 + length m.pending)
+    × ((other + turns_of end new.position) * 2 + length m'.pending < (other + turns_of None old.position) * 2 + length m.pending)
+less_work network None old new m m' other most (f, t, moved, same, can, is) =
+    turn_less most_frames old.position.count new.position.count (length m.pending) (length m'.pending) other
+    (subst (λ n. old.position.count < n) most t.bounded) (ap (λ (q : Position). q.count) moved) (ap (λ (s : MergerState). length s.pending) is ∙ fetched_length m f)
+less_work network (Some ending) old new m m' other most (ends, moved, is) =
+    last_less most_frames old.position.count (length m.pending) (length m'.pending) other (ap (λ (s : MergerState). length s.pending) is ∙ ended_length m network)
+
+-- ---- an item of a tap is merged
+
+pub merged_a : (end : Option Ending) (late : ℕ) (before : SourceView) (fa fb cut : List Frame) (old new : Reading) (m m' : MergerState) → old.position.most ≡ most_frames →
+    HasRead A late before fa None old → Follows m fa fb cut → Merges A end old new m m' → new.failures ≡ old.failures →
+    (more : List Frame) × HasRead A late before more end new × Follows m' more fb cut
+merged_a None late before fa fb cut old new m m' most read fol (f, t, moved, same, can, is) failures = (
+  fa ++ f ∷ [],
+  read_frame A late before fa old new f most read t moved failures,
+  subst (λ (s : MergerState). Follows s (fa ++ f ∷ []) fb cut) (sym is) (follows_fetch_a m fa fb cut f fol can same),
+)
+merged_a (Some ending) late before fa fb cut old new m m' most read fol (ends, moved, is) failures = (
+  fa,
+  read_end A late before fa old new ending read ends failures,
+  subst (λ (s : MergerState). Follows s fa fb cut) (sym is) (follows_end m fa fb cut A fol),
+)
+
+pub merged_b : (end : Option Ending) (late : ℕ) (before : SourceView) (fa fb cut : List Frame) (old new : Reading) (m m' : MergerState) → old.position.most ≡ most_frames →
+    HasRead B late before fb None old → Follows m fa fb cut → Merges B end old new m m' → new.failures ≡ old.failures →
+    (more : List Frame) × HasRead B late before more end new × Follows m' fa more cut
+merged_b None late before fa fb cut old new m m' most read fol (f, t, moved, same, can, is) failures = (
+  fb ++ f ∷ [],
+  read_frame B late before fb old new f most read t moved failures,
+  subst (λ (s : MergerState). Follows s fa (fb ++ f ∷ []) cut) (sym is) (follows_fetch_b m fa fb cut f fol can same),
+)
+merged_b (Some ending) late before fa fb cut old new m m' most read fol (ends, moved, is) failures = (
+  fb,
+  read_end B late before fb old new ending read ends failures,
+  subst (λ (s : MergerState). Follows s fa fb cut) (sym is) (follows_end m fa fb cut B fol),
+)
+
+-- ---- an item of a tap isn't merged
+
+-- the frame was read, and has no place in the merger
+part_dropped : (network : Network) (late : ℕ) (before : SourceView) (frames : List Frame) (old new : Reading) (f : Frame) → old.position.most ≡ most_frames →
+    HasRead network late before frames None old → TakesFrame old.position old.remaining new.remaining f →
+    ReadsPart network late before (frames ++ f ∷ []) new
+part_dropped network late before frames old new f most read t =
+    let there : Reading = record { position = after_frame old.position f.stamp; remaining = new.remaining; failures = old.failures } in
+    let has = read_frame network late before frames old there f most read t refl refl in
+    record {
+      position = has.position;
+      left = has.left;
+      read = has.read;
+      gone = none_gone has.left new.remaining (sym has.stands.1);
+    }
+
+counted_from : (a b c : ℕ) → b ≡ a → CountsFailure b c → CountsFailure a c
+counted_from a b c same counts = subst (λ n. CountsFailure n c) same counts
+
+pub stops_a : (fault : WatchFault) (late : ℕ) (a b : SourceView) (fa fb cut : List Frame) (end_b : Option Ending) (old new other : Reading) (m : MergerState) →
+    old.position.most ≡ most_frames → HasRead A late a fa None old → HasRead B late b fb end_b other → Follows m fa fb cut → MergesNot A fault old new m →
+    (more : List Frame) × (rest : List Frame) × IsOrder more fb (cut ++ rest) × ReadsPart A late a more new × ReadsPart B late b fb other
+    × SourceFails fault a.failures new.failures b.failures other.failures
+stops_a (watch.Read A) late a b fa fb cut end_b old new other m most read_a read_b fol (is, counts, gone) = (
+  fa,
+  m.pending,
+  fol.order,
+  part_stopped A late a fa old new read_a gone,
+  part_of B late b fb end_b other read_b,
+  (counted_from a.failures old.failures new.failures read_a.failures counts, read_b.failures),
+)
+stops_a (watch.Read B) late a b fa fb cut end_b old new other m most read_a read_b fol (is, counts, gone) = (let wrong : ⊥ = cc is in absurd wrong)
+stops_a watch.Memory late a b fa fb cut end_b old new other m most read_a read_b fol (same, inl gone) =
+    (fa, m.pending, fol.order, part_stopped A late a fa old new read_a gone, part_of B late b fb end_b other read_b, (same ∙ read_a.failures, read_b.failures))
+stops_a watch.Memory late a b fa fb cut end_b old new other m most read_a read_b fol (same, inr (f, t, net, can)) = (
+  fa ++ f ∷ [],
+  insert_frame f m.pending,
+  (follows_fetch_a m fa fb cut f fol can net).order,
+  part_dropped A late a fa old new f most read_a t,
+  part_of B late b fb end_b other read_b,
+  (same ∙ read_a.failures, read_b.failures),
+)
+stops_a watch.Workers late a b fa fb cut end_b old new other m most read_a read_b fol h = absurd h
+stops_a (watch.Header network fault) late a b fa fb cut end_b old new other m most read_a read_b fol h = absurd h
+stops_a (watch.Write out) late a b fa fb cut end_b old new other m most read_a read_b fol h = absurd h
+stops_a watch.Spawn late a b fa fb cut end_b old new other m most read_a read_b fol h = absurd h
+stops_a watch.RingLost late a b fa fb cut end_b old new other m most read_a read_b fol h = absurd h
+stops_a watch.Filters late a b fa fb cut end_b old new other m most read_a read_b fol h = absurd h
+
+pub stops_b : (fault : WatchFault) (late : ℕ) (a b : SourceView) (fa fb cut : List Frame) (end_a : Option Ending) (old new other : Reading) (m : MergerState) →
+    old.position.most ≡ most_frames → HasRead B late b fb None old → HasRead A late a fa end_a other → Follows m fa fb cut → MergesNot B fault old new m →
+    (more : List Frame) × (rest : List Frame) × IsOrder fa more (cut ++ rest) × ReadsPart A late a fa other × ReadsPart B late b more new
+    × SourceFails fault a.failures other.failures b.failures new.failures
+stops_b (watch.Read B) late a b fa fb cut end_a old new other m most read_b read_a fol (is, counts, gone) = (
+  fb,
+  m.pending,
+  fol.order,
+  part_of A late a fa end_a other read_a,
+  part_stopped B late b fb old new read_b gone,
+  (read_a.failures, counted_from b.failures old.failures new.failures read_b.failures counts),
+)
+stops_b (watch.Read A) late a b fa fb cut end_a old new other m most read_b read_a fol (is, counts, gone) = (let wrong : ⊥ = cc is in absurd wrong)
+stops_b watch.Memory late a b fa fb cut end_a old new other m most read_b read_a fol (same, inl gone) =
+    (fb, m.pending, fol.order, part_of A late a fa end_a other read_a, part_stopped B late b fb old new read_b gone, (read_a.failures, same ∙ read_b.failures))
+stops_b watch.Memory late a b fa fb cut end_a old new other m most read_b read_a fol (same, inr (f, t, net, can)) = (
+  fb ++ f ∷ [],
+  insert_frame f m.pending,
+  (follows_fetch_b m fa fb cut f fol can net).order,
+  part_of A late a fa end_a other read_a,
+  part_dropped B late b fb old new f most read_b t,
+  (read_a.failures, same ∙ read_b.failures),
+)
+stops_b watch.Workers late a b fa fb cut end_a old new other m most read_b read_a fol h = absurd h
+stops_b (watch.Header network fault) late a b fa fb cut end_a old new other m most read_b read_a fol h = absurd h
+stops_b (watch.Write out) late a b fa fb cut end_a old new other m most read_b read_a fol h = absurd h
+stops_b watch.Spawn late a b fa fb cut end_a old new other m most read_b read_a fol h = absurd h
+stops_b watch.RingLost late a b fa fb cut end_a old new other m most read_b read_a fol h = absurd h
+stops_b watch.Filters late a b fa fb cut end_a old new other m most read_b read_a fol h = absurd h
+
+-- ---- a round is cut
+
+pub b_stays_at_cut : (end : Option Ending) (q : Position) (m : MergerState) (most : ℕ) → Agrees B end q m → Agrees B end q (after_cut m most)
+b_stays_at_cut end q m most agrees = same_b end q m (after_cut m most) refl refl agrees
+
+pub a_stays_at_cut : (end : Option Ending) (q : Position) (m : MergerState) (most : ℕ) → Agrees A end q m → Agrees A end q (after_cut m most)
+a_stays_at_cut end q m most agrees = same_a end q m (after_cut m most) refl refl agrees
+
+pub has_met : (network : Network) (end : Option Ending) (q : Position) (m : MergerState) → Agrees network end q m → is_some end ≡ true → (tap_of m network).ended ≡ true
+has_met network None q m agrees some = absurd (false≢true some)
+has_met network (Some ending) q m (stage, done) some = done
+
+take_none : (n : ℕ) (l : List Frame) → take (suc n) l ≡ [] → l ≡ []
+take_none n [] e = refl
+take_none n (f ∷ l) e = (let wrong : ⊥ = cc e in absurd wrong)
+
+-- where both have ended, an empty cut leaves nothing
+pub all_cut : (m : MergerState) (most : ℕ) → 0 < most → m.a.ended ≡ true → m.b.ended ≡ true → cut_frames m most ≡ [] → m.pending ≡ []
+all_cut m zero less a b none = absurd (omega (arith, less))
+all_cut m (suc most) less a b none = take_none most m.pending (ap (take (suc most)) (sym (ended_is_safe m a b)) ∙ none)
+
+pub no_frames : (n : ℕ) (l : List Frame) → (n == 0) ≡ true → n ≡ length l → l ≡ []
+no_frames n [] e is = refl
+no_frames n (f ∷ l) e is = (let none : n ≡ 0 = eqb-true n 0 e in absurd (omega (arith, none, is)))

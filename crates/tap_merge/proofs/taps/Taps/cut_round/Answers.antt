@@ -1,0 +1,34 @@
+use Rattle.std.proofs.Common.{◌∙◌, ◌++◌, List, sym, ap, arith}
+use Rattle.afdx_frame.specs.Frame.{Frame}
+use Rattle.afdx_frame.specs.declared.key.Network.TheVariants.{A, B}
+use Rattle.pcap_io.specs.Reader.{position_of, reading_of}
+use Rattle.ordered_merge.proofs.Following.{follows_cut}
+use Rattle.tap_merge.proofs.TwoTaps.{all_cut, has_met, part_of}
+use Rattle.tap_merge.proofs.taps.Taps.cut_round.Goals as goal
+
+pub returns-in-Ok-clause-merged : goal.returns-in-Ok-clause-merged
+returns-in-Ok-clause-merged g c = λ late a b frames_a frames_b cut h. record {
+  read_a = h.read_a;
+  read_b = h.read_b;
+  follows = rw (c.in-Ok.ensures.rest, c.in-Ok.ensures.round) (follows_cut c.args.self.now.merger frames_a frames_b cut 256 h.follows);
+}
+
+pub returns-in-Ok-clause-ended : goal.returns-in-Ok-clause-ended
+returns-in-Ok-clause-ended g c = λ ended none.
+    (let taps = c.args.self.now in (
+      ended,
+      sym (ap (λ (l : List Frame). l ++ c.cut.new.self.pending) none) ∙ sym c.in-Ok.ensures.whole
+          ∙ all_cut taps.merger 256 (omega arith) (has_met A taps.end_a (position_of taps.a) taps.merger c.requires.0 ended.0)
+          (has_met B taps.end_b (position_of taps.b) taps.merger c.requires.1 ended.1) (sym c.in-Ok.ensures.round ∙ none),
+    ))
+
+pub returns-in-Err-clause-stopped : goal.returns-in-Err-clause-stopped
+returns-in-Err-clause-stopped g c = λ late a b frames_a frames_b cut h. record {
+  frames_a = frames_a;
+  frames_b = frames_b;
+  rest = c.args.self.now.merger.pending;
+  order = h.follows.order;
+  read_a = part_of A late a frames_a c.args.self.now.end_a (reading_of g.S.TapSource.remaining g.S.TapSource.failures c.args.self.now.a) h.read_a;
+  read_b = part_of B late b frames_b c.args.self.now.end_b (reading_of g.T.TapSource.remaining g.T.TapSource.failures c.args.self.now.b) h.read_b;
+  fails = (h.read_a.failures, h.read_b.failures);
+}

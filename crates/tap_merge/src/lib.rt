@@ -1,0 +1,11 @@
+//! Two recordings as they are read and merged into rounds of frames in order: read by the calling thread, or taken from rings that
+//! a thread for each fills.
+#![tactic(auto)]
+
+mod rings;
+mod tap_thread;
+mod taps;
+
+pub use rings::{Rings, drain};
+pub use tap_thread::{TapThread, settle_tap, start_tap};
+pub use taps::{Taps, Unopened};

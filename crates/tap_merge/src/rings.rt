@@ -1,0 +1,168 @@
+//! Two recordings that other threads read, taken from their rings and merged.
+ghost use Rattle.std.specs.Prelude.{◌≡◌, ◌++◌, ◌^◌, ◌≤◌, ℕ, List, [], length, true, false, Ok, Err, None, IfErr, IfOk, OnErr, OnOk};
+ghost use Rattle.std.specs.Option.{option_map_or};
+ghost use Rattle.afdx_frame.specs.Frame.{Frame};
+ghost use Rattle.tap_queue.specs.Items.{frames_in};
+ghost use Rattle.tap_queue.specs.Ring.{taken_items};
+ghost use Rattle.tap_merge.specs.Rings.{AgreesWith, IsLost, IsNotFailed, MergesItem, TakesOn, TapFault};
+
+use crate::taps::ROUND;
+use afdx_frame::{Network, TapFrame};
+use ordered_merge::Merger;
+use pcap_io::{Ending, ReadFault};
+use run_outcome::WatchFault;
+use std::alloc::AllocError;
+use std::sync::Wait;
+use tap_queue::{TapEnd, TapItem};
+
+/// Takes the next item of a network's ring and merges it: a frame, or the recording's ending, which it
+/// returns.
+fn merge_item<R: Wait>(
+    rt: &R,
+    network: Network,
+    end: &mut TapEnd,
+    merger: &mut Merger,
+) -> Result<Option<Ending>, WatchFault>
+    requires { AgreesWith network end.old merger.old }
+    ensures takes { TakesOn end.old end.new }
+    ensures merged { IfOk result (λ ending. MergesItem network ending end.old end.new merger.old merger.new) }
+    ensures few { OnOk result (length (frames_in (taken_items end.new)) ≤ 2 ^ 32) }
+    ensures unchanged { OnErr result (merger.new ≡ merger.old) }
+    ensures fault { IfErr result (λ fault. TapFault network fault end.new) }
+    ensures not_failed { result ≡ Err WatchFault.Memory → IsNotFailed (taken_items end.new) }
+    ensures lost { result ≡ Err WatchFault.RingLost → IsLost end.old end.new }
+{
+    match end.take(rt)? {
+        TapItem::Frame(frame) => {
+            if merger.fetch(frame).is_err() {
+                return Err(WatchFault::Memory);
+            }
+            Ok(None)
+        }
+        TapItem::End(ending) => {
+            merger.end(network);
+            Ok(Some(ending))
+        }
+        TapItem::Failed(ReadFault::Device) => Err(WatchFault::Read { network }),
+        TapItem::Failed(ReadFault::Memory) => Err(WatchFault::Memory),
+        // No thread puts it: a reader fails once, by one of the others.
+        TapItem::Failed(ReadFault::Failed) => Err(WatchFault::RingLost),
+    }
+}
+
+/// Takes what is left of a ring, up to the recording's ending or a fault.
+pub fn drain<R: Wait>(rt: &R, end: &mut TapEnd)
+    ensures { TakesOn end.old end.new }
+{
+    for _ in rt.forever() {
+        match end.take(rt) {
+            Ok(TapItem::Frame(frame)) => end.give_back(frame),
+            _ => return,
+        }
+    }
+}
+
+/// The rings of both networks, the merger of their frames, and the endings that were met.
+#[derive(Drop)]
+pub struct Rings {
+    pub a: TapEnd,
+    pub b: TapEnd,
+    pub merger: Merger,
+    pub end_a: Option<Ending>,
+    pub end_b: Option<Ending>,
+}
+
+impl Rings {
+    ghost use Rattle.std.specs.Prelude.{is_some};
+    ghost use Rattle.tap_queue.specs.Ring.{SameEnd};
+    ghost use Rattle.tap_merge.specs.Rings.{HasTaken, RingsFault, StopsTaking};
+
+    /// Merges the next item of the network whose turn it is. False: both have ended.
+    fn merge_one<R: Wait>(&mut self, rt: &R) -> Result<bool, WatchFault>
+        requires { (late : ℕ) × (cut : List Frame) × HasTaken late cut self.old }
+        ensures a { SameEnd self.old.a self.new.a }
+        ensures b { SameEnd self.old.b self.new.b }
+        ensures merged { OnOk result ((late : ℕ) (cut : List Frame)
+            → HasTaken late cut self.old → HasTaken late cut self.new) }
+        ensures ended { result ≡ Ok false
+            → (self.new.merger.a.ended ≡ true) × (self.new.merger.b.ended ≡ true) }
+        ensures stopped { OnErr result ((late : ℕ) (cut : List Frame)
+            → HasTaken late cut self.old → StopsTaking late cut self.new.a self.new.b) }
+        ensures fault { IfErr result (λ fault. RingsFault fault self.new.a self.new.b) }
+    {
+        match self.merger.wants() {
+            None => return Ok(false),
+            Some(Network::A) => {
+                self.end_a = merge_item(rt, Network::A, &mut self.a, &mut self.merger)?;
+            }
+            Some(Network::B) => {
+                self.end_b = merge_item(rt, Network::B, &mut self.b, &mut self.merger)?;
+            }
+        }
+        Ok(true)
+    }
+
+    /// Merges up to 256 items. False: both have ended.
+    fn merge_some<R: Wait>(&mut self, rt: &R) -> Result<bool, WatchFault>
+        requires { (late : ℕ) × (cut : List Frame) × HasTaken late cut self.old }
+        ensures a { SameEnd self.old.a self.new.a }
+        ensures b { SameEnd self.old.b self.new.b }
+        ensures merged { OnOk result ((late : ℕ) (cut : List Frame)
+            → HasTaken late cut self.old → HasTaken late cut self.new) }
+        ensures ended { result ≡ Ok false
+            → (self.new.merger.a.ended ≡ true) × (self.new.merger.b.ended ≡ true) }
+        ensures stopped { OnErr result ((late : ℕ) (cut : List Frame)
+            → HasTaken late cut self.old → StopsTaking late cut self.new.a self.new.b) }
+        ensures fault { IfErr result (λ fault. RingsFault fault self.new.a self.new.b) }
+    {
+        for _item in 0..ROUND {
+            if !self.merge_one(rt)? {
+                return Ok(false);
+            }
+        }
+        Ok(true)
+    }
+
+    /// The next frames in order, at most 256; there may be none yet. None: both recordings have ended,
+    /// and all their frames were given.
+    pub fn next_round<R: Wait>(&mut self, rt: &R) -> Result<Option<Vec<TapFrame>>, WatchFault>
+        requires { (late : ℕ) × (cut : List Frame) × HasTaken late cut self.old }
+        ensures a { SameEnd self.old.a self.new.a }
+        ensures b { SameEnd self.old.b self.new.b }
+        ensures merged { IfOk result (λ round. (late : ℕ) (cut : List Frame)
+            → HasTaken late cut self.old
+            → HasTaken late (cut ++ option_map_or (λ frames. frames.items) round []) self.new) }
+        ensures size { IfOk result (λ round.
+            option_map_or (λ frames. length frames.items) round 0 ≤ 256) }
+        ensures ended { result ≡ Ok None → (is_some self.new.end_a ≡ true)
+            × (is_some self.new.end_b ≡ true) × (self.new.merger.pending ≡ []) }
+        ensures stopped { OnErr result ((late : ℕ) (cut : List Frame)
+            → HasTaken late cut self.old → StopsTaking late cut self.new.a self.new.b) }
+        ensures fault { IfErr result (λ fault. RingsFault fault self.new.a self.new.b) }
+    {
+        let merged = self.merge_some(rt)?;
+        let round = match self.merger.cut(ROUND) {
+            Ok(round) => round,
+            Err(AllocError) => return Err(WatchFault::Memory),
+        };
+        if merged || !round.is_empty() {
+            return Ok(Some(round));
+        }
+        Ok(None)
+    }
+
+    /// Hands the memory of a round's frames back to the threads that read them.
+    pub fn give_back(&mut self, round: Vec<TapFrame>)
+        ensures a { SameEnd self.old.a self.new.a }
+        ensures b { SameEnd self.old.b self.new.b }
+        ensures merged { (late : ℕ) (cut : List Frame)
+            → HasTaken late cut self.old → HasTaken late cut self.new }
+    {
+        for frame in round {
+            match frame.network() {
+                Network::A => self.a.give_back(frame),
+                Network::B => self.b.give_back(frame),
+            }
+        }
+    }
+}
