@@ -29,7 +29,7 @@ use Rattle.tap_merge.specs.Rings.{HasTaken, RingsFault, StopsTaking}
 use Rattle.tap_merge.specs.Taps.{HasRead}
 use Rattle.run_outcome.specs.Device.{SourceMembers, SinkMembers, AppendsSome, SinkView, SourceView}
 use Rattle.run_outcome.specs.Recording.{HasReadTap, IsReadPart, IsReadWhole, WasOpened, most_frames}
-use Rattle.run_outcome.specs.Fault.{CaptureSink, Fails, LedgerSink, SourceA, SourceB, names}
+use Rattle.run_outcome.specs.Fault.{MayFail, CaptureSink, Fails, LedgerSink, SourceA, SourceB, names}
 use Rattle.run_outcome.specs.Opening.{AbortsAtOpening, WatchDevices, watch_devices}
 use Rattle.watch_run.specs.Watch.{AbortsRun, StopsRun}
 use Rattle.round_output.specs.Round.{IsFilterCount, IsWorkerCount}
