@@ -91,8 +91,8 @@ impl<S: TapSource> BlockSource<S> {
         }
     }
 
-    /// The same source, whose block will have `len` bytes, at most 262144, unless a packet is longer.
-    /// A block that was made before stays.
+    /// The same source, whose block will have `len` bytes, at most [`MAX_SNAPLEN`], unless a packet is
+    /// longer. A block that was made before stays.
     pub fn with_block_len(self, len: usize) -> BlockSource<S>
         ensures source { block_source result ≡ block_source self }
         ensures unread { unread_bytes result ≡ unread_bytes self }

@@ -167,9 +167,9 @@ impl<S: TapSource> TapReader<S> {
         }
     }
 
-    /// The same reader, which reads ahead in blocks of `len` bytes, at most 262144, and not of 64
-    /// KiB. A longer packet still has its room. A reader that has found frames keeps the block
-    /// that it has.
+    /// The same reader, which reads ahead in blocks of `len` bytes, at most
+    /// [`MAX_SNAPLEN`](afdx_frame::MAX_SNAPLEN), and not of 64 KiB. A longer packet still has its room.
+    /// A reader that has found frames keeps the block that it has.
     pub fn with_block_len(self, len: usize) -> TapReader<S>
         ensures position { position_of result ≡ position_of self }
         ensures source { source_of result ≡ source_of self }
@@ -392,7 +392,8 @@ impl<S: TapSource> TapReader<S> {
         }
     }
 
-    /// The source. What was read ahead of the reader's position is lost, at most 262144 bytes.
+    /// The source. What was read ahead of the reader's position is lost, at most
+    /// [`MAX_SNAPLEN`](afdx_frame::MAX_SNAPLEN) bytes.
     pub fn into_source(self) -> S
         ensures source { result ≡ source_of self }
         ensures lost { length (unread_of self) ≤ MAX_SNAPLEN }

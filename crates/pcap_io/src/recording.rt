@@ -3,7 +3,7 @@
 /// Why a recording can't be read on.
 #[derive(Clone, Copy, Debug, PartialEq, Eq)]
 pub enum BadReason {
-    /// A packet claims more than 262144 captured bytes.
+    /// A packet claims more captured bytes than [`MAX_SNAPLEN`](afdx_frame::MAX_SNAPLEN).
     Length,
     /// The fraction makes a second or more.
     Fraction,

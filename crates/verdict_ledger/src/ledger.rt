@@ -37,7 +37,8 @@ pub struct Ledger<W> {
 
 impl<W: OutSink> Ledger<W> {
     ghost use Rattle.verdict_ledger.specs.declared.fault.LedgerFault.TheVariants.{Memory, Failed};
-    ghost use Rattle.verdict_ledger.specs.Ledger.{StandsAfter, begun_sink, finished_sink, has_failed, sink_of, totals_in};
+    ghost use Rattle.verdict_ledger.specs.Ledger.{StandsAfter, begun_sink, finished_sink};
+    ghost use Rattle.verdict_ledger.specs.Ledger.{has_failed, sink_of, totals_in};
 
     /// Writes the first line of the ledger of a table, for 1 to [`MAX_FILTERS`](crate::MAX_FILTERS)
     /// filters.

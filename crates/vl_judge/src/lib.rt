@@ -11,8 +11,9 @@
 //! ```
 //!
 //! [`Lanes::judge_frames`] judges a list of frames on the calling thread, and [`Lanes::judge_round`] a
-//! whole round of frames, by several threads if there is more than one worker. The lanes are moved to the workers and come back; the frames are borrowed. The
-//! verdicts are those of `judge`, frame by frame, whatever the number of workers.
+//! whole round of frames, by several threads if there is more than one worker. The lanes are moved to
+//! the workers and come back; the frames are borrowed. The verdicts are those of `judge`, frame by
+//! frame, whatever the number of workers.
 //!
 //! ```text
 //! let (lanes, verdicts) = lanes.judge_round(rt, &round, 2)?;

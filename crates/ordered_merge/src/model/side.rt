@@ -36,7 +36,8 @@ impl Model for TapSide {
 
     ghost view = { λ s. record { left = s.left.items; marked = s.marked; ring = s.ring.items } };
 
-    ghost invariant = { λ s. (RING_CAPACITY ≤ deque_capacity s.ring) × (length s.ring.items ≤ RING_CAPACITY) };
+    ghost invariant = { λ s.
+        (RING_CAPACITY ≤ deque_capacity s.ring) × (length s.ring.items ≤ RING_CAPACITY) };
 }
 
 impl TapSide {

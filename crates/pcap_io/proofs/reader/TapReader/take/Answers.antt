@@ -5,7 +5,6 @@ use Rattle.pcap_io.specs.Position.{frame_at}
 use Rattle.pcap_io.specs.declared.position.Position.{Position}
 use Rattle.pcap_io.specs.Reader.{position_of}
 use Rattle.pcap_io.proofs.Steps.{lacks_body, takes_head, body_fault, cut_found, frame_found, takes_packet}
-use Rattle.pcap_io.proofs.Draws.{on_err_from}
 use Rattle.pcap_io.proofs.reader.TapReader.take.Goals as goal
 
 pub returns-in_err-draw-clause-fault : goal.returns-in_err-draw-clause-fault
