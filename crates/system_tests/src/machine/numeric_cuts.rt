@@ -174,17 +174,24 @@ fn every_prefix(rt: HostRuntime) -> Result<(), Fail> {
     Ok(())
 }
 
+/// The text's bytes with the byte at an index replaced.
+fn with_byte(alloc: Global, index: usize, byte: u8) -> Result<Vec<u8>, AllocError> {
+    let mut bytes = Vec::from_slice(alloc, TEXT.as_bytes())?;
+    if index < bytes.len() {
+        bytes[index] = byte;
+    }
+    Ok(bytes)
+}
+
 #[test]
 fn every_changed_byte(rt: HostRuntime) -> Result<(), Fail> {
-    let mut bytes = TEXT.as_bytes().to_vec(rt.alloc())?;
-    for at in 0..TEXT.len() {
+    for index in 0..TEXT.len() {
         for byte in 0..=255u8 {
-            bytes[at] = byte;
+            let bytes = with_byte(rt.alloc(), index, byte)?;
             if let Ok(text) = std::str::from_utf8(&bytes) {
                 agrees(&rt, text)?;
             }
         }
-        bytes[at] = TEXT.as_bytes()[at];
     }
     Ok(())
 }
