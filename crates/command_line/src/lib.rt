@@ -1,5 +1,5 @@
-//! What stands on the command line: the arguments that a person types, and what the program answers on standard error. Faults by
-//! their stated lines, notes, exit statuses, and for a terminal advice and a caret under the place of a fault.
+//! The command line: the arguments that a person types, and what the program answers on standard error:
+//! fault lines, notes, exit statuses, and for a terminal advice and a caret under a refused place.
 #![tactic(auto)]
 
 mod arguments;

@@ -1,5 +1,5 @@
-//! The commands over any sources and sinks, from the text of their arguments to how they ended: `capture`, `asm` and `debug`, and
-//! the texts that `watch` is set up by. The command `watch` itself is `watch_run`'s.
+//! The commands `capture`, `asm` and `debug` over any sources and sinks, from the text of their arguments
+//! to how they ended, and the texts that `watch` is set up by. The run of `watch` is `watch_run`'s.
 #![tactic(auto)]
 
 mod asm;

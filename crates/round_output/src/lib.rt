@@ -1,5 +1,5 @@
-//! What a run writes, a round of frames at a time: each frame is judged and filtered, its packet goes to the capture and its line
-//! to the ledger. Rounds are judged and filtered on the calling thread, or shared among workers.
+//! What a run writes, a round of frames at a time: each frame is judged and filtered, its packet goes to
+//! the capture and its line to the ledger, on the calling thread or shared among workers.
 #![tactic(auto)]
 
 mod outputs;

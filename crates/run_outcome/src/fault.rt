@@ -1,4 +1,4 @@
-//! Why a run was aborted: the one enum that a run over recordings answers with, whatever crate found the fault.
+//! Why a run was aborted: one enum for all runs over recordings, whatever crate found the fault.
 ghost use Rattle.std.specs.Prelude.{◌≡◌};
 ghost use Rattle.run_outcome.specs.Fault.{open_fault};
 

@@ -22,7 +22,13 @@ pub struct WatchRefused<S, T, W, L> {
 impl<S, T, W, L> WatchRefused<S, T, W, L> {
     /// With both sources.
     pub fn new(fault: WatchFault, a: S, b: T, capture: W, ledger: L) -> WatchRefused<S, T, W, L>
-        ensures { result ≡ record { fault = fault; a = Some a; b = Some b; capture = capture; ledger = ledger } }
+        ensures { result ≡ record {
+          fault = fault;
+          a = Some a;
+          b = Some b;
+          capture = capture;
+          ledger = ledger;
+        } }
     {
         WatchRefused {
             fault,

@@ -1,5 +1,5 @@
-//! Two recordings as they are read and merged into rounds of frames in order: read by the calling thread, or taken from rings that
-//! a thread for each fills.
+//! Two recordings as they are read and merged into rounds of frames in order: read by the calling thread,
+//! or taken from rings that a thread for each fills.
 #![tactic(auto)]
 
 mod rings;

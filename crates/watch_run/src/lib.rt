@@ -1,7 +1,9 @@
-//! Two recordings, up to eight filters: the capture of the accepted frames in one order, and the ledger of all verdicts.
+//! Two recordings, up to eight filters: the capture of the accepted frames in one order, and the ledger
+//! of all verdicts.
 //!
-//! [`watch_whole`] does it on the calling thread; [`watch`] reads each recording by a thread of its own and shares each round of
-//! frames among workers. What stands after either is one definition (`IsWatched`).
+//! [`watch_whole`] does it on the calling thread; [`watch`] reads each recording by a thread of its own
+//! and shares each round of frames among workers. What stands after either is one definition
+//! (`IsWatched`).
 #![tactic(auto)]
 
 mod gate;
