@@ -244,6 +244,23 @@ fn arguments(rt: &HostRuntime) -> io::Result<Vec<String>> {
     Ok(std::env::args(rt)?.collect(rt.alloc())?)
 }
 
+/// Carries out a command, and tells standard error how it ended.
+fn carry_out(rt: &HostRuntime, command: Invocation<'_>) -> Exit {
+    let ended = match command {
+        // It tells its own end, since it has the source that a fault lies in.
+        Invocation::Asm => return asm(rt),
+        Invocation::Capture { code } => Ok(capture(rt, code)),
+        Invocation::Watch(given) => watch(rt, rt, &given),
+        Invocation::Debug(given) => debug(rt, &given),
+    };
+    let exit = match ended {
+        Ok(exit) => exit,
+        Err(fault) => Exit::Fault(fault),
+    };
+    let _ = tell(rt, &exit, None);
+    exit
+}
+
 fn main(rt: HostRuntime) -> ExitCode {
     // Where standard error can't be written, the status alone tells how the program ended.
     let arguments = match arguments(&rt) {
@@ -253,34 +270,14 @@ fn main(rt: HostRuntime) -> ExitCode {
             return ExitCode::from(USAGE);
         }
     };
-    match read_arguments(rt.alloc(), &arguments) {
-        Ok(Some(Invocation::Capture { code })) => {
-            let exit = capture(&rt, code);
-            let _ = tell(&rt, &exit, None);
-            ExitCode::from(exit.status())
-        }
-        Ok(Some(Invocation::Asm)) => ExitCode::from(asm(&rt).status()),
-        Ok(Some(Invocation::Watch(given))) => {
-            let exit = match watch(&rt, &rt, &given) {
-                Ok(exit) => exit,
-                Err(fault) => Exit::Fault(fault),
-            };
-            let _ = tell(&rt, &exit, None);
-            ExitCode::from(exit.status())
-        }
-        Ok(Some(Invocation::Debug(given))) => {
-            let exit = match debug(&rt, &given) {
-                Ok(exit) => exit,
-                Err(fault) => Exit::Fault(fault),
-            };
-            let _ = tell(&rt, &exit, None);
-            ExitCode::from(exit.status())
-        }
+    let status = match read_arguments(rt.alloc(), &arguments) {
+        Ok(Some(command)) => carry_out(&rt, command).status(),
         // clap requires a command, so this is not met.
-        Ok(None) => ExitCode::from(USAGE),
+        Ok(None) => USAGE,
         Err(error) => {
             let _ = rt.eprint(error);
-            ExitCode::from(USAGE)
+            USAGE
         }
-    }
+    };
+    ExitCode::from(status)
 }
