@@ -123,7 +123,6 @@ def faults(files):
         ("debug without a tap", ["debug", "--filter", sound]),
         ("debug without a filter", ["debug", "--tap", tap]),
         ("an argument too many of debug", [*command, "more"]),
-        ("help of debug", ["debug", "--help"]),
     ):
         judge(name, run(arguments, input=b"", stdout=subprocess.PIPE), USAGE, lambda told: "--tap <FILE>" in told or "more" in told, b"")
 

@@ -3,7 +3,7 @@ import os
 import resource
 import subprocess
 
-from harness import EVERY, FAULT, PROGRAM, SUCCESS, USAGE, difference, header, run, run_at_terminal, say
+from harness import EVERY, FAULT, PROGRAM, SUCCESS, difference, header, run, run_at_terminal, say
 from texts import ABOUT, ADVICE, PROGRAM_HELP, VERSION, advice_on, help_of
 from watching import LINK_5, TABLE
 
@@ -135,17 +135,17 @@ def little_memory(desk):
 
 
 def helps():
-    """Help and version, whole, at a terminal and elsewhere, by each way to ask for them."""
+    """Help and version, whole, on standard output, at a terminal and elsewhere, by each way to ask for them."""
     asked = [(["--help"], PROGRAM_HELP), (["-h"], PROGRAM_HELP), (["help"], PROGRAM_HELP), (["--version"], VERSION), (["-V"], VERSION)]
     for command in ABOUT:
         asked += [([command, "--help"], help_of(command)), ([command, "-h"], help_of(command)), (["help", command], help_of(command))]
     for arguments, text in asked:
         # clap names the program by its file.
         text = text.replace("Usage: afdxmon", "Usage: " + os.path.basename(PROGRAM))
-        fault = difference(run(arguments, stdin=subprocess.DEVNULL, stdout=subprocess.PIPE), USAGE, lambda told: told == text, b"")
+        fault = difference(run(arguments, stdin=subprocess.DEVNULL, stdout=subprocess.PIPE), SUCCESS, "", text.encode())
         ran = run_at_terminal(arguments, stdin=subprocess.DEVNULL)
-        if not fault and (ran.returncode != USAGE or ran.stderr != text or ran.stdout):
-            fault = f"at a terminal: status {ran.returncode}, {ran.stderr!r}"
+        if not fault and (ran.returncode != SUCCESS or ran.stderr or ran.stdout != text.encode()):
+            fault = f"at a terminal: status {ran.returncode}, {ran.stderr!r}, {ran.stdout!r}"
         say(f"the text of {' '.join(arguments)}", fault)
 
 

@@ -297,7 +297,6 @@ def usage(desk):
         ("an option twice", [*desk.arguments(), "--a", "more"], "--a"),
         ("a word too many", [*desk.arguments(), "more"], "more"),
         ("a path that begins with a dash", desk.arguments(a="-a"), "-a"),
-        ("help", ["watch", "--help"], "--ledger"),
     ]
     for name, arguments, mentioned in cases:
         desk.lay(config=TABLE, filter=EVERY, a=HEADER, b=HEADER)

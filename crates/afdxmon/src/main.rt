@@ -274,9 +274,10 @@ fn main(rt: HostRuntime) -> ExitCode {
         Ok(Some(command)) => carry_out(&rt, command).status(),
         // clap requires a command, so this is not met.
         Ok(None) => USAGE,
+        // Help and the version are asked for: they go to standard output, and are no mistake.
         Err(error) => {
-            let _ = rt.eprint(error);
-            USAGE
+            let _ = error.print(&rt);
+            if error.use_stderr() { USAGE } else { 0 }
         }
     };
     ExitCode::from(status)
