@@ -40,6 +40,26 @@ def tap(*frames):
     return header() + b"".join(record(stamp, data) for stamp, data in frames)
 
 
+REASONS = {
+    "length": "captured length over 262144 bytes",
+    "fraction": "fraction of a second out of range",
+    "stampback": "timestamp out of order",
+    "toomany": "too many frames",
+}
+
+
+def notes_on(ledger):
+    """What standard error has of the recordings of this ledger, without the last newline."""
+    notes = []
+    for line in ledger.decode().splitlines():
+        if line.startswith("tap ") and " clean " not in line:
+            network, way, count, *reason = line.split()[1:]
+            why = REASONS[reason[0]] if reason else "truncated within a record"
+            frames = f"{count} frame{'' if count == '1' else 's'}"
+            notes.append(f"afdxmon: note: recording of network {network} ends {way} after {frames}: {why}")
+    return "\n".join(notes)
+
+
 class Desk:
     """A directory with the six files of one run after another."""
 
@@ -76,8 +96,8 @@ class Desk:
         return f"the {option} differs at byte {same}: {found[begin : same + 40]!r}, not {expected[begin : same + 40]!r}"
 
     def agrees(self, ran, capture, ledger):
-        """How a run that should succeed differs from that."""
-        return difference(ran, SUCCESS, "", b"") or self.compared("capture", capture) or self.compared("ledger", ledger)
+        """How a run that should succeed differs from that. It notes each recording that its ledger doesn't call clean."""
+        return difference(ran, SUCCESS, notes_on(ledger), b"") or self.compared("capture", capture) or self.compared("ledger", ledger)
 
     def refused(self, name, ran, line, capture, ledger):
         """A run that should end with a fault, and leave these outputs."""

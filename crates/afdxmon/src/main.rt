@@ -4,16 +4,16 @@
 //! it ended. What a command does stands in that crate, with its contract.
 #![tactic(auto)]
 
-use afdx_frame::TapFrame;
+use afdx_frame::{Network, TapFrame};
 use analyser::{
     AsmRun, CaptureRun, DebugArguments, Exit, Fault, FileOption, Invocation, Note, OpenGate,
-    TapRead, USAGE, WatchArguments, WatchFault, advice, answer_line, begin_session, caret_at,
-    filter_of, load_filters, read_arguments, read_config, read_file, read_tap, run_asm,
+    TapNote, TapRead, USAGE, WatchArguments, WatchFault, advice, answer_line, begin_session,
+    caret_at, filter_of, load_filters, read_arguments, read_config, read_file, read_tap, run_asm,
     run_capture, run_session,
 };
 use bpf_debugger::DebugFault;
 use bpf_loader::Program;
-use pcap_io::{ReadSource, WriteSink};
+use pcap_io::{Ending, ReadSource, WriteSink};
 use std::alloc::Global;
 use std::fs::File;
 use std::io;
@@ -124,7 +124,10 @@ fn watch<R: Threads + Wait + Sync>(
         &OpenGate,
     );
     let (outcome, capture, ledger) = match run {
-        Ok(done) => (Ok(()), done.capture, done.ledger),
+        Ok(done) => {
+            let [a, b] = done.endings;
+            (Ok((a, b)), done.capture, done.ledger)
+        }
         Err(refused) => (
             Err(Fault::Watch(refused.fault)),
             refused.capture,
@@ -210,12 +213,24 @@ fn debug(rt: &HostRuntime, given: &DebugArguments<'_>) -> Result<Exit, Fault> {
     Ok(debug_input(rt, program, frames))
 }
 
-/// Tells standard error how a command ended: the fault line or the note, and to a person at a terminal
+/// Notes how one of two recordings ended, where that wasn't its end.
+fn note_ending(rt: &HostRuntime, network: Network, ending: Ending) -> io::Result<()> {
+    match ending {
+        Ending::Clean(_) => Ok(()),
+        Ending::Cut(_) | Ending::Bad(..) => rt.eprintln(TapNote(network, ending)),
+    }
+}
+
+/// Tells standard error how a command ended: the fault line or the notes, and to a person at a terminal
 /// where in a filter's source a fault lies, and what it means.
 fn tell(rt: &HostRuntime, exit: &Exit, source: Option<&str>) -> io::Result<()> {
     match exit {
         Exit::Success => Ok(()),
         Exit::Note(ending) => rt.eprintln(Note(*ending)),
+        Exit::Watched { a, b } => {
+            note_ending(rt, Network::A, *a)?;
+            note_ending(rt, Network::B, *b)
+        }
         Exit::Fault(fault) => {
             rt.eprintln(*fault)?;
             if !rt.stderr().is_terminal() {

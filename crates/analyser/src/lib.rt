@@ -16,8 +16,8 @@
 
 pub use capture_run::{capture_gives_the_accepted_frames, capture_one};
 pub use command_line::{
-    Caret, DebugArguments, Exit, Fault, FileOption, Invocation, Note, USAGE, WatchArguments,
-    advice, caret_at, fault_line, read_arguments,
+    Caret, DebugArguments, Exit, Fault, FileOption, Invocation, Note, TapNote, USAGE,
+    WatchArguments, advice, caret_at, fault_line, read_arguments,
 };
 pub use commands::{
     AsmRun, CaptureRun, DebugRun, Ran, TapRead, answer_line, asm_over, begin_session, capture_over,

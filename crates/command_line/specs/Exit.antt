@@ -1,10 +1,12 @@
 -- How the program ends (this project's profile): status 0 where the command did its work, 1 after a fault. A recording that didn't
 -- end clean is no fault, but noted.
 use Rattle.std.specs.Prelude.{ℕ, List, ◌++◌, Bool, true, false, Result, Ok, Err, codes, decimal, ◌==◌, if◌then◌else◌}
+use Rattle.afdx_frame.specs.declared.key.Network.{Network}
 use Rattle.pcap_io.specs.declared.recording.BadReason.{BadReason}
 use Rattle.pcap_io.specs.declared.recording.BadReason.TheVariants as reasons
 use Rattle.pcap_io.specs.declared.recording.Ending.{Ending}
 use Rattle.pcap_io.specs.declared.recording.Ending.TheVariants.{Clean, Cut, Bad}
+use Rattle.command_line.specs.Line.{network_part}
 use Rattle.command_line.specs.declared.exit.Exit.{Exit}
 use Rattle.command_line.specs.declared.exit.Exit.TheVariants as exit
 use Rattle.command_line.specs.declared.fault.Fault.{Fault}
@@ -26,11 +28,11 @@ exit_of (Ok ending) true = exit_at ending
 exit_of (Ok ending) false = exit.Fault (fault.Watch (watch.Write output.Capture))
 
 -- the end of a run over two recordings, by what it came to and whether its capture and its ledger were flushed
-abbrev pub watch_exit : Result (Unit {0}) Fault → Bool → Bool → Exit
+abbrev pub watch_exit : Result (Ending × Ending) Fault → Bool → Bool → Exit
 watch_exit (Err f) capture ledger = exit.Fault f
 watch_exit (Ok done) false ledger = exit.Fault (fault.Watch (watch.Write output.Capture))
 watch_exit (Ok done) true false = exit.Fault (fault.Watch (watch.Write output.Ledger))
-watch_exit (Ok done) true true = exit.Success
+watch_exit (Ok endings) true true = exit.Watched endings.0 endings.1
 
 -- the end of a command that prints a text, by what it came to and whether its output was flushed
 abbrev pub text_exit : Result (Unit {0}) Fault → Bool → Exit
@@ -41,6 +43,7 @@ text_exit (Ok done) false = exit.Fault (fault.File file.Standard)
 abbrev pub status_of : Exit → ℕ
 status_of exit.Success = 0
 status_of (exit.Note ending) = 0
+status_of (exit.Watched a b) = 0
 status_of (exit.Fault f) = 1
 
 -- so many frames
@@ -53,8 +56,15 @@ reason_text reasons.Fraction = codes "fraction of a second out of range"
 reason_text reasons.StampBack = codes "timestamp out of order"
 reason_text reasons.TooMany = codes "too many frames"
 
--- the note on an ending: what kind, after how many frames, and why
+-- how a recording ends: in what way, after how many frames, and why
+abbrev pub ending_part : Ending → List ℕ
+ending_part (Clean n) = codes " ends clean after " ++ frames_text n
+ending_part (Cut n) = codes " ends cut after " ++ frames_text n ++ codes ": truncated within a record"
+ending_part (Bad n reason) = codes " ends bad after " ++ frames_text n ++ codes ": " ++ reason_text reason
+
+-- the note on the ending of a command's one recording, and that of one of two recordings
 abbrev pub note_of : Ending → List ℕ
-note_of (Clean n) = codes "afdxmon: note: recording ends clean after " ++ frames_text n
-note_of (Cut n) = codes "afdxmon: note: recording ends cut after " ++ frames_text n ++ codes ": truncated within a record"
-note_of (Bad n reason) = codes "afdxmon: note: recording ends bad after " ++ frames_text n ++ codes ": " ++ reason_text reason
+note_of ending = codes "afdxmon: note: recording" ++ ending_part ending
+
+abbrev pub tap_note_of : Network → Ending → List ℕ
+tap_note_of network ending = codes "afdxmon: note: recording of network " ++ network_part network ++ ending_part ending

@@ -16,6 +16,8 @@ pub enum Exit {
     Success,
     /// Status 0: the recording ended early. What stands before the ending was read.
     Note(Ending),
+    /// Status 0: both recordings were read up to these endings.
+    Watched { a: Ending, b: Ending },
     /// Status 1.
     Fault(Fault),
 }
@@ -36,16 +38,20 @@ impl Exit {
         }
     }
 
-    /// The end of a run over two recordings, from what it came to and whether its capture and its
-    /// ledger were flushed. How the recordings ended stands in the ledger.
-    pub fn of_watch(outcome: Result<(), Fault>, capture_flushed: bool, ledger_flushed: bool) -> Exit
+    /// The end of a run over two recordings, from the endings of A and B or why it was aborted, and
+    /// whether its capture and its ledger were flushed.
+    pub fn of_watch(
+        outcome: Result<(Ending, Ending), Fault>,
+        capture_flushed: bool,
+        ledger_flushed: bool,
+    ) -> Exit
         ensures { result ≡ watch_exit outcome capture_flushed ledger_flushed }
     {
         let output = match outcome {
             Err(fault) => return Exit::Fault(fault),
-            Ok(()) if !capture_flushed => Output::Capture,
-            Ok(()) if !ledger_flushed => Output::Ledger,
-            Ok(()) => return Exit::Success,
+            Ok(_) if !capture_flushed => Output::Capture,
+            Ok(_) if !ledger_flushed => Output::Ledger,
+            Ok((a, b)) => return Exit::Watched { a, b },
         };
         Exit::Fault(Fault::Watch(WatchFault::Write { output }))
     }
@@ -66,7 +72,7 @@ impl Exit {
         ensures { result ≡ status_of self.now }
     {
         match self {
-            Exit::Success | Exit::Note(_) => 0,
+            Exit::Success | Exit::Note(_) | Exit::Watched { .. } => 0,
             Exit::Fault(_) => 1,
         }
     }

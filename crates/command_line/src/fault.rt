@@ -229,7 +229,7 @@ fn header_name(fault: HeaderFault) -> &'static str
     }
 }
 
-fn network_name(network: Network) -> &'static str
+pub(crate) fn network_name(network: Network) -> &'static str
     ensures { result.now ≡ network_part network }
 {
     match network {

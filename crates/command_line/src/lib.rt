@@ -12,4 +12,4 @@ pub use arguments::{DebugArguments, Invocation, WatchArguments, read_arguments};
 pub use caret::{Caret, caret_at};
 pub use exit::{Exit, USAGE};
 pub use fault::{Fault, FileOption, fault_line};
-pub use message::{Note, advice};
+pub use message::{Note, TapNote, advice};
