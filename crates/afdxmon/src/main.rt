@@ -260,12 +260,16 @@ fn arguments(rt: &HostRuntime) -> io::Result<Vec<String>> {
 }
 
 /// Carries out a command, and tells standard error how it ended.
-fn carry_out(rt: &HostRuntime, command: Invocation<'_>) -> Exit {
+fn carry_out<R: Threads + Wait + Sync>(
+    rt: &HostRuntime,
+    threads: &R,
+    command: Invocation<'_>,
+) -> Exit {
     let ended = match command {
         // It tells its own end, since it has the source that a fault lies in.
         Invocation::Asm => return asm(rt),
         Invocation::Capture { code } => Ok(capture(rt, code)),
-        Invocation::Watch(given) => watch(rt, rt, &given),
+        Invocation::Watch(given) => watch(rt, threads, &given),
         Invocation::Debug(given) => debug(rt, &given),
     };
     let exit = match ended {
@@ -286,7 +290,7 @@ fn main(rt: HostRuntime) -> ExitCode {
         }
     };
     let status = match read_arguments(rt.alloc(), &arguments) {
-        Ok(Some(command)) => carry_out(&rt, command).status(),
+        Ok(Some(command)) => carry_out(&rt, &rt, command).status(),
         // clap requires a command, so this is not met.
         Ok(None) => USAGE,
         // Help and the version are asked for: they go to standard output, and are no mistake.
