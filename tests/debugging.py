@@ -47,9 +47,9 @@ class Files:
         return ["debug", "--filter", self.write("filter", code), "--tap", self.write("tap.pcap", tap)]
 
 
-def answered(name, command, given, out, **how):
+def answered(name, command, given, out, note=""):
     given = given if isinstance(given, bytes) else given.encode()
-    judge(name, run(command, input=given, stdout=subprocess.PIPE, **how), SUCCESS, "", out.encode())
+    judge(name, run(command, input=given, stdout=subprocess.PIPE), SUCCESS, note, out.encode())
 
 
 def sessions(files):
@@ -66,10 +66,31 @@ def sessions(files):
     ):
         answered(name, command, given, "frames 1\n" + out)
     answered("a recording without frames", files.command(tap=header()), "select 0\n", "frames 0\nfault 2 NoSuchFrame\n")
-    answered("a truncated tap is no fault", files.command(tap=ONE_FRAME + ONE_FRAME[24:99]), "", "frames 1\n")
     many = header() + b"".join(record(i, frame(5, 1514, i % 255 + 1)) for i in range(5000))
     answered("5000 frames", files.command(EVERY, many), "select 4999\ntally\n", f"frames 5000\n{START}tally accepted 5000 rejected 0\n")
     answered("100000 commands", files.command(), "tally\n" * 100_000, "frames 1\n" + "tally accepted 1 rejected 0\n" * 100_000)
+
+
+NOTE = "afdxmon: note: recording ends "
+# A recording that doesn't end clean, how many frames stand before its end, and the note on it.
+ENDINGS = (
+    ("truncated", ONE_FRAME + ONE_FRAME[24:99], 1, NOTE + "cut after 1 frame: truncated within a record"),
+    ("truncated at its first packet", header() + b"\0", 0, NOTE + "cut after 0 frames: truncated within a record"),
+    ("out of order", header() + b"".join(record(stamp, frame(5, 60, 1)) for stamp in (7, 8, 6)), 2, NOTE + "bad after 2 frames: timestamp out of order"),
+)
+
+
+def endings(files):
+    """How a recording ends is noted, once the session is over. After a fault it isn't."""
+    for name, tap, count, note in ENDINGS:
+        command = files.command(tap=tap)
+        answered(f"a tap that is {name}", command, "", f"frames {count}\n", note)
+        answered(f"a tap that is {name}, and commands after quit", command, "quit\ntally\n", f"frames {count}\nbye\n", note)
+        ran = run(command, input=b"tally\n\xff", stdout=subprocess.PIPE)
+        judge(f"a tap that is {name}, and commands that aren't UTF-8", ran, FAULT, "afdxmon: file -", b"")
+        with open("/dev/full", "wb") as full:
+            ran = run(command, input=b"tally\n", stdout=full)
+        judge(f"a tap that is {name}, and replies on a full disk", ran, FAULT, "afdxmon: file -")
 
 
 def page(files):
@@ -161,15 +182,22 @@ def typed_at(child, ours, sees):
 def typed(files):
     """Commands that are typed at a terminal are answered one by one, as they would be from a file. There are prompts only
     where standard error is a terminal too."""
-    command, expected = files.command(), "frames 1\n" + "".join(text for _, text in TYPED)
-    shown = COMMANDS + "\r\n> " + "".join(line + "\r\n> " for line, _ in TYPED)[:-2]
-    for name, sees in (("commands at a terminal", False), ("commands at a terminal, with prompts", True)):
+    expected = "frames 1\n" + "".join(text for _, text in TYPED)
+    prompts = COMMANDS + "\r\n> " + "".join(line + "\r\n> " for line, _ in TYPED)[:-2]
+    _, cut, _, note = ENDINGS[0]
+    for name, sees, tap, told_last in (
+        ("commands at a terminal", False, ONE_FRAME, ""),
+        ("commands at a terminal, with prompts", True, ONE_FRAME, ""),
+        ("commands at a terminal, of a truncated tap", False, cut, note + "\n"),
+        ("commands at a terminal, with prompts, of a truncated tap", True, cut, note + "\r\n"),
+    ):
+        command, shown = files.command(tap=tap), prompts * sees + told_last
         ours, theirs = pty.openpty()
         child = subprocess.Popen([PROGRAM, *command], stdin=theirs, stdout=subprocess.PIPE, stderr=theirs if sees else subprocess.PIPE)
         os.close(theirs)
         said, told = typed_at(child, ours, sees)
         status = child.wait(timeout=60)
-        good = status == SUCCESS and said == expected.encode() and told == (shown.encode() if sees else b"")
+        good = status == SUCCESS and said == expected.encode() and told == shown.encode()
         say(name, "" if good else f"status {status}, {said!r}, {told!r}")
         child.stdout.close()
         os.close(ours)
@@ -179,6 +207,7 @@ def cases():
     with tempfile.TemporaryDirectory() as folder:
         files = Files(folder)
         sessions(files)
+        endings(files)
         page(files)
         faults(files)
         typed(files)

@@ -20,7 +20,6 @@ FRAMES = [frame(5, 60, number) for number in range(256)]
 ONE_OF_255 = "4,48 0 0 59,21 0 1 1,6 0 0 4294967295,6 0 0 0,"
 MORE_THAN_A_MILLION = 1_050_000
 CHUNK = 51_000
-ROUND = 256
 MIB = 1 << 20
 
 

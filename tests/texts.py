@@ -112,6 +112,7 @@ Options:
       --capture <FILE>  The capture to write, a nanosecond pcap file
       --ledger <FILE>   The ledger of verdicts to write
       --workers <N>     The number of workers, 1 to 8 [default: 2]
+      --quiet           Leave out the summary at a terminal
   -h, --help            Print help
 
 Example: keep the frames that examples/flight.filter accepts, and judge them all

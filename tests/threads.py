@@ -12,9 +12,8 @@ from analyser import watch
 from harness import EVERY, FAULT, ODD, PROGRAM, SUCCESS, TOP, ended, header, say
 from watching import TABLE, read
 
-# What a fault in mid-run may leave out of the safe frames: a round, and of each tap a ring and the item in its thread's hand.
-ROUND, RING = 256, 64
-HELD = ROUND + 2 * (RING + 1)
+# What a fault in mid-run may leave out of the safe frames, once all that came was taken: a round.
+ROUND = 1024
 # 4096 steps on each frame: a round of 256 frames takes a worker some milliseconds.
 LONGEST = "4096," + "0 0 0 7," * 4095 + "6 0 0 60,"
 
@@ -150,19 +149,18 @@ def failing_tap(desk, network, given, workers):
     good = taken and (child.returncode, told, out) == (FAULT, f"afdxmon: watch 3 Read {network.upper()}\n".encode(), b"")
     fault = "" if good else f"status {child.returncode}, {told!r}"
     # Of the frames up to the last that came, the last one of each tap isn't safe.
-    say(f"watch: tap {network.upper()} fails after {given} frames, {workers} workers", fault or lost(desk, frames, 2 * given - 2 - HELD))
+    say(f"watch: tap {network.upper()} fails after {given} frames, {workers} workers", fault or lost(desk, frames, 2 * given - 2 - ROUND))
 
 
 def failing_taps(desk):
-    """A tap fails in mid-run: the outputs have all that was safe but what a round and the rings hold. Of 400 frames a tap
-    both outputs are within their buffers."""
+    """A tap fails in mid-run: the outputs have all that was safe but a round."""
     for network in ("a", "b"):
-        for given, workers in ((400, "1"), (400, "2"), (2000, "2"), (2000, "8")):
+        for given, workers in ((600, "1"), (600, "2"), (2000, "2"), (2000, "8")):
             failing_tap(desk, network, given, workers)
 
 
 def failing_outputs(desk):
-    """An output fails in mid-run: the other has the rounds before that, and all where the failure is found at the end."""
+    """An output fails in mid-run: the other has the rounds before that."""
     frames, buffer = 3000, 65536
     whole = header() + long.packets(0, frames)
     for output, other, size in (("capture", "ledger", 76), ("ledger", "capture", 60)):
@@ -170,7 +168,7 @@ def failing_outputs(desk):
         ran = desk.watch(**{output: "/dev/full"})
         good = (ran.returncode, ran.stderr) == (FAULT, f"afdxmon: watch 4 Write {output}\n".encode())
         has = (len(desk.left("capture")) - 24) // 76 if other == "capture" else desk.left("ledger").count(b"\n") - 1
-        least = buffer // size - ROUND
+        least = max(0, buffer // size - ROUND)
         fault = "" if good and has >= least else f"status {ran.returncode}, {ran.stderr!r}, the {other} has {has} frames, not {least}"
         say(f"watch: the {output} fails in mid-run", fault)
 

@@ -254,7 +254,7 @@ def config_faults(desk):
 
 
 def order_of_faults(desk):
-    """Of a fault and all that may come after it, the first has its line. An output is empty from the time on when it is opened."""
+    """Of a fault and all that may come after it, the first has its line. What older runs left in the outputs stands."""
     missing, directory = os.path.join(desk.directory, "missing"), desk.directory
     inputs = {"config": TABLE, "filter": EVERY, "a": HEADER, "b": HEADER}
     two = 'filters = ["{}", "{}"]\n' + TABLE
@@ -278,6 +278,8 @@ def order_of_faults(desk):
         ("load 8 NoReturn filter 2", {"config": two.format(EVERY, "1,0 0 0 0")}, {}),
         ("file --a", {}, {"a": missing}),
         ("file --b", {}, {"b": missing}),
+        ("file --capture", {}, {"capture": desk.paths["config"]}),
+        ("file --ledger", {}, {"ledger": desk.paths["config"]}),
         ("file --capture", {}, {"capture": directory}),
         ("file --ledger", {}, {"ledger": directory}),
         ("watch 1 Workers", {}, {"workers": "9"}),
@@ -296,16 +298,13 @@ def order_of_faults(desk):
             elsewhere.update(paths)
         workers = ["--workers", elsewhere.pop("workers")] if "workers" in elsewhere else []
         desk.lay(**contents)
-        ran = desk.watch(*workers, **elsewhere)
-        names = [step[0] for step in steps]
-        capture = b"" if i > names.index("file --capture") else OLDER
-        desk.refused("the first fault", ran, line, capture, b"" if i > names.index("file --ledger") else OLDER)
+        desk.refused("the first fault", desk.watch(*workers, **elsewhere), line, OLDER, OLDER)
 
 
 def workers(desk):
     for count in ("0", "9", "255"):
         desk.lay(config=TABLE, filter=EVERY, a=b"", b=b"")
-        desk.refused(f"{count} workers", desk.watch("--workers", count), "watch 1 Workers", b"", b"")
+        desk.refused(f"{count} workers", desk.watch("--workers", count), "watch 1 Workers", OLDER, OLDER)
 
 
 def usage(desk):
@@ -344,7 +343,7 @@ def devices(desk):
     for network, line in (("a", "watch 3 Read A"), ("b", "watch 3 Read B")):
         desk.lay(config=TABLE, filter=EVERY, a=short, b=short)
         # The program's own memory: nothing is mapped at its beginning.
-        desk.refused("a tap that can't be read", desk.watch(**{network: "/proc/self/mem"}), line, b"", b"")
+        desk.refused("a tap that can't be read", desk.watch(**{network: "/proc/self/mem"}), line, OLDER, OLDER)
     through_pipes(desk, long)
 
 

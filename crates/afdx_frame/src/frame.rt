@@ -1,17 +1,19 @@
-//! A frame that owns its bytes.
-ghost use Rattle.std.specs.Prelude.{◌≡◌, IsOk, IfOk, IfErr, ◌↔◌};
+//! A frame that lasts.
+ghost use Rattle.std.specs.Prelude.{◌≡◌, IsOk, IfOk, IfErr, IsSome, IfSome, ◌↔◌};
 ghost use Rattle.afdx_frame.specs.Frame.{IsFrame, frame_with, key_of};
 ghost use Rattle.afdx_frame.specs.LentFrame.{frame_of_lent};
 ghost use Rattle.afdx_frame.specs.View.{view_bytes};
 
 use crate::bounds::is_within_bounds;
+use crate::frame_bytes::FrameBytes;
 use crate::key::{Key, Network, Stamp};
 use crate::lent_frame::LentFrame;
 use crate::view::FrameView;
 use std::marker::Model;
 
 /// A frame as a tap recorded it: the network, its index in the recording, when it came, its length
-/// on the wire and the captured bytes, which are the first of the frame and often not all.
+/// on the wire and the captured bytes, which are the first of the frame and often not all. The bytes are its
+/// own, or stand in a block that frames share: then it costs no allocation and no copy.
 ///
 /// Each frame keeps these bounds: a number below 2^32 and a timestamp below 2^32 seconds (what pcap 2.4
 /// counts with), at most 262144 bytes captured (libpcap's largest snapshot length), and no more than
@@ -22,7 +24,7 @@ pub struct TapFrame {
     number: u64,
     stamp: Stamp,
     whole: u32,
-    bytes: Vec<u8>,
+    bytes: FrameBytes,
 }
 
 impl Model for TapFrame {
@@ -30,9 +32,9 @@ impl Model for TapFrame {
 
     ghost Value = { Frame };
 
-    ghost view = { λ f. frame_with f.network f.number f.stamp.0 f.whole f.bytes.items };
+    ghost view = { λ f. frame_with f.network f.number f.stamp.0 f.whole f.bytes };
 
-    ghost invariant = { λ f. IsFrame (frame_with f.network f.number f.stamp.0 f.whole f.bytes.items) };
+    ghost invariant = { λ f. IsFrame (frame_with f.network f.number f.stamp.0 f.whole f.bytes) };
 }
 
 impl TapFrame {
@@ -56,10 +58,35 @@ impl TapFrame {
                 number,
                 stamp,
                 whole,
-                bytes,
+                bytes: FrameBytes::own(bytes),
             })
         } else {
             Err(bytes)
+        }
+    }
+
+    /// As `new`, with bytes that may stand in a block that frames share. None: a part is out of bounds.
+    #[inline(always)]
+    pub fn sharing(
+        network: Network,
+        number: u64,
+        stamp: Stamp,
+        whole: u32,
+        bytes: FrameBytes,
+    ) -> Option<TapFrame>
+        ensures some { IsSome result ↔ IsFrame (frame_with network number stamp.0 whole bytes) }
+        ensures frame { IfSome result (λ f. f ≡ frame_with network number stamp.0 whole bytes) }
+    {
+        if is_within_bounds(number, stamp, whole, bytes.as_slice().len()) {
+            Some(TapFrame {
+                network,
+                number,
+                stamp,
+                whole,
+                bytes,
+            })
+        } else {
+            None
         }
     }
 
@@ -122,7 +149,7 @@ impl TapFrame {
             whole,
             bytes,
         } = self;
-        LentFrame::new(*network, *number, *stamp, *whole, bytes).unwrap()
+        LentFrame::new(*network, *number, *stamp, *whole, bytes.as_slice()).unwrap()
     }
 
     /// The captured bytes, borrowed.
@@ -131,15 +158,6 @@ impl TapFrame {
         ensures value { view_bytes result ≡ self.now.bytes }
         ensures bounds { IsFrame self.now }
     {
-        FrameView::new(&self.bytes)
-    }
-
-    /// The captured bytes, with their memory.
-    #[inline]
-    pub fn into_bytes(self) -> Vec<u8>
-        ensures value { result.items ≡ self.bytes }
-        ensures bounds { IsFrame self }
-    {
-        self.bytes
+        FrameView::new(self.bytes.as_slice())
     }
 }

@@ -2,7 +2,8 @@
 //! both taps, and borrowed views of its bytes.
 //!
 //! A reader of recordings (the crate `pcap_io`) finds frames and lends them as [`LentFrame`]s, out of
-//! its own block, or gives them as [`TapFrame`]s, which own their bytes. Both keep the same bounds.
+//! its own block, or gives them as [`TapFrame`]s, which last: their bytes ([`FrameBytes`]) are their own or
+//! stand in a block that frames share. Both keep the same bounds.
 //! Filters and analysers look at a frame's bytes through its [`FrameView`], and put frames of both
 //! networks in order by their [`Key`]s.
 //!
@@ -17,12 +18,14 @@
 
 mod bounds;
 mod frame;
+mod frame_bytes;
 mod key;
 mod lent_frame;
 mod view;
 
 pub use bounds::MAX_SNAPLEN;
 pub use frame::TapFrame;
+pub use frame_bytes::FrameBytes;
 pub use key::{Key, Network, Stamp, VL_ID_COUNT, VlId, key_order};
 pub use lent_frame::LentFrame;
 pub use view::FrameView;

@@ -4,15 +4,18 @@
 //! it ended. What a command does stands in that crate, with its contract.
 #![tactic(auto)]
 
+mod files;
+
 use afdx_frame::{Network, TapFrame};
 use analyser::{
-    AsmRun, CaptureRun, DebugArguments, Exit, Fault, FileOption, Invocation, Note, OpenGate,
-    TapNote, TapRead, USAGE, WatchArguments, WatchFault, advice, answer_line, begin_session,
-    caret_at, filter_of, load_filters, read_arguments, read_config, read_file, read_tap, run_asm,
-    run_capture, run_session,
+    AsmRun, CaptureRun, DebugArguments, Exit, Fault, FileOption, HeldTap, Invocation, Note,
+    OpenGate, Summary, TapNote, TapRead, USAGE, WatchArguments, WatchFault, advice, answer_line,
+    begin_session, caret_at, filter_of, load_filters, read_arguments, read_config, read_file,
+    read_tap, run_asm, run_capture, run_session,
 };
 use bpf_debugger::DebugFault;
 use bpf_loader::Program;
+use files::{OutputFile, refuse_shared};
 use pcap_io::{Ending, ReadSource, WriteSink};
 use std::alloc::Global;
 use std::fs::File;
@@ -69,19 +72,28 @@ fn open(rt: &HostRuntime, path: &str, file: FileOption) -> Result<ReadSource<Fil
     }
 }
 
-/// Creates a file that is written, or empties it.
-fn create(
-    rt: &HostRuntime,
-    path: &str,
-    file: FileOption,
-) -> Result<WriteSink<BufWriter<File>>, Fault> {
-    let Ok(created) = File::create(rt, path) else {
+/// An output of `watch`, which is written in blocks.
+type Output = WriteSink<BufWriter<OutputFile>>;
+
+/// Opens a file that is written. The first block that is written empties it before.
+fn create(rt: &HostRuntime, path: &str, file: FileOption) -> Result<Output, Fault> {
+    let Ok(opened) = OutputFile::open(rt, path) else {
         return Err(Fault::File(file));
     };
-    match BufWriter::with_capacity(rt.alloc(), BLOCK, created) {
+    match BufWriter::with_capacity(rt.alloc(), BLOCK, opened) {
         Ok(writer) => Ok(WriteSink::new(writer)),
         Err(_) => Err(Fault::Watch(WatchFault::Memory)),
     }
+}
+
+/// Opens the capture and the ledger, if neither is another file of the run.
+fn open_outputs(rt: &HostRuntime, given: &WatchArguments<'_>) -> Result<(Output, Output), Fault> {
+    refuse_shared(rt, given)?;
+    let capture = create(rt, given.capture, FileOption::Capture)?;
+    let ledger = create(rt, given.ledger, FileOption::Ledger)?;
+    // Of one new file with two names, as that of a link to it, this shows only once it is there.
+    refuse_shared(rt, given)?;
+    Ok((capture, ledger))
 }
 
 /// The text of a file.
@@ -109,8 +121,7 @@ fn watch<R: Threads + Wait + Sync>(
     let (config, programs) = set_up(rt, given)?;
     let a = open(rt, given.a, FileOption::A)?;
     let b = open(rt, given.b, FileOption::B)?;
-    let capture = create(rt, given.capture, FileOption::Capture)?;
-    let ledger = create(rt, given.ledger, FileOption::Ledger)?;
+    let (capture, ledger) = open_outputs(rt, given)?;
     let run = analyser::watch(
         threads,
         rt.alloc(),
@@ -126,7 +137,8 @@ fn watch<R: Threads + Wait + Sync>(
     let (outcome, capture, ledger) = match run {
         Ok(done) => {
             let [a, b] = done.endings;
-            (Ok((a, b)), done.capture, done.ledger)
+            let totals = done.totals;
+            (Ok(Summary { a, b, totals }), done.capture, done.ledger)
         }
         Err(refused) => (
             Err(Fault::Watch(refused.fault)),
@@ -143,15 +155,15 @@ fn watch<R: Threads + Wait + Sync>(
 const NO_SESSION: Fault = Fault::Debug(DebugFault::Memory);
 
 /// Answers the commands on standard input. What was printed before a fault is handed to the system too.
-fn debug_input(rt: &HostRuntime, program: Program, frames: Vec<TapFrame>) -> Exit {
+fn debug_input(rt: &HostRuntime, program: Program, tap: HeldTap) -> Exit {
     let Ok(output) = BufWriter::with_capacity(rt.alloc(), BLOCK, rt.stdout()) else {
         return Exit::Fault(NO_SESSION);
     };
     let mut commands = ReadSource::new(rt.stdin());
     let mut sink = WriteSink::new(output);
-    let outcome = run_session(rt.alloc(), program, frames, &mut commands, &mut sink);
+    let outcome = run_session(rt.alloc(), program, tap.frames, &mut commands, &mut sink);
     let flushed = sink.into_writer().flush().is_ok();
-    Exit::of_text(outcome, flushed)
+    Exit::of_session(tap.ending, outcome, flushed)
 }
 
 /// What a person is told at the start of a session.
@@ -202,15 +214,15 @@ fn debug(rt: &HostRuntime, given: &DebugArguments<'_>) -> Result<Exit, Fault> {
     let program = filter_of(rt.alloc(), &code, None)?;
     let tap = open(rt, given.tap, FileOption::Tap)?;
     let TapRead { outcome, source: _ } = read_tap(rt.alloc(), tap);
-    let frames = match outcome {
-        Ok(frames) => frames,
+    let tap = match outcome {
+        Ok(tap) => tap,
         Err(fault) => return Err(Fault::Watch(fault)),
     };
     if rt.stdin().is_terminal() {
-        debug_terminal(rt, program, frames)?;
-        return Ok(Exit::Success);
+        let outcome = debug_terminal(rt, program, tap.frames);
+        return Ok(Exit::of_session(tap.ending, outcome, true));
     }
-    Ok(debug_input(rt, program, frames))
+    Ok(debug_input(rt, program, tap))
 }
 
 /// Notes how one of two recordings ended, where that wasn't its end.
@@ -227,9 +239,9 @@ fn tell(rt: &HostRuntime, exit: &Exit, source: Option<&str>) -> io::Result<()> {
     match exit {
         Exit::Success => Ok(()),
         Exit::Note(ending) => rt.eprintln(Note(*ending)),
-        Exit::Watched { a, b } => {
-            note_ending(rt, Network::A, *a)?;
-            note_ending(rt, Network::B, *b)
+        Exit::Watched(run) => {
+            note_ending(rt, Network::A, run.a)?;
+            note_ending(rt, Network::B, run.b)
         }
         Exit::Fault(fault) => {
             rt.eprintln(*fault)?;
@@ -243,6 +255,14 @@ fn tell(rt: &HostRuntime, exit: &Exit, source: Option<&str>) -> io::Result<()> {
             }
             rt.eprintln(advice(fault))
         }
+    }
+}
+
+/// Tells a person at a terminal what a run over two recordings came to.
+fn summarise(rt: &HostRuntime, exit: &Exit) -> io::Result<()> {
+    match exit {
+        Exit::Watched(summary) if rt.stderr().is_terminal() => rt.eprintln(*summary),
+        Exit::Watched(_) | Exit::Success | Exit::Note(_) | Exit::Fault(_) => Ok(()),
     }
 }
 
@@ -265,6 +285,7 @@ fn carry_out<R: Threads + Wait + Sync>(
     threads: &R,
     command: Invocation<'_>,
 ) -> Exit {
+    let quiet = matches!(command, Invocation::Watch(given) if given.quiet);
     let ended = match command {
         // It tells its own end, since it has the source that a fault lies in.
         Invocation::Asm => return asm(rt),
@@ -277,6 +298,9 @@ fn carry_out<R: Threads + Wait + Sync>(
         Err(fault) => Exit::Fault(fault),
     };
     let _ = tell(rt, &exit, None);
+    if !quiet {
+        let _ = summarise(rt, &exit);
+    }
     exit
 }
 

@@ -1,21 +1,23 @@
 -- What the options of watch and debug give.
-use Rattle.std.proofs.Common.{◌≡◌, ℕ, ◌<◌, ◌^◌, Bool, true, false, ◌&&◌, [], ◌∷◌, length, Option, Some, None, Err, refl, ap, ◌∙◌, codes}
+use Rattle.std.proofs.Common.{◌≡◌, ◌≢◌, ℕ, ◌<◌, ◌^◌, Bool, true, false, ◌&&◌, [], ◌∷◌, length, Option, Some, None, Err, refl, ap, ◌∙◌, codes}
 use Rattle.std.proofs.lemmas.Bool.{lt-ltb, ltb-true}
-use Rattle.std.specs.Prelude.{nat_lt, option_and_then, if◌then◌else◌}
+use Rattle.std.proofs.lemmas.Slice.Eq.{bytes_eq-Decides}
+use Rattle.std.specs.Str.{bytes_eq}
+use Rattle.std.specs.Prelude.{MatchBool, nat_lt, option_and_then, if◌then◌else◌}
 use Rattle.std.specs.Char.{digit_value}
-use Rattle.std.specs.Str.Parse.{AllDigits, IsNumeral, ParsesUnsigned, digits_value, without_leading_plus}
+use Rattle.std.specs.Str.Parse.{AllDigits, IsNumeral, ParsesUnsigned, false_text, true_text, digits_value, without_leading_plus}
 use Rattle.clap.specs.Words.{Text, first_value, one_text, rows_of}
 use Rattle.clap.specs.declared.parser.matches.Found.{Found}
 use Rattle.clap.proofs.WalkLemmas.{first_value-rows, one_text-rows}
-use Rattle.command_line.specs.Arguments.{are_digits, debug_in, debug_with, is_byte_numeral, number_in, watch_in, watch_with}
+use Rattle.command_line.specs.Arguments.{are_digits, debug_in, debug_with, flag_in, is_byte_numeral, number_in, watch_in, watch_with}
 
 -- ---- the texts
 
-pub watch_is : (f : Found) (config filter a b capture ledger : Option Text) (workers : Option ℕ) →
+pub watch_is : (f : Found) (config filter a b capture ledger : Option Text) (workers : Option ℕ) (quiet : Option Bool) →
     config ≡ first_value f (codes "config") → filter ≡ first_value f (codes "filter") → a ≡ first_value f (codes "a") → b ≡ first_value f (codes "b") →
     capture ≡ first_value f (codes "capture") → ledger ≡ first_value f (codes "ledger") → workers ≡ option_and_then number_in (one_text f (codes "workers")) →
-    watch_with config filter a b capture ledger workers ≡ watch_in (rows_of f)
-watch_is f config filter a b capture ledger workers e1 e2 e3 e4 e5 e6 e7 = cc (
+    quiet ≡ option_and_then flag_in (one_text f (codes "quiet")) → watch_with config filter a b capture ledger workers quiet ≡ watch_in (rows_of f)
+watch_is f config filter a b capture ledger workers quiet e1 e2 e3 e4 e5 e6 e7 e8 = cc (
   e1 ∙ first_value-rows f (codes "config"),
   e2 ∙ first_value-rows f (codes "filter"),
   e3 ∙ first_value-rows f (codes "a"),
@@ -23,6 +25,7 @@ watch_is f config filter a b capture ledger workers e1 e2 e3 e4 e5 e6 e7 = cc (
   e5 ∙ first_value-rows f (codes "capture"),
   e6 ∙ first_value-rows f (codes "ledger"),
   e7 ∙ ap (option_and_then number_in) (one_text-rows f (codes "workers")),
+  e8 ∙ ap (option_and_then flag_in) (one_text-rows f (codes "quiet")),
 )
 
 pub debug_is : (f : Found) (filter tap : Option Text) → filter ≡ first_value f (codes "filter") → tap ≡ first_value f (codes "tap") →
@@ -64,10 +67,29 @@ no_number E text e fails = by (is_byte_numeral (without_leading_plus text)) refl
     by true is = absurd (fails (numeral_of (without_leading_plus text) is))
     by false is = refl
 
-pub number_missing : (o : Option Text) → ((t : Text) → o ≡ Some t → None ≡ number_in t) → None ≡ option_and_then number_in o
-number_missing None f = refl
-number_missing (Some t) f = f t refl
+-- ---- the flag
 
-pub number_found : (o : Option Text) (n : ℕ) → (o ≡ None → Some n ≡ None) → ((t : Text) → o ≡ Some t → Some n ≡ number_in t) → Some n ≡ option_and_then number_in o
-number_found None n none f = none refl
-number_found (Some t) n none f = f t refl
+pub flag_is : (text : Text) (b : Bool) → MatchBool b (text ≡ true_text) (text ≡ false_text) → Some b ≡ flag_in text
+flag_is text true same = rw same refl
+flag_is text false same = rw same refl
+
+differs : (xs ys : Text) → xs ≢ ys → bytes_eq xs ys ≡ false
+differs xs ys other = by (bytes_eq xs ys) refl
+  where
+    by : (b : Bool) → bytes_eq xs ys ≡ b → bytes_eq xs ys ≡ false
+    by true is = absurd (other ((bytes_eq-Decides xs ys).0 is))
+    by false is = is
+
+pub no_flag : (text : Text) → (text ≢ true_text) × (text ≢ false_text) → None ≡ flag_in text
+no_flag text other = rw (differs text (codes "true") other.0, differs text (codes "false") other.1) refl
+
+-- ---- what is read of a text that may not be there
+
+pub missing : {T : Type 0} (read : Text → Option T) (o : Option Text) → ((t : Text) → o ≡ Some t → None ≡ read t) → None ≡ option_and_then read o
+missing read None f = refl
+missing read (Some t) f = f t refl
+
+pub found : {T : Type 0} (read : Text → Option T) (o : Option Text) (v : T) → (o ≡ None → Some v ≡ None) → ((t : Text) → o ≡ Some t → Some v ≡ read t) →
+    Some v ≡ option_and_then read o
+found read None v none f = none refl
+found read (Some t) v none f = f t refl

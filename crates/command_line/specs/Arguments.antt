@@ -9,7 +9,7 @@ use Rattle.clap.specs.Words.{App, app_of, Row, Rule, Text, first_of, new_app, on
 use Rattle.clap.specs.declared.builder.value_parser.ValueParser.TheVariants.{Signed}
 use Rattle.clap.specs.declared.builder.command.Command.{Command}
 use Rattle.clap.specs.declared.builder.command.Command.TheViews.{out-Command}
-use Rattle.clap.specs.declared.builder.action.ArgAction.TheVariants.{Set}
+use Rattle.clap.specs.declared.builder.action.ArgAction.TheVariants.{Set, SetTrue}
 use Rattle.command_line.specs.declared.arguments.WatchArguments.{WatchArguments}
 use Rattle.command_line.specs.declared.arguments.DebugArguments.{DebugArguments}
 use Rattle.command_line.specs.declared.arguments.Invocation.{Invocation}
@@ -44,6 +44,10 @@ workers_rule = record (new_rule (codes "workers")) {
   parser = Some (Signed (pos 0) (pos 255));
 }
 
+-- a flag, false where it isn't given
+abbrev pub quiet_rule : Rule
+quiet_rule = record (new_rule (codes "quiet")) { long = Some (codes "quiet"); action = Some SetTrue }
+
 abbrev pub with_file : Text → App → App
 with_file name app = with_rule app (file_rule name)
 
@@ -52,7 +56,7 @@ watch_files app =
     with_file (codes "ledger") (with_file (codes "capture") (with_file (codes "b") (with_file (codes "a") (with_file (codes "filter") (with_file (codes "config") app)))))
 
 unfoldable pub watch_app : App
-watch_app = with_rule (watch_files (new_app (codes "watch"))) workers_rule
+watch_app = with_rule (with_rule (watch_files (new_app (codes "watch"))) workers_rule) quiet_rule
 
 unfoldable pub debug_app : App
 debug_app = with_file (codes "tap") (with_file (codes "filter") (new_app (codes "debug")))
@@ -76,7 +80,7 @@ IsWatch c = (app_of c ≡ watch_app) × ((out-Command c).has_globals ≡ false)
 abbrev pub IsDebug : Command → Type 0
 IsDebug c = (app_of c ≡ debug_app) × ((out-Command c).has_globals ≡ false)
 
--- the files of a run over two recordings, and its number of workers
+-- the files of a run over two recordings, its number of workers, and whether its summary is left out
 pub record WatchWords : Type 0 where
   pub config : Text
   pub filter : Text
@@ -85,6 +89,7 @@ pub record WatchWords : Type 0 where
   pub capture : Text
   pub ledger : Text
   pub workers : ℕ
+  pub quiet : Bool
 
 -- the files of a session
 pub record DebugWords : Type 0 where
@@ -111,16 +116,21 @@ abbrev pub number_in : Text → Option ℕ
 number_in text =
     if is_byte_numeral (without_leading_plus text) then Some (digits_value 10 (without_leading_plus text)) else None
 
-abbrev pub watch_with : Option Text → Option Text → Option Text → Option Text → Option Text → Option Text → Option ℕ → Option WatchWords
-watch_with (Some config) (Some filter) (Some a) (Some b) (Some capture) (Some ledger) (Some workers) =
-    Some (record { config = config; filter = filter; a = a; b = b; capture = capture; ledger = ledger; workers = workers })
-watch_with _ _ _ _ _ _ _ = None
+-- what a flag's text says
+abbrev pub flag_in : Text → Option Bool
+flag_in text = if bytes_eq text (codes "true") then Some true else if bytes_eq text (codes "false") then Some false else None
+
+abbrev pub watch_with : Option Text → Option Text → Option Text → Option Text → Option Text → Option Text → Option ℕ → Option Bool → Option WatchWords
+watch_with (Some config) (Some filter) (Some a) (Some b) (Some capture) (Some ledger) (Some workers) (Some quiet) =
+    Some (record { config = config; filter = filter; a = a; b = b; capture = capture; ledger = ledger; workers = workers; quiet = quiet })
+watch_with _ _ _ _ _ _ _ _ = None
 
 -- what the options of watch give
 abbrev pub watch_in : List Row → Option WatchWords
 watch_in rows =
     watch_with (first_of (codes "config") rows) (first_of (codes "filter") rows) (first_of (codes "a") rows) (first_of (codes "b") rows)
     (first_of (codes "capture") rows) (first_of (codes "ledger") rows) (option_and_then number_in (one_of (codes "workers") rows))
+    (option_and_then flag_in (one_of (codes "quiet") rows))
 
 abbrev pub debug_with : Option Text → Option Text → Option DebugWords
 debug_with (Some filter) (Some tap) = Some (record { filter = filter; tap = tap })
@@ -152,6 +162,7 @@ watch_words given = record {
   capture = given.capture.now;
   ledger = given.ledger.now;
   workers = given.workers;
+  quiet = given.quiet;
 }
 
 abbrev pub debug_words : DebugArguments → DebugWords

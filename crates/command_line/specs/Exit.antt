@@ -7,6 +7,7 @@ use Rattle.pcap_io.specs.declared.recording.BadReason.TheVariants as reasons
 use Rattle.pcap_io.specs.declared.recording.Ending.{Ending}
 use Rattle.pcap_io.specs.declared.recording.Ending.TheVariants.{Clean, Cut, Bad}
 use Rattle.command_line.specs.Line.{network_part}
+use Rattle.command_line.specs.declared.summary.Summary.{Summary}
 use Rattle.command_line.specs.declared.exit.Exit.{Exit}
 use Rattle.command_line.specs.declared.exit.Exit.TheVariants as exit
 use Rattle.command_line.specs.declared.fault.Fault.{Fault}
@@ -28,11 +29,11 @@ exit_of (Ok ending) true = exit_at ending
 exit_of (Ok ending) false = exit.Fault (fault.Watch (watch.Write output.Capture))
 
 -- the end of a run over two recordings, by what it came to and whether its capture and its ledger were flushed
-abbrev pub watch_exit : Result (Ending × Ending) Fault → Bool → Bool → Exit
+abbrev pub watch_exit : Result Summary Fault → Bool → Bool → Exit
 watch_exit (Err f) capture ledger = exit.Fault f
 watch_exit (Ok done) false ledger = exit.Fault (fault.Watch (watch.Write output.Capture))
 watch_exit (Ok done) true false = exit.Fault (fault.Watch (watch.Write output.Ledger))
-watch_exit (Ok endings) true true = exit.Watched endings.0 endings.1
+watch_exit (Ok summary) true true = exit.Watched summary
 
 -- the end of a command that prints a text, by what it came to and whether its output was flushed
 abbrev pub text_exit : Result (Unit {0}) Fault → Bool → Exit
@@ -40,10 +41,16 @@ text_exit (Err f) flushed = exit.Fault f
 text_exit (Ok done) true = exit.Success
 text_exit (Ok done) false = exit.Fault (fault.File file.Standard)
 
+-- the end of a session of the debugger, by how its recording ended, what it came to and whether its output was flushed
+abbrev pub session_exit : Ending → Result (Unit {0}) Fault → Bool → Exit
+session_exit ending (Err f) flushed = exit.Fault f
+session_exit ending (Ok done) true = exit_at ending
+session_exit ending (Ok done) false = exit.Fault (fault.File file.Standard)
+
 abbrev pub status_of : Exit → ℕ
 status_of exit.Success = 0
 status_of (exit.Note ending) = 0
-status_of (exit.Watched a b) = 0
+status_of (exit.Watched summary) = 0
 status_of (exit.Fault f) = 1
 
 -- so many frames

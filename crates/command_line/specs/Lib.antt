@@ -1,3 +1,5 @@
 pub mod Arguments
 pub mod Exit
 pub mod Line
+pub mod Shared
+pub mod Summary

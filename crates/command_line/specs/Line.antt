@@ -121,6 +121,7 @@ filter_part (Some number) = codes " filter " ++ decimal number
 
 abbrev pub line_of : Fault → List ℕ
 line_of (fault.File f) = codes "afdxmon: file " ++ file_part f
+line_of (fault.Shared output other) = codes "afdxmon: file " ++ file_part output
 line_of (fault.Config f) = codes "afdxmon: config " ++ config_part f
 line_of (fault.Asm f) = codes "afdxmon: asm " ++ asm_part f
 line_of (fault.Numeric f filter) = codes "afdxmon: numeric " ++ numeric_part f ++ filter_part filter

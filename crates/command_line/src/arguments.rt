@@ -2,7 +2,7 @@
 ghost use Rattle.std.specs.Prelude.{◌≡◌, false, true, map, IfOk, IfErr, option_map, string_bytes};
 ghost use Rattle.clap.specs.Words.{FailsBy, app_of, fault_of, found_of, kind_of, rows_of, rule_of, subcommand_rows_of, takes};
 ghost use Rattle.clap.specs.declared.error.kind.ErrorKind.TheVariants.{OutOfMemory};
-ghost use Rattle.command_line.specs.Arguments.{IsAsm, IsCapture, IsDebug, IsWatch, afdxmon_app, debug_in, debug_words, file_rule, meant_asked, meant_by, meant_in, program_app, watch_in, watch_words, workers_rule};
+ghost use Rattle.command_line.specs.Arguments.{IsAsm, IsCapture, IsDebug, IsWatch, afdxmon_app, debug_in, debug_words, file_rule, meant_asked, meant_by, meant_in, program_app, quiet_rule, watch_in, watch_words, workers_rule};
 
 use clap::{Arg, ArgAction, ArgMatches, Command, Error};
 use std::alloc::{AllocError, Global};
@@ -23,7 +23,7 @@ pub enum Invocation<'a> {
     Debug(DebugArguments<'a>),
 }
 
-/// The files of a run over two recordings, and its number of workers.
+/// The files of a run over two recordings, its number of workers, and what it tells.
 #[derive(Clone, Copy, Debug, PartialEq, Eq)]
 pub struct WatchArguments<'a> {
     /// The table of virtual links, a TOML document.
@@ -40,6 +40,8 @@ pub struct WatchArguments<'a> {
     pub ledger: &'a str,
     /// How many workers there are to be.
     pub workers: u8,
+    /// Is there to be no summary at a terminal?
+    pub quiet: bool,
 }
 
 /// The files of a session.
@@ -122,6 +124,17 @@ fn workers_option<'a>(alloc: Global) -> Arg<'a>
         .action(ArgAction::Set)
 }
 
+/// The option that leaves out the summary.
+fn quiet_option<'a>(alloc: Global) -> Arg<'a>
+    ensures rule { rule_of result ≡ quiet_rule }
+    ensures local { result.global ≡ false }
+{
+    Arg::new(alloc, "quiet")
+        .long("quiet")
+        .help("Leave out the summary at a terminal")
+        .action(ArgAction::SetTrue)
+}
+
 /// The command `watch`.
 fn watch_command<'a>(alloc: Global) -> Result<Command<'a>, AllocError>
     ensures { IfOk result IsWatch }
@@ -147,7 +160,8 @@ fn watch_command<'a>(alloc: Global) -> Result<Command<'a>, AllocError>
             "The capture to write, a nanosecond pcap file",
         ))?
         .arg(file_option(alloc, "ledger", "The ledger of verdicts to write"))?
-        .arg(workers_option(alloc))
+        .arg(workers_option(alloc))?
+        .arg(quiet_option(alloc))
 }
 
 /// What stands after the options in the help of `debug`.
@@ -207,6 +221,7 @@ fn watch_arguments<'a>(given: &ArgMatches<'a>) -> Option<WatchArguments<'a>>
         capture: given.get_str("capture")?,
         ledger: given.get_str("ledger")?,
         workers: given.get_one::<u8>("workers")?,
+        quiet: given.get_one::<bool>("quiet")?,
     })
 }
 

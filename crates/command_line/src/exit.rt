@@ -1,8 +1,9 @@
 //! How the program ends: its exit status, and what it tells standard error.
 ghost use Rattle.std.specs.Prelude.{◌≡◌};
-ghost use Rattle.command_line.specs.Exit.{exit_of, status_of, text_exit, watch_exit};
+ghost use Rattle.command_line.specs.Exit.{exit_at, exit_of, session_exit, status_of, text_exit, watch_exit};
 
 use crate::fault::{Fault, FileOption};
+use crate::summary::Summary;
 use pcap_io::Ending;
 use run_outcome::{Output, WatchFault};
 
@@ -16,8 +17,8 @@ pub enum Exit {
     Success,
     /// Status 0: the recording ended early. What stands before the ending was read.
     Note(Ending),
-    /// Status 0: both recordings were read up to these endings.
-    Watched { a: Ending, b: Ending },
+    /// Status 0: both recordings were read up to their endings.
+    Watched(Summary),
     /// Status 1.
     Fault(Fault),
 }
@@ -33,15 +34,24 @@ impl Exit {
             Ok(_) if !flushed => Exit::Fault(Fault::Watch(WatchFault::Write {
                 output: Output::Capture,
             })),
-            Ok(Ending::Clean(_)) => Exit::Success,
-            Ok(ending) => Exit::Note(ending),
+            Ok(ending) => Exit::at(ending),
         }
     }
 
-    /// The end of a run over two recordings, from the endings of A and B or why it was aborted, and
-    /// whether its capture and its ledger were flushed.
+    /// The end of a command that read its one recording up to this ending.
+    fn at(ending: Ending) -> Exit
+        ensures { result ≡ exit_at ending }
+    {
+        match ending {
+            Ending::Clean(_) => Exit::Success,
+            Ending::Cut(_) | Ending::Bad(..) => Exit::Note(ending),
+        }
+    }
+
+    /// The end of a run over two recordings, from what it came to or why it was aborted, and whether its
+    /// capture and its ledger were flushed.
     pub fn of_watch(
-        outcome: Result<(Ending, Ending), Fault>,
+        outcome: Result<Summary, Fault>,
         capture_flushed: bool,
         ledger_flushed: bool,
     ) -> Exit
@@ -51,7 +61,7 @@ impl Exit {
             Err(fault) => return Exit::Fault(fault),
             Ok(_) if !capture_flushed => Output::Capture,
             Ok(_) if !ledger_flushed => Output::Ledger,
-            Ok((a, b)) => return Exit::Watched { a, b },
+            Ok(summary) => return Exit::Watched(summary),
         };
         Exit::Fault(Fault::Watch(WatchFault::Write { output }))
     }
@@ -67,12 +77,23 @@ impl Exit {
         }
     }
 
+    /// The end of a session of the debugger, from how its recording ended, what the session came to and
+    /// whether its output was flushed.
+    pub fn of_session(ending: Ending, outcome: Result<(), Fault>, flushed: bool) -> Exit
+        ensures { result ≡ session_exit ending outcome flushed }
+    {
+        match Exit::of_text(outcome, flushed) {
+            Exit::Success => Exit::at(ending),
+            exit => exit,
+        }
+    }
+
     /// The program's exit status.
     pub fn status(&self) -> u8
         ensures { result ≡ status_of self.now }
     {
         match self {
-            Exit::Success | Exit::Note(_) | Exit::Watched { .. } => 0,
+            Exit::Success | Exit::Note(_) | Exit::Watched(_) => 0,
             Exit::Fault(_) => 1,
         }
     }

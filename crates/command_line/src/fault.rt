@@ -35,6 +35,11 @@ pub enum FileOption {
 pub enum Fault {
     /// A file that can't be opened, read or written, or a text that is longer than 16 MiB or not UTF-8.
     File(FileOption),
+    /// An output that is a file which another option names too: it would be destroyed.
+    Shared {
+        output: FileOption,
+        other: FileOption,
+    },
     /// The table of virtual links.
     Config(ConfigFault),
     /// The source of a filter.
@@ -300,7 +305,7 @@ impl Display for Fault {
 
     fn fmt<W: fmt::Write>(&self, f: &mut Formatter<W>) -> fmt::Result {
         match *self {
-            Fault::File(file) => {
+            Fault::File(file) | Fault::Shared { output: file, .. } => {
                 let file = file_name(file);
                 write!(f, "afdxmon: file {file}")
             }

@@ -7,9 +7,13 @@ mod caret;
 mod exit;
 mod fault;
 mod message;
+mod shared;
+mod summary;
 
 pub use arguments::{DebugArguments, Invocation, WatchArguments, read_arguments};
 pub use caret::{Caret, caret_at};
 pub use exit::{Exit, USAGE};
 pub use fault::{Fault, FileOption, fault_line};
 pub use message::{Note, TapNote, advice};
+pub use shared::{Inode, Named, WatchFiles};
+pub use summary::{Hint, Summary, hint_of};

@@ -182,6 +182,19 @@ fn file_advice(file: FileOption) -> &'static str {
     }
 }
 
+/// Which file an output also is.
+fn shared_advice(other: FileOption) -> &'static str {
+    match other {
+        FileOption::Config => "it is the file of --config too: name another file to write",
+        FileOption::Filter => "it is the file of --filter too: name another file to write",
+        FileOption::A => "it is the file of --a too: name another file to write",
+        FileOption::B => "it is the file of --b too: name another file to write",
+        FileOption::Capture => "it is the file of --capture too: name another file to write",
+        FileOption::Ledger => "it is the file of --ledger too: name another file to write",
+        FileOption::Standard | FileOption::Tap => "it is another file too: name another to write",
+    }
+}
+
 fn config_advice(fault: ConfigFault) -> &'static str {
     match fault {
         ConfigFault::Text => "not a TOML document",
@@ -235,6 +248,7 @@ fn debug_advice(fault: DebugFault) -> &'static str {
 pub fn advice(fault: &Fault) -> &'static str {
     match *fault {
         Fault::File(file) => file_advice(file),
+        Fault::Shared { other, .. } => shared_advice(other),
         Fault::Config(fault) => config_advice(fault),
         Fault::Asm(fault) => asm_advice(fault),
         Fault::Numeric { fault, .. } => numeric_advice(fault),

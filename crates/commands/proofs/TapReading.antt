@@ -5,6 +5,7 @@ use Rattle.afdx_frame.specs.Frame.{Frame}
 use Rattle.afdx_frame.specs.declared.key.Network.TheVariants as networks
 use Rattle.pcap_io.specs.Position.{Opens, Reading, Reads, TakesFrame, after_frame, start_at}
 use Rattle.pcap_io.specs.declared.position.Position.{Position}
+use Rattle.pcap_io.specs.declared.recording.Ending.{Ending}
 use Rattle.pcap_io.proofs.Parse.{reads_more}
 use Rattle.run_outcome.specs.Recording.{LeavesUnread}
 use Rattle.run_outcome.specs.Recording.{HasReadTap, most_frames}
@@ -37,33 +38,31 @@ has_read before old frames q left start opens gives = record {
     within : (n most first : ℕ) → n ≤ most → most ≡ first → first ≡ most_frames → n ≤ most_frames
     within n most first less same e = subst (λ k. n ≤ k) (same ∙ e) less
 
-pub whole_tap : (before after : SourceView) (old new : Reading) (frames : List Frame) (unread : List ℕ) →
+pub whole_tap : (before after : SourceView) (old new : Reading) (frames : List Frame) (ending : Ending) (unread : List ℕ) →
     old.position ≡ start_at networks.A old.position.layout most_frames 0 → Opens before.remaining old.remaining old.position.layout → old.failures ≡ before.failures →
-    LeavesUnread unread new.remaining after.remaining → after.failures ≡ new.failures → GivesAll old new frames → IsTap before after frames
+    LeavesUnread unread new.remaining after.remaining → after.failures ≡ new.failures → GivesAll old new frames ending → IsTap before after frames ending
 unfolding has_read
-whole_tap before after old new frames unread start opens same leaves same' all =
-    let read = has_read before old frames all.position all.left start opens all.gives in (
-      all.ending,
-      record {
-        part = record {
-          position = all.position;
-          left = all.left;
-          rest = new.remaining;
-          ahead = unread;
-          read = read;
-          gone = all.ends.gone;
-          unread = leaves;
-        };
-        complete = complete networks.A 0 before.remaining old.remaining all.left old.position.layout frames all.position all.ending opens read.reads all.ends.here;
-        taken = all.ends.left;
-        no_failure = same' ∙ all.no_failure ∙ same;
-      },
-    )
+whole_tap before after old new frames ending unread start opens same leaves same' all =
+    let read = has_read before old frames all.position all.left start opens all.gives in
+    record {
+      part = record {
+        position = all.position;
+        left = all.left;
+        rest = new.remaining;
+        ahead = unread;
+        read = read;
+        gone = all.ends.gone;
+        unread = leaves;
+      };
+      complete = complete networks.A 0 before.remaining old.remaining all.left old.position.layout frames all.position ending opens read.reads all.ends.here;
+      taken = all.ends.left;
+      no_failure = same' ∙ all.no_failure ∙ same;
+    }
 
-pub whole_told : {F E : Type 0} (frames_of : F → List Frame) (r : Result F E) (before after : SourceView) (old new : Reading) (unread : List ℕ) →
+pub whole_told : {F E : Type 0} (frames_of : F → List Frame) (ending_of : F → Ending) (r : Result F E) (before after : SourceView) (old new : Reading) (unread : List ℕ) →
     old.position ≡ start_at networks.A old.position.layout most_frames 0 → Opens before.remaining old.remaining old.position.layout → old.failures ≡ before.failures →
-    LeavesUnread unread new.remaining after.remaining → after.failures ≡ new.failures → IfOk r (λ frames. GivesAll old new (frames_of frames)) →
-    IfOk r (λ frames. IsTap before after (frames_of frames))
-whole_told frames_of (Ok frames) before after old new unread start opens same leaves same' all =
-    whole_tap before after old new (frames_of frames) unread start opens same leaves same' all
-whole_told frames_of (Err e) before after old new unread start opens same leaves same' all = tt
+    LeavesUnread unread new.remaining after.remaining → after.failures ≡ new.failures → IfOk r (λ tap. GivesAll old new (frames_of tap) (ending_of tap)) →
+    IfOk r (λ tap. IsTap before after (frames_of tap) (ending_of tap))
+whole_told frames_of ending_of (Ok tap) before after old new unread start opens same leaves same' all =
+    whole_tap before after old new (frames_of tap) (ending_of tap) unread start opens same leaves same' all
+whole_told frames_of ending_of (Err e) before after old new unread start opens same leaves same' all = tt

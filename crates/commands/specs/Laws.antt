@@ -1,5 +1,5 @@
 -- A filter's source means its program.
-use Rattle.std.specs.Prelude.{◌≡◌, ℕ, ◌≤◌, List, length, drop, map, Ok}
+use Rattle.std.specs.Prelude.{◌≡◌, ℕ, List, map}
 use Rattle.bpf_isa.specs.declared.packed.Packed.{Packed}
 use Rattle.bpf_asm.specs.Assembly.{Assembles}
 use Rattle.bpf_asm.specs.Meaning.{SourceRuns}

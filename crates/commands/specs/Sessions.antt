@@ -14,6 +14,7 @@ use Rattle.bpf_debugger.specs.declared.fault.DebugFault.{DebugFault}
 use Rattle.bpf_debugger.specs.declared.fault.DebugFault.TheVariants as debug
 use Rattle.bpf_debugger.specs.declared.reply.Reply.{Reply}
 use Rattle.pcap_io.specs.Device.{AppendsPrefix, CountsFailure}
+use Rattle.pcap_io.specs.declared.recording.Ending.{Ending}
 use Rattle.commands.specs.Inputs.{IsFilter, IsFilterFault}
 use Rattle.commands.specs.Text.{IsTextRefusal, IsWholeText}
 use Rattle.run_outcome.specs.Device.{SinkView, SourceView}
@@ -193,7 +194,7 @@ debug_devices tap commands sink = record { tap = tap; commands = commands; sink 
 -- the tap was read, and this became of the session
 abbrev pub RunsSession : List Packed → Result (Unit {0}) Fault → DebugDevices → DebugDevices → Type 0
 RunsSession p outcome before after =
-    (frames : List Frame) × IsTap before.tap after.tap frames
+    (frames : List Frame) × (ending : Ending) × IsTap before.tap after.tap frames ending
     × IsSessionRun p frames outcome before.commands after.commands before.sink after.sink
 
 -- the tap wasn't read, and nothing else was touched

@@ -15,9 +15,9 @@ use Rattle.run_outcome.specs.declared.fault.WatchFault.TheVariants as watch
 
 -- ---- the recording
 
--- the tap was read to its ending, as network A, and these are all its frames
-abbrev pub IsTap : SourceView → SourceView → List Frame → Type 0
-IsTap before after frames = (ending : Ending) × IsReadWhole networks.A 0 before after frames ending
+-- the tap was read to this ending, as network A, and these are all its frames
+abbrev pub IsTap : SourceView → SourceView → List Frame → Ending → Type 0
+IsTap before after frames ending = IsReadWhole networks.A 0 before after frames ending
 
 -- The source failed after these frames, and before it gave the next packet whole.
 pub record FailsInTap (before after : SourceView) : Type 0 where
@@ -57,11 +57,10 @@ pub record Gives (old : Reading) (frames : List Frame) (position : Position) (le
   pub bounded : position.count ≤ position.most
   pub same_most : position.most ≡ old.position.most
 
--- it gave these frames, and then the recording's ending
-pub record GivesAll (old new : Reading) (frames : List Frame) : Type 0 where
+-- it gave these frames, and then this ending of the recording
+pub record GivesAll (old new : Reading) (frames : List Frame) (ending : Ending) : Type 0 where
   pub position : Position
   pub left : Option (List ℕ)
-  pub ending : Ending
   pub gives : Gives old frames position left
   pub ends : Ends position left new.remaining ending
   pub no_failure : new.failures ≡ old.failures

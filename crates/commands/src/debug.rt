@@ -8,7 +8,7 @@ ghost use Rattle.run_outcome.specs.Device.{sink_at, source_at};
 
 use crate::capture::Ran;
 use crate::inputs::filter_of;
-use crate::tap::{TapRead, read_tap};
+use crate::tap::{HeldTap, TapRead, read_tap};
 use crate::text::{TextRefusal, read_text};
 use afdx_frame::TapFrame;
 use bpf_debugger::{Command, DebugFault, Session, bad_command_line, read_command, render};
@@ -245,8 +245,8 @@ pub fn run_debug<S: TapSource, C: TapSource, W: OutSink>(
         outcome,
         source: tap,
     } = read_tap(alloc, tap);
-    let frames = match outcome {
-        Ok(frames) => frames,
+    let HeldTap { frames, ending: _ } = match outcome {
+        Ok(tap) => tap,
         Err(fault) => {
             return DebugRun {
                 outcome: Err(Fault::Watch(fault)),

@@ -6,29 +6,38 @@ ghost use Rattle.run_outcome.specs.Device.{source_at};
 ghost use Rattle.commands.specs.WholeTap.{GivesAll, IsTap, IsTapRefusal, StopsReading};
 
 use afdx_frame::{Network, TapFrame};
-use pcap_io::{Item, OpenRefused, ReadFault, TapReader, TapSource};
+use pcap_io::{Ending, Item, OpenRefused, ReadFault, TapReader, TapSource};
 use run_outcome::{MAX_FRAMES, WatchFault, fault_of_open};
 use std::alloc::Global;
+
+/// A recording in memory.
+#[derive(Debug, Drop)]
+pub struct HeldTap {
+    /// All its frames, in their order.
+    pub frames: Vec<TapFrame>,
+    /// How it ends after them.
+    pub ending: Ending,
+}
 
 /// A recording that was read, with its source.
 #[derive(Debug, Drop)]
 pub struct TapRead<S> {
-    /// Its frames, or why it wasn't read.
-    pub outcome: Result<Vec<TapFrame>, WatchFault>,
+    /// Its frames and its ending, or why it wasn't read.
+    pub outcome: Result<HeldTap, WatchFault>,
     /// Where it was read from.
     pub source: S,
 }
 
-/// Reads the frames of network A up to the recording's ending.
+/// Reads the frames of network A up to the recording's ending, and that.
 fn read_frames<S: TapSource>(
     alloc: Global,
     reader: &mut TapReader<S>,
-) -> Result<Vec<TapFrame>, WatchFault>
+) -> Result<HeldTap, WatchFault>
     requires going { (position_of reader.old).stage ≡ Going }
     requires bounded { (position_of reader.old).count ≤ (position_of reader.old).most }
-    ensures all { IfOk result (λ frames. GivesAll
+    ensures all { IfOk result (λ tap. GivesAll
         (reading_of S.remaining S.failures reader.old)
-        (reading_of S.remaining S.failures reader.new) frames.items) }
+        (reading_of S.remaining S.failures reader.new) tap.frames.items tap.ending) }
     ensures stopped { IfErr result (λ fault. StopsReading fault
         (reading_of S.remaining S.failures reader.old)
         (reading_of S.remaining S.failures reader.new) (unread_of reader.new)) }
@@ -41,7 +50,7 @@ fn read_frames<S: TapSource>(
                     return Err(WatchFault::Memory);
                 };
             }
-            Ok(Item::End(_)) => return Ok(frames),
+            Ok(Item::End(ending)) => return Ok(HeldTap { frames, ending }),
             Err(ReadFault::Device) => {
                 return Err(WatchFault::Read {
                     network: Network::A,
@@ -54,13 +63,13 @@ fn read_frames<S: TapSource>(
 }
 
 /// Reads a recording whole, as network A, at most 2^32 frames. How it ends is no fault: its frames are
-/// those before its ending.
+/// those before its ending, which is told beside them.
 ///
 /// The fault is `Header`, `Read` or `Memory`.
 pub fn read_tap<S: TapSource>(alloc: Global, source: S) -> TapRead<S>
-    ensures frames { IfOk result.outcome (λ frames. IsTap
+    ensures frames { IfOk result.outcome (λ tap. IsTap
         (source_at S.TapSource source)
-        (source_at S.TapSource result.source) frames.items) }
+        (source_at S.TapSource result.source) tap.frames.items tap.ending) }
     ensures refused { IfErr result.outcome (λ fault. IsTapRefusal fault
         (source_at S.TapSource source)
         (source_at S.TapSource result.source)) }

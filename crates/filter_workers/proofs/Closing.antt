@@ -4,6 +4,7 @@ use mathlib.Core.Option.{some, some-injective, some-ne-none}
 use lib.ListN.{get_elem?}
 use Rattle.atomic_table.specs.Table.{Final, Seen}
 use Rattle.atomic_table.proofs.Lists.{at_set}
+use Rattle.filter_workers.specs.declared.desk.TheConstants.{DESK_SEATS}
 use Rattle.filter_workers.specs.declared.view.SeatView.{SeatView}
 use Rattle.filter_workers.specs.Seats.{SeatState, DrewAll}
 use Rattle.filter_workers.specs.Claims.{total, times, AreClaims, Keeps, spent}
@@ -25,7 +26,7 @@ no_numbers k (v ∷ vs) h none =
 
 -- a seat with all room has all numbers
 pub drew_all : (word : ℕ) (views : List SeatView) (id : ℕ) (v : SeatView) (s : SeatState)
-    → AreClaims s.desk.len word views → get_elem? views id ≡ some v → v.room ≡ 64 → v.numbers ≡ s.numbers → v.through ≡ s.through
+    → AreClaims s.desk.len word views → get_elem? views id ≡ some v → v.room ≡ DESK_SEATS → v.numbers ≡ s.numbers → v.through ≡ s.through
     → DrewAll s (min word s.desk.len)
 drew_all word views id v s is at full same through = record {
   within = omega arith;
@@ -50,7 +51,7 @@ drew_all word views id v s is at full same through = record {
 
 -- what a closed desk leaves
 pub closes : (len id : ℕ) (v : SeatView) (s : SeatState) (words : List ℕ) (slots : List (Unit {0})) (next : ℕ)
-    → Final (Seen (Keeps len) id v) words slots → get_elem? words 0 ≡ some next → len ≡ s.desk.len → v.room ≡ 64
+    → Final (Seen (Keeps len) id v) words slots → get_elem? words 0 ≡ some next → len ≡ s.desk.len → v.room ≡ DESK_SEATS
     → v.numbers ≡ s.numbers → v.through ≡ s.through → DrewAll s (min next s.desk.len)
 closes len id v s words slots next final at same_len full same through =
     let word : get_or final.0.words 0 0 ≡ next = ap (λ ws. get_or ws 0 0) final.2 ∙ first words next at in

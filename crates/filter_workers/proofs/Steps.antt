@@ -7,6 +7,7 @@ use lib.ListN.{get_elem?}
 use lib.Seq.{set-get_or}
 use Rattle.atomic_table.specs.Table.{Me, step, keeps, Allows, Splits, Joins}
 use Rattle.atomic_table.proofs.Lists.{at_set, at_snoc, set_again, set_else}
+use Rattle.filter_workers.specs.declared.desk.TheConstants.{DESK_SEATS}
 use Rattle.filter_workers.specs.declared.view.SeatView.{SeatView}
 use Rattle.filter_workers.specs.Claims.{times, once_below, through_room, IsSeat, AreClaims, Keeps}
 use Rattle.filter_workers.specs.Claims.{seat_view, spent, after_draw, Draws, Looks, keeps_half, other_half, joined}
@@ -38,8 +39,8 @@ module _ (len word : ℕ) (views : List SeatView) (is : AreClaims len word views
   drawn_below more = all_below word v.numbers (λ k past.
       omega (arith, term_le (numbers_in k) views id v at, is.once k, once_below-past (min word len) k (omega arith)))
 
-  -- the word is at most len and 64 more
-  pub word_le : word ≤ len + 64
+  -- the word is past len by no more than there are seats
+  pub word_le : word ≤ len + DESK_SEATS
   word_le = omega (arith, is.past, is.rooms, total_le through_room room_of (λ u. at_most u.through u.room) views)
     where
       at_most : (b : Bool) (room : ℕ) → past_room b room ≤ room

@@ -9,7 +9,7 @@ use std::alloc::{AllocError, Global};
 use std::marker::Model;
 
 /// The seats of a desk: the first can be split into this many.
-pub const DESK_SEATS: u64 = 64;
+pub const DESK_SEATS: u64 = 128;
 
 /// The most numbers of a desk.
 pub const MAX_NUMBERS: u64 = 1 << 32;

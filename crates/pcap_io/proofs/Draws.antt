@@ -16,6 +16,12 @@ split s n e xs le fits =
     ∙ (ap (λ (m : ℕ). take m (drop s xs) ++ take (e - (s + n)) (drop n (drop s xs))) first
     ∙ ap (λ (l : List ℕ). slice_range xs s (s + n) ++ take (e - (s + n)) l) (drop-drop n s xs)))
 
+-- bytes in two parts
+pub split_at : (s m e : ℕ) (xs : List ℕ) → s ≤ m → m ≤ e → e ≤ length xs → slice_range xs s e ≡ slice_range xs s m ++ slice_range xs m e
+split_at s m e xs first second fits =
+    let all : s + (m - s) ≡ m = omega arith in
+    rw all at (split s (m - s) e xs (omega arith) fits)
+
 -- a prefix of the unread bytes is drawn
 pub consumes_prefix : (a : Option (List ℕ)) (old new front : List ℕ) → old ≡ front ++ new → Consumes (prepend_known old a) (prepend_known new a) front
 consumes_prefix None old new front e = tt
@@ -86,3 +92,10 @@ pub fewer_across : (a b : Option (List ℕ)) (old new : List ℕ) (n : ℕ) → 
     → TakesFewer (length old + n) (prepend_known old a) (prepend_known new b)
 fewer_across a b old new n none (gone, few, p) =
     (old ++ gone, omega (arith, few, length-append old gone), consumes_across a b old new gone (old ++ gone) none refl p)
+
+-- bytes that were drawn stand before the unread ones again
+pub undrawn : (a b : Option (List ℕ)) (unread both bytes : List ℕ) → both ≡ bytes ++ unread → Consumes a (prepend_known unread b) bytes
+    → Keeps a (prepend_known both b)
+undrawn None b unread both bytes e p = tt
+undrawn (Some x) None unread both bytes e p = absurd p
+undrawn (Some x) (Some y) unread both bytes e p = ap (λ (l : List ℕ). l ++ y) e ∙ (append_assoc bytes unread y ∙ sym p)

@@ -1,5 +1,5 @@
 -- Where a reader stands in its recording, what it gives there, and which frames and ending the bytes from there on hold.
-use Rattle.std.specs.Prelude.{◌≡◌, ◌≢◌, ◌⊎◌, ℕ, ◌+◌, ◌<◌, ◌≤◌, max, List, ◌++◌, [], ◌∷◌, length, take, drop, Option, Some, None, Result, Ok, Err, IfOk, IfErr, IfSome, OnOk, OnErr, ⊤}
+use Rattle.std.specs.Prelude.{◌≡◌, ◌≢◌, ◌⊎◌, ℕ, ◌+◌, ◌-◌, ◌<◌, ◌≤◌, max, List, ◌++◌, [], ◌∷◌, length, take, drop, Option, Some, None, Result, Ok, Err, IfOk, IfErr, IfSome, OnOk, OnErr, ⊤}
 use Rattle.std.specs.Io.KnownBytes.{Consumes, IsAtEnd}
 use Rattle.afdx_frame.specs.Frame.{Frame, frame_with}
 use Rattle.afdx_frame.specs.declared.key.Network.{Network}
@@ -112,13 +112,6 @@ LacksBytes p before after unread =
     (TakesFewer PACKET_HEADER_LEN before after × (unread ≡ []))
     ⊎ ((header : List ℕ) × TakesHeader p before after header × (length unread < (header_fields p.layout header).captured_len))
 
--- More memory is needed than there is: fewer bytes came than the next packet needs, or a header is gone that claims more bytes than the
--- `room` that the caller gave for them.
-abbrev pub LacksRoom : ℕ → Position → Option (List ℕ) → Option (List ℕ) → List ℕ → Type 0
-LacksRoom room p before after unread =
-    LacksBytes p before after unread
-    ⊎ ((header : List ℕ) × TakesHeader p before after header × (room < (header_fields p.layout header).captured_len))
-
 -- What a fault says of a call, by how often the source had failed before and after it. Memory is missing only after the header of a
 -- good packet that claims at least one byte, which is gone.
 abbrev pub IsReadFault : Position → Option (List ℕ) → Option (List ℕ) → ℕ → ℕ → ReadFault → Type 0
@@ -145,6 +138,12 @@ pub record Advances {A : Type 0} (as_item : A → Item) (old new : Reading) (r :
   -- whatever it returns, no more than one packet is gone
   pub taken : TakesAPacket old.remaining new.remaining
   pub left : old.position.stage ≡ stages.Going → IfOk r (λ a. ItemLeaves old.remaining new.remaining (as_item a))
+
+-- The bytes hold the next packet whole: a header, and as many bytes as it claims.
+abbrev pub HoldsPacket : Layout → List ℕ → Type 0
+HoldsPacket layout bytes =
+    (PACKET_HEADER_LEN ≤ length bytes)
+    × ((header_fields layout (take PACKET_HEADER_LEN bytes)).captured_len ≤ length bytes - PACKET_HEADER_LEN)
 
 -- ---- many calls
 

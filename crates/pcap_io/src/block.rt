@@ -1,15 +1,18 @@
 //! A source that is read a block at a time, and lends what is drawn from it.
-ghost use Rattle.std.specs.Prelude.{◌≡◌, ◌+◌, ◌-◌, ◌<◌, ◌≤◌, [], true, false, length, min, max, take, vec_len, IfOk, IfErr, OnOk, OnErr};
+ghost use Rattle.std.specs.Prelude.{◌≡◌, ◌+◌, ◌-◌, ◌<◌, ◌≤◌, ℕ, List, [], true, false, length, min, max, take, Ok, Err, None, IfOk, IfErr, IfSome, OnOk, OnErr};
 ghost use Rattle.std.specs.Io.KnownBytes.{Consumes, IsAtEnd, Keeps, prepend_known};
 ghost use Rattle.afdx_frame.specs.declared.bounds.TheConstants.{MAX_SNAPLEN};
 ghost use Rattle.pcap_io.specs.Device.{CountsFailure, TakesAtMost, TakesFewer};
-ghost use Rattle.pcap_io.specs.Items.{items_of};
+ghost use Rattle.pcap_io.specs.declared.item.ReadFault.TheVariants.{Device};
+ghost use Rattle.pcap_io.specs.Items.{items_of, IsUnshared};
 
 use crate::device::{DeviceFault, TapSource};
 use crate::item::ReadFault;
+use crate::memory::{BlockMemory, Spares, copy_to_front};
 use crate::transfer::fill;
-use afdx_frame::MAX_SNAPLEN;
+use afdx_frame::{FrameBytes, MAX_SNAPLEN};
 use std::alloc::{AllocError, Global};
+use std::mem;
 
 /// The bytes of a block, unless its source asks for others or a packet is longer.
 const BLOCK_LEN: usize = 65_536;
@@ -20,8 +23,10 @@ pub struct BlockSource<S> {
     source: S,
     /// The length of the block, unless a packet is longer.
     block_len: usize,
-    /// None until bytes are drawn that it has to hold.
-    block: Option<Vec<u8>>,
+    /// Empty until bytes are drawn that it has to hold.
+    block: BlockMemory,
+    /// Blocks before it.
+    spares: Spares,
     /// Where the bytes start that were drawn last. They end where the unread ones start.
     from: usize,
     /// Where the unread bytes start, and where they end.
@@ -32,15 +37,6 @@ pub struct BlockSource<S> {
     ghost in_bounds: { end ≤ length (items_of block) },
     ghost bounded: { length (items_of block) ≤ MAX_SNAPLEN },
     ghost bounded_len: { block_len ≤ MAX_SNAPLEN },
-}
-
-/// A block of at least so many bytes.
-fn new_block(alloc: Global, len: usize) -> Result<Vec<u8>, AllocError>
-    ensures { IfOk result (λ block. vec_len block ≡ len) }
-{
-    let mut block = Vec::with_capacity(alloc, len)?;
-    block.resize(len, 0)?;
-    Ok(block)
 }
 
 /// Reads into the bytes from the index `end` on, until at least `len` stand there or the source ends.
@@ -84,7 +80,8 @@ impl<S: TapSource> BlockSource<S> {
         BlockSource {
             source,
             block_len: BLOCK_LEN,
-            block: None,
+            block: BlockMemory::Empty,
+            spares: Spares::new(),
             from: 0,
             start: 0,
             end: 0,
@@ -108,10 +105,7 @@ impl<S: TapSource> BlockSource<S> {
     fn bytes(&self) -> &[u8]
         ensures { result.now ≡ items_of self.now.block }
     {
-        match &self.block {
-            Some(block) => block.as_slice(),
-            None => &[],
-        }
+        self.block.bytes()
     }
 
     /// Moves the next bytes into the buffer, and returns how many came: all, or fewer at the end.
@@ -221,24 +215,43 @@ impl<S: TapSource> BlockSource<S> {
             (block_remaining S.remaining self.new)) }
         ensures unfinished { OnErr result (length (unread_bytes self.new) < len) }
     {
-        self.move_to_front();
-        self.grow(alloc, len)?;
+        self.make_room(alloc, len)?;
         self.read_ahead(len)?;
         self.from = 0;
         self.start = len.min(self.end);
         Ok(len <= self.end)
     }
 
-    /// Moves the unread bytes to the start of the block.
-    fn move_to_front(&mut self)
+    /// Makes room for `len` bytes at the start of a block that no frame shares, and puts the unread ones
+    /// there.
+    fn make_room(&mut self, alloc: Global, len: usize) -> Result<(), AllocError>
+        requires fits { len ≤ MAX_SNAPLEN }
+        requires short { self.old.end - self.old.start < len }
         ensures unread { unread_bytes self.new ≡ unread_bytes self.old }
         ensures source { block_source self.new ≡ block_source self.old }
+        ensures from { OnOk result (self.new.from ≡ 0) }
+        ensures start { OnOk result (self.new.start ≡ 0) }
+        ensures room { OnOk result (len ≤ length (items_of self.new.block)) }
+        ensures own { OnOk result (IsUnshared self.new.block) }
+    {
+        if self.block.reclaim() {
+            self.move_to_front();
+            return self.grow(alloc, len);
+        }
+        self.change_block(alloc, len)
+    }
+
+    /// Moves the unread bytes to the start of the block.
+    fn move_to_front(&mut self)
+        requires { IsUnshared self.old.block }
+        ensures unread { unread_bytes self.new ≡ unread_bytes self.old }
+        ensures source { block_source self.new ≡ block_source self.old }
+        ensures own { IsUnshared self.new.block }
         ensures from { self.new.from ≡ 0 }
         ensures start { self.new.start ≡ 0 }
-        ensures end { self.new.end ≡ self.old.end - self.old.start }
     {
         let (start, end) = (self.start, self.end);
-        if let Some(block) = &mut self.block {
+        if let BlockMemory::Own(block) = &mut self.block {
             block.copy_within(start..end, 0);
         }
         self.from = 0;
@@ -248,22 +261,49 @@ impl<S: TapSource> BlockSource<S> {
 
     /// Makes room for `len` bytes in the block.
     fn grow(&mut self, alloc: Global, len: usize) -> Result<(), AllocError>
-        requires { len ≤ MAX_SNAPLEN }
+        requires room { len ≤ MAX_SNAPLEN }
+        requires own { IsUnshared self.old.block }
         ensures unread { unread_bytes self.new ≡ unread_bytes self.old }
         ensures source { block_source self.new ≡ block_source self.old }
+        ensures own { IsUnshared self.new.block }
         ensures from { self.new.from ≡ self.old.from }
         ensures start { self.new.start ≡ self.old.start }
-        ensures end { self.new.end ≡ self.old.end }
         ensures room { OnOk result (len ≤ length (items_of self.new.block)) }
     {
         match &mut self.block {
-            None => self.block = Some(new_block(alloc, len.max(self.block_len))?),
-            Some(block) => {
+            BlockMemory::Own(block) => {
                 if block.len() < len {
                     block.resize(len, 0)?;
                 }
             }
+            _ => {
+                let block = self.spares.take(alloc, len.max(self.block_len))?;
+                self.block = BlockMemory::Own(block);
+            }
         }
+        Ok(())
+    }
+
+    /// Puts the unread bytes to the start of another block, which no frame shares, with room for `len`
+    /// bytes.
+    fn change_block(&mut self, alloc: Global, len: usize) -> Result<(), AllocError>
+        requires fits { len ≤ MAX_SNAPLEN }
+        requires short { self.old.end - self.old.start < len }
+        ensures unread { unread_bytes self.new ≡ unread_bytes self.old }
+        ensures source { block_source self.new ≡ block_source self.old }
+        ensures from { OnOk result (self.new.from ≡ 0) }
+        ensures start { OnOk result (self.new.start ≡ 0) }
+        ensures room { OnOk result (len ≤ length (items_of self.new.block)) }
+        ensures own { OnOk result (IsUnshared self.new.block) }
+    {
+        let (start, end) = (self.start, self.end);
+        let mut block = self.spares.take(alloc, len.max(self.block_len))?;
+        copy_to_front(block.as_mut_slice(), &self.block.bytes()[start..end]);
+        let before = mem::replace(&mut self.block, BlockMemory::Own(block));
+        self.from = 0;
+        self.start = 0;
+        self.end = end - start;
+        self.spares.keep(alloc, before);
         Ok(())
     }
 
@@ -273,6 +313,7 @@ impl<S: TapSource> BlockSource<S> {
         requires from { self.old.from ≡ 0 }
         requires start { self.old.start ≡ 0 }
         requires room { len ≤ length (items_of self.old.block) }
+        requires own { IsUnshared self.old.block }
         ensures from { self.new.from ≡ 0 }
         ensures start { self.new.start ≡ 0 }
         ensures kept { Keeps (block_remaining S.remaining self.old)
@@ -285,12 +326,52 @@ impl<S: TapSource> BlockSource<S> {
             (S.failures (block_source self.old)) (S.failures (block_source self.new))) }
         ensures unfinished { OnErr result (self.new.end < len) }
     {
-        let Some(block) = &mut self.block else {
+        let BlockMemory::Own(block) = &mut self.block else {
             return Ok(());
         };
         let (end, answer) = read_until(&mut self.source, block.as_mut_slice(), self.end, len);
         self.end = end;
         answer
+    }
+
+    /// Draws the next `len` bytes for a frame that shares the block. None: fewer were left, and they are
+    /// gone.
+    #[inline(always)]
+    pub fn draw_shared(
+        &mut self,
+        alloc: Global,
+        len: usize,
+    ) -> Result<Option<FrameBytes>, ReadFault>
+        requires { len ≤ MAX_SNAPLEN }
+        ensures complete { IfOk result (λ all. IfSome all (λ bytes. (length bytes ≡ len)
+            × Consumes (block_remaining S.remaining self.old)
+            (block_remaining S.remaining self.new) bytes)) }
+        ensures short { result ≡ Ok None → ((gone : List ℕ) × (length gone < len)
+            × Consumes (block_remaining S.remaining self.old) (block_remaining S.remaining self.new) gone)
+            × IsAtEnd (block_remaining S.remaining self.new) }
+        ensures no_failure { OnOk result
+            (S.failures (block_source self.new) ≡ S.failures (block_source self.old)) }
+        ensures fault { IfErr result (IsDrawFault len
+            (S.failures (block_source self.old)) (S.failures (block_source self.new))) }
+        ensures kept { OnErr result (Keeps (block_remaining S.remaining self.old)
+            (block_remaining S.remaining self.new)) }
+        ensures unfinished { result ≡ Err Device → length (unread_bytes self.new) < len }
+    {
+        if !self.draw(alloc, len)? {
+            return Ok(None);
+        }
+        if len == 0 {
+            return Ok(Some(FrameBytes::own(Vec::new(alloc))));
+        }
+        let (from, start) = (self.from, self.start);
+        match self.block.share(alloc, from, start) {
+            Ok(bytes) => Ok(Some(bytes)),
+            Err(AllocError) => {
+                // Not drawn.
+                self.start = from;
+                Err(ReadFault::Memory)
+            }
+        }
     }
 
     /// What the last draw gave.
@@ -300,6 +381,15 @@ impl<S: TapSource> BlockSource<S> {
     {
         let (from, start) = (self.from, self.start);
         &self.bytes()[from..start]
+    }
+
+    /// What was read ahead and not drawn.
+    #[inline(always)]
+    pub fn unread(&self) -> &[u8]
+        ensures { result.now ≡ unread_bytes self.now }
+    {
+        let (start, end) = (self.start, self.end);
+        &self.bytes()[start..end]
     }
 
     /// The source. What was read ahead is lost.

@@ -7,7 +7,7 @@ use afdx_frame::TapFrame;
 use std::alloc::AllocError;
 use thiserror::Error;
 
-/// The next item of a recording, with a frame that owns its bytes.
+/// The next item of a recording, with a frame that lasts.
 #[derive(Debug, Drop)]
 pub enum Item {
     /// The next frame.

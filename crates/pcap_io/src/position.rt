@@ -1,5 +1,5 @@
 //! The part of a reader that needs no source: its place, and what the bytes at that place begin.
-ghost use Rattle.std.specs.Prelude.{◌≡◌, ◌<◌, ◌≤◌, ◌^◌, length, vec_len};
+ghost use Rattle.std.specs.Prelude.{◌≡◌, ◌<◌, ◌≤◌, ◌^◌, length};
 ghost use Rattle.afdx_frame.specs.Frame.{IsFrame};
 ghost use Rattle.pcap_io.specs.Bytes.{IsBytes};
 ghost use Rattle.pcap_io.specs.Layout.{fractions_of};
@@ -8,7 +8,7 @@ ghost use Rattle.pcap_io.specs.Position.{EndsShort, IsStartOf, frame_at, after_f
 use crate::layout::Layout;
 use crate::packet_header::{PACKET_HEADER_LEN, PacketHeader};
 use crate::recording::{BadReason, Ending, Stage};
-use afdx_frame::{MAX_SNAPLEN, Network, Stamp, TapFrame};
+use afdx_frame::{FrameBytes, MAX_SNAPLEN, Network, Stamp, TapFrame};
 
 /// Where a reader stands in its recording.
 #[derive(Clone, Copy, Debug)]
@@ -39,15 +39,15 @@ impl Position {
 
     /// The frame of a packet that stands here.
     #[inline(always)]
-    pub fn frame(&self, header: &PacketHeader, bytes: Vec<u8>) -> TapFrame
+    pub fn frame(&self, header: &PacketHeader, bytes: FrameBytes) -> TapFrame
         requires bounded { self.now.count < 2 ^ 32 }
         requires within_second { header.now.fraction < fractions_of self.now.layout.precision }
-        requires few_bytes { vec_len bytes ≤ MAX_SNAPLEN }
-        ensures { result ≡ frame_at self.now header.now bytes.items }
+        requires few_bytes { length bytes ≤ MAX_SNAPLEN }
+        ensures { result ≡ frame_at self.now header.now bytes }
     {
         let stamp = Stamp(header.stamp(self.layout));
-        let whole = header.original_len.max(bytes.len() as u32);
-        TapFrame::new(self.network, self.count, stamp, whole, bytes).unwrap()
+        let whole = header.original_len.max(bytes.as_slice().len() as u32);
+        TapFrame::sharing(self.network, self.count, stamp, whole, bytes).unwrap()
     }
 }
 

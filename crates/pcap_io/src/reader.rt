@@ -1,5 +1,5 @@
 //! Reads the frames of a recording.
-ghost use Rattle.std.specs.Prelude.{◌≡◌, ◌+◌, ◌<◌, ◌≤◌, ◌^◌, [], length, drop, vec_capacity, Some, Ok, Err, IfOk, IfErr, OnOk, OnErr, IfSome};
+ghost use Rattle.std.specs.Prelude.{◌≡◌, ◌+◌, ◌<◌, ◌≤◌, ◌^◌, [], length, drop, Some, Ok, Err, IfOk, IfErr, OnOk, OnErr, IfSome, IsTrue, ◌↔◌};
 ghost use Rattle.afdx_frame.specs.Frame.{IsFrame};
 ghost use Rattle.afdx_frame.specs.LentFrame.{frame_of_lent};
 ghost use Rattle.pcap_io.specs.Device.{CountsFailure, TakesAtMost, TakesFewer};
@@ -7,18 +7,18 @@ ghost use Rattle.pcap_io.specs.Layout.{header_of};
 ghost use Rattle.afdx_frame.specs.declared.bounds.TheConstants.{MAX_SNAPLEN};
 ghost use Rattle.pcap_io.specs.declared.layout.TheConstants.{FILE_HEADER_LEN};
 ghost use Rattle.pcap_io.specs.declared.packet_header.TheConstants.{PACKET_HEADER_LEN};
-ghost use Rattle.pcap_io.specs.Position.{Advances, HasRoom, IsNext, IsOpenFault, IsReadFault, IsStart, ItemLeaves, LacksBytes, LacksRoom, Opens, StartLeaves, TakesAPacket, after_item, found_item, start_at};
+ghost use Rattle.pcap_io.specs.Position.{Advances, HasRoom, HoldsPacket, IsNext, IsOpenFault, IsReadFault, IsStart, ItemLeaves, LacksBytes, Opens, StartLeaves, TakesAPacket, after_item, found_item, start_at};
 
 use crate::block::BlockSource;
 use crate::device::{DeviceFault, TapSource};
 use crate::item::{Found, Item, ReadFault};
 use crate::layout::{FILE_HEADER_LEN, HeaderFault, Layout, layout_of};
-use crate::packet_header::PACKET_HEADER_LEN;
+use crate::packet_header::{PACKET_HEADER_LEN, PacketHeader};
 use crate::position::{Position, Start, start_of};
 use crate::recording::{Ending, Stage};
 use crate::transfer::fill;
 use afdx_frame::{LentFrame, Network, Stamp};
-use std::alloc::{AllocError, Global};
+use std::alloc::Global;
 use thiserror::Error;
 
 /// Why a reader wasn't opened.
@@ -78,26 +78,11 @@ fn read_layout<S: TapSource>(source: &mut S) -> Result<Layout, OpenFault>
     Ok(layout_of(&header)?)
 }
 
-/// An empty buffer with room for so many bytes: the spare one, if it has the room. Otherwise it
-/// allocates.
-fn emptied(alloc: Global, spare: Vec<u8>, len: usize) -> Result<Vec<u8>, AllocError>
-    ensures items { IfOk result (λ bytes. bytes.items ≡ []) }
-    ensures room { IfOk result (λ bytes. len ≤ vec_capacity bytes) }
-    ensures needed { OnErr result (vec_capacity spare < len) }
-{
-    if spare.capacity() < len {
-        return Vec::with_capacity(alloc, len);
-    }
-    let mut bytes = spare;
-    bytes.clear();
-    Ok(bytes)
-}
-
 /// Reads the frames of one network's recording (pcap savefile format 2.4), one after another.
 ///
 /// It reads the data of its source ahead, a block of 64 KiB at a time, or more for a longer packet.
 /// `advance` goes on to the next frame, which `frame` lends out of the block; `next` gives a frame
-/// that owns its bytes.
+/// that lasts, whose bytes stand in the block: that is filled again once no such frame is left.
 #[derive(Debug, Drop)]
 pub struct TapReader<S> {
     input: BlockSource<S>,
@@ -239,10 +224,9 @@ impl<S: TapSource> TapReader<S> {
         Ok(Found::Frame)
     }
 
-    /// Draws the next packet into a frame of its own, in the spare where that has the room, or
-    /// finds the ending.
+    /// Draws the next packet into a frame that shares the block, or finds the ending.
     #[inline(always)]
-    fn take(&mut self, alloc: Global, spare: Vec<u8>) -> Result<Item, ReadFault>
+    fn take(&mut self, alloc: Global) -> Result<Item, ReadFault>
         ensures item { IfOk result (λ a. IsNext (position_of self.old)
             (remaining_of S.remaining self.old) (remaining_of S.remaining self.new) a) }
         ensures room { IfOk result (λ a. HasRoom (position_of self.old) a) }
@@ -259,21 +243,15 @@ impl<S: TapSource> TapReader<S> {
         ensures unfinished { result ≡ Err faults.Device → LacksBytes (position_of self.old)
             (remaining_of S.remaining self.old) (remaining_of S.remaining self.new)
             (unread_of self.new) }
-        ensures memory { result ≡ Err faults.Memory
-            → LacksRoom (vec_capacity spare) (position_of self.old)
-            (remaining_of S.remaining self.old) (remaining_of S.remaining self.new)
-            (unread_of self.new) }
     {
         let header = match self.read_header()? {
             Start::Header(header) => header,
             Start::End(ending) => return Ok(Item::End(ending)),
         };
-        let mut bytes = emptied(alloc, spare, header.captured_len as usize)?;
-        if !self.input.draw(alloc, header.captured_len as usize)? {
-            return Ok(Item::End(Ending::Cut(self.position.count)));
+        match self.input.draw_shared(alloc, header.captured_len as usize)? {
+            Some(bytes) => Ok(Item::Frame(self.position.frame(&header, bytes))),
+            None => Ok(Item::End(Ending::Cut(self.position.count))),
         }
-        bytes.extend_from_slice(self.input.drawn()).unwrap();
-        Ok(Item::Frame(self.position.frame(&header, bytes)))
     }
 
     /// Goes on to the next frame, which `frame` lends, or to the ending, which is found again at
@@ -334,8 +312,13 @@ impl<S: TapSource> TapReader<S> {
         .unwrap()
     }
 
-    /// The next frame, with bytes of its own, or the ending, which is given again at each later
-    /// call. After a fault each later call returns `Failed`.
+    /// The next frame, whose bytes stand in the reader's block, or the ending, which is given again at
+    /// each later call. After a fault each later call returns `Failed`.
+    ///
+    /// A block that frames still share stays as it is, and the reader goes on in another one. So it allocates
+    /// where a frame is longer than the block or the first of one, and where no earlier block has
+    /// come free. `Memory` may come for any packet of at least one byte, as the contract of an `Arc` lets it
+    /// refuse another owner at any time.
     pub fn next(&mut self, alloc: Global) -> Result<Item, ReadFault>
         ensures advances { Advances (λ item. item) (reading_of S.remaining S.failures self.old)
             (reading_of S.remaining S.failures self.new) result }
@@ -348,35 +331,12 @@ impl<S: TapSource> TapReader<S> {
         ensures failed { (position_of self.old).stage ≡ Failed
             → (result ≡ Err faults.Failed) × (self.new ≡ self.old) }
     {
-        self.next_into(alloc, Vec::new(alloc))
-    }
-
-    /// As `next`, but the frame's bytes stand in the memory of the spare, if that has room for them.
-    /// What the spare holds is lost. `Memory` comes only where the packet wasn't read ahead whole, or
-    /// its bytes have no room in the spare.
-    pub fn next_into(&mut self, alloc: Global, spare: Vec<u8>) -> Result<Item, ReadFault>
-        ensures advances { Advances (λ item. item) (reading_of S.remaining S.failures self.old)
-            (reading_of S.remaining S.failures self.new) result }
-        // The source failed before it gave a whole packet: no frame that came whole is lost.
-        ensures unfinished { (position_of self.old).stage ≡ Going → result ≡ Err faults.Device
-            → LacksBytes (position_of self.old) (remaining_of S.remaining self.old)
-            (remaining_of S.remaining self.new) (unread_of self.new) }
-        // Neither the block nor the spare had room: a frame that came whole and fits is not lost.
-        ensures memory { (position_of self.old).stage ≡ Going → result ≡ Err faults.Memory
-            → LacksRoom (vec_capacity spare) (position_of self.old)
-            (remaining_of S.remaining self.old) (remaining_of S.remaining self.new)
-            (unread_of self.new) }
-        ensures ended { (e : Ending) → (position_of self.old).stage ≡ Ended e
-            → (result ≡ Ok (items.End e)) × (self.new ≡ self.old) }
-        ensures failed { (position_of self.old).stage ≡ Failed
-            → (result ≡ Err faults.Failed) × (self.new ≡ self.old) }
-    {
         match self.position.stage {
             Stage::Failed => return Err(ReadFault::Failed),
             Stage::Ended(ending) => return Ok(Item::End(ending)),
             Stage::Going => {}
         }
-        match self.take(alloc, spare) {
+        match self.take(alloc) {
             Ok(Item::Frame(frame)) => {
                 self.position.pass_frame(frame.stamp().0);
                 Ok(Item::Frame(frame))
@@ -390,6 +350,19 @@ impl<S: TapSource> TapReader<S> {
                 Err(fault)
             }
         }
+    }
+
+    /// Whether the next packet was read ahead whole: then the next call reads nothing of the source, and
+    /// doesn't wait for it.
+    pub fn holds_packet(&self) -> bool
+        ensures { IsTrue result ↔ HoldsPacket (position_of self.now).layout (unread_of self.now) }
+    {
+        let unread = self.input.unread();
+        if unread.len() < PACKET_HEADER_LEN {
+            return false;
+        }
+        let header = PacketHeader::read(self.position.layout, &unread[..PACKET_HEADER_LEN]);
+        header.captured_len as usize <= unread.len() - PACKET_HEADER_LEN
     }
 
     /// The source. What was read ahead of the reader's position is lost, at most

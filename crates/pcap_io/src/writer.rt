@@ -1,5 +1,5 @@
 //! The other direction of a reader: what is written here, a reader reads back.
-ghost use Rattle.std.specs.Prelude.{◌≡◌, ◌≤◌, true, false, length, Err, IfOk, IfErr, OnOk, OnErr};
+ghost use Rattle.std.specs.Prelude.{◌≡◌, ◌+◌, ◌<◌, ◌≤◌, ◌^◌, ◌++◌, true, false, length, Err, IsOk, IfOk, IfErr, OnOk, OnErr};
 ghost use Rattle.afdx_frame.specs.LentFrame.{frame_of_lent};
 ghost use Rattle.pcap_io.specs.Device.{Writes};
 ghost use Rattle.pcap_io.specs.Capture.{capture_header, packet_header, packet_text};
@@ -10,6 +10,7 @@ use crate::packet_header::PACKET_HEADER_LEN;
 use crate::transfer::write_all;
 use afdx_frame::{LentFrame, TapFrame};
 use byteorder::{ByteOrder, LittleEndian};
+use std::alloc::AllocError;
 use thiserror::Error;
 
 /// Why a packet wasn't written.
@@ -41,6 +42,39 @@ fn packet_header(frame: &LentFrame<'_>, keep: u32) -> [u8; PACKET_HEADER_LEN]
     LittleEndian::write_u32(&mut header[8..], keep);
     LittleEndian::write_u32(&mut header[12..], frame.whole());
     header
+}
+
+/// Appends both slices, or neither.
+#[inline(always)]
+fn append_both(bytes: &mut Vec<u8>, first: &[u8], second: &[u8]) -> Result<(), AllocError>
+    requires { length first.now + length second.now < 2 ^ 63 }
+    ensures both { OnOk result (bytes.new.items ≡ bytes.old.items ++ (first.now ++ second.now)) }
+    ensures memory { OnErr result (bytes.new.items ≡ bytes.old.items) }
+{
+    bytes.reserve(first.len() + second.len())?;
+    bytes.extend_from_slice(first).unwrap();
+    bytes.extend_from_slice(second).unwrap();
+    Ok(())
+}
+
+/// Appends a frame's packet: the header, and then the first `keep` of its bytes. What
+/// [`put`](CaptureWriter::put) writes.
+///
+/// # Errors
+///
+/// There is no memory for the packet. The bytes are as they were.
+#[inline]
+pub fn append_packet(bytes: &mut Vec<u8>, frame: &TapFrame, keep: u32) -> Result<(), AllocError>
+    requires { keep ≤ length frame.now.bytes }
+    ensures packet { OnOk result (bytes.new.items ≡ bytes.old.items ++ packet_text frame.now keep) }
+    ensures memory { OnErr result (bytes.new.items ≡ bytes.old.items) }
+{
+    let captured = frame.view().bytes();
+    append_both(
+        bytes,
+        &packet_header(&frame.lent(), keep),
+        &captured[..keep as usize],
+    )
 }
 
 /// Writes a frame's packet: the header, and then the first `keep` of its bytes.
@@ -125,13 +159,45 @@ impl<W: OutSink> CaptureWriter<W> {
         if self.failed {
             return Err(WriteFault::Failed);
         }
-        match write_packet(&mut self.sink, frame, keep) {
+        let written = write_packet(&mut self.sink, frame, keep);
+        self.note(written)
+    }
+
+    /// Notes a fault of the sink.
+    #[inline(always)]
+    fn note(&mut self, written: Result<(), DeviceFault>) -> Result<(), WriteFault>
+        ensures sink { sink_of self.new ≡ sink_of self.old }
+        ensures ok { OnOk written ((IsOk result) × (has_failed self.new ≡ has_failed self.old)) }
+        ensures fault { OnErr written ((result ≡ Err Device) × (has_failed self.new ≡ true)) }
+    {
+        match written {
             Ok(()) => Ok(()),
             Err(DeviceFault) => {
                 self.failed = true;
                 Err(WriteFault::Device)
             }
         }
+    }
+
+    /// Writes packets that [`append_packet`] made, in one go where the sink takes them so. After a fault
+    /// each later call returns `Failed` and writes nothing.
+    pub fn put_packets(&mut self, packets: &[u8]) -> Result<(), WriteFault>
+        ensures written { has_failed self.old ≡ false → Writes result
+            (W.contents (sink_of self.old)) (W.contents (sink_of self.new))
+            (W.failures (sink_of self.old)) (W.failures (sink_of self.new))
+            packets.now }
+        ensures fault { has_failed self.old ≡ false → IfErr result (λ f. f ≡ Device) }
+        ensures failed { has_failed self.old ≡ true
+            → (result ≡ Err Failed) × (self.new ≡ self.old) }
+        ensures going { OnOk result
+            ((has_failed self.old ≡ false) × (has_failed self.new ≡ false)) }
+        ensures after_fault { OnErr result (has_failed self.new ≡ true) }
+    {
+        if self.failed {
+            return Err(WriteFault::Failed);
+        }
+        let written = write_all(&mut self.sink, packets);
+        self.note(written)
     }
 
     /// The sink. Nothing more is written.

@@ -1,3 +1,3 @@
+pub mod Gathering
 pub mod Rounds
-pub mod SharedRounds
 pub mod Writing

@@ -1,10 +1,8 @@
 -- What a round adds to the capture and to the ledger.
-use Rattle.std.proofs.Common.{◌≡◌, ℕ, suc, zero, ◌+◌, ◌≤◌, min, Bool, true, false, List, [], ◌∷◌, ◌++◌, length, map, take, Option, Some, None, refl, sym, subst, ap, ◌∙◌, append_assoc, arith}
+use Rattle.std.proofs.Common.{◌≡◌, ◌⊎◌, inl, inr, ℕ, suc, zero, ◌+◌, List, [], ◌∷◌, ◌++◌, length, map, take, Option, Some, refl, sym, subst, ap, ◌∙◌, append_assoc, arith}
 use Rattle.std.proofs.lemmas.List.{map-append, length-map, length-append, append-nil}
 use Rattle.std.proofs.lemmas.List.Concat.{flat_map-append}
 use Rattle.std.proofs.KnownBytes.{Appends-trans}
-use Rattle.std.specs.Prelude.{if◌then◌else◌, ◌==◌}
-use Rattle.std.specs.Option.{ForSome}
 use Rattle.std.specs.Io.KnownBytes.{Appends}
 use Rattle.afdx_frame.specs.Frame.{Frame}
 use Rattle.bpf_isa.specs.declared.packed.Packed.{Packed}
@@ -16,33 +14,19 @@ use Rattle.vl_config.specs.Document.{VlTable}
 use Rattle.vl_judge.specs.Judgement.{Judgement}
 use Rattle.vl_judge.specs.Verdicts.{Judged, judged_frames, judged_frames_after, verdict_of, verdicts}
 use Rattle.vl_judge.proofs.Judging.{verdicts-append}
-use Rattle.filter_workers.specs.Filters.{answer_by, mask_by}
-use Rattle.round_output.specs.Filters.{capture_by, entries_by, keep_by, keep_of, kept_record, packets_by}
-use Rattle.round_output.specs.Outputs.{SinkFails, ledger_fault}
+use Rattle.filter_workers.specs.Filters.{mask_by}
+use Rattle.round_output.specs.Filters.{capture_by, entries_by, keep_by, kept_record, packets_by}
+use Rattle.round_output.specs.Outputs.{SinkFails, StopsWriting, effect_of, ledger_fault}
 use Rattle.verdict_ledger.specs.Writing.{IsAppended}
 use Rattle.verdict_ledger.specs.declared.fault.LedgerFault.{LedgerFault}
 use Rattle.verdict_ledger.specs.declared.fault.LedgerFault.TheVariants as ledger_faults
-use Rattle.round_output.specs.Round.{AreKept, packets_kept}
-use Rattle.run_outcome.specs.Device.{AppendsSome}
+use Rattle.run_outcome.specs.Device.{AppendsSome, SinkView}
+use Rattle.run_outcome.specs.declared.fault.WatchFault.{WatchFault}
+use Rattle.run_outcome.specs.declared.fault.WatchFault.TheVariants as watch
 use Rattle.round_output.specs.Filters.{lines_by}
 use Rattle.run_outcome.proofs.Written.{take_past}
 
 -- ---- the packets
-
-pub packets_are : (ps : List (List Packed)) (fs : List Frame) → packets_kept fs (map (keep_by ps) fs) ≡ packets_by ps fs
-packets_are ps [] = refl
-packets_are ps (f ∷ fs) = ap (λ (l : List ℕ). kept_record f (keep_by ps f) ++ l) (packets_are ps fs)
-
-keep_within : (answer : ℕ) (f : Frame) → ForSome (keep_of answer f) (λ keep. keep ≤ length f.bytes)
-keep_within answer f = by (answer == 0)
-  where
-    by : (b : Bool) → ForSome (if b then None else Some (min answer (length f.bytes))) (λ keep. keep ≤ length f.bytes)
-    by true = λ keep is. (let wrong : ⊥ = cc is in absurd wrong)
-    by false = λ keep is. (let e : min answer (length f.bytes) ≡ keep = cc is in omega (arith, e))
-
-pub all_within : (ps : List (List Packed)) (fs : List Frame) → AreKept fs (map (keep_by ps) fs)
-all_within ps [] = tt
-all_within ps (f ∷ fs) = (keep_within (answer_by ps f) f, all_within ps fs)
 
 pub capture_more : (ps : List (List Packed)) (fs gs : List Frame) → capture_by ps (fs ++ gs) ≡ capture_by ps fs ++ packets_by ps gs
 capture_more ps fs gs =
@@ -51,7 +35,7 @@ capture_more ps fs gs =
 
 -- ---- the lines
 
-entries_append : (fs gs : List Frame) (vs ws : List Judgement) (ks js : List (Option ℕ)) (ms ns : List ℕ) →
+pub entries_append : (fs gs : List Frame) (vs ws : List Judgement) (ks js : List (Option ℕ)) (ms ns : List ℕ) →
     length vs ≡ length fs → length ks ≡ length fs → length ms ≡ length fs →
     entries_of (fs ++ gs) (vs ++ ws) (ks ++ js) (ms ++ ns) ≡ entries_of fs vs ks ms ++ entries_of gs ws js ns
 entries_append [] gs [] ws [] js [] ns v k m = refl
@@ -180,12 +164,6 @@ entries_told ps vl_table fs gs said vs ks ms e is_vs is_ks is_ms =
     ∙ ap (λ (l : List (Option ℕ)). entries_by ps vl_table fs ++ entries_of gs vs l (map (mask_by ps) gs)) (sym is_ks)
     ∙ ap (λ (l : List ℕ). entries_by ps vl_table fs ++ entries_of gs vs ks l) (sym is_ms)
 
--- the packets of a round, by what is kept of it
-pub capture_told : (ps : List (List Packed)) (fs gs : List Frame) (ks : List (Option ℕ)) → ks ≡ map (keep_by ps) gs →
-    capture_by ps (fs ++ gs) ≡ capture_by ps fs ++ packets_kept gs ks
-capture_told ps fs gs ks is_ks =
-    capture_more ps fs gs ∙ ap (λ (l : List ℕ). capture_by ps fs ++ l) (sym (packets_are ps gs) ∙ ap (packets_kept gs) (sym is_ks))
-
 pub ledger_stops : (fault : LedgerFault) (a b d : Option (List ℕ)) (front next all : List ℕ) (c c' l before after : ℕ) → Appends a b front → all ≡ front ++ next →
     c' ≡ c → before ≡ l → IsAppended (Some fault) b d before after next → AppendsSome a d all × SinkFails (ledger_fault fault) c c' l after
 ledger_stops ledger_faults.Device a b d front next all c c' l before after first e same is (prefix, counts) =
@@ -193,3 +171,32 @@ ledger_stops ledger_faults.Device a b d front next all c c' l before after first
 ledger_stops ledger_faults.Memory a b d front next all c c' l before after first e same is (prefix, stays) =
     (some_after a b d front next all first prefix e, (same, stays ∙ is))
 ledger_stops ledger_faults.Failed a b d front next all c c' l before after first e same is wrong = absurd wrong
+
+-- the packets of further frames, whole or in part
+pub packets_whole : (ps : List (List Packed)) (fs gs : List Frame) (a b c : Option (List ℕ)) (packets : List ℕ) → packets ≡ packets_by ps gs →
+    Appends a b (capture_by ps fs) → Appends b c packets → Appends a c (capture_by ps (fs ++ gs))
+packets_whole ps fs gs a b c packets are first more =
+    subst (Appends a c) (ap (λ (l : List ℕ). capture_by ps fs ++ l) are ∙ sym (capture_more ps fs gs)) (Appends-trans a b c (capture_by ps fs) packets first more)
+
+pub packets_some : (ps : List (List Packed)) (fs gs : List Frame) (a b c : Option (List ℕ)) (packets : List ℕ) → packets ≡ packets_by ps gs →
+    Appends a b (capture_by ps fs) → AppendsPrefix b c packets → AppendsSome a c (capture_by ps (fs ++ gs))
+packets_some ps fs gs a b c packets are first more =
+    some_after a b c (capture_by ps fs) packets _ first more (capture_more ps fs gs ∙ ap (λ (l : List ℕ). capture_by ps fs ++ l) (sym are))
+
+-- a fault of a pool leaves what no memory leaves
+pub no_sink_fails : (fault : WatchFault) (c c' l l' : ℕ) → (fault ≡ watch.Memory) ⊎ (fault ≡ watch.RingLost) → c' ≡ c → l' ≡ l → SinkFails (effect_of fault) c c' l l'
+no_sink_fails fault c c' l l' is same also = elim is [
+  | inl e ↦ subst (λ (f : WatchFault). SinkFails (effect_of f) c c' l l') (sym e) (same, also)
+  | inr e ↦ subst (λ (f : WatchFault). SinkFails (effect_of f) c c' l l') (sym e) (same, also)
+]
+
+pub same_effect : (fault : WatchFault) (ps : List (List Packed)) (vl_table : VlTable) (capture ledger capture' ledger' : SinkView) (frames : List Frame) →
+    StopsWriting fault ps vl_table capture ledger capture' ledger' frames → StopsWriting (effect_of fault) ps vl_table capture ledger capture' ledger' frames
+same_effect watch.Memory ps vl_table capture ledger capture' ledger' frames s = s
+same_effect (watch.Write out) ps vl_table capture ledger capture' ledger' frames s = s
+same_effect watch.Spawn ps vl_table capture ledger capture' ledger' frames s = s
+same_effect watch.Workers ps vl_table capture ledger capture' ledger' frames s = s
+same_effect (watch.Header network fault) ps vl_table capture ledger capture' ledger' frames s = s
+same_effect (watch.Read network) ps vl_table capture ledger capture' ledger' frames s = s
+same_effect watch.RingLost ps vl_table capture ledger capture' ledger' frames s = absurd s.fails
+same_effect watch.Filters ps vl_table capture ledger capture' ledger' frames s = s

@@ -1,3 +1,5 @@
+pub mod Entries
 pub mod Filters
 pub mod Outputs
 pub mod Round
+pub mod Shared

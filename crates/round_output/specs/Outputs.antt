@@ -1,9 +1,8 @@
 -- The outputs of a run, round by round.
-use Rattle.std.specs.Prelude.{◌≡◌, ℕ, List, length, Option}
+use Rattle.std.specs.Prelude.{◌≡◌, ℕ, List, length}
 use Rattle.std.specs.Io.KnownBytes.{Appends}
 use Rattle.afdx_frame.specs.Frame.{Frame}
 use Rattle.bpf_isa.specs.declared.packed.Packed.{Packed}
-use Rattle.pcap_io.specs.Device.{CountsFailure}
 use Rattle.pcap_io.specs.Writer.{sink_of}
 use Rattle.pcap_io.specs.declared.recording.Ending.{Ending}
 use Rattle.verdict_ledger.specs.Ledger.{StandsAfter as LedgerStandsAfter, sink_of as ledger_sink}
@@ -34,9 +33,9 @@ ledger_fault ledger_faults.Failed = watch.Write output.Ledger
 abbrev pub outputs_of : {W L : Type 0} → LanesState → CaptureWriter W → Ledger L → Outputs W L
 outputs_of lanes capture ledger = record { lanes = lanes; capture = capture; ledger = ledger }
 
--- what a fault leaves of the outputs: a thread that couldn't be started leaves what no memory leaves
+-- what a fault leaves of the outputs: what a worker made and was lost leaves what no memory leaves
 abbrev pub effect_of : WatchFault → WatchFault
-effect_of watch.Spawn = watch.Memory
+effect_of watch.RingLost = watch.Memory
 effect_of fault = fault
 
 -- The capture and the ledger of these frames were written, and the lanes know them.

@@ -2,8 +2,10 @@
 //! the capture and its line to the ledger, on the calling thread or shared among workers.
 #![tactic(auto)]
 
+mod entries;
 mod outputs;
-mod round;
+mod shared;
 
+pub use entries::Entries;
 pub use outputs::{Outputs, Unwritten};
-pub use round::Sharing;
+pub use shared::{ChunkEntries, Formatting, JudgedRound};

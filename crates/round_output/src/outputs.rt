@@ -1,100 +1,68 @@
 //! The outputs of a run: the capture and the ledger of rounds of frames.
-ghost use Rattle.std.specs.Prelude.{◌≡◌, ◌≤◌, ◌++◌, ℕ, List, length, map, IfErr, IfOk, OnOk, false};
+ghost use Rattle.std.specs.Prelude.{◌≡◌, ◌⊎◌, ◌+◌, ◌≤◌, ◌++◌, [], List, length, IfErr, IfOk, OnOk, false};
 ghost use Rattle.afdx_frame.specs.Frame.{Frame};
+ghost use Rattle.bpf_isa.specs.declared.packed.Packed.{Packed};
+ghost use Rattle.filter_workers.specs.declared.decision.TheConstants.{MAX_FILTERS};
 ghost use Rattle.pcap_io.specs.Device.{Writes};
 ghost use Rattle.pcap_io.specs.Writer.{has_failed, sink_of};
-ghost use Rattle.vl_config.specs.Document.{VlTable};
-ghost use Rattle.vl_judge.specs.Lanes.{StandsAfter};
-ghost use Rattle.std.specs.Option.{ForSome};
-ghost use Rattle.filter_workers.specs.Filters.{mask_by};
-ghost use Rattle.round_output.specs.Filters.{keep_by, kept_record};
-ghost use Rattle.std.specs.Prelude.{◌+◌, ◌^◌, []};
-ghost use Rattle.bpf_isa.specs.declared.packed.Packed.{Packed};
-ghost use Rattle.verdict_ledger.specs.Ledger.{has_failed as ledger_has_failed, totals_in};
-ghost use Rattle.verdict_ledger.specs.Ledger.{sink_of as ledger_sink};
+ghost use Rattle.round_output.specs.Entries.{AreEntries, AreVerdicts};
 ghost use Rattle.round_output.specs.Outputs.{HasWritten, IsFinished, StopsFinishing, StopsWriting, effect_of, ledger_fault, outputs_of};
 ghost use Rattle.run_outcome.specs.Device.{SinkView, sink_at};
-ghost use Rattle.round_output.specs.Round.{AreKept, AreSaid, CanRun, packets_kept};
-ghost use Rattle.vl_judge.specs.Lanes.{FollowsOn, LanesState};
+ghost use Rattle.verdict_ledger.specs.Ledger.{has_failed as ledger_has_failed, totals_in};
+ghost use Rattle.verdict_ledger.specs.Ledger.{sink_of as ledger_sink};
+ghost use Rattle.verdict_ledger.specs.declared.bounds.TheConstants.{MAX_LINES};
+ghost use Rattle.vl_config.specs.Document.{VlTable};
+ghost use Rattle.vl_judge.specs.Lanes.{FollowsOn, LanesState, StandsAfter};
 
-use crate::round::{Said, Sharing, keep_round};
+use crate::entries::Entries;
+use crate::shared::{Formatting, JudgedRound};
 use afdx_frame::TapFrame;
 use bpf_loader::Program;
-use filter_workers::{RunGate, filter_frames};
+use filter_workers::RunGate;
 use pcap_io::{CaptureWriter, Ending, OutSink};
 use run_outcome::{CAPTURE_FAILED, Output, WatchFault};
 use std::alloc::{AllocError, Global};
 use std::sync::Wait;
-use std::thread::Threads;
 use verdict_ledger::{Ledger, LedgerFault, LedgerRefused, Totals};
 use vl_config::Config;
 use vl_judge::{Lanes, Verdict};
-
-/// Writes the packet of a frame of which some bytes are kept.
-#[inline]
-fn write_kept<W: OutSink>(
-    capture: &mut CaptureWriter<W>,
-    frame: &TapFrame,
-    keep: Option<u32>,
-) -> Result<(), WatchFault>
-    requires going { has_failed capture.old ≡ false }
-    requires within { ForSome keep (λ keep. keep ≤ length frame.now.bytes) }
-    ensures written { Writes result
-        (W.contents (sink_of capture.old)) (W.contents (sink_of capture.new))
-        (W.failures (sink_of capture.old)) (W.failures (sink_of capture.new))
-        (kept_record frame.now keep) }
-    ensures going { OnOk result (has_failed capture.new ≡ false) }
-    ensures fault { IfErr result (λ fault. fault ≡ WatchFault.Write Output.Capture) }
-{
-    match keep {
-        Some(keep) => capture.put(frame, keep).map_err(|_| CAPTURE_FAILED),
-        None => Ok(()),
-    }
-}
+use worker_pool::{Done, Pool, PoolFault};
 
 /// Writes the packets of a round's accepted frames.
 fn write_packets<W: OutSink>(
     capture: &mut CaptureWriter<W>,
-    round: &[TapFrame],
-    keeps: &[Option<u32>],
+    packets: &[u8],
 ) -> Result<(), WatchFault>
     requires going { has_failed capture.old ≡ false }
-    requires len { length keeps.now ≡ length round.now }
-    requires within { AreKept round.now keeps.now }
     ensures written { Writes result
         (W.contents (sink_of capture.old)) (W.contents (sink_of capture.new))
         (W.failures (sink_of capture.old)) (W.failures (sink_of capture.new))
-        (packets_kept round.now keeps.now) }
+        packets.now }
     ensures going { OnOk result (has_failed capture.new ≡ false) }
     ensures fault { IfErr result (λ fault. fault ≡ WatchFault.Write Output.Capture) }
 {
-    for index in 0..round.len() {
-        write_kept(capture, &round[index], keeps[index])?;
-    }
-    Ok(())
+    capture.put_packets(packets).map_err(|_| CAPTURE_FAILED)
 }
 
-/// Writes the packets and the lines of a round, by what is said of its frames.
+/// Writes the packets and the lines of a round.
 fn write_entries<W: OutSink, L: OutSink>(
     capture: &mut CaptureWriter<W>,
     ledger: &mut Ledger<L>,
     round: &[TapFrame],
     verdicts: &[Verdict],
-    keeps: &[Option<u32>],
-    masks: &[u8],
+    entries: &Entries,
 ) -> Result<(), WatchFault>
     requires verdicts { length verdicts.now ≡ length round.now }
-    requires keeps { length keeps.now ≡ length round.now }
-    requires masks { length masks.now ≡ length round.now }
-    requires within { AreKept round.now keeps.now }
-    requires room { (totals_in ledger.old).frames + length round.now ≤ 2 ^ 34 }
+    requires entries { (ps : List (List Packed)) × AreEntries ps round.now verdicts.now entries.now }
+    requires room { (totals_in ledger.old).frames + length round.now ≤ MAX_LINES }
     requires capture_going { has_failed capture.old ≡ false }
     requires ledger_going { ledger_has_failed ledger.old ≡ false }
     ensures written { OnOk result ((ps : List (List Packed)) (vl_table : VlTable)
         (capture_view ledger_view : SinkView) (frames : List Frame) (before after : LanesState)
         → HasWritten W.OutSink L.OutSink
         ps vl_table capture_view ledger_view frames (outputs_of before capture.old ledger.old)
-        → AreSaid ps vl_table frames round.now verdicts.now keeps.now masks.now
+        → AreVerdicts vl_table frames round.now verdicts.now
+        → AreEntries ps round.now verdicts.now entries.now
         → StandsAfter after vl_table (frames ++ round.now)
         → HasWritten W.OutSink L.OutSink
         ps vl_table capture_view ledger_view (frames ++ round.now)
@@ -105,61 +73,22 @@ fn write_entries<W: OutSink, L: OutSink>(
         (capture_view ledger_view : SinkView) (frames : List Frame) (before : LanesState)
         → HasWritten W.OutSink L.OutSink
         ps vl_table capture_view ledger_view frames (outputs_of before capture.old ledger.old)
-        → AreSaid ps vl_table frames round.now verdicts.now keeps.now masks.now
+        → AreVerdicts vl_table frames round.now verdicts.now
+        → AreEntries ps round.now verdicts.now entries.now
         → StopsWriting fault ps vl_table capture_view ledger_view
         (sink_at W.OutSink (sink_of capture.new))
         (sink_at L.OutSink (ledger_sink ledger.new)) (frames ++ round.now)) }
 {
-    write_packets(capture, round, keeps)?;
-    match ledger.round(round, verdicts, keeps, masks) {
+    write_packets(capture, &entries.packets)?;
+    match ledger.round_text(
+        &entries.lines,
+        round,
+        verdicts,
+        &entries.keeps,
+        &entries.masks,
+    ) {
         Ok(()) => Ok(()),
         Err(fault) => Err(fault_of_ledger(fault)),
-    }
-}
-
-impl Said {
-    /// Writes the packets and the lines of the round of which this is said, and gives the lanes after it.
-    fn write<W: OutSink, L: OutSink>(
-        self,
-        capture: &mut CaptureWriter<W>,
-        ledger: &mut Ledger<L>,
-        round: &[TapFrame],
-    ) -> Result<Lanes, WatchFault>
-        requires verdicts { length self.verdicts.items ≡ length round.now }
-        requires said { (ps : List (List Packed)) × (self.keeps.items ≡ map (keep_by ps) round.now)
-            × (self.masks.items ≡ map (mask_by ps) round.now) }
-        requires room { (totals_in ledger.old).frames + length round.now ≤ 2 ^ 34 }
-        requires capture_going { has_failed capture.old ≡ false }
-        requires ledger_going { ledger_has_failed ledger.old ≡ false }
-        ensures lanes { IfOk result (λ lanes. lanes ≡ self.lanes) }
-        ensures written { OnOk result ((ps : List (List Packed)) (vl_table : VlTable)
-            (capture_view ledger_view : SinkView) (frames : List Frame) (before after : LanesState)
-            → HasWritten W.OutSink L.OutSink
-            ps vl_table capture_view ledger_view frames (outputs_of before capture.old ledger.old)
-            → AreSaid ps vl_table frames round.now self.verdicts.items self.keeps.items self.masks.items
-            → StandsAfter after vl_table (frames ++ round.now)
-            → HasWritten W.OutSink L.OutSink
-            ps vl_table capture_view ledger_view (frames ++ round.now)
-            (outputs_of after capture.new ledger.new)) }
-        ensures capture_going { OnOk result (has_failed capture.new ≡ false) }
-        ensures ledger_going { OnOk result (ledger_has_failed ledger.new ≡ false) }
-        ensures stopped { IfErr result (λ fault. (ps : List (List Packed)) (vl_table : VlTable)
-            (capture_view ledger_view : SinkView) (frames : List Frame) (before : LanesState)
-            → HasWritten W.OutSink L.OutSink
-            ps vl_table capture_view ledger_view frames (outputs_of before capture.old ledger.old)
-            → AreSaid ps vl_table frames round.now self.verdicts.items self.keeps.items self.masks.items
-            → StopsWriting fault ps vl_table capture_view ledger_view
-            (sink_at W.OutSink (sink_of capture.new))
-            (sink_at L.OutSink (ledger_sink ledger.new)) (frames ++ round.now)) }
-    {
-        let Said {
-            lanes,
-            verdicts,
-            keeps,
-            masks,
-        } = self;
-        write_entries(capture, ledger, round, &verdicts, &keeps, &masks)?;
-        Ok(lanes)
     }
 }
 
@@ -183,6 +112,47 @@ fn fault_of_ledger(fault: LedgerFault) -> WatchFault
     match fault {
         LedgerFault::Device | LedgerFault::Failed => LEDGER_FAILED,
         LedgerFault::Memory => WatchFault::Memory,
+    }
+}
+
+/// Hands a round to the workers of a pool, of which this thread is one, until what is written of it is
+/// made. Gives the round back.
+fn share<R: Wait, G: RunGate + Sync>(
+    rt: &R,
+    pool: &mut Pool<Formatting<'_, G>>,
+    round: JudgedRound,
+    entries: &mut Entries,
+) -> Result<JudgedRound, WatchFault>
+    ensures pool { pool.new ≡ pool.old }
+    ensures round { IfOk result (λ back. back ≡ round) }
+    ensures entries { OnOk result (AreEntries pool.old.task.programs.now
+        round.frames.items round.verdicts.items entries.new) }
+    ensures fault { IfErr result (λ fault. (fault ≡ WatchFault.Memory) ⊎ (fault ≡ WatchFault.RingLost)) }
+{
+    let flight = match pool.put(round) {
+        Ok(flight) => flight,
+        Err(fault) => return Err(fault_of_pool(fault)),
+    };
+    let Done {
+        round,
+        chunk: _,
+        batches,
+    } = match pool.take(rt, flight) {
+        Ok(done) => done,
+        Err(fault) => return Err(fault_of_pool(fault)),
+    };
+    entries.gather(&batches)?;
+    pool.give_back(batches);
+    Ok(round)
+}
+
+/// What a fault of a pool is to a run. No round of a run has too many chunks.
+fn fault_of_pool(fault: PoolFault) -> WatchFault
+    ensures { (result ≡ WatchFault.Memory) ⊎ (result ≡ WatchFault.RingLost) }
+{
+    match fault {
+        PoolFault::Memory | PoolFault::Long => WatchFault::Memory,
+        PoolFault::Lost => WatchFault::RingLost,
     }
 }
 
@@ -218,7 +188,7 @@ impl<W: OutSink, L: OutSink> Outputs<W, L> {
         ledger: L,
     ) -> Result<Outputs<W, L>, Unwritten<W, L>>
         requires some { 1 ≤ filters }
-        requires few { filters ≤ 8 }
+        requires few { filters ≤ MAX_FILTERS }
         ensures written { IfOk result (λ outputs. (ps : List (List Packed)) → length ps ≡ filters
             → HasWritten W.OutSink L.OutSink ps config.now
             (sink_at W.OutSink capture) (sink_at L.OutSink ledger)
@@ -327,16 +297,16 @@ impl<W: OutSink, L: OutSink> Outputs<W, L> {
     }
 
     /// Judges and filters a round's frames, which follow on all before, and writes their packets and
-    /// their lines.
+    /// their lines, by the memory of an earlier round's.
     pub fn write_round(
         &mut self,
-        alloc: Global,
         programs: &[Program],
         round: &[TapFrame],
+        entries: &mut Entries,
     ) -> Result<(), WatchFault>
-        requires few { length programs.now ≤ 8 }
+        requires few { length programs.now ≤ MAX_FILTERS }
         requires follows { FollowsOn self.old.lanes.last round.now }
-        requires room { (totals_in self.old.ledger).frames + length round.now ≤ 2 ^ 34 }
+        requires room { (totals_in self.old.ledger).frames + length round.now ≤ MAX_LINES }
         requires capture_going { has_failed self.old.capture ≡ false }
         requires ledger_going { ledger_has_failed self.old.ledger ≡ false }
         ensures written { OnOk result ((vl_table : VlTable) (capture ledger : SinkView)
@@ -357,65 +327,63 @@ impl<W: OutSink, L: OutSink> Outputs<W, L> {
             (frames ++ round.now)) }
     {
         let verdicts = self.lanes.judge_frames(round)?;
-        let decisions = filter_frames(alloc, programs, round)?;
-        let (keeps, masks) = keep_round(alloc, round, &decisions)?;
+        entries.fill(programs, round, &verdicts)?;
         write_entries(
             &mut self.capture,
             &mut self.ledger,
             round,
             &verdicts,
-            &keeps,
-            &masks,
+            entries,
         )
     }
 
-    /// Shares a round's frames, which follow on all before, among workers, who judge and filter them, and
-    /// writes their packets and their lines. A refusal gives both sinks back.
-    pub fn write_shared<R: Threads + Wait + Sync, G: RunGate + Sync>(
-        self,
+    /// As `write_round`, where the workers of a pool run the filters and make the packets and the lines.
+    ///
+    /// `RingLost` if what a worker made was lost.
+    pub fn write_shared<R: Wait, G: RunGate + Sync>(
+        &mut self,
         rt: &R,
-        alloc: Global,
-        sharing: &Sharing<'_, G>,
-        round: &[TapFrame],
-    ) -> Result<Outputs<W, L>, Unwritten<W, L>>
-        requires shared { CanRun sharing.now.programs.now sharing.now.workers }
-        requires size { length round.now ≤ 256 }
-        requires follows { FollowsOn self.lanes.last round.now }
-        requires room { (totals_in self.ledger).frames + length round.now ≤ 2 ^ 34 }
-        requires capture_going { has_failed self.capture ≡ false }
-        requires ledger_going { ledger_has_failed self.ledger ≡ false }
-        ensures written { IfOk result (λ outputs. (vl_table : VlTable) (capture ledger : SinkView)
+        pool: &mut Pool<Formatting<'_, G>>,
+        round: Vec<TapFrame>,
+        entries: &mut Entries,
+    ) -> Result<(), WatchFault>
+        requires follows { FollowsOn self.old.lanes.last round.items }
+        requires room { (totals_in self.old.ledger).frames + length round.items ≤ MAX_LINES }
+        requires capture_going { has_failed self.old.capture ≡ false }
+        requires ledger_going { ledger_has_failed self.old.ledger ≡ false }
+        ensures pool { pool.new ≡ pool.old }
+        ensures written { OnOk result ((vl_table : VlTable) (capture ledger : SinkView)
             (frames : List Frame)
             → HasWritten W.OutSink L.OutSink
-            sharing.now.programs.now vl_table capture ledger frames self
+            pool.old.task.programs.now vl_table capture ledger frames self.old
             → HasWritten W.OutSink L.OutSink
-            sharing.now.programs.now vl_table capture ledger (frames ++ round.now) outputs) }
-        ensures capture_going { IfOk result (λ outputs. has_failed outputs.capture ≡ false) }
-        ensures ledger_going { IfOk result (λ outputs. ledger_has_failed outputs.ledger ≡ false) }
-        ensures stopped { IfErr result (λ e. (vl_table : VlTable) (capture ledger : SinkView)
+            pool.old.task.programs.now vl_table capture ledger (frames ++ round.items) self.new) }
+        ensures capture_going { OnOk result (has_failed self.new.capture ≡ false) }
+        ensures ledger_going { OnOk result (ledger_has_failed self.new.ledger ≡ false) }
+        ensures stopped { IfErr result (λ fault. (vl_table : VlTable) (capture ledger : SinkView)
             (frames : List Frame)
             → HasWritten W.OutSink L.OutSink
-            sharing.now.programs.now vl_table capture ledger frames self
-            → StopsWriting (effect_of e.fault) sharing.now.programs.now vl_table capture ledger
-            (sink_at W.OutSink e.capture)
-            (sink_at L.OutSink e.ledger) (frames ++ round.now)) }
+            pool.old.task.programs.now vl_table capture ledger frames self.old
+            → StopsWriting (effect_of fault) pool.old.task.programs.now vl_table capture ledger
+            (sink_at W.OutSink (sink_of self.new.capture))
+            (sink_at L.OutSink (ledger_sink self.new.ledger))
+            (frames ++ round.items)) }
     {
-        let Outputs {
-            lanes,
-            mut capture,
-            mut ledger,
-        } = self;
-        let said = match sharing.say(rt, alloc, lanes, round) {
-            Ok(said) => said,
-            Err(fault) => return Err(Unwritten::after(fault, capture, ledger)),
+        let verdicts = self.lanes.judge_frames(&round)?;
+        let judged = JudgedRound {
+            frames: round,
+            verdicts,
         };
-        match said.write(&mut capture, &mut ledger, round) {
-            Ok(lanes) => Ok(Outputs {
-                lanes,
-                capture,
-                ledger,
-            }),
-            Err(fault) => Err(Unwritten::after(fault, capture, ledger)),
-        }
+        let done = match share(rt, pool, judged, entries) {
+            Ok(round) => round,
+            Err(fault) => return Err(fault),
+        };
+        write_entries(
+            &mut self.capture,
+            &mut self.ledger,
+            &done.frames,
+            &done.verdicts,
+            entries,
+        )
     }
 }

@@ -1,6 +1,9 @@
-//! Frames at their bounds, the order of keys, and views at their shortest lengths.
+//! Frames at their bounds, with bytes of their own and in a block that they share, the order of keys, and
+//! views at their shortest lengths.
 
-use afdx_frame::{FrameView, Key, Network, Stamp, TapFrame, VlId, key_order};
+use afdx_frame::{FrameBytes, FrameView, Key, Network, Stamp, TapFrame, VlId, key_order};
+use std::alloc::Global;
+use std::sync::Arc;
 use std::test::Fail;
 
 /// Nanoseconds.
@@ -11,20 +14,25 @@ const FRAME: [u8; 17] = [
     0x03, 0, 0, 0, 0, 5, 0x02, 0, 0, 0, 1, 0x20, 0x08, 0, 0x45, 0x46, 42,
 ];
 
+/// Number, stamp, length on the wire, captured bytes, and whether they are within all bounds.
+const BOUNDS: [(u64, u64, u32, usize, bool); 12] = [
+    (0, 0, 0, 0, true),
+    ((1 << 32) - 1, 0, 64, 64, true),
+    (1 << 32, 0, 64, 64, false),
+    (u64::MAX, 0, 64, 64, false),
+    (0, (SECOND << 32) - 1, 64, 64, true),
+    (0, SECOND << 32, 64, 64, false),
+    (0, u64::MAX, 64, 64, false),
+    (0, 0, u32::MAX, 262144, true),
+    (0, 0, u32::MAX, 262145, false),
+    (0, 0, 64, 64, true),
+    (0, 0, 63, 64, false),
+    (0, 0, 0, 1, false),
+];
+
 #[test]
 fn frames_at_their_bounds(rt: HostRuntime) -> Result<(), Fail> {
-    // number, stamp, length on the wire, captured bytes, within all bounds
-    for (number, stamp, whole, captured, fits) in [
-        (0, 0, 0, 0, true),
-        ((1 << 32) - 1, 0, 64, 64, true),
-        (1 << 32, 0, 64, 64, false),
-        (0, (SECOND << 32) - 1, 64, 64, true),
-        (0, SECOND << 32, 64, 64, false),
-        (0, 0, u32::MAX, 262144, true),
-        (0, 0, u32::MAX, 262145, false),
-        (0, 0, 64, 64, true),
-        (0, 0, 63, 64, false),
-    ] {
+    for (number, stamp, whole, captured, fits) in BOUNDS {
         let bytes = vec![in rt.alloc(); 7; captured]?;
         match TapFrame::new(Network::B, number, Stamp(stamp), whole, bytes) {
             Ok(frame) => {
@@ -47,6 +55,83 @@ fn frames_at_their_bounds(rt: HostRuntime) -> Result<(), Fail> {
     Ok(())
 }
 
+/// Bytes of a frame: a part of a block, between two bytes that aren't the frame's, or its own.
+fn bytes_of(alloc: Global, captured: usize, shared: bool) -> Result<FrameBytes, Fail> {
+    if !shared {
+        return Ok(FrameBytes::own(vec![in alloc; 7; captured]?));
+    }
+    let mut block = vec![in alloc; 8]?;
+    block.resize(captured.saturating_add(1), 7)?;
+    let to = block.len();
+    block.push(8)?;
+    Ok(FrameBytes::part(&Arc::new(alloc, block)?, 1, to)?)
+}
+
+#[test]
+fn frames_that_share_at_their_bounds(rt: HostRuntime) -> Result<(), Fail> {
+    for (number, stamp, whole, captured, fits) in BOUNDS {
+        for shared in [true, false] {
+            let bytes = bytes_of(rt.alloc(), captured, shared)?;
+            let frame = TapFrame::sharing(Network::B, number, Stamp(stamp), whole, bytes);
+            assert_eq!(rt;
+                frame.is_some(),
+                fits,
+                "number {number}, stamp {stamp}, {captured} of {whole} bytes"
+            );
+            let Some(frame) = frame else {
+                continue;
+            };
+            assert_eq!(rt; frame.key(), key(stamp, Network::B, number));
+            assert_eq!(rt; frame.whole(), whole);
+            assert_eq!(rt; frame.view().bytes().len(), captured);
+            assert!(rt; frame.view().bytes().iter().all(|byte| *byte == 7));
+        }
+    }
+    Ok(())
+}
+
+#[test]
+fn parts_of_a_block(rt: HostRuntime) -> Result<(), Fail> {
+    let alloc = rt.alloc();
+    let block = Arc::new(alloc, FRAME.to_vec(alloc)?)?;
+    let mut parts = Vec::new(alloc);
+    for from in 0..=FRAME.len() {
+        for to in from..=FRAME.len() {
+            parts.push((from, to, FrameBytes::part(&block, from, to)?))?;
+        }
+    }
+    assert_eq!(rt; parts.len(), 171);
+    // While a part is left, the block isn't given back.
+    let Err(block) = Arc::try_unwrap(block) else {
+        return Err("the block was given back".into());
+    };
+    for (from, to, part) in parts {
+        assert!(rt; from <= to && to <= FRAME.len());
+        assert_eq!(rt; part.as_slice(), &FRAME[from..to], "from {from} to {to}");
+    }
+    match Arc::try_unwrap(block) {
+        Ok(bytes) => assert_eq!(rt; bytes.as_slice(), FRAME.as_slice()),
+        Err(_) => panic!(rt; "the block is still shared"),
+    }
+    Ok(())
+}
+
+#[test]
+fn a_part_outlives_its_block(rt: HostRuntime) -> Result<(), Fail> {
+    let alloc = rt.alloc();
+    let block = Arc::new(alloc, FRAME.to_vec(alloc)?)?;
+    let part = FrameBytes::part(&block, 2, 9)?;
+    let whole = FrameBytes::part(&block, 0, FRAME.len())?;
+    drop(block);
+    drop(whole);
+    assert_eq!(rt; part.as_slice(), &FRAME[2..9]);
+    assert_eq!(rt;
+        FrameBytes::own(FRAME.to_vec(alloc)?).as_slice(),
+        FRAME.as_slice()
+    );
+    Ok(())
+}
+
 #[test]
 fn parts_of_a_frame(rt: HostRuntime) -> Result<(), Fail> {
     let bytes = FRAME.to_vec(rt.alloc())?;
@@ -64,7 +149,7 @@ fn parts_of_a_frame(rt: HostRuntime) -> Result<(), Fail> {
     assert_eq!(rt; lent.whole(), 60);
     assert_eq!(rt; lent.key(), frame.key());
     assert_eq!(rt; lent.view().bytes(), FRAME.as_slice());
-    assert_eq!(rt; frame.into_bytes().as_slice(), FRAME.as_slice());
+    assert_eq!(rt; frame.view().bytes(), FRAME.as_slice());
     Ok(())
 }
 

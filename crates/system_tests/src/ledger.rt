@@ -1,9 +1,11 @@
-//! The ledger: the worked examples as they are written, each word, devices that fail, and many lines.
+//! The ledger: the worked examples as they are written, each word, devices that fail, many lines, and
+//! lines made as text.
 
 mod allocation;
 mod devices;
 mod examples;
 mod many;
+mod texts;
 mod words;
 
 use crate::judges::TABLE;

@@ -1,5 +1,5 @@
-//! Recordings over rings between two threads: each item in its order, what is lost, the gate,
-//! buffers that go back, and refused growth.
+//! Recordings over rings between two threads: each item in its order and as soon as it is there, what is
+//! lost, the gate, frames that share blocks, and refused growth.
 ghost use Rattle.std.specs.Prelude.{◌≡◌, [], IfOk};
 ghost use Rattle.tap_queue.specs.Ring.{IsRing, SameEnd, SamePut, put_items, put_of};
 
@@ -15,10 +15,11 @@ use std::thread::Threads;
 use tap_queue::{Fed, RingLost, TapEnd, TapGate, TapItem, TapPut, feed};
 
 mod allocation;
+mod arrivals;
+mod blocks;
 mod gate;
 mod losses;
 mod passages;
-mod spares;
 
 /// A gate that holds nobody.
 pub(crate) struct Open;

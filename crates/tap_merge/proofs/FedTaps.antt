@@ -1,7 +1,6 @@
 -- What a thread has read of a recording, by the items that it put.
 use Rattle.std.proofs.Common.{◌≡◌, inl, inr, ◌⊎◌, ◌++◌, ◌∷◌, [], ℕ, List, Option, Some, None, true, false, refl, sym, subst, ap, ◌∙◌, append-nil, append_assoc}
 use Rattle.std.proofs.lemmas.Bool.{false≢true}
-use Rattle.std.specs.Prelude.{option_to_list}
 use Rattle.afdx_frame.specs.Frame.{Frame}
 use Rattle.afdx_frame.specs.declared.key.Network.{Network}
 use Rattle.pcap_io.specs.Device.{CountsFailure}
@@ -113,4 +112,4 @@ nothing_left old new (items.Failed fault ∷ y ∷ given) more over (mid, one, l
 
 pub settled_gives : (old new : Reading) (put taken : List TapItem) → taken ≡ put → is_over taken ≡ true → IsFed old put new → Gives old taken new
 settled_gives old new put taken same over (more, gives, none) =
-    nothing_left old new taken (option_to_list more) over (subst (λ (l : List TapItem). Gives old (l ++ option_to_list more) new) (sym same) gives)
+    nothing_left old new taken more over (subst (λ (l : List TapItem). Gives old (l ++ more) new) (sym same) gives)

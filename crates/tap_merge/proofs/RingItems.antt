@@ -19,6 +19,7 @@ use Rattle.pcap_io.specs.declared.recording.Ending.{Ending}
 use Rattle.ordered_merge.proofs.Following.{follows_cut, follows_end, follows_fetch_a, follows_fetch_b}
 use Rattle.tap_queue.specs.Ring.{SameEnd}
 use Rattle.ordered_merge.specs.Merge.{after_cut, change_tap, cut_frames, fetched}
+use Rattle.tap_merge.specs.declared.taps.TheConstants.{ROUND}
 use Rattle.tap_merge.specs.Rings.{MergesItem, AgreesWith, AreFirst, EndsWith, HasEnding, HasTaken, StopsTaking, TakesOn}
 
 -- ---- what the merger knows of a network
@@ -227,8 +228,8 @@ pub is_met : (end : Option Ending) (tap : Tap) (xs : List TapItem) → HasEnding
 is_met None tap xs h done = absurd (false≢true (sym h ∙ done))
 is_met (Some e) tap xs h done = refl
 
-pub taken_after_cut : (late : ℕ) (cut : List Frame) (rings : Rings) (m : MergerState) (round : List Frame) → HasTaken late cut rings → m ≡ after_cut rings.merger 256 →
-    round ≡ cut_frames rings.merger 256 → HasTaken late (cut ++ round) (record rings { merger = m })
+pub taken_after_cut : (late : ℕ) (cut : List Frame) (rings : Rings) (m : MergerState) (round : List Frame) → HasTaken late cut rings → m ≡ after_cut rings.merger ROUND →
+    round ≡ cut_frames rings.merger ROUND → HasTaken late (cut ++ round) (record rings { merger = m })
 taken_after_cut late cut rings m round h is round_is = record {
   late_is = ap (λ (s : MergerState). s.late) is ∙ h.late_is;
   network_a = h.network_a;
@@ -237,7 +238,7 @@ taken_after_cut late cut rings m round h is round_is = record {
   late_b = h.late_b;
   few_a = h.few_a;
   few_b = h.few_b;
-  follows = rw (is, round_is) (follows_cut rings.merger (frames_in (taken_items rings.a)) (frames_in (taken_items rings.b)) cut 256 h.follows);
+  follows = rw (is, round_is) (follows_cut rings.merger (frames_in (taken_items rings.a)) (frames_in (taken_items rings.b)) cut ROUND h.follows);
   ended_a = subst (λ (s : MergerState). HasEnding rings.end_a s.a (taken_items rings.a)) (sym is) h.ended_a;
   ended_b = subst (λ (s : MergerState). HasEnding rings.end_b s.b (taken_items rings.b)) (sym is) h.ended_b;
 }
@@ -278,35 +279,3 @@ ends_on item old new last (before, all) takes sound =
     let m = takes.more sound in
     let none = m.2 (ap is_over all ∙ over_with before item last) in
     subst (λ (l : List TapItem). EndsWith item l) (sym (m.1 ∙ ap (λ (l : List TapItem). taken_items old ++ l) none ∙ append-nil (taken_items old))) (before, all)
-
--- ---- nothing more was taken
-
-pub same_taken_a : (late : ℕ) (cut : List Frame) (rings : Rings) (a : TapEnd) → SameEnd rings.a a → taken_items a ≡ taken_items rings.a → HasTaken late cut rings →
-    HasTaken late cut (record rings { a = a })
-same_taken_a late cut rings a same taken h = record {
-  late_is = h.late_is;
-  network_a = same.1 ∙ h.network_a;
-  network_b = h.network_b;
-  late_a = same.2 ∙ h.late_a;
-  late_b = h.late_b;
-  few_a = subst (λ (l : List TapItem). length (frames_in l) ≤ most_frames) (sym taken) h.few_a;
-  few_b = h.few_b;
-  follows = subst (λ (l : List TapItem). Follows rings.merger (frames_in l) (frames_in (taken_items rings.b)) cut) (sym taken) h.follows;
-  ended_a = subst (λ (l : List TapItem). HasEnding rings.end_a rings.merger.a l) (sym taken) h.ended_a;
-  ended_b = h.ended_b;
-}
-
-pub same_taken_b : (late : ℕ) (cut : List Frame) (rings : Rings) (b : TapEnd) → SameEnd rings.b b → taken_items b ≡ taken_items rings.b → HasTaken late cut rings →
-    HasTaken late cut (record rings { b = b })
-same_taken_b late cut rings b same taken h = record {
-  late_is = h.late_is;
-  network_a = h.network_a;
-  network_b = same.1 ∙ h.network_b;
-  late_a = h.late_a;
-  late_b = same.2 ∙ h.late_b;
-  few_a = h.few_a;
-  few_b = subst (λ (l : List TapItem). length (frames_in l) ≤ most_frames) (sym taken) h.few_b;
-  follows = subst (λ (l : List TapItem). Follows rings.merger (frames_in (taken_items rings.a)) (frames_in l) cut) (sym taken) h.follows;
-  ended_a = h.ended_a;
-  ended_b = subst (λ (l : List TapItem). HasEnding rings.end_b rings.merger.b l) (sym taken) h.ended_b;
-}

@@ -1,11 +1,11 @@
 -- Two recordings as they are read and merged.
-use Rattle.std.specs.Prelude.{◌≡◌, ◌⊎◌, ℕ, ◌+◌, ◌*◌, ◌-◌, true, false, List, ◌++◌, length, Option, Some, None, is_some, unwrap_or, IfSome}
+use Rattle.std.specs.Prelude.{◌≡◌, ◌⊎◌, ℕ, ◌+◌, ◌*◌, ◌-◌, true, false, List, ◌++◌, length, Option, Some, None, is_some, unwrap_or}
 use Rattle.afdx_frame.specs.Frame.{Frame}
 use Rattle.afdx_frame.specs.declared.key.Network.{Network}
 use Rattle.afdx_frame.specs.declared.key.Network.TheVariants.{A, B}
 use Rattle.ordered_merge.specs.Merge.{MergerState, CanFetch, Follows, ended, fetched, tap_of}
 use Rattle.pcap_io.specs.Device.{CountsFailure}
-use Rattle.pcap_io.specs.Position.{TakesAPacket, EndLeaves, Reading, TakesFrame, after_frame, ending_here}
+use Rattle.pcap_io.specs.Position.{TakesAPacket, Reading, TakesFrame, after_frame}
 use Rattle.pcap_io.specs.Reader.{position_of, reading_of}
 use Rattle.ordered_merge.specs.Order.{IsOrder}
 use Rattle.pcap_io.specs.declared.position.Position.{Position}

@@ -1,17 +1,8 @@
 -- A tap that is read by a thread of its own.
-use Rattle.std.specs.Prelude.{◌≡◌, ◌⊎◌, ℕ, Bool, true, false, List, [], length, Option, Some, None, ⊤}
-use Rattle.std.specs.Io.KnownBytes.{Appends}
-use Rattle.afdx_frame.specs.Frame.{Frame}
+use Rattle.std.specs.Prelude.{◌≡◌, ℕ, true, false, List, [], None}
 use Rattle.afdx_frame.specs.declared.key.Network.{Network}
-use Rattle.afdx_frame.specs.declared.key.Network.TheVariants.{A, B}
-use Rattle.ordered_merge.specs.Order.{IsOrder}
-use Rattle.ordered_merge.specs.Recording.{IsRecording as IsTapRecording}
-use Rattle.pcap_io.specs.Device.{CountsFailure}
-use Rattle.pcap_io.specs.Position.{LacksMemory, Reading}
-use Rattle.pcap_io.specs.declared.position.Position.{Position}
-use Rattle.pcap_io.specs.declared.recording.Ending.{Ending}
+use Rattle.pcap_io.specs.Position.{Reading}
 use Rattle.pcap_io.specs.Reader.{reading_of}
-use Rattle.pcap_io.specs.Writer.{has_failed}
 use Rattle.pcap_io.specs.declared.reader.TapReader.{TapReader}
 use Rattle.pcap_io.specs.declared.recording.Stage.TheVariants.{Going}
 use Rattle.tap_queue.specs.Items.{Gives, IsFed, is_over}
@@ -20,14 +11,9 @@ use Rattle.tap_queue.specs.declared.end.TapEnd.{TapEnd}
 use Rattle.tap_queue.specs.declared.feeding.Fed.{Fed}
 use Rattle.tap_queue.specs.declared.ring.TapPut.{TapPut}
 use Rattle.run_outcome.specs.Recording.{LeavesUnread}
-use Rattle.tap_merge.specs.Rings.{HasTaken, RingsFault, StopsTaking}
 use Rattle.tap_merge.specs.Taps.{HasRead}
-use Rattle.run_outcome.specs.Device.{SourceMembers, SinkMembers, AppendsSome, SinkView, SourceView}
-use Rattle.run_outcome.specs.Recording.{HasReadTap, IsReadPart, IsReadWhole, WasOpened, most_frames}
-use Rattle.run_outcome.specs.Fault.{CaptureSink, Fails, LedgerSink, SourceA, SourceB, names}
-use Rattle.run_outcome.specs.declared.fault.WatchFault.{WatchFault}
-use Rattle.run_outcome.specs.declared.fault.WatchFault.TheVariants as watch
-use Rattle.tap_merge.specs.declared.rings.Rings.{Rings}
+use Rattle.run_outcome.specs.Device.{SourceMembers, SourceView}
+use Rattle.run_outcome.specs.Recording.{most_frames}
 
 -- a reader that was opened and has read nothing more
 pub record IsStarted (network : Network) (late : ℕ) (before : SourceView) (reading : Reading) : Type 0 where

@@ -4,6 +4,7 @@ ghost use Rattle.std.specs.Option.{option_map_or};
 ghost use Rattle.afdx_frame.specs.Frame.{Frame};
 ghost use Rattle.tap_queue.specs.Items.{frames_in};
 ghost use Rattle.tap_queue.specs.Ring.{taken_items};
+ghost use Rattle.tap_merge.specs.declared.taps.TheConstants.{ROUND};
 ghost use Rattle.tap_merge.specs.Rings.{AgreesWith, IsLost, IsNotFailed, MergesItem, TakesOn, TapFault};
 
 use crate::taps::ROUND;
@@ -50,14 +51,20 @@ fn merge_item<R: Wait>(
     }
 }
 
+/// Takes the next item of a ring. Whether it is a frame.
+fn take_frame<R: Wait>(rt: &R, end: &mut TapEnd) -> bool
+    ensures { TakesOn end.old end.new }
+{
+    matches!(end.take(rt), Ok(TapItem::Frame(_)))
+}
+
 /// Takes what is left of a ring, up to the recording's ending or a fault.
 pub fn drain<R: Wait>(rt: &R, end: &mut TapEnd)
     ensures { TakesOn end.old end.new }
 {
     for _ in rt.forever() {
-        match end.take(rt) {
-            Ok(TapItem::Frame(frame)) => end.give_back(frame),
-            _ => return,
+        if !take_frame(rt, end) {
+            return;
         }
     }
 }
@@ -102,7 +109,7 @@ impl Rings {
         Ok(true)
     }
 
-    /// Merges up to 256 items. False: both have ended.
+    /// Merges up to [`ROUND`] items. False: both have ended.
     fn merge_some<R: Wait>(&mut self, rt: &R) -> Result<bool, WatchFault>
         requires { (late : ℕ) × (cut : List Frame) × HasTaken late cut self.old }
         ensures a { SameEnd self.old.a self.new.a }
@@ -123,7 +130,7 @@ impl Rings {
         Ok(true)
     }
 
-    /// The next frames in order, at most 256; there may be none yet. None: both recordings have ended,
+    /// The next frames in order, at most [`ROUND`]; there may be none yet. None: both recordings have ended,
     /// and all their frames were given.
     pub fn next_round<R: Wait>(&mut self, rt: &R) -> Result<Option<Vec<TapFrame>>, WatchFault>
         requires { (late : ℕ) × (cut : List Frame) × HasTaken late cut self.old }
@@ -133,7 +140,7 @@ impl Rings {
             → HasTaken late cut self.old
             → HasTaken late (cut ++ option_map_or (λ frames. frames.items) round []) self.new) }
         ensures size { IfOk result (λ round.
-            option_map_or (λ frames. length frames.items) round 0 ≤ 256) }
+            option_map_or (λ frames. length frames.items) round 0 ≤ ROUND) }
         ensures ended { result ≡ Ok None → (is_some self.new.end_a ≡ true)
             × (is_some self.new.end_b ≡ true) × (self.new.merger.pending ≡ []) }
         ensures stopped { OnErr result ((late : ℕ) (cut : List Frame)
@@ -149,20 +156,5 @@ impl Rings {
             return Ok(Some(round));
         }
         Ok(None)
-    }
-
-    /// Hands the memory of a round's frames back to the threads that read them.
-    pub fn give_back(&mut self, round: Vec<TapFrame>)
-        ensures a { SameEnd self.old.a self.new.a }
-        ensures b { SameEnd self.old.b self.new.b }
-        ensures merged { (late : ℕ) (cut : List Frame)
-            → HasTaken late cut self.old → HasTaken late cut self.new }
-    {
-        for frame in round {
-            match frame.network() {
-                Network::A => self.a.give_back(frame),
-                Network::B => self.b.give_back(frame),
-            }
-        }
     }
 }

@@ -65,8 +65,9 @@ pub struct Unopened<S, T> {
     pub b: T,
 }
 
-/// How many frames are merged before a round of them is cut, and the most frames of a round.
-pub const ROUND: usize = 256;
+/// How many frames are merged before a round of them is cut, and the most frames of a round: so few that
+/// they stay in the processor's cache from merging to writing.
+pub const ROUND: usize = 1024;
 
 impl<S: TapSource, T: TapSource> Taps<S, T> {
     ghost use Rattle.ordered_merge.specs.Merge.{new_state};
@@ -177,7 +178,7 @@ impl<S: TapSource, T: TapSource> Taps<S, T> {
         Ok(true)
     }
 
-    /// Merges up to 256 items. False: both have ended.
+    /// Merges up to [`ROUND`] items. False: both have ended.
     fn merge_some(&mut self, alloc: Global) -> Result<bool, WatchFault>
         requires { Agree self.old }
         ensures agree { OnOk result (Agree self.new) }
@@ -209,7 +210,7 @@ impl<S: TapSource, T: TapSource> Taps<S, T> {
         Ok(true)
     }
 
-    /// Takes out the first safe frames in order, at most 256.
+    /// Takes out the first safe frames in order, at most [`ROUND`].
     fn cut_round(&mut self) -> Result<Vec<TapFrame>, WatchFault>
         requires { Agree self.old }
         ensures agree { OnOk result (Agree self.new) }
@@ -237,7 +238,7 @@ impl<S: TapSource, T: TapSource> Taps<S, T> {
         }
     }
 
-    /// The next frames in order, at most 256; there may be none yet. None: both recordings have ended,
+    /// The next frames in order, at most [`ROUND`]; there may be none yet. None: both recordings have ended,
     /// and all their frames were given.
     pub fn next_round(&mut self, alloc: Global) -> Result<Option<Vec<TapFrame>>, WatchFault>
         requires { Agree self.old }

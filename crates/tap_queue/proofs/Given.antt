@@ -1,5 +1,5 @@
 -- Items that a reader gives one after another.
-use Rattle.std.proofs.Common.{◌≡◌, true, false, List, [], ◌∷◌, ◌++◌, Some, None, refl, sym, ap, ◌∙◌, subst}
+use Rattle.std.proofs.Common.{◌≡◌, true, false, List, [], ◌∷◌, ◌++◌, refl, sym, ap, ◌∙◌, subst}
 use Rattle.std.proofs.lemmas.List.{append-nil}
 use Rattle.pcap_io.specs.Position.{Reading}
 use Rattle.tap_queue.specs.Items.{Gives, GivesOne, IsFed, is_last, is_over}
@@ -25,24 +25,45 @@ over_more (Frame f ∷ items) item going = over_more items item going
 over_more (End e ∷ items) item going = cc
 over_more (Failed fault ∷ items) item going = cc
 
--- one more was put, after a step that put nothing
-pub put_more : (start items put : List TapItem) (item : TapItem) → items ≡ start → put ≡ items ++ item ∷ [] → put ≡ start ++ item ∷ []
-put_more start items put item same more = more ∙ ap (λ (all : List TapItem). all ++ item ∷ []) same
+-- more items after those that a reader gave, none of which is the last
+pub gives_append : (before mid after : Reading) (items more : List TapItem) → Gives before items mid → is_over items ≡ false
+    → Gives mid more after → Gives before (items ++ more) after
+gives_append before mid after [] more given going then = subst (λ (r : Reading). Gives r more after) (sym given) then
+gives_append before mid after (Frame f ∷ items) more given going then =
+    (given.0, given.1, (λ last. cc), gives_append given.0 mid after items more given.3 going then)
+gives_append before mid after (End e ∷ items) more given going then = cc
+gives_append before mid after (Failed fault ∷ items) more given going then = cc
 
--- the last item was put
-pub fed_to_the_end : (before after : Reading) (items put : List TapItem) (item : TapItem) → Gives before (items ++ item ∷ []) after → is_over items ≡ false
-    → put ≡ items ++ item ∷ [] → is_last item ≡ true → IsFed before put after
-fed_to_the_end before after items put item given going same last = (
-  None,
+-- items come to their end where those do that follow on items that haven't
+pub over_append : (items more : List TapItem) → is_over items ≡ false → is_over (items ++ more) ≡ is_over more
+over_append [] more going = refl
+over_append (Frame f ∷ items) more going = over_append items more going
+over_append (End e ∷ items) more going = cc
+over_append (Failed fault ∷ items) more going = cc
+
+-- the first item alone
+pub gives_first : (before after : Reading) (item : TapItem) → GivesOne before item after → Gives before (item ∷ []) after
+gives_first before after item one = (after, one, (λ _. refl), refl)
+
+pub over_first : (item : TapItem) → is_over (item ∷ []) ≡ is_last item
+over_first (Frame f) = refl
+over_first (End e) = refl
+over_first (Failed fault) = refl
+
+-- the last items were put
+pub fed_to_the_end : (before after : Reading) (items put more : List TapItem) → Gives before (items ++ more) after → is_over items ≡ false
+    → put ≡ items ++ more → is_over more ≡ true → IsFed before put after
+fed_to_the_end before after items put more given going same over = (
+  [],
   subst (λ (all : List TapItem). Gives before all after) (sym (append-nil put ∙ same)) given,
-  (λ _. ap is_over same ∙ (over_more items item going ∙ last)),
+  (λ _. ap is_over same ∙ (over_append items more going ∙ over)),
 )
 
--- there was no taker for the item
-pub fed_but_one : (before after : Reading) (items put : List TapItem) (item : TapItem) → Gives before (items ++ item ∷ []) after → put ≡ items
+-- there was no taker for the items
+pub fed_but_some : (before after : Reading) (items put more : List TapItem) (item : TapItem) → Gives before (items ++ item ∷ more) after → put ≡ items
     → IsFed before put after
-fed_but_one before after items put item given same = (
-  Some item,
-  subst (λ (all : List TapItem). Gives before (all ++ item ∷ []) after) (sym same) given,
+fed_but_some before after items put more item given same = (
+  item ∷ more,
+  subst (λ (all : List TapItem). Gives before (all ++ item ∷ more) after) (sym same) given,
   (λ none. cc),
 )

@@ -1,5 +1,5 @@
 -- The items of a recording: what a reader gives, call by call, up to its ending or a fault (this project's profile).
-use Rattle.std.specs.Prelude.{◌≡◌, ◌⊎◌, ℕ, ◌+◌, ◌≤◌, max, Bool, true, false, List, [], ◌∷◌, ◌++◌, length, Option, None, Ok, Err, option_to_list, if◌then◌else◌}
+use Rattle.std.specs.Prelude.{◌≡◌, ◌⊎◌, ℕ, ◌+◌, ◌≤◌, max, Bool, true, false, List, [], ◌∷◌, ◌++◌, length, Ok, Err, if◌then◌else◌}
 use Rattle.std.specs.List.{AllByRecursion}
 use Rattle.afdx_frame.specs.Frame.{Frame}
 use Rattle.afdx_frame.specs.declared.key.Network.{Network}
@@ -35,10 +35,10 @@ abbrev pub is_over : List TapItem → Bool
 is_over [] = false
 is_over (item ∷ items) = if is_last item then true else is_over items
 
--- A reader gave the items that were put, up to the last one; or, where its thread stopped before, one more that wasn't put.
+-- A reader gave the items that were put, up to the last one; or, where its thread stopped before, some more that weren't put.
 abbrev pub IsFed : Reading → List TapItem → Reading → Type 0
 IsFed before items after =
-    (more : Option TapItem) × Gives before (items ++ option_to_list more) after × (more ≡ None → is_over items ≡ true)
+    (more : List TapItem) × Gives before (items ++ more) after × (more ≡ [] → is_over items ≡ true)
 
 -- ---- what is known of the items by themselves
 

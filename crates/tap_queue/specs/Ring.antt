@@ -3,6 +3,7 @@ use Rattle.std.specs.Prelude.{◌≡◌, ℕ, Bool, List}
 use Rattle.rtrb.specs.Ring.{IsPair, SameConsumer, SameProducer, received, sent}
 use Rattle.afdx_frame.specs.declared.key.Network.{Network}
 use Rattle.pcap_io.specs.declared.reader.TapReader.{TapReader}
+use Rattle.tap_queue.specs.Batches.{items_in, taken_of}
 use Rattle.tap_queue.specs.declared.item.TapItem.{TapItem}
 use Rattle.tap_queue.specs.declared.ring.TapPut.{TapPut}
 use Rattle.tap_queue.specs.declared.end.TapEnd.{TapEnd}
@@ -10,11 +11,11 @@ use Rattle.tap_queue.specs.declared.feeding.Fed.{Fed}
 
 -- all items that were put, the oldest first
 abbrev pub put_items : TapPut → List TapItem
-put_items put = sent put.producer
+put_items put = items_in (sent put.producer)
 
 -- all items that were taken, the oldest first
 abbrev pub taken_items : TapEnd → List TapItem
-taken_items end = received end.consumer
+taken_items end = taken_of (received end.consumer) end.rest.items
 
 -- the network whose items are put
 abbrev pub tap_of : TapPut → Network

@@ -2,21 +2,20 @@
 ghost use Rattle.std.specs.Prelude.{◌≡◌, ◌++◌, ◌∷◌, ◌^◌, ◌≤◌, [], length, false, MatchOption};
 ghost use Rattle.rtrb.specs.Ring.{SameConsumer, received};
 ghost use Rattle.tap_queue.specs.Items.{frames_in, high_of, is_over};
+ghost use Rattle.tap_queue.specs.Batches.{IsRest, taken_of};
 
 use crate::bell::{Bell, Bells};
 use crate::feeding::Fed;
-use crate::item::{RingLost, TapItem};
+use crate::item::{Batch, RingLost, TapItem};
 use crate::next_frame::NextFrame;
 use crate::ring::TapPut;
-use afdx_frame::{Network, TapFrame};
+use afdx_frame::Network;
 use pcap_io::TapSource;
-use rtrb::{Consumer, Producer};
+use rtrb::Consumer;
 use std::alloc::Global;
+use std::collections::VecDeque;
 use std::hint::spin_loop;
 use std::sync::{Arc, Wait};
-
-/// The most bytes that there is room for in a buffer that goes back.
-const SPARE_LEN: usize = 2048;
 
 /// How often a thread that takes looks again before it sleeps: some microseconds, in which a frame is
 /// read.
@@ -26,22 +25,25 @@ const SPINS: u32 = 64;
 #[derive(Drop)]
 pub struct TapEnd {
     next: NextFrame,
-    consumer: Consumer<TapItem>,
-    /// Buffers on their way back to the reader's thread.
-    spent: Producer<Vec<u8>>,
+    consumer: Consumer<Batch>,
+    /// What is left of the batch that came last.
+    rest: VecDeque<TapItem>,
     bells: Arc<Bells, Global>,
     /// An ending or a fault was taken.
     over: bool,
     /// The ring was left without one, or an item was taken that isn't the next.
     lost: bool,
     ghost bounded: { lost ≡ false → next.number ≤ 2 ^ 32 },
-    ghost counted: { lost ≡ false → next.number ≡ length (frames_in (received consumer)) },
-    ghost highest: { lost ≡ false → next.high ≡ high_of (frames_in (received consumer)) },
-    ghost ended: { lost ≡ false → over ≡ is_over (received consumer) },
+    ghost counted: { lost ≡ false
+        → next.number ≡ length (frames_in (taken_of (received consumer) rest.items)) },
+    ghost highest: { lost ≡ false
+        → next.high ≡ high_of (frames_in (taken_of (received consumer) rest.items)) },
+    ghost ended: { lost ≡ false → over ≡ is_over (taken_of (received consumer) rest.items) },
+    ghost kept: { IsRest (received consumer) rest.items },
 }
 
-/// Waits until an item was put, or the ring was left.
-fn wait_for_item<R: Wait>(rt: &R, consumer: &mut Consumer<TapItem>, bell: &Bell)
+/// Waits until a batch was put, or the ring was left.
+fn wait_for_batch<R: Wait>(rt: &R, consumer: &mut Consumer<Batch>, bell: &Bell)
     ensures ring { SameConsumer consumer.old consumer.new }
     ensures taken { received consumer.new ≡ received consumer.old }
 {
@@ -58,27 +60,48 @@ fn wait_for_item<R: Wait>(rt: &R, consumer: &mut Consumer<TapItem>, bell: &Bell)
     bell.awake();
 }
 
-/// The oldest item that is in the ring, which is waited for. None: the ring is empty, and was left.
-fn pop<R: Wait>(rt: &R, consumer: &mut Consumer<TapItem>, bells: &Bells) -> Option<TapItem>
+/// The oldest batch that is in the ring, which is waited for. None: the ring is empty, and was left.
+fn pop<R: Wait>(rt: &R, consumer: &mut Consumer<Batch>, bells: &Bells) -> Option<Batch>
     ensures ring { SameConsumer consumer.old consumer.new }
     ensures taken { MatchOption result (received consumer.new ≡ received consumer.old)
-        (λ item. received consumer.new ≡ received consumer.old ++ item ∷ []) }
+        (λ batch. received consumer.new ≡ received consumer.old ++ batch ∷ []) }
 {
     for _ in rt.forever() {
-        if let Ok(item) = consumer.pop() {
-            // Once for all items that were seen, so that the other thread has room for many.
-            if consumer.cached_slots() == 0 {
-                bells.putter.wake();
-            }
-            return Some(item);
+        if let Ok(batch) = consumer.pop() {
+            bells.putter.wake();
+            return Some(batch);
         }
         if consumer.is_abandoned() {
             // Whatever was put before the ring was left can be seen by now.
             return consumer.pop().ok();
         }
-        wait_for_item(rt, consumer, &bells.taker);
+        wait_for_batch(rt, consumer, &bells.taker);
     }
     unreachable!()
+}
+
+/// The next item: of what is left of a batch, or else of the ring. None: the ring is empty, and was left.
+#[inline]
+fn next_item<R: Wait>(
+    rt: &R,
+    rest: &mut VecDeque<TapItem>,
+    consumer: &mut Consumer<Batch>,
+    bells: &Bells,
+) -> Option<TapItem>
+    requires { IsRest (received consumer.old) rest.old.items }
+    ensures ring { SameConsumer consumer.old consumer.new }
+    ensures kept { IsRest (received consumer.new) rest.new.items }
+    ensures taken { MatchOption result
+        (taken_of (received consumer.new) rest.new.items ≡ taken_of (received consumer.old) rest.old.items)
+        (λ item. taken_of (received consumer.new) rest.new.items
+        ≡ taken_of (received consumer.old) rest.old.items ++ item ∷ []) }
+{
+    if let Some(item) = rest.pop_front() {
+        return Some(item);
+    }
+    let Batch { first, more } = pop(rt, consumer, bells)?;
+    *rest = more;
+    Some(first)
 }
 
 impl TapEnd {
@@ -90,14 +113,15 @@ impl TapEnd {
     ghost use Rattle.tap_queue.specs.Ring.{put_items, put_of, reader_of, taken_items};
 
     pub(crate) fn new(
+        alloc: Global,
         network: Network,
         late: u64,
-        consumer: Consumer<TapItem>,
-        spent: Producer<Vec<u8>>,
+        consumer: Consumer<Batch>,
         bells: Arc<Bells, Global>,
     ) -> TapEnd
         requires { received consumer ≡ [] }
         ensures consumer { result.consumer ≡ consumer }
+        ensures none_taken { taken_items result ≡ [] }
         ensures network { network_of result ≡ network }
         ensures late { late_of result ≡ late }
         ensures not_lost { has_lost result ≡ false }
@@ -105,7 +129,7 @@ impl TapEnd {
         TapEnd {
             next: NextFrame::first(network, late),
             consumer,
-            spent,
+            rest: VecDeque::new(alloc),
             bells,
             over: false,
             lost: false,
@@ -150,7 +174,7 @@ impl TapEnd {
         if !self.is_going() {
             return Err(RingLost);
         }
-        let Some(item) = pop(rt, &mut self.consumer, &self.bells) else {
+        let Some(item) = next_item(rt, &mut self.rest, &mut self.consumer, &self.bells) else {
             self.lost = true;
             return Err(RingLost);
         };
@@ -162,24 +186,6 @@ impl TapEnd {
             return Err(RingLost);
         }
         Ok(item)
-    }
-
-    /// Hands the memory of a frame that was taken back to the reader's thread, which uses it
-    /// again. It never waits: where 1024 are on their way, and where there is room for more than
-    /// 2048 bytes, the memory is freed.
-    ///
-    /// No clause says what becomes of it. Frames that are freed here and not handed back cost more
-    /// time, since the reader's thread allocated them.
-    #[inline]
-    pub fn give_back(&mut self, frame: TapFrame)
-        ensures ring { SameEnd self.old self.new }
-        ensures taken { taken_items self.new ≡ taken_items self.old }
-        ensures lost { has_lost self.new ≡ has_lost self.old }
-    {
-        let bytes = frame.into_bytes();
-        if bytes.capacity() <= SPARE_LEN {
-            let _ = self.spent.push(bytes);
-        }
     }
 
     /// Shows that all was taken that was put, up to the recording's ending or a fault, and gives
@@ -203,7 +209,7 @@ impl TapEnd {
         let TapEnd {
             next: _,
             mut consumer,
-            spent: _,
+            rest,
             bells: _,
             over,
             lost,
@@ -212,11 +218,10 @@ impl TapEnd {
         let TapPut {
             network: _,
             mut producer,
-            spares: _,
             bells: _,
         } = put;
         let left = consumer.slots_beside(&mut producer);
-        if lost || !over || left > 0 {
+        if lost || !over || left > 0 || !rest.is_empty() {
             return Err(RingLost);
         }
         Ok(reader.into_source())

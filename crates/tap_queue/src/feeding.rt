@@ -1,14 +1,16 @@
 //! The thread that reads a recording into a ring.
 ghost use Rattle.std.specs.Prelude.{◌≡◌, []};
 ghost use Rattle.pcap_io.specs.Reader.{reading_of};
-ghost use Rattle.tap_queue.specs.Items.{GivesOne, IsFed};
+ghost use Rattle.tap_queue.specs.Items.{Gives, GivesOne, IsFed, is_over};
+ghost use Rattle.tap_queue.specs.Batches.{batch_items};
 ghost use Rattle.tap_queue.specs.Ring.{SamePut, put_items, put_of, reader_of};
 
 use crate::gate::TapGate;
-use crate::item::TapItem;
-use crate::ring::TapPut;
+use crate::item::{Batch, TapItem};
+use crate::ring::{BATCH_LEN, TapPut};
 use pcap_io::{Item, TapReader, TapSource};
 use std::alloc::Global;
+use std::collections::VecDeque;
 use std::sync::Wait;
 
 /// A reader that was read into a ring, and the end of that ring that it was put into.
@@ -20,8 +22,8 @@ pub struct Fed<S> {
 
 /// Reads a recording into a ring, up to its ending or the first fault. It waits where the ring is
 /// full, and stops where the taker is gone. Out of memory, it puts the item `Failed`. The gate is
-/// called once, before the first frame is read. A frame's bytes stand in the memory of the oldest one
-/// that was handed back, if that has the room; else that is freed.
+/// called once, before the first frame is read. Items are put together that were read ahead together, so
+/// that none waits for the source to give more.
 pub fn feed<R: Wait, S: TapSource, G: TapGate>(
     rt: &R,
     alloc: Global,
@@ -37,22 +39,42 @@ pub fn feed<R: Wait, S: TapSource, G: TapGate>(
     gate.tap(put.network);
     let (mut reader, mut put) = (reader, put);
     for _ in rt.forever() {
-        let spare = put.spare(alloc);
-        let item = next_item(alloc, &mut reader, spare);
-        let last = item.is_last();
-        if !put.put(rt, item) || last {
+        let (batch, last) = next_batch(alloc, &mut reader);
+        if !put.put(rt, batch) || last {
             return Fed { reader, put };
         }
     }
     unreachable!()
 }
 
-/// What the reader gives next, in the spare buffer where that has the room.
-fn next_item<S: TapSource>(alloc: Global, reader: &mut TapReader<S>, spare: Vec<u8>) -> TapItem
+/// The items that the reader gives next: one, and those after it that were read ahead already. Whether the
+/// last of them is an ending or a fault.
+fn next_batch<S: TapSource>(alloc: Global, reader: &mut TapReader<S>) -> (Batch, bool)
+    ensures given { Gives (reading_of S.remaining S.failures reader.old) (batch_items result.0)
+        (reading_of S.remaining S.failures reader.new) }
+    ensures last { result.1 ≡ is_over (batch_items result.0) }
+{
+    let first = next_item(alloc, reader);
+    let mut last = first.is_last();
+    // Without memory for more, a batch is one item.
+    let mut more = VecDeque::with_capacity(alloc, BATCH_LEN - 1).unwrap_or(VecDeque::new(alloc));
+    for _ in 1..BATCH_LEN {
+        if last || more.len() == more.capacity() || !reader.holds_packet() {
+            break;
+        }
+        let item = next_item(alloc, reader);
+        last = item.is_last();
+        more.push_back_reserved(item);
+    }
+    (Batch { first, more }, last)
+}
+
+/// What the reader gives next.
+fn next_item<S: TapSource>(alloc: Global, reader: &mut TapReader<S>) -> TapItem
     ensures { GivesOne (reading_of S.remaining S.failures reader.old) result
         (reading_of S.remaining S.failures reader.new) }
 {
-    match reader.next_into(alloc, spare) {
+    match reader.next(alloc) {
         Ok(Item::Frame(frame)) => TapItem::Frame(frame),
         Ok(Item::End(ending)) => TapItem::End(ending),
         Err(fault) => TapItem::Failed(fault),

@@ -4,6 +4,7 @@ ghost use Rattle.tap_queue.specs.Items.{is_last};
 
 use afdx_frame::TapFrame;
 use pcap_io::{Ending, ReadFault};
+use std::collections::VecDeque;
 use thiserror::Error;
 
 /// What a reader gave.
@@ -27,6 +28,13 @@ impl TapItem {
             TapItem::End(_) | TapItem::Failed(_) => true,
         }
     }
+}
+
+/// Items that go through a ring together, at least one.
+#[derive(Debug, Drop)]
+pub(crate) struct Batch {
+    pub(crate) first: TapItem,
+    pub(crate) more: VecDeque<TapItem>,
 }
 
 /// What was taken of a ring can't be shown to be what a reader put into it: the ring was left without an

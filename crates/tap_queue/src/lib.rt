@@ -1,18 +1,17 @@
 //! A recording's items on their way from the thread that reads it to the thread that takes them.
 //!
-//! [`tap_ring`] makes a ring of 64 items with its two ends. [`feed`] runs on a thread of its own: it
-//! puts what a [`TapReader`](pcap_io::TapReader) gives, up to the recording's ending or a fault,
-//! and waits where the ring is full. [`TapEnd::take`] gives the items in order, and waits where
+//! [`tap_ring`] makes a ring of 4 batches of items with its two ends. [`feed`] runs on a thread of its
+//! own: it puts what a [`TapReader`](pcap_io::TapReader) gives, up to the recording's ending or a
+//! fault, and waits where the ring is full. [`TapEnd::take`] gives the items in order, and waits where
 //! the ring is empty. Once the thread has come to its end, [`TapEnd::settle`] shows that all was
-//! taken that was put, and gives the recording's source back. [`TapEnd::give_back`] hands the
-//! memory of a frame back to the reader's thread, which uses it for a later frame.
+//! taken that was put, and gives the recording's source back. Frames share the reader's blocks, which
+//! it fills again once they are gone.
 //!
 //! ```
 //! let (put, mut end) = tap_ring(alloc, Network::A, late)?;
 //! // on a thread of its own: let fed = feed(rt, alloc, reader, put, &gate);
 //! while let TapItem::Frame(frame) = end.take(rt)? {
 //!     println!(rt; "{}", frame.stamp().0)?;
-//!     end.give_back(frame);
 //! }
 //! let source = end.settle(fed)?;
 //! ```
@@ -33,4 +32,4 @@ pub use end::TapEnd;
 pub use feeding::{Fed, feed};
 pub use gate::TapGate;
 pub use item::{RingLost, TapItem};
-pub use ring::{RING_LEN, TapPut, tap_ring};
+pub use ring::{BATCH_LEN, RING_LEN, TapPut, tap_ring};

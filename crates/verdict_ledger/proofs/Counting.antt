@@ -1,10 +1,10 @@
 -- One more entry, and what it adds to each count.
-use Rattle.std.proofs.Common.{◌≡◌, ℕ, ◌+◌, ◌<◌, ◌^◌, Bool, cond, List, [], ◌∷◌, ◌++◌, length, map, is_some, sym, ap, ◌∙◌, arith, length-append, zero-add}
+use Rattle.std.proofs.Common.{◌≡◌, ℕ, ◌+◌, ◌<◌, ◌^◌, Bool, false, cond, List, [], ◌∷◌, ◌++◌, length, map, is_some, sym, ap, ◌∙◌, arith, length-append, zero-add}
 use Rattle.std.specs.List.{count_by}
 use Rattle.std.proofs.lemmas.List.Sums.{count_by-le-length, sum_by-append}
 use Rattle.verdict_ledger.specs.Entry.{Entry}
 use Rattle.vl_config.specs.declared.class.Class.TheVariants.{Cut, Runt, Oversize, Foreign, Unconfigured, TooLong}
-use Rattle.verdict_ledger.specs.Tally.{totals_of, class_count, filter_count, is_excess, is_out, is_copy, is_delivered}
+use Rattle.verdict_ledger.specs.Tally.{totals_of, has_bit, class_count, filter_count, is_excess, is_out, is_copy, is_delivered}
 use Rattle.verdict_ledger.specs.declared.totals.Totals.{Totals}
 
 pub count_by-append_one : {X : Type 0} (p : X → Bool) (xs : List X) (x : X) → count_by p (xs ++ x ∷ []) ≡ count_by p xs + cond (p x) 1 0
@@ -20,6 +20,26 @@ counted p entries e old new counts few same hit more =
     ∙ ap (λ n. n + cond counts 1 0) same
     ∙ ap (λ b. count_by p entries + cond b 1 0) hit
     ∙ sym (count_by-append_one p entries e)
+
+-- an entry that doesn't count
+uncounted : (p : Entry → Bool) (entries : List Entry) (e : Entry) → p e ≡ false → count_by p (entries ++ e ∷ []) ≡ count_by p entries
+uncounted p entries e miss =
+    let one = count_by-append_one p entries e ∙ ap (λ b. count_by p entries + cond b 1 0) miss in
+    omega (arith, one)
+
+-- an entry that no filter accepts
+pub filters_stay : (entries : List Entry) (e : Entry) → e.mask ≡ 0 → (totals_of entries).filters ≡ (totals_of (entries ++ e ∷ [])).filters
+unfolding totals_of
+filters_stay entries e none =
+    let a = uncounted (λ (x : Entry). has_bit 0 x.mask) entries e (ap (has_bit 0) none) in
+    let b = uncounted (λ (x : Entry). has_bit 1 x.mask) entries e (ap (has_bit 1) none) in
+    let d = uncounted (λ (x : Entry). has_bit 2 x.mask) entries e (ap (has_bit 2) none) in
+    let f = uncounted (λ (x : Entry). has_bit 3 x.mask) entries e (ap (has_bit 3) none) in
+    let g = uncounted (λ (x : Entry). has_bit 4 x.mask) entries e (ap (has_bit 4) none) in
+    let h = uncounted (λ (x : Entry). has_bit 5 x.mask) entries e (ap (has_bit 5) none) in
+    let i = uncounted (λ (x : Entry). has_bit 6 x.mask) entries e (ap (has_bit 6) none) in
+    let j = uncounted (λ (x : Entry). has_bit 7 x.mask) entries e (ap (has_bit 7) none) in
+    cc
 
 pub counted_all : (entries : List Entry) (e : Entry) (old new : ℕ) → length entries < 2 ^ 34 → old ≡ length entries
     → (old < 2 ^ 34 → new ≡ old + 1) → new ≡ length (entries ++ e ∷ [])

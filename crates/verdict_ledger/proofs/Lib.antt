@@ -4,3 +4,4 @@ pub mod Tallying
 pub mod Joining
 pub mod Spooling
 pub mod Rounds
+pub mod Lengths

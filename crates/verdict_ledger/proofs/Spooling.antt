@@ -9,7 +9,7 @@ use Rattle.pcap_io.specs.declared.recording.Ending.{Ending}
 use Rattle.vl_config.specs.Link.{VirtualLink}
 use Rattle.verdict_ledger.specs.declared.totals.Totals.{Totals}
 use Rattle.verdict_ledger.specs.Entry.{Entry}
-use Rattle.verdict_ledger.specs.Text.{line_text, link_line, count_field, end_text, tap_line}
+use Rattle.verdict_ledger.specs.Text.{line_text, lines_text, link_line, count_field, end_text, tap_line}
 use Rattle.verdict_ledger.specs.Writing.{IsAppended, IsSpooled, Moves, fault_of}
 use Rattle.verdict_ledger.proofs.Rounds.{texts_more, texts_split}
 use Rattle.verdict_ledger.specs.declared.fault.LedgerFault.{LedgerFault}
@@ -66,6 +66,10 @@ appended (Some Failed) a b m n t t' x none empty h = h
 pub line_some : (e : Entry) → 0 < length (line_text e)
 unfolding line_text
 line_some e = simp length-append (omega arith)
+
+pub lines_some : (entries : List Entry) → 0 < length entries → 0 < length (lines_text entries)
+lines_some [] some = absurd (omega arith)
+lines_some (e ∷ es) some = omega (arith, line_some e, length-append (line_text e) (lines_text es))
 
 pub end_some : (totals : Totals) (filters : ℕ) (a b : Ending) → 0 < length (end_text totals filters a b)
 unfolding tap_line

@@ -4,3 +4,4 @@ pub mod Ledger
 pub mod Tally
 pub mod Text
 pub mod Writing
+pub mod Room

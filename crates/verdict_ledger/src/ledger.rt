@@ -1,5 +1,5 @@
 //! The ledger: lines of frames, and then the counts.
-ghost use Rattle.std.specs.Prelude.{◌≡◌, ◌+◌, ◌<◌, ◌≤◌, ◌∷◌, ◌++◌, ℕ, List, [], true, false, length, Ok, Err, IfOk, IfErr, OnOk, OnErr};
+ghost use Rattle.std.specs.Prelude.{◌≡◌, ◌+◌, ◌≢◌, ◌<◌, ◌≤◌, ◌∷◌, ◌++◌, ℕ, List, [], true, false, length, Ok, Err, IfOk, IfErr, OnOk, OnErr};
 ghost use Rattle.vl_config.specs.Document.{VlTable};
 ghost use Rattle.verdict_ledger.specs.Entry.{Entry, entry_with, entries_of};
 ghost use Rattle.verdict_ledger.specs.Tally.{totals_of};
@@ -23,8 +23,8 @@ const HEAD: &str = "afdx-ledger 2\n";
 
 /// A ledger that is being written to a sink, which it holds.
 ///
-/// Its memory is flat: it holds the table's links, the counts, and at most one block of 65536 bytes of
-/// text and a line, however many frames there are.
+/// Its memory is flat, however many frames there are: it holds the table's links, the counts, and text,
+/// at most that of its largest round or 65536 bytes and a line.
 #[derive(Debug, Drop)]
 pub struct Ledger<W> {
     spool: Spool<W>,
@@ -142,13 +142,13 @@ impl<W: OutSink> Ledger<W> {
     }
 
     /// Writes the lines of a round's frames, each with what stands at its place in the other lists, and
-    /// counts them: what as many calls of `line` do, with one write for each block of text.
+    /// counts them: what as many calls of `line` do, with one write.
     ///
     /// # Errors
     ///
-    /// `Device` if the sink failed and `Memory`, each after a prefix of the lines; none of the frames
-    /// is counted. Each later call returns `Failed`, and writes nothing. `Memory` comes only of a round
-    /// with frames.
+    /// `Device` if the sink failed, after a prefix of the lines, and `Memory` before anything was
+    /// written; none of the frames is counted. Each later call returns `Failed`, and writes nothing.
+    /// `Memory` comes only of a round with frames.
     pub fn round(
         &mut self,
         frames: &[TapFrame],
@@ -165,6 +165,7 @@ impl<W: OutSink> Ledger<W> {
             (W.failures (sink_of self.old)) (W.failures (sink_of self.new))
             (lines_text (entries_of frames.now verdicts.now keeps.now masks.now)) }
         ensures memory { result ≡ Err Memory → 0 < length frames.now }
+        ensures unwritten { result ≡ Err Memory → sink_of self.new ≡ sink_of self.old }
         ensures failed { has_failed self.old ≡ true
             → (result ≡ Err Failed) × (self.new ≡ self.old) }
         ensures going { OnOk result
@@ -183,16 +184,92 @@ impl<W: OutSink> Ledger<W> {
         if self.failed {
             return Err(LedgerFault::Failed);
         }
-        match self.spool.write_lines(frames, verdicts, keeps, masks) {
-            Ok(()) => {
-                self.tally.count_round(frames, verdicts, keeps, masks);
-                Ok(())
-            }
-            Err(fault) => {
-                self.failed = true;
-                Err(fault)
-            }
+        let written = self.spool.write_lines(frames, verdicts, keeps, masks);
+        self.settle(written, frames, verdicts, keeps, masks)
+    }
+
+    /// Writes the lines of a round's frames, which the caller has formatted by
+    /// [`append_lines`](crate::append_lines), and counts the frames: what `round` does, but it allocates
+    /// nothing.
+    ///
+    /// # Errors
+    ///
+    /// `Device` if the sink failed, after a prefix of the lines; none of the frames is counted. Each
+    /// later call returns `Failed`, and writes nothing.
+    pub fn round_text(
+        &mut self,
+        text: &[u8],
+        frames: &[TapFrame],
+        verdicts: &[Verdict],
+        keeps: &[Option<u32>],
+        masks: &[u8],
+    ) -> Result<(), LedgerFault>
+        requires text { text.now
+            ≡ lines_text (entries_of frames.now verdicts.now keeps.now masks.now) }
+        requires verdicts { length verdicts.now ≡ length frames.now }
+        requires keeps { length keeps.now ≡ length frames.now }
+        requires masks { length masks.now ≡ length frames.now }
+        requires room { (totals_in self.old).frames + length frames.now ≤ MAX_LINES }
+        ensures written { has_failed self.old ≡ false → IsAppended (fault_of result)
+            (W.contents (sink_of self.old)) (W.contents (sink_of self.new))
+            (W.failures (sink_of self.old)) (W.failures (sink_of self.new))
+            (lines_text (entries_of frames.now verdicts.now keeps.now masks.now)) }
+        ensures memory { result ≢ Err Memory }
+        ensures failed { has_failed self.old ≡ true
+            → (result ≡ Err Failed) × (self.new ≡ self.old) }
+        ensures going { OnOk result
+            ((has_failed self.old ≡ false) × (has_failed self.new ≡ false)) }
+        ensures after_fault { OnErr result (has_failed self.new ≡ true) }
+        ensures counted { OnOk result
+            ((vl_table : VlTable) (filters : ℕ) (entries : List Entry)
+            → StandsAfter self.old vl_table filters entries
+            → StandsAfter self.new vl_table filters
+            (entries ++ entries_of frames.now verdicts.now keeps.now masks.now)) }
+        ensures not_counted { OnErr result
+            ((vl_table : VlTable) (filters : ℕ) (entries : List Entry)
+            → StandsAfter self.old vl_table filters entries
+            → StandsAfter self.new vl_table filters entries) }
+    {
+        if self.failed {
+            return Err(LedgerFault::Failed);
         }
+        let written = self.spool.write_text(text);
+        self.settle(written, frames, verdicts, keeps, masks)
+    }
+
+    /// Counts the frames of a round where their lines were written, and else notes the fault.
+    #[inline]
+    fn settle(
+        &mut self,
+        written: Result<(), LedgerFault>,
+        frames: &[TapFrame],
+        verdicts: &[Verdict],
+        keeps: &[Option<u32>],
+        masks: &[u8],
+    ) -> Result<(), LedgerFault>
+        requires verdicts { length verdicts.now ≡ length frames.now }
+        requires keeps { length keeps.now ≡ length frames.now }
+        requires masks { length masks.now ≡ length frames.now }
+        requires room { (totals_in self.old).frames + length frames.now ≤ MAX_LINES }
+        ensures same { result ≡ written }
+        ensures sink { sink_of self.new ≡ sink_of self.old }
+        ensures going { OnOk result (has_failed self.new ≡ has_failed self.old) }
+        ensures after_fault { OnErr result (has_failed self.new ≡ true) }
+        ensures counted { OnOk result
+            ((vl_table : VlTable) (filters : ℕ) (entries : List Entry)
+            → StandsAfter self.old vl_table filters entries
+            → StandsAfter self.new vl_table filters
+            (entries ++ entries_of frames.now verdicts.now keeps.now masks.now)) }
+        ensures not_counted { OnErr result
+            ((vl_table : VlTable) (filters : ℕ) (entries : List Entry)
+            → StandsAfter self.old vl_table filters entries
+            → StandsAfter self.new vl_table filters entries) }
+    {
+        match written {
+            Ok(()) => self.tally.count_round(frames, verdicts, keeps, masks),
+            Err(_) => self.failed = true,
+        }
+        written
     }
 
     /// The counts of the frames so far.

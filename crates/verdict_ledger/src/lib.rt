@@ -24,6 +24,8 @@
 //! ```
 //!
 //! - [`Ledger`], with its faults [`LedgerFault`] and [`LedgerRefused`].
+//! - [`append_lines`], the lines of a round as text, for callers that format on other threads and then
+//!   hand the text to [`Ledger::round_text`].
 //! - [`Totals`], the counts of all frames. Each frame counts in one column of its line ([`counts_add_up`]).
 #![tactic(auto)]
 
@@ -33,6 +35,7 @@ mod kept;
 mod laws;
 mod ledger;
 mod line;
+mod lines;
 mod link_counts;
 mod spool;
 mod summary;
@@ -44,4 +47,5 @@ pub use bounds::{MAX_FILTERS, MAX_LINES};
 pub use fault::{LedgerFault, LedgerRefused};
 pub use laws::counts_add_up;
 pub use ledger::Ledger;
+pub use lines::append_lines;
 pub use totals::Totals;

@@ -1,55 +1,75 @@
 //! The line of a frame.
-ghost use Rattle.std.specs.Prelude.{◌≡◌, ◌++◌, OnOk, Option, decimal, codes};
-ghost use Rattle.std.specs.Option.{option_map};
-ghost use Rattle.afdx_frame.specs.Frame.{Frame};
-ghost use Rattle.vl_judge.specs.Judgement.{Judgement};
+ghost use Rattle.std.specs.Prelude.{◌≡◌, ◌+◌, ◌*◌, ◌^◌, ◌<◌, ◌≤◌, ◌++◌, OnOk, OnErr, decimal, codes, drop, length};
+ghost use Rattle.afdx_frame.specs.View.{sequence_of};
 ghost use Rattle.verdict_ledger.specs.Entry.{entry_with};
+ghost use Rattle.verdict_ledger.specs.Room.{IsStart};
 ghost use Rattle.verdict_ledger.specs.Text.{word_field, number_field, optional_field, network_word, address_text, verdict_text, mask_text, is_addressed, link_number, line_text};
+ghost use Rattle.verdict_ledger.specs.declared.line.TheConstants.{KEY, MASK, MAX_LINE, NUMBER_FIELD};
+ghost use Rattle.verdict_ledger.specs.declared.words.TheConstants.{VERDICT};
 
-use crate::words::{class_field, integrity_field, network_field, policing_field, redundancy_field};
+use crate::words::{VERDICT, network_field, verdict_field};
 use afdx_frame::TapFrame;
-use itoa::Buffer;
+use itoa::write_digits;
 use std::alloc::AllocError;
 use vl_config::Class;
 use vl_judge::Verdict;
 
+/// The most bytes of a number below 2^32 and of the space before it.
+const NUMBER_FIELD: usize = 11;
+
+/// The most bytes of a timestamp (19), of the network (2) and of the frame's number.
+const KEY: usize = 21 + NUMBER_FIELD;
+
+/// The bytes of the mask, of the space before it and of the newline.
+const MASK: usize = 4;
+
+/// Room for a line. The link, the sequence number and the count of bytes kept have that of a number each.
+const MAX_LINE: usize = KEY + 2 * NUMBER_FIELD + VERDICT + NUMBER_FIELD + MASK;
+
 /// The hexadecimal digits.
 const DIGITS: [u8; 16] = *b"0123456789abcdef";
 
-/// Appends a number in decimal.
-#[inline]
-fn push_number(text: &mut Vec<u8>, number: u64) -> Result<(), AllocError>
-    ensures { OnOk result (text.new.items ≡ text.old.items ++ decimal number) }
+// A line is written from its end to its start, since a division gives a number's last digit first. Each
+// function below writes its text so that it ends at `end`, and returns where it starts.
+
+/// Writes bytes.
+#[inline(always)]
+fn write_bytes(bytes: &[u8], line: &mut [u8], end: usize) -> usize
+    requires room { length bytes.now ≤ end }
+    requires within { end ≤ length line.old }
+    ensures start { result + length bytes.now ≡ end }
+    ensures written { drop result line.new ≡ bytes.now ++ drop end line.old }
 {
-    let mut digits = Buffer::new();
-    text.extend_from_slice(digits.format(number).as_bytes())
+    let start = end - bytes.len();
+    line[start..end].copy_from_slice(bytes);
+    start
 }
 
-/// Appends a word.
-#[inline]
-pub fn push_word(text: &mut Vec<u8>, word: &str) -> Result<(), AllocError>
-    ensures { OnOk result (text.new.items ≡ text.old.items ++ word.now) }
+/// Writes a space and a number below 2^32.
+#[inline(always)]
+#[tactic(auto, using(crate::proofs::Lengths::number_short))]
+fn write_number_field(number: u64, line: &mut [u8], end: usize) -> usize
+    requires bound { number < 2 ^ 32 }
+    requires room { NUMBER_FIELD ≤ end }
+    requires within { end ≤ length line.old }
+    ensures start { IsStart NUMBER_FIELD end result }
+    ensures written { drop result line.new ≡ number_field number ++ drop end line.old }
 {
-    text.extend_from_slice(word.as_bytes())
+    let start = write_digits(number, line, end);
+    write_bytes(b" ", line, start)
 }
 
-/// Appends a space and a number.
-#[inline]
-pub fn push_number_field(text: &mut Vec<u8>, number: u64) -> Result<(), AllocError>
-    ensures { OnOk result (text.new.items ≡ text.old.items ++ number_field number) }
-{
-    push_word(text, " ")?;
-    push_number(text, number)
-}
-
-/// Appends a space, and a number or a dash.
-#[inline]
-fn push_optional_field(text: &mut Vec<u8>, number: Option<u32>) -> Result<(), AllocError>
-    ensures { OnOk result (text.new.items ≡ text.old.items ++ optional_field number) }
+/// Writes a space, and a number or a dash.
+#[inline(always)]
+fn write_optional_field(number: Option<u32>, line: &mut [u8], end: usize) -> usize
+    requires room { NUMBER_FIELD ≤ end }
+    requires within { end ≤ length line.old }
+    ensures start { IsStart NUMBER_FIELD end result }
+    ensures written { drop result line.new ≡ optional_field number ++ drop end line.old }
 {
     match number {
-        Some(number) => push_number_field(text, u64::from(number)),
-        None => push_word(text, " -"),
+        Some(number) => write_number_field(u64::from(number), line, end),
+        None => write_bytes(b" -", line, end),
     }
 }
 
@@ -75,57 +95,96 @@ fn link_number(frame: &TapFrame) -> Option<u32>
     }
 }
 
-/// Appends the link and the sequence number, or dashes.
+/// The sequence number, where the frame has a byte.
 #[inline]
-fn push_address(text: &mut Vec<u8>, class: Class, frame: &TapFrame) -> Result<(), AllocError>
-    ensures { OnOk result (text.new.items ≡ text.old.items ++ address_text class frame.now) }
+fn sequence_number(frame: &TapFrame) -> Option<u32>
+    ensures { result ≡ sequence_of frame.now.bytes }
+{
+    match frame.view().sequence() {
+        Some(number) => Some(u32::from(number)),
+        None => None,
+    }
+}
+
+/// Writes the link and the sequence number, or dashes.
+#[inline(always)]
+fn write_address(class: Class, frame: &TapFrame, line: &mut [u8], end: usize) -> usize
+    requires room { 2 * NUMBER_FIELD ≤ end }
+    requires within { end ≤ length line.old }
+    ensures start { IsStart (2 * NUMBER_FIELD) end result }
+    ensures written { drop result line.new ≡ address_text class frame.now ++ drop end line.old }
 {
     if !is_addressed(class) {
-        return push_word(text, " - -");
+        return write_bytes(b" - -", line, end);
     }
-    push_optional_field(text, link_number(frame))?;
-    match frame.view().sequence() {
-        Some(number) => push_number_field(text, u64::from(number)),
-        None => push_word(text, " -"),
-    }
+    let start = write_optional_field(sequence_number(frame), line, end);
+    write_optional_field(link_number(frame), line, start)
 }
 
-/// Appends the words of a verdict.
-#[inline]
-fn push_verdict(text: &mut Vec<u8>, verdict: &Verdict) -> Result<(), AllocError>
-    ensures { OnOk result (text.new.items ≡ text.old.items ++ verdict_text verdict.now) }
+/// Writes the words of a verdict.
+#[inline(always)]
+fn write_verdict(verdict: &Verdict, line: &mut [u8], end: usize) -> usize
+    requires room { VERDICT ≤ end }
+    requires within { end ≤ length line.old }
+    ensures start { IsStart VERDICT end result }
+    ensures written { drop result line.new ≡ verdict_text verdict.now ++ drop end line.old }
 {
-    push_word(text, class_field(verdict.class))?;
-    push_word(text, policing_field(verdict.policing))?;
-    push_word(text, integrity_field(verdict.integrity))?;
-    push_word(text, redundancy_field(verdict.redundancy))
+    write_bytes(verdict_field(verdict).as_bytes(), line, end)
 }
 
-/// Appends the mask of the filters that accept a frame, and the end of its line.
-#[inline]
-fn push_mask(text: &mut Vec<u8>, mask: u8) -> Result<(), AllocError>
-    ensures { OnOk result (text.new.items
-        ≡ text.old.items ++ (word_field (mask_text mask) ++ codes "\n")) }
+/// Writes the mask of the filters that accept a frame, and the end of its line.
+#[inline(always)]
+fn write_mask(mask: u8, line: &mut [u8], end: usize) -> usize
+    requires room { MASK ≤ end }
+    requires within { end ≤ length line.old }
+    ensures start { IsStart MASK end result }
+    ensures written { drop result line.new
+        ≡ (word_field (mask_text mask) ++ codes "\n") ++ drop end line.old }
 {
     let high = DIGITS[usize::from(mask / 16)];
     let low = DIGITS[usize::from(mask % 16)];
-    text.extend_from_slice(&[b' ', high, low, b'\n'])
+    write_bytes(&[b' ', high, low, b'\n'], line, end)
 }
 
-/// Appends the timestamp, the network and the number of a frame.
-#[inline]
-fn push_key(text: &mut Vec<u8>, frame: &TapFrame) -> Result<(), AllocError>
-    ensures { OnOk result (text.new.items ≡ text.old.items ++ (decimal frame.now.stamp
-        ++ (word_field (network_word frame.now.network) ++ number_field frame.now.number))) }
+/// Writes the timestamp, the network and the number of a frame.
+#[inline(always)]
+#[tactic(auto, using(crate::proofs::Lengths::stamp_short))]
+fn write_key(frame: &TapFrame, line: &mut [u8], end: usize) -> usize
+    requires room { KEY ≤ end }
+    requires within { end ≤ length line.old }
+    ensures start { result ≤ end }
+    ensures written { drop result line.new ≡ decimal frame.now.stamp
+        ++ (word_field (network_word frame.now.network)
+        ++ (number_field frame.now.number ++ drop end line.old)) }
 {
-    push_number(text, frame.stamp().0)?;
-    push_word(text, network_field(frame.network()))?;
-    push_number_field(text, frame.number())
+    let number = write_number_field(frame.number(), line, end);
+    let network = write_bytes(network_field(frame.network()).as_bytes(), line, number);
+    write_digits(frame.stamp().0, line, network)
+}
+
+/// Writes the line of a frame at the end of the room, and returns where it starts.
+#[inline(always)]
+#[tactic(auto, unfolding(crate::specs::Text::line_text))]
+fn write_line(
+    line: &mut [u8; MAX_LINE],
+    frame: &TapFrame,
+    verdict: &Verdict,
+    keep: Option<u32>,
+    mask: u8,
+) -> usize
+    ensures within { result ≤ MAX_LINE }
+    ensures written { drop result line.new
+        ≡ line_text (entry_with frame.now verdict.now keep mask) }
+{
+    let end = write_mask(mask, line, MAX_LINE);
+    let end = write_optional_field(keep, line, end);
+    let end = write_verdict(verdict, line, end);
+    let end = write_address(verdict.class, frame, line, end);
+    write_key(frame, line, end)
 }
 
 /// Appends the line of a frame.
 #[inline]
-#[tactic(auto, unfolding(crate::specs::Text::line_text))]
 pub fn push_line(
     text: &mut Vec<u8>,
     frame: &TapFrame,
@@ -133,12 +192,11 @@ pub fn push_line(
     keep: Option<u32>,
     mask: u8,
 ) -> Result<(), AllocError>
-    ensures { OnOk result (text.new.items
+    ensures line { OnOk result (text.new.items
         ≡ text.old.items ++ line_text (entry_with frame.now verdict.now keep mask)) }
+    ensures memory { OnErr result (text.new.items ≡ text.old.items) }
 {
-    push_key(text, frame)?;
-    push_address(text, verdict.class, frame)?;
-    push_verdict(text, verdict)?;
-    push_optional_field(text, keep)?;
-    push_mask(text, mask)
+    let mut line = [0; MAX_LINE];
+    let start = write_line(&mut line, frame, verdict, keep, mask);
+    text.extend_from_slice(&line[start..])
 }

@@ -37,21 +37,19 @@ impl LinkCounts {
         }
     }
 
-    /// The counts with one more frame, which has this verdict.
+    /// Counts one more frame, which has this verdict.
     #[inline]
-    pub fn with(&self, verdict: &Verdict) -> LinkCounts
+    pub fn count(&mut self, verdict: &Verdict)
         ensures { (entries : List Entry) (e : Entry) → length entries < MAX_LINES
-            → verdict.now ≡ e.verdict → self.now ≡ counts_of entries
-            → result ≡ counts_of (entries ++ e ∷ []) }
+            → verdict.now ≡ e.verdict → self.old ≡ counts_of entries
+            → self.new ≡ counts_of (entries ++ e ∷ []) }
     {
-        LinkCounts {
-            frames: plus(self.frames, true),
-            toolong: plus(self.toolong, is_class(Class::TooLong, verdict.class)),
-            excess: plus(self.excess, is_excess(verdict)),
-            out: plus(self.out, is_out(verdict)),
-            copy: plus(self.copy, is_copy(verdict)),
-            delivered: plus(self.delivered, is_delivered(verdict)),
-        }
+        count_where(&mut self.frames, true);
+        count_where(&mut self.toolong, is_class(Class::TooLong, verdict.class));
+        count_where(&mut self.excess, is_excess(verdict));
+        count_where(&mut self.out, is_out(verdict));
+        count_where(&mut self.copy, is_copy(verdict));
+        count_where(&mut self.delivered, is_delivered(verdict));
     }
 }
 
@@ -62,6 +60,16 @@ pub fn plus(count: u64, counts: bool) -> u64
     ensures { count < MAX_LINES → result ≡ count + cond counts 1 0 }
 {
     count.saturating_add(u64::from(counts))
+}
+
+/// Counts one more where a frame counts, and writes nothing where it doesn't.
+#[inline(always)]
+pub fn count_where(count: &mut u64, counts: bool)
+    ensures { count.old < MAX_LINES → count.new ≡ count.old + cond counts 1 0 }
+{
+    if counts {
+        *count = plus(*count, true);
+    }
 }
 
 /// Is it this class?

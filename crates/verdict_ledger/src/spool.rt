@@ -10,6 +10,7 @@ ghost use Rattle.verdict_ledger.specs.declared.bounds.TheConstants.{MAX_FILTERS}
 
 use crate::fault::LedgerFault;
 use crate::line::push_line;
+use crate::lines::append_lines;
 use crate::link_counts::LinkCounts;
 use crate::summary::{push_end, push_link};
 use crate::tally::Tally;
@@ -69,49 +70,6 @@ impl<W: OutSink> Spool<W> {
             return Ok(());
         }
         self.flush()
-    }
-
-    /// Adds the line of a frame.
-    #[inline]
-    fn add_line(
-        &mut self,
-        frame: &TapFrame,
-        verdict: &Verdict,
-        keep: Option<u32>,
-        mask: u8,
-    ) -> Result<(), LedgerFault>
-        ensures { IsSpooled (fault_of result)
-            (W.contents self.old.sink) (W.contents self.new.sink)
-            (W.failures self.old.sink) (W.failures self.new.sink)
-            self.old.text.items self.new.text.items
-            (line_text (entry_with frame.now verdict.now keep mask)) }
-    {
-        push_line(&mut self.text, frame, verdict, keep, mask)?;
-        self.flush_block()
-    }
-
-    /// Adds the lines of a round's frames.
-    fn add_lines(
-        &mut self,
-        frames: &[TapFrame],
-        verdicts: &[Verdict],
-        keeps: &[Option<u32>],
-        masks: &[u8],
-    ) -> Result<(), LedgerFault>
-        requires verdicts { length verdicts.now ≡ length frames.now }
-        requires keeps { length keeps.now ≡ length frames.now }
-        requires masks { length masks.now ≡ length frames.now }
-        ensures written { IsSpooled (fault_of result)
-            (W.contents self.old.sink) (W.contents self.new.sink)
-            (W.failures self.old.sink) (W.failures self.new.sink)
-            self.old.text.items self.new.text.items
-            (lines_text (entries_of frames.now verdicts.now keeps.now masks.now)) }
-        ensures some { OnErr result (0 < length frames.now) }
-    {
-        for index in 0..frames.len() {
-            self.add_line(&frames[index], &verdicts[index], keeps[index], masks[index])?;
-        }
-        Ok(())
     }
 
     /// Adds the line of a link.
@@ -174,11 +132,23 @@ impl<W: OutSink> Spool<W> {
             (W.contents self.old.sink) (W.contents self.new.sink)
             (W.failures self.old.sink) (W.failures self.new.sink)
             (lines_text (entries_of frames.now verdicts.now keeps.now masks.now)) }
-        ensures memory { result ≡ Err Memory → 0 < length frames.now }
+        ensures some { result ≡ Err Memory → 0 < length frames.now }
+        ensures memory { result ≡ Err Memory → self.new.sink ≡ self.old.sink }
     {
         self.text.clear();
-        self.add_lines(frames, verdicts, keeps, masks)?;
+        append_lines(&mut self.text, frames, verdicts, keeps, masks)?;
         self.flush()
+    }
+
+    /// Writes text that the caller has formatted.
+    pub fn write_text(&mut self, text: &[u8]) -> Result<(), LedgerFault>
+        ensures written { IsAppended (fault_of result)
+            (W.contents self.old.sink) (W.contents self.new.sink)
+            (W.failures self.old.sink) (W.failures self.new.sink) text.now }
+        ensures fault { IfErr result (λ fault. fault ≡ Device) }
+    {
+        write_all(&mut self.sink, text)?;
+        Ok(())
     }
 
     /// Writes all lines after those of the frames.

@@ -1,16 +1,39 @@
 //! The lines after those of the frames.
-ghost use Rattle.std.specs.Prelude.{◌≡◌, ◌≤◌, ◌++◌, OnOk, take, length, codes};
-ghost use Rattle.verdict_ledger.specs.Text.{count_field, judged_text, classes_text, ending_text, end_text, link_line, filter_lines, filter_line, tap_line, total_line};
+ghost use Rattle.std.specs.Prelude.{◌≡◌, ◌≤◌, ◌++◌, OnOk, take, length, codes, decimal};
+ghost use Rattle.verdict_ledger.specs.Text.{number_field, count_field, judged_text, classes_text, ending_text, end_text, link_line, filter_lines, filter_line, tap_line, total_line};
 ghost use Rattle.verdict_ledger.specs.declared.bounds.TheConstants.{MAX_FILTERS};
 
-use crate::line::{push_number_field, push_word};
 use crate::link_counts::LinkCounts;
 use crate::totals::Totals;
 use crate::words::{network_field, reason_field};
 use afdx_frame::Network;
+use itoa::Buffer;
 use pcap_io::Ending;
 use std::alloc::AllocError;
 use vl_config::Link;
+
+/// Appends a number in decimal.
+fn push_number(text: &mut Vec<u8>, number: u64) -> Result<(), AllocError>
+    ensures { OnOk result (text.new.items ≡ text.old.items ++ decimal number) }
+{
+    let mut digits = Buffer::new();
+    text.extend_from_slice(digits.format(number).as_bytes())
+}
+
+/// Appends a word.
+fn push_word(text: &mut Vec<u8>, word: &str) -> Result<(), AllocError>
+    ensures { OnOk result (text.new.items ≡ text.old.items ++ word.now) }
+{
+    text.extend_from_slice(word.as_bytes())
+}
+
+/// Appends a space and a number.
+fn push_number_field(text: &mut Vec<u8>, number: u64) -> Result<(), AllocError>
+    ensures { OnOk result (text.new.items ≡ text.old.items ++ number_field number) }
+{
+    push_word(text, " ")?;
+    push_number(text, number)
+}
 
 /// Appends a word, and a space and a count.
 #[tactic(auto, unfolding(crate::specs::Text::count_field))]

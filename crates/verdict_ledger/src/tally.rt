@@ -57,10 +57,9 @@ impl Tally {
         ensures { (entries : List Entry) → length entries < MAX_LINES → IsTallyOf entries self.old
             → IsTallyOf (entries ++ entry_with frame.now verdict.now keep mask ∷ []) self.new }
     {
-        self.totals = self.totals.with(verdict, keep, mask);
+        self.totals.count(verdict, keep, mask);
         if let Some(id) = counted_link(frame, verdict) {
-            let index = usize::from(id.0);
-            self.counts[index] = self.counts[index].with(verdict);
+            self.counts[usize::from(id.0)].count(verdict);
         }
     }
 

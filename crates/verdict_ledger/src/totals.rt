@@ -5,7 +5,7 @@ ghost use Rattle.verdict_ledger.specs.Tally.{totals_of, has_bit, filter_count};
 ghost use Rattle.verdict_ledger.specs.declared.bounds.TheConstants.{MAX_LINES};
 
 use crate::bounds::MAX_FILTERS;
-use crate::link_counts::{is_class, is_copy, is_delivered, is_excess, is_out, plus};
+use crate::link_counts::{count_where, is_class, is_copy, is_delivered, is_excess, is_out, plus};
 use vl_config::Class;
 use vl_judge::Verdict;
 
@@ -63,30 +63,28 @@ impl Totals {
         }
     }
 
-    /// The counts with one more frame.
+    /// Counts one more frame.
     #[inline]
-    pub(crate) fn with(&self, verdict: &Verdict, keep: Option<u32>, mask: u8) -> Totals
+    pub(crate) fn count(&mut self, verdict: &Verdict, keep: Option<u32>, mask: u8)
         ensures { (entries : List Entry) (e : Entry) → length entries < MAX_LINES
             → verdict.now ≡ e.verdict → keep ≡ e.keep → mask ≡ e.mask
-            → self.now ≡ totals_of entries
-            → result ≡ totals_of (entries ++ e ∷ []) }
+            → self.old ≡ totals_of entries
+            → self.new ≡ totals_of (entries ++ e ∷ []) }
     {
         let class = verdict.class;
-        Totals {
-            frames: plus(self.frames, true),
-            accepted: plus(self.accepted, keep.is_some()),
-            cut: plus(self.cut, is_class(Class::Cut, class)),
-            runt: plus(self.runt, is_class(Class::Runt, class)),
-            oversize: plus(self.oversize, is_class(Class::Oversize, class)),
-            foreign: plus(self.foreign, is_class(Class::Foreign, class)),
-            unconfigured: plus(self.unconfigured, is_class(Class::Unconfigured, class)),
-            toolong: plus(self.toolong, is_class(Class::TooLong, class)),
-            excess: plus(self.excess, is_excess(verdict)),
-            out: plus(self.out, is_out(verdict)),
-            copy: plus(self.copy, is_copy(verdict)),
-            delivered: plus(self.delivered, is_delivered(verdict)),
-            filters: filters_with(&self.filters, mask),
-        }
+        count_where(&mut self.frames, true);
+        count_where(&mut self.accepted, keep.is_some());
+        count_where(&mut self.cut, is_class(Class::Cut, class));
+        count_where(&mut self.runt, is_class(Class::Runt, class));
+        count_where(&mut self.oversize, is_class(Class::Oversize, class));
+        count_where(&mut self.foreign, is_class(Class::Foreign, class));
+        count_where(&mut self.unconfigured, is_class(Class::Unconfigured, class));
+        count_where(&mut self.toolong, is_class(Class::TooLong, class));
+        count_where(&mut self.excess, is_excess(verdict));
+        count_where(&mut self.out, is_out(verdict));
+        count_where(&mut self.copy, is_copy(verdict));
+        count_where(&mut self.delivered, is_delivered(verdict));
+        count_filters(&mut self.filters, mask);
     }
 }
 
@@ -97,6 +95,19 @@ fn has_bit(filter: u32, mask: u8) -> bool
     ensures { result ≡ has_bit filter mask }
 {
     (mask >> filter) & 1 == 1
+}
+
+/// Counts one more frame for the filters that accept it.
+#[inline]
+fn count_filters(counts: &mut [u64; MAX_FILTERS], mask: u8)
+    ensures { (entries : List Entry) (e : Entry) → length entries < MAX_LINES
+        → mask ≡ e.mask → counts.old ≡ (totals_of entries).filters
+        → counts.new ≡ (totals_of (entries ++ e ∷ [])).filters }
+{
+    if mask == 0 {
+        return;
+    }
+    *counts = filters_with(counts, mask);
 }
 
 /// The counts of filters with one more frame.

@@ -366,9 +366,9 @@ running_aborts fault ps vl_table before a b after_a after_b capture ledger settl
     by (watch.Write output.Capture) (inr w) other = aborts (watch.Write output.Capture) (back_a, back_b, w.fails.0, w.fails.1) tt tt
     by (watch.Write output.Ledger) (inr w) other = aborts (watch.Write output.Ledger) (back_a, back_b, w.fails.0, w.fails.1) tt tt
     by watch.Memory (inr w) other = aborts watch.Memory (back_a, back_b, w.fails.0, w.fails.1) tt tt
-    by watch.Spawn (inr w) other = aborts watch.Spawn (back_a, back_b, w.fails.0, w.fails.1) tt tt
+    by watch.Spawn (inr w) other = absurd w.fails
     by (watch.Read n) (inr w) other = absurd w.fails
-    by watch.RingLost (inr w) other = absurd w.fails
+    by watch.RingLost (inr w) other = absurd (other refl)
     by watch.Workers (inr w) other = absurd w.fails
     by (watch.Header n f) (inr w) other = absurd w.fails
     by watch.Filters (inr w) other = absurd w.fails

@@ -1,5 +1,5 @@
 -- A run that is ready to start its threads, and what it comes to.
-use Rattle.std.specs.Prelude.{◌≡◌, ℕ, false, List, [], length, Option, Result, MatchResult}
+use Rattle.std.specs.Prelude.{◌≡◌, ℕ, false, List, [], length, Result, MatchResult}
 use Rattle.std.specs.Option.{option_map}
 use Rattle.afdx_frame.specs.declared.key.Network.TheVariants.{A, B}
 use Rattle.bpf_isa.specs.declared.packed.Packed.{Packed}

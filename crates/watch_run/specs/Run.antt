@@ -1,5 +1,5 @@
 -- A run over two recordings, between the opening of its devices and their return.
-use Rattle.std.specs.Prelude.{◌≡◌, ℕ, false, List, Option}
+use Rattle.std.specs.Prelude.{◌≡◌, false, List}
 use Rattle.afdx_frame.specs.Frame.{Frame}
 use Rattle.afdx_frame.specs.declared.key.Network.TheVariants.{A, B}
 use Rattle.bpf_isa.specs.declared.packed.Packed.{Packed}

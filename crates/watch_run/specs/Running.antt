@@ -1,5 +1,5 @@
 -- A run whose recordings are read by threads of their own: why it was aborted, and what it leaves.
-use Rattle.std.specs.Prelude.{◌≡◌, ◌⊎◌, ℕ, Bool, true, false, List, [], length, Option, Some, None, ⊤}
+use Rattle.std.specs.Prelude.{◌≡◌, ◌⊎◌, ℕ, Bool, true, false, List, [], length, is_some, Option, Some, None, Result, IfOk, IfErr, ⊤}
 use Rattle.std.specs.Io.KnownBytes.{Appends}
 use Rattle.afdx_frame.specs.Frame.{Frame}
 use Rattle.afdx_frame.specs.declared.key.Network.{Network}
@@ -8,27 +8,20 @@ use Rattle.bpf_isa.specs.declared.packed.Packed.{Packed}
 use Rattle.ordered_merge.specs.Order.{IsOrder}
 use Rattle.ordered_merge.specs.Recording.{IsRecording as IsTapRecording}
 use Rattle.pcap_io.specs.Device.{CountsFailure}
-use Rattle.pcap_io.specs.Position.{LacksMemory, Reading}
+use Rattle.pcap_io.specs.Position.{LacksMemory}
 use Rattle.pcap_io.specs.declared.position.Position.{Position}
 use Rattle.pcap_io.specs.declared.recording.Ending.{Ending}
-use Rattle.pcap_io.specs.Reader.{reading_of}
 use Rattle.pcap_io.specs.Writer.{has_failed}
-use Rattle.pcap_io.specs.declared.reader.TapReader.{TapReader}
-use Rattle.pcap_io.specs.declared.recording.Stage.TheVariants.{Going}
-use Rattle.tap_queue.specs.Items.{Gives, IsFed, is_over}
-use Rattle.tap_queue.specs.Ring.{SamePut, has_lost, put_items, put_of, reader_of, taken_items}
+use Rattle.tap_queue.specs.Ring.{SameEnd}
 use Rattle.tap_queue.specs.declared.end.TapEnd.{TapEnd}
-use Rattle.tap_queue.specs.declared.feeding.Fed.{Fed}
-use Rattle.tap_queue.specs.declared.ring.TapPut.{TapPut}
 use Rattle.run_outcome.specs.Recording.{LeavesUnread}
 use Rattle.verdict_ledger.specs.Ledger.{has_failed as ledger_has_failed}
 use Rattle.vl_config.specs.Document.{VlTable}
 use Rattle.round_output.specs.Filters.{capture_by}
 use Rattle.round_output.specs.Outputs.{HasWritten, StopsWriting, effect_of}
 use Rattle.tap_merge.specs.Rings.{HasTaken, RingsFault, StopsTaking}
-use Rattle.tap_merge.specs.Taps.{HasRead}
-use Rattle.run_outcome.specs.Device.{SourceMembers, SinkMembers, AppendsSome, SinkView, SourceView}
-use Rattle.run_outcome.specs.Recording.{HasReadTap, IsReadPart, IsReadWhole, WasOpened, most_frames}
+use Rattle.run_outcome.specs.Device.{SinkMembers, AppendsSome, SinkView, SourceView, sink_at}
+use Rattle.run_outcome.specs.Recording.{HasReadTap, IsReadPart, IsReadWhole, WasOpened}
 use Rattle.run_outcome.specs.Fault.{MayFail, CaptureSink, Fails, LedgerSink, SourceA, SourceB, names}
 use Rattle.run_outcome.specs.Opening.{AbortsAtOpening, WatchDevices, watch_devices}
 use Rattle.watch_run.specs.Watch.{AbortsRun, StopsRun}
@@ -37,6 +30,7 @@ use Rattle.round_output.specs.Filters.{lines_by}
 use Rattle.run_outcome.specs.declared.fault.WatchFault.{WatchFault}
 use Rattle.run_outcome.specs.declared.fault.WatchFault.TheVariants as watch
 use Rattle.round_output.specs.declared.outputs.Outputs.{Outputs}
+use Rattle.round_output.specs.declared.outputs.Unwritten.{Unwritten}
 use Rattle.tap_merge.specs.declared.rings.Rings.{Rings}
 
 -- ---- between the start of the threads and their end
@@ -64,6 +58,18 @@ pub record StopsRunning (fault : WatchFault) (ps : List (List Packed)) (vl_table
   pub why : (RingsFault fault a b × HasWholeRounds ps vl_table cut capture ledger capture' ledger')
       ⊎ StopsWriting (effect_of fault) ps vl_table capture ledger capture' ledger' cut
 
+-- What is done with the frames of the rings: the run goes on to the end of both recordings, or it stops.
+pub record GoesOn {W L : Type 0} (w : SinkMembers W) (l : SinkMembers L)
+    (ps : List (List Packed)) (before : Rings) (outputs : Outputs W L) (after : Rings) (result : Result (Outputs W L) (Unwritten W L)) : Type 0 where
+  pub same_a : SameEnd before.a after.a
+  pub same_b : SameEnd before.b after.b
+  pub running : IfOk result (λ written. (vl_table : VlTable) (capture ledger : SinkView) →
+      IsRunning w l ps vl_table capture ledger before outputs → IsRunning w l ps vl_table capture ledger after written)
+  pub ended : IfOk result (λ written. (is_some after.end_a ≡ true) × (is_some after.end_b ≡ true) × (after.merger.pending ≡ []))
+  pub stopped : IfErr result (λ e. (vl_table : VlTable) (capture ledger : SinkView) →
+      IsRunning w l ps vl_table capture ledger before outputs →
+      StopsRunning e.fault ps vl_table capture ledger after.a after.b (sink_at w e.capture) (sink_at l e.ledger))
+
 -- ---- what is left of an aborted run
 
 -- a source that is named failed once, and another may have
@@ -82,7 +88,6 @@ abbrev pub IsRunningFault : WatchFault → Type 0
 IsRunningFault (watch.Read network) = ⊤
 IsRunningFault (watch.Write out) = ⊤
 IsRunningFault watch.Memory = ⊤
-IsRunningFault watch.Spawn = ⊤
 IsRunningFault fault = ⊥
 
 -- both sources came back, and this holds of them

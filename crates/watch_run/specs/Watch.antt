@@ -1,32 +1,21 @@
 -- What a whole run over two recordings leaves, and why it was aborted (this project's profile).
-use Rattle.std.specs.Prelude.{Bool, true, false, ◌≡◌, ◌⊎◌, ℕ, ◌+◌, ◌^◌, ◌≤◌, List, [], ◌∷◌, ◌++◌, length, take, Option, Some, Err, IfSome, ⊤}
+use Rattle.std.specs.Prelude.{◌≡◌, ◌⊎◌, ℕ, List, [], ◌∷◌, length, take, Some, IfSome, ⊤}
 use Rattle.std.specs.Io.KnownBytes.{Appends}
 use Rattle.afdx_frame.specs.Frame.{Frame}
-use Rattle.afdx_frame.specs.declared.key.Network.{Network}
 use Rattle.afdx_frame.specs.declared.key.Network.TheVariants.{A, B}
 use Rattle.bpf_isa.specs.declared.packed.Packed.{Packed}
 use Rattle.ordered_merge.specs.Order.{IsOrder}
-use Rattle.pcap_io.specs.Device.{CountsFailure, TakesFewer}
-use Rattle.pcap_io.specs.Layout.{header_of}
-use Rattle.pcap_io.specs.Position.{EndLeaves, Opens, Reads, start_at}
-use Rattle.pcap_io.specs.declared.layout.HeaderFault.{HeaderFault}
-use Rattle.pcap_io.specs.declared.layout.Layout.{Layout}
-use Rattle.pcap_io.specs.declared.layout.TheConstants.{FILE_HEADER_LEN}
-use Rattle.pcap_io.specs.declared.position.Position.{Position}
 use Rattle.pcap_io.specs.declared.recording.Ending.{Ending}
 use Rattle.verdict_ledger.specs.Tally.{totals_of}
-use Rattle.verdict_ledger.specs.Text.{ledger_head, ledger_text, lines_text}
 use Rattle.verdict_ledger.specs.declared.totals.Totals.{Totals}
 use Rattle.vl_config.specs.Document.{VlTable}
-use Rattle.run_outcome.specs.Recording.{IsRecording, LeavesUnread}
-use Rattle.run_outcome.specs.declared.fault.Output.TheVariants as output
+use Rattle.run_outcome.specs.Recording.{IsRecording}
 use Rattle.run_outcome.specs.declared.fault.WatchFault.{WatchFault}
 use Rattle.run_outcome.specs.declared.fault.WatchFault.TheVariants as watch
-use Rattle.run_outcome.specs.Device.{AppendsSome, SinkMembers, SinkView, SourceMembers, SourceView, sink_at, source_at}
-use Rattle.run_outcome.specs.Recording.{IsReadPart, IsReadWhole, HasHeaderFault, FailsAtHeader, WasOpened}
+use Rattle.run_outcome.specs.Device.{AppendsSome, SinkView}
+use Rattle.run_outcome.specs.Recording.{IsReadPart, IsReadWhole}
 use Rattle.round_output.specs.Filters.{capture_by, entries_by, ledger_by, lines_by}
 use Rattle.round_output.specs.Round.{IsFilterCount}
-use Rattle.run_outcome.specs.Fault.{CaptureSink, Fails, LedgerSink, SourceA, SourceB}
 use Rattle.run_outcome.specs.Opening.{AbortsAtOpening, FailsOnly, WatchDevices}
 
 -- ---- a whole run

@@ -16,7 +16,7 @@ ghost use Rattle.round_output.specs.Round.{IsFilterCount};
 use bpf_loader::Program;
 use filter_workers::MAX_FILTERS;
 use pcap_io::{Ending, OutSink, TapSource};
-use round_output::{Outputs, Unwritten};
+use round_output::{Entries, Outputs, Unwritten};
 use run_outcome::{WatchFault, WatchRefused};
 use std::alloc::Global;
 use tap_merge::{Taps, Unopened};
@@ -66,8 +66,9 @@ fn write_rounds<S: TapSource, T: TapSource, W: OutSink, L: OutSink>(
         (sink_at W.OutSink (sink_of outputs.new.capture))
         (sink_at L.OutSink (ledger_sink outputs.new.ledger))) }
 {
+    let mut entries = Entries::new(alloc);
     while let Some(round) = taps.next_round(alloc)? {
-        outputs.write_round(alloc, programs, &round)?;
+        outputs.write_round(programs, &round, &mut entries)?;
     }
     Ok(())
 }
@@ -148,7 +149,7 @@ fn finish<S: TapSource, T: TapSource, W: OutSink, L: OutSink>(
 /// come back. A source may have been read ahead of the last frame, by no more than 262144 bytes.
 ///
 /// Its memory is flat, however long the recordings are: it holds the frames that may still be preceded
-/// by others, a round of 256, and a block of each recording.
+/// by others, a round of 1024, and a block of each recording.
 ///
 /// # Errors
 ///

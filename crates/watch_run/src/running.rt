@@ -4,9 +4,7 @@ ghost use Rattle.std.specs.Option.{option_map};
 ghost use Rattle.bpf_isa.specs.declared.packed.Packed.{Packed};
 ghost use Rattle.pcap_io.specs.Reader.{reading_of};
 ghost use Rattle.vl_config.specs.Document.{VlTable};
-ghost use Rattle.round_output.specs.Round.{CanRun};
-ghost use Rattle.tap_queue.specs.Ring.{SameEnd};
-ghost use Rattle.watch_run.specs.Running.{AbortsBegun, IsRunning, StopsRunning};
+ghost use Rattle.watch_run.specs.Running.{AbortsBegun, GoesOn, IsRunning, StopsRunning};
 ghost use Rattle.tap_merge.specs.Threads.{IsStarted};
 ghost use Rattle.round_output.specs.Outputs.{HasWritten, IsFinished, StopsFinishing};
 ghost use Rattle.run_outcome.specs.Device.{SinkView};
@@ -22,56 +20,70 @@ use crate::one_thread::Watched;
 use afdx_frame::Network;
 use filter_workers::RunGate;
 use pcap_io::{Ending, OutSink, TapSource};
-use round_output::{Outputs, Sharing, Unwritten};
+use round_output::{Entries, Formatting, Outputs, Unwritten};
 use run_outcome::{WatchFault, WatchRefused};
-use std::alloc::Global;
+use std::alloc::{AllocError, Global};
 use std::sync::Wait;
-use std::thread::Threads;
+use std::thread::{Scope, Threads};
 use tap_merge::{Rings, TapThread, drain, settle_tap};
+use worker_pool::Pool;
 
-/// Takes and merges all frames, and shares each round of them among workers, until both recordings have
-/// ended.
-pub fn write_rounds<R: Threads + Wait + Sync, W: OutSink, L: OutSink, G: RunGate + Sync>(
+/// Takes and merges all frames, and shares each round of them among the workers of a pool, until both
+/// recordings have ended.
+fn write_rounds<R: Wait, W: OutSink, L: OutSink, G: RunGate + Sync>(
     rt: &R,
     alloc: Global,
-    sharing: &Sharing<'_, G>,
+    pool: &mut Pool<Formatting<'_, G>>,
     rings: &mut Rings,
     outputs: Outputs<W, L>,
 ) -> Result<Outputs<W, L>, Unwritten<W, L>>
-    requires shared { CanRun sharing.now.programs.now sharing.now.workers }
     requires begun { (vl_table : VlTable) × (capture : SinkView) × (ledger : SinkView)
         × IsRunning W.OutSink L.OutSink
-        sharing.now.programs.now vl_table capture ledger rings.old outputs }
-    ensures a { SameEnd rings.old.a rings.new.a }
-    ensures b { SameEnd rings.old.b rings.new.b }
-    ensures running { IfOk result (λ written. (vl_table : VlTable) (capture ledger : SinkView)
-        → IsRunning W.OutSink L.OutSink
-        sharing.now.programs.now vl_table capture ledger rings.old outputs
-        → IsRunning W.OutSink L.OutSink
-        sharing.now.programs.now vl_table capture ledger rings.new written) }
-    ensures ended { IfOk result (λ _. (is_some rings.new.end_a ≡ true)
-        × (is_some rings.new.end_b ≡ true) × (rings.new.merger.pending ≡ [])) }
-    ensures stopped { IfErr result (λ e. (vl_table : VlTable) (capture ledger : SinkView)
-        → IsRunning W.OutSink L.OutSink
-        sharing.now.programs.now vl_table capture ledger rings.old outputs
-        → StopsRunning e.fault sharing.now.programs.now vl_table capture ledger
-        rings.new.a rings.new.b
-        (sink_at W.OutSink e.capture) (sink_at L.OutSink e.ledger)) }
+        pool.old.task.programs.now vl_table capture ledger rings.old outputs }
+    ensures pool { pool.new ≡ pool.old }
+    ensures written { GoesOn W.OutSink L.OutSink
+        pool.old.task.programs.now rings.old outputs rings.new result }
 {
     let mut outputs = outputs;
+    let mut entries = Entries::new(alloc);
     for _ in rt.forever() {
         let round = match rings.next_round(rt) {
             Ok(Some(round)) => round,
             Ok(None) => return Ok(outputs),
             Err(fault) => return Err(outputs.unwritten(fault)),
         };
-        outputs = match outputs.write_shared(rt, alloc, sharing, &round) {
-            Ok(outputs) => outputs,
-            Err(unwritten) => return Err(unwritten),
-        };
-        rings.give_back(round);
+        if let Err(fault) = outputs.write_shared(rt, pool, round, &mut entries) {
+            return Err(outputs.unwritten(fault));
+        }
     }
     unreachable!()
+}
+
+/// Starts the workers of a run, and takes, merges and writes all frames with them. A worker that can't be
+/// started is no fault: the others do its share.
+pub fn write_all<'s, E, R, W: OutSink, L: OutSink, G: RunGate + Sync>(
+    scope: &Scope<'s, E>,
+    rt: &'s R,
+    alloc: Global,
+    task: Formatting<'s, G>,
+    workers: u32,
+    rings: &mut Rings,
+    outputs: Outputs<W, L>,
+) -> Result<Outputs<W, L>, Unwritten<W, L>>
+where
+    R: Threads + Wait + Sync,
+    requires begun { (vl_table : VlTable) × (capture : SinkView) × (ledger : SinkView)
+        × IsRunning W.OutSink L.OutSink
+        task.programs.now vl_table capture ledger rings.old outputs }
+    ensures { GoesOn W.OutSink L.OutSink task.entry.programs.now rings.old outputs rings.new result }
+{
+    let mut pool = match Pool::start(scope, rt, alloc, task, workers) {
+        Ok(pool) => pool,
+        Err(AllocError) => return Err(outputs.unwritten(WatchFault::Memory)),
+    };
+    let written = write_rounds(rt, alloc, &mut pool, rings, outputs);
+    pool.close();
+    written
 }
 
 /// Writes what follows the lines of frames, for sources that came back.

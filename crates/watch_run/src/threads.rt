@@ -1,14 +1,14 @@
 //! Two recordings, up to eight filters, on threads: each tap is read by one of its own, and each round of
 //! frames is shared among workers.
-ghost use Rattle.std.specs.Prelude.{◌≡◌, List, None, length, is_some, IfErr, IfOk, IfSome, IsSome, if◌then◌else◌};
+ghost use Rattle.std.specs.Prelude.{◌≡◌, ◌≤◌, List, None, length, is_some, IfErr, IfOk, IfSome, IsSome, if◌then◌else◌};
 ghost use Rattle.std.specs.Option.{option_map};
 ghost use Rattle.bpf_isa.specs.declared.packed.Packed.{Packed};
 ghost use Rattle.pcap_io.specs.Writer.{sink_of};
 ghost use Rattle.verdict_ledger.specs.Ledger.{sink_of as ledger_sink};
 ghost use Rattle.vl_config.specs.Document.{VlTable};
-ghost use Rattle.round_output.specs.Round.{CanRun};
 ghost use Rattle.watch_run.specs.Ready.{AreNew, AreTwoRings, IsReady, Runs, ready_of};
 ghost use Rattle.watch_run.specs.Running.{AbortsBegun, IsNotBegun, IsRunningAborted};
+ghost use Rattle.filter_workers.specs.declared.decision.TheConstants.{MAX_FILTERS};
 ghost use Rattle.round_output.specs.Round.{IsFilterCount, IsWorkerCount};
 ghost use Rattle.watch_run.specs.Watch.{IsWatched};
 ghost use Rattle.run_outcome.specs.Opening.{WatchDevices, devices_at};
@@ -16,12 +16,12 @@ ghost use Rattle.run_outcome.specs.Device.{sink_at, source_at};
 ghost use Rattle.run_outcome.specs.Opening.{watch_devices};
 
 use crate::one_thread::Watched;
-use crate::running::{Running, write_rounds};
+use crate::running::{Running, write_all};
 use afdx_frame::Network;
 use bpf_loader::Program;
 use filter_workers::{MAX_FILTERS, MAX_WORKERS, RunGate};
 use pcap_io::{OutSink, TapReader, TapSource};
-use round_output::{Outputs, Sharing, Unwritten};
+use round_output::{Formatting, Outputs, Unwritten};
 use run_outcome::{WatchFault, WatchRefused};
 use std::alloc::{AllocError, Global};
 use std::sync::Wait;
@@ -134,8 +134,8 @@ fn run_ready<'s, E, R, S, T, W, L, G>(
     scope: &Scope<'s, E>,
     rt: &'s R,
     alloc: Global,
-    sharing: &Sharing<'_, G>,
-    gate: &'s G,
+    task: Formatting<'s, G>,
+    workers: u32,
     ready: Ready<S, T, W, L>,
 ) -> Result<Watched<S, T, W, L>, WatchRefused<S, T, W, L>>
 where
@@ -145,18 +145,17 @@ where
     W: OutSink,
     L: OutSink,
     G: RunGate + TapGate + Sync,
-    requires shared { CanRun sharing.now.programs.now sharing.now.workers }
     requires new { AreNew ready }
     requires ready { (vl_table : VlTable) × (before : WatchDevices)
         × IsReady S.TapSource T.TapSource W.OutSink L.OutSink
-        sharing.now.programs.now vl_table before ready }
-    ensures { Runs S.TapSource T.TapSource W.OutSink L.OutSink sharing.now.programs.now ready result }
+        task.programs.now vl_table before ready }
+    ensures { Runs S.TapSource T.TapSource W.OutSink L.OutSink task.entry.programs.now ready result }
 {
-    let (mut running, outputs) = match ready.start(scope, rt, alloc, gate) {
+    let (mut running, outputs) = match ready.start(scope, rt, alloc, task.gate) {
         Ok(started) => started,
         Err(refused) => return Err(refused),
     };
-    match write_rounds(rt, alloc, sharing, &mut running.rings, outputs) {
+    match write_all(scope, rt, alloc, task, workers, &mut running.rings, outputs) {
         Ok(outputs) => running.finish(rt, outputs),
         Err(unwritten) => Err(running.abort(rt, unwritten)),
     }
@@ -257,16 +256,17 @@ impl<S, T, W, L> Ready<S, T, W, L> {
 }
 
 /// Analyses two recordings on threads, with the outputs of [`watch_whole`](crate::watch_whole), byte for
-/// byte: each tap is read by a thread of its own into a ring of 64 items; the calling thread merges the
-/// frames and cuts them into rounds of at most 256; `workers` workers, of which it is the first, filter and
-/// judge each round, which it then writes.
+/// byte: each tap is read by a thread of its own into a ring of batches; the calling thread merges the
+/// frames, cuts them into rounds of at most 1024 and judges them; `workers` workers, of which it is one,
+/// filter each round and make its packets and lines, which it then writes. A worker whose thread can't be
+/// started is no fault: the others do its share.
 ///
 /// Stamps may go back within the table's window. Each recording is read up to 2^32 frames. The gate is told
 /// of each tap before its first frame is read, and of each frame before the filters run on it.
 ///
 /// Its memory is flat, however long the recordings are: it holds the frames that may still be preceded
-/// by others, those of rounds that are still to be cut, the items of both rings, at most 1024 spent buffers
-/// of at most 2048 bytes a tap, and a block of each recording.
+/// by others, those of rounds that are still to be cut and those in both rings, each by the whole block of
+/// its recording that it came in, and at most 32 blocks of 64 KiB a tap that are filled again.
 ///
 /// # Errors
 ///
@@ -274,13 +274,14 @@ impl<S, T, W, L> Ready<S, T, W, L> {
 /// `Read` if a recording can't be opened, that of A first. Up to there nothing was written. `Write` or
 /// `Memory` before the threads start: of the recordings the file headers alone were read.
 ///
-/// Later `Read`, `Write`, `Memory`, or `Spawn` if a worker can't be started: each output has a prefix of what
-/// belongs to the frames that were read, after `Read` with whole packets and lines. Both recordings were
-/// read on to their endings, or until they failed; of several faults one is told. All devices come back. A
-/// source may have been read ahead by no more than 262144 bytes, and after a fault by a packet more.
+/// Later `Read`, `Write` or `Memory`: each output has a prefix of what belongs to the frames that were read,
+/// after `Read` with whole packets and lines. Both recordings were read on to their endings, or until they
+/// failed; of several faults one is told. All devices come back. A source may have been read ahead by no more
+/// than 262144 bytes, and after a fault by a packet more.
 ///
 /// `Spawn` if a tap's thread can't be started: its source is lost, and the outputs have what they begin
-/// with. `RingLost` if the items of a ring aren't what its reader put into it: sources may be lost.
+/// with. `RingLost` if the items of a ring aren't what its reader put into it, or what a worker made was
+/// lost: sources may be lost.
 pub fn watch<R, S, T, W, L, G>(
     rt: &R,
     alloc: Global,
@@ -323,19 +324,16 @@ where
         Ok(ready) => ready,
         Err(refused) => return Err(refused),
     };
-    let sharing = Sharing {
-        programs,
-        workers,
-        gate,
-    };
-    run_threads(rt, alloc, &sharing, ready)
+    run_threads(rt, alloc, programs, workers, gate, ready)
 }
 
 /// Runs what is ready, and returns when each thread has come to its end.
 fn run_threads<R, S, T, W, L, G>(
     rt: &R,
     alloc: Global,
-    sharing: &Sharing<'_, G>,
+    programs: &[Program],
+    workers: u32,
+    gate: &G,
     ready: Ready<S, T, W, L>,
 ) -> Result<Watched<S, T, W, L>, WatchRefused<S, T, W, L>>
 where
@@ -345,25 +343,34 @@ where
     W: OutSink + Drop,
     L: OutSink + Drop,
     G: RunGate + TapGate + Sync,
-    requires shared { CanRun sharing.now.programs.now sharing.now.workers }
+    requires few { length programs.now ≤ MAX_FILTERS }
     requires new { AreNew ready }
     requires ready { (vl_table : VlTable) × (before : WatchDevices)
         × IsReady S.TapSource T.TapSource W.OutSink L.OutSink
-        sharing.now.programs.now vl_table before ready }
-    ensures { Runs S.TapSource T.TapSource W.OutSink L.OutSink sharing.now.programs.now ready result }
+        programs.now vl_table before ready }
+    ensures { Runs S.TapSource T.TapSource W.OutSink L.OutSink programs.now ready result }
 {
-    let gate = sharing.gate;
-    let mut slot = Some(ready);
+    let mut slot = Some((
+        Formatting {
+            alloc,
+            programs,
+            gate,
+        },
+        ready,
+    ));
     thread::scope(
         thread::scope_env(),
         rt,
         |scope| -> Result<Watched<S, T, W, L>, WatchRefused<S, T, W, L>>
-            requires { IsSome slot × CanRun sharing.now.programs.now sharing.now.workers
-                × IfSome slot (λ ready. AreNew ready × ((vl_table : VlTable) × (before : WatchDevices)
+            requires { IsSome slot
+                × IfSome slot (λ both. AreNew both.1 × ((vl_table : VlTable) × (before : WatchDevices)
                 × IsReady S.TapSource T.TapSource W.OutSink L.OutSink
-                sharing.now.programs.now vl_table before ready)) }
-            ensures { IfSome slot.entry (λ ready. Runs S.TapSource T.TapSource W.OutSink L.OutSink
-                sharing.entry.now.programs.now ready result) }
-        { run_ready(scope, rt, alloc, sharing, gate, slot.take().unwrap()) },
+                both.0.programs.now vl_table before both.1)) }
+            ensures { IfSome slot.entry (λ both. Runs S.TapSource T.TapSource W.OutSink L.OutSink
+                both.0.programs.now both.1 result) }
+        {
+            let (task, ready) = slot.take().unwrap();
+            run_ready(scope, rt, alloc, task, workers, ready)
+        },
     )
 }

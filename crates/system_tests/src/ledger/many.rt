@@ -1,4 +1,4 @@
-//! The most links, many lines, and rounds beside single lines.
+//! The most links, many lines, and rounds beside single lines and texts.
 
 use crate::ledger::{add_line, frame_with, judge_next};
 use afdx_frame::{Network, TapFrame};
@@ -14,18 +14,30 @@ use vl_judge::{Lanes, Verdict};
 
 /// The lists that a round of the ledger takes.
 #[derive(Drop)]
-struct Round {
-    frames: Vec<TapFrame>,
-    verdicts: Vec<Verdict>,
-    keeps: Vec<Option<u32>>,
-    masks: Vec<u8>,
+pub struct Round {
+    pub frames: Vec<TapFrame>,
+    pub verdicts: Vec<Verdict>,
+    pub keeps: Vec<Option<u32>>,
+    pub masks: Vec<u8>,
 }
 
-/// A table of 4096 links, whose identifiers are 16 apart.
-fn table_of(alloc: Global) -> Result<String, Fail> {
+impl Round {
+    /// Of no frame.
+    pub fn new(alloc: Global) -> Round {
+        Round {
+            frames: Vec::new(alloc),
+            verdicts: Vec::new(alloc),
+            keeps: Vec::new(alloc),
+            masks: Vec::new(alloc),
+        }
+    }
+}
+
+/// A table of so many links, at most 4096, whose identifiers are 16 apart.
+pub fn table_of(alloc: Global, links: u32) -> Result<String, Fail> {
     let mut table = String::new(alloc);
     table.push_str("constant = 50331648\n")?;
-    for link in 0..4096u32 {
+    for link in 0..links.min(4096) {
         let id = link * 16;
         write!(
             table,
@@ -37,14 +49,9 @@ fn table_of(alloc: Global) -> Result<String, Fail> {
 }
 
 /// Frames of all links in turn, 1 us apart, with their verdicts; each third is accepted.
-fn round_of(rt: &(impl Abort + AllocGlobal), config: &Config, len: u32) -> Result<Round, Fail> {
+pub fn round_of(rt: &(impl Abort + AllocGlobal), config: &Config, len: u32) -> Result<Round, Fail> {
     let mut lanes = Lanes::new(rt.alloc(), config)?;
-    let mut round = Round {
-        frames: Vec::with_capacity(rt.alloc(), len as usize)?,
-        verdicts: Vec::with_capacity(rt.alloc(), len as usize)?,
-        keeps: Vec::with_capacity(rt.alloc(), len as usize)?,
-        masks: Vec::with_capacity(rt.alloc(), len as usize)?,
-    };
+    let mut round = Round::new(rt.alloc());
     for place in 0..len {
         let [_, _, high, low] = (place % 4096 * 16).to_be_bytes();
         let mut bytes = Vec::with_capacity(rt.alloc(), 60)?;
@@ -73,7 +80,7 @@ fn round_of(rt: &(impl Abort + AllocGlobal), config: &Config, len: u32) -> Resul
 }
 
 /// Writes the round to a ledger that isn't full.
-fn add_round(
+pub fn add_round(
     rt: &impl Abort,
     ledger: &mut Ledger<WriteSink<Vec<u8>>>,
     round: &Round,
@@ -85,14 +92,14 @@ fn add_round(
     Ok(ledger.round(&round.frames, &round.verdicts, &round.keeps, &round.masks)?)
 }
 
-fn begun(alloc: Global, config: &Config) -> Result<Ledger<WriteSink<Vec<u8>>>, Fail> {
+pub fn begun(alloc: Global, config: &Config) -> Result<Ledger<WriteSink<Vec<u8>>>, Fail> {
     match Ledger::begin(alloc, config, 1, WriteSink::new(Vec::new(alloc))) {
         Ok(ledger) => Ok(ledger),
         Err(refused) => Err(refused.fault.into()),
     }
 }
 
-fn finished(ledger: Ledger<WriteSink<Vec<u8>>>) -> Result<Vec<u8>, Fail> {
+pub fn finished(ledger: Ledger<WriteSink<Vec<u8>>>) -> Result<Vec<u8>, Fail> {
     match ledger.finish(Ending::Clean(50_000), Ending::Clean(50_000)) {
         Ok((sink, _)) => Ok(sink.into_writer()),
         Err(refused) => Err(refused.fault.into()),
@@ -101,7 +108,7 @@ fn finished(ledger: Ledger<WriteSink<Vec<u8>>>) -> Result<Vec<u8>, Fail> {
 
 #[test]
 fn a_round_of_all_links_is_its_lines(rt: HostRuntime) -> Result<(), Fail> {
-    let config = Config::read(rt.alloc(), &table_of(rt.alloc())?)?;
+    let config = Config::read(rt.alloc(), &table_of(rt.alloc(), 4096)?)?;
     let round = round_of(&rt, &config, 100_000)?;
     let mut by_round = begun(rt.alloc(), &config)?;
     let start = Instant::now(&rt)?;

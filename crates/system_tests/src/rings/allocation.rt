@@ -11,13 +11,17 @@ use std::process::Abort;
 use std::sync::Wait;
 use tap_queue::{RingLost, TapItem, feed, tap_ring};
 
-/// Makes a ring, and leaves it. Returns whether there was the memory, as all here.
-fn makes_a_ring(rt: &(impl Abort + Wait + AllocGlobal)) -> bool {
-    let Ok((put, mut end)) = tap_ring(rt.alloc(), Network::A, 0) else {
-        return false;
-    };
-    drop(put);
-    assert!(rt; matches!(end.take(rt), Err(RingLost)));
+/// Makes rings, and leaves each. Returns whether there was the memory, as all here. These are more
+/// allocations than a ring that is fed makes, which goes on without some of its own: the script ends where
+/// none was missed.
+fn makes_rings(rt: &(impl Abort + Wait + AllocGlobal)) -> bool {
+    for _ in 0..16 {
+        let Ok((put, mut end)) = tap_ring(rt.alloc(), Network::A, 0) else {
+            return false;
+        };
+        drop(put);
+        assert!(rt; matches!(end.take(rt), Err(RingLost)));
+    }
     true
 }
 
@@ -54,13 +58,13 @@ fn feeds_a_ring(rt: &(impl Abort + Wait + AllocGlobal)) -> bool {
 }
 
 #[test]
-fn refusal_in_making_a_ring(rt: HostRuntime) {
-    makes_a_ring(&rt);
+fn refusal_in_making_rings(rt: HostRuntime) {
+    makes_rings(&rt);
 }
 
 #[test]
-fn ample_for_making_a_ring(rt: HostRuntime) {
-    assert!(rt; makes_a_ring(&rt));
+fn ample_for_making_rings(rt: HostRuntime) {
+    assert!(rt; makes_rings(&rt));
 }
 
 #[test]

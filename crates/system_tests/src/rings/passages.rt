@@ -9,12 +9,15 @@ use std::process::Abort;
 use std::sync::Wait;
 use std::test::Fail;
 use std::thread::Threads;
-use tap_queue::{RING_LEN, TapItem, tap_ring};
+use tap_queue::{BATCH_LEN, RING_LEN, TapItem, tap_ring};
 
 /// The bytes without the last ones.
 fn without(bytes: &[u8], last: usize) -> &[u8] {
     &bytes[..bytes.len().saturating_sub(last)]
 }
+
+/// The lengths of the reader's block: the usual one, and one that fills whole batches with short frames.
+const BLOCKS: [usize; 2] = [65_536, 262_144];
 
 /// A recording goes through a ring: each item as the reader alone gives it, and this ending.
 fn passes<R: Threads + Wait + Sync + Abort + AllocGlobal>(
@@ -23,9 +26,24 @@ fn passes<R: Threads + Wait + Sync + Abort + AllocGlobal>(
     late: u64,
     ending: Ending,
 ) -> Result<(), Fail> {
+    for block in BLOCKS {
+        passes_in_blocks(rt, bytes, late, ending, block)?;
+    }
+    Ok(())
+}
+
+/// The same, read in blocks of so many bytes.
+fn passes_in_blocks<R: Threads + Wait + Sync + Abort + AllocGlobal>(
+    rt: &R,
+    bytes: &[u8],
+    late: u64,
+    ending: Ending,
+    block: usize,
+) -> Result<(), Fail> {
     let alloc = rt.alloc();
     let ring = tap_ring(alloc, Network::B, late)?;
-    let passed = pass(rt, alloc, reader_of(alloc, bytes, late)?, ring, &Open)?;
+    let reader = reader_of(alloc, bytes, late)?.with_block_len(block);
+    let passed = pass(rt, alloc, reader, ring, &Open)?;
     let mut alone = reader_of(alloc, bytes, late)?;
     for item in &passed.items {
         same(rt, item, &alone.next(alloc)?);
@@ -42,11 +60,36 @@ fn passes<R: Threads + Wait + Sync + Abort + AllocGlobal>(
 
 #[test]
 fn clean_recordings(rt: HostRuntime) -> Result<(), Fail> {
-    let ring = RING_LEN as u32;
-    for count in [0, 1, ring - 1, ring, ring + 1, 1000] {
+    let batch = BATCH_LEN as u32;
+    let ring = RING_LEN as u32 * batch;
+    for count in [
+        0,
+        1,
+        batch - 1,
+        batch,
+        batch + 1,
+        ring - 1,
+        ring,
+        ring + 1,
+        2 * ring + 1,
+    ] {
         let stamps: Vec<u32> = (0..count).collect(rt.alloc())?;
         let bytes = recording(rt.alloc(), &stamps, 60)?;
         passes(&rt, &bytes, 0, Ending::Clean(u64::from(count)))?;
+    }
+    Ok(())
+}
+
+#[test]
+fn an_ending_at_the_end_of_a_batch(rt: HostRuntime) -> Result<(), Fail> {
+    let batch = BATCH_LEN as u32;
+    for count in [batch - 2, batch - 1, batch, batch + 1] {
+        let mut stamps: Vec<u32> = (1..=count).collect(rt.alloc())?;
+        // A packet that was read ahead with the frames before it ends the recording.
+        stamps.push(0)?;
+        let bytes = recording(rt.alloc(), &stamps, 60)?;
+        let ending = Ending::Bad(u64::from(count), BadReason::StampBack);
+        passes(&rt, &bytes, 0, ending)?;
     }
     Ok(())
 }

@@ -107,10 +107,10 @@ struct Notes {
 }
 
 impl Notes {
-    /// For rounds of up to 256 frames.
+    /// For rounds of up to 1024 frames.
     fn new(alloc: Global) -> Result<Notes, AllocError> {
         let mut places = Vec::new(alloc);
-        for _ in 0..256 {
+        for _ in 0..1024 {
             places.push(AtomicU64::new(0))?;
         }
         Ok(Notes {
@@ -151,7 +151,7 @@ fn each_frame_of_a_round_is_told_once(rt: HostRuntime) -> Result<(), Fail> {
         let gate = Notes::new(rt.alloc())?;
         let ran = run_past(&rt, Way::Workers(workers), given, roomy(ROOM), &gate)?;
         assert!(rt; ran.outcome.is_ok());
-        for place in 0..256 {
+        for place in 0..1024 {
             assert_eq!(rt;
                 gate.calls(place),
                 Some(u64::from(place < 8)),
@@ -179,7 +179,7 @@ fn each_frame_of_all_rounds_is_told_once(rt: HostRuntime) -> Result<(), Fail> {
         assert!(rt; ran.outcome.is_ok());
         // Each round has its frames at the places from 0 on.
         let (mut told, mut before) = (0u64, u64::MAX);
-        for place in 0..256 {
+        for place in 0..1024 {
             let calls = gate.calls(place).unwrap_or(0);
             assert!(rt; calls <= before, "place {place}");
             told = told.saturating_add(calls);

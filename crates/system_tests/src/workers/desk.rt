@@ -51,6 +51,7 @@ fn room_one(rt: HostRuntime) -> Result<(), Fail> {
     let seat = kept_half(&rt, &desk, seat);
     let seat = kept_half(&rt, &desk, seat);
     let seat = kept_half(&rt, &desk, seat);
+    let seat = kept_half(&rt, &desk, seat);
     assert!(rt; desk.split(seat).is_err(), "room 1 is split");
     Ok(())
 }

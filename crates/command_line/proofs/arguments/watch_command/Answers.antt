@@ -4,7 +4,7 @@ use Rattle.clap.specs.Words.{AddsArg, App, Rule, app_of, new_app, rule_of, with_
 use Rattle.clap.specs.declared.builder.arg.Arg.{Arg}
 use Rattle.clap.specs.declared.builder.command.Command.{Command}
 use Rattle.clap.specs.declared.builder.command.Command.TheViews.{out-Command}
-use Rattle.command_line.specs.Arguments.{IsWatch, watch_app, watch_files, workers_rule}
+use Rattle.command_line.specs.Arguments.{IsWatch, quiet_rule, watch_app, watch_files, workers_rule}
 use Rattle.command_line.proofs.arguments.watch_command.Goals as goal
 
 -- the command is this one, and has no global argument
@@ -15,15 +15,15 @@ one_more : (old : Command) (a : Arg) (new : Command) (app : App) (rule : Rule) �
 one_more old a new app rule (is, local) adds has_rule a_local =
     (adds.shape a_local ∙ ap₂ with_rule is has_rule, cc (adds.globals, local, a_local))
 
-last : {E : Type 0} (old : Command) (a : Arg) (r : Result Command E) (app : App) → Is old (watch_files app) → IfOk r (AddsArg old a) → rule_of a ≡ workers_rule → a.global ≡ false →
-    watch_app ≡ with_rule (watch_files app) workers_rule → IfOk r IsWatch
-last old a (Ok new) app is adds has_rule a_local whole =
-    let done = one_more old a new (watch_files app) workers_rule is adds has_rule a_local in (done.0 ∙ sym whole, done.1)
-last old a (Err e) app is adds has_rule a_local whole = tt
-
-watch_is : watch_app ≡ with_rule (watch_files (new_app (codes "watch"))) workers_rule
+watch_is : watch_app ≡ with_rule (with_rule (watch_files (new_app (codes "watch"))) workers_rule) quiet_rule
 unfolding watch_app
 watch_is = refl
+
+last : {E : Type 0} (old : Command) (a : Arg) (r : Result Command E) → Is old (with_rule (watch_files (new_app (codes "watch"))) workers_rule) → IfOk r (AddsArg old a) → rule_of a ≡ quiet_rule → a.global ≡ false →
+    IfOk r IsWatch
+last old a (Ok new) is adds has_rule a_local =
+    let done = one_more old a new (with_rule (watch_files (new_app (codes "watch"))) workers_rule) quiet_rule is adds has_rule a_local in (done.0 ∙ sym watch_is, done.1)
+last old a (Err e) is adds has_rule a_local = tt
 
 pub returns : goal.returns
 returns c =
@@ -35,4 +35,5 @@ returns c =
     let b = one_more _ _ _ _ _ a c.in_ok-arg-4.ensures c.file_option-4.ensures.rule c.file_option-4.ensures.local in
     let capture = one_more _ _ _ _ _ b c.in_ok-arg-5.ensures c.file_option-5.ensures.rule c.file_option-5.ensures.local in
     let ledger = one_more _ _ _ _ _ capture c.in_ok-arg-6.ensures c.file_option-6.ensures.rule c.file_option-6.ensures.local in
-    last _ _ c.arg-7.result (new_app (codes "watch")) ledger c.arg-7.ensures c.workers_option.ensures.rule c.workers_option.ensures.local watch_is
+    let workers = one_more _ _ _ _ _ ledger c.in_ok-arg-7.ensures c.workers_option.ensures.rule c.workers_option.ensures.local in
+    last _ _ c.arg-8.result workers c.arg-8.ensures c.quiet_option.ensures.rule c.quiet_option.ensures.local

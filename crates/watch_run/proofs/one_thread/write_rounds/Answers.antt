@@ -8,22 +8,22 @@ use Rattle.watch_run.proofs.one_thread.write_rounds.Goals as goal
 pub next_round-requires : goal.next_round-requires
 next_round-requires g c =
     let begun = c.requires.begun in
-    (c.loop-round.invariant.watching begun.0 begun.1 begun.2).agree
+    (c.loop-entries.invariant.watching begun.0 begun.1 begun.2).agree
 
 pub returns-in_err-round-clause-stopped : goal.returns-in_err-round-clause-stopped
 returns-in_err-round-clause-stopped g c =
     let p = err_from_is_err_and c.from_residual.result c.from_residual.ensures.1 in
     rw (p.1, p.2) (λ vl_table before h.
-    (let w = c.loop-round.invariant.watching vl_table before h in
+    (let w = c.loop-entries.invariant.watching vl_table before h in
     stops_by_merging _ c.args.programs.now vl_table before w.cut _ _ _ _
-    (cut_is_first _ _ vl_table.late before.a before.b w.frames_a w.frames_b w.cut c.loop-round.taps w.merged w.agree)
+    (cut_is_first _ _ vl_table.late before.a before.b w.frames_a w.frames_b w.cut c.loop-entries.taps w.merged w.agree)
     (c.in_err-round.ensures.stopped vl_table.late before.a before.b w.frames_a w.frames_b w.cut w.merged)
     w.written.packets w.written.lines w.written.capture_failures w.written.ledger_failures))
 
 pub write_round-requires-clause-follows : goal.write_round-requires-clause-follows
 write_round-requires-clause-follows g c =
     let begun = c.requires.begun in
-    let w = c.loop-round.invariant.watching begun.0 begun.1 begun.2 in
+    let w = c.loop-entries.invariant.watching begun.0 begun.1 begun.2 in
     let m = c.in_ok-round.ensures.merged (begun.0).late (begun.1).a (begun.1).b w.frames_a w.frames_b w.cut w.merged in
     let cut = some_round _ _ _ _ _ _ _ w.cut _ _ _ c.in-Some.round c.deref.result.now m.2 c.in-Some.is c.deref.ensures.value in
     rw w.written.lanes.last (round_follows m.0 m.1 w.cut c.deref.result.now c.next_round.new.self.merger.pending cut.follows.order)
@@ -31,7 +31,7 @@ write_round-requires-clause-follows g c =
 pub write_round-requires-clause-room : goal.write_round-requires-clause-room
 write_round-requires-clause-room g c =
     let begun = c.requires.begun in
-    let w = c.loop-round.invariant.watching begun.0 begun.1 begun.2 in
+    let w = c.loop-entries.invariant.watching begun.0 begun.1 begun.2 in
     let m = c.in_ok-round.ensures.merged (begun.0).late (begun.1).a (begun.1).b w.frames_a w.frames_b w.cut w.merged in
     let cut = some_round _ _ _ _ _ _ _ w.cut _ _ _ c.in-Some.round c.deref.result.now m.2 c.in-Some.is c.deref.ensures.value in
     (room_left (begun.0).late (begun.1).a (begun.1).b m.0 m.1 w.cut c.deref.result.now c.next_round.new.self.merger.pending _ _ _ _ _
@@ -41,18 +41,18 @@ write_round-requires-clause-room g c =
 pub write_round-requires-clause-capture_going : goal.write_round-requires-clause-capture_going
 write_round-requires-clause-capture_going g c =
     let begun = c.requires.begun in
-    (c.loop-round.invariant.watching begun.0 begun.1 begun.2).capture_going
+    (c.loop-entries.invariant.watching begun.0 begun.1 begun.2).capture_going
 
 pub write_round-requires-clause-ledger_going : goal.write_round-requires-clause-ledger_going
 write_round-requires-clause-ledger_going g c =
     let begun = c.requires.begun in
-    (c.loop-round.invariant.watching begun.0 begun.1 begun.2).ledger_going
+    (c.loop-entries.invariant.watching begun.0 begun.1 begun.2).ledger_going
 
 pub returns-in_err-write_round-clause-stopped : goal.returns-in_err-write_round-clause-stopped
 returns-in_err-write_round-clause-stopped g c =
     let p = err_from_is_err_and c.from_residual-in_err-write_round.result c.from_residual-in_err-write_round.ensures.1 in
     rw (p.1, p.2) (λ vl_table before h.
-    (let w = c.loop-round.invariant.watching vl_table before h in
+    (let w = c.loop-entries.invariant.watching vl_table before h in
     let m = c.in_ok-round.ensures.merged vl_table.late before.a before.b w.frames_a w.frames_b w.cut w.merged in
     let cut = some_round _ _ _ _ _ _ _ w.cut _ _ _ c.in-Some.round c.deref.result.now m.2 c.in-Some.is c.deref.ensures.value in
     stops_by_writing _ c.args.programs.now vl_table before m.0 m.1 (w.cut ++ c.deref.result.now) c.next_round.new.self.merger.pending _ _ _ _
@@ -60,10 +60,10 @@ returns-in_err-write_round-clause-stopped g c =
     (part_of _ _ _ _ _ _ cut.read_a) (part_of _ _ _ _ _ _ cut.read_b) cut.follows.order cut.read_a.failures cut.read_b.failures
     (c.in_err-write_round.ensures.stopped vl_table before.capture before.ledger w.cut w.written)))
 
-pub loop-round-preserved : goal.loop-round-preserved
-loop-round-preserved g c = record {
+pub loop-entries-preserved : goal.loop-entries-preserved
+loop-entries-preserved g c = record {
   watching = λ vl_table before h.
-      (let w = c.loop-round.invariant.watching vl_table before h in
+      (let w = c.loop-entries.invariant.watching vl_table before h in
       let m = c.in_ok-round.ensures.merged vl_table.late before.a before.b w.frames_a w.frames_b w.cut w.merged in
       record {
         frames_a = m.0;
@@ -79,7 +79,7 @@ loop-round-preserved g c = record {
 
 pub returns-clause-watching : goal.returns-clause-watching
 returns-clause-watching g c = λ vl_table before h.
-    (let w = c.loop-round.invariant.watching vl_table before h in
+    (let w = c.loop-entries.invariant.watching vl_table before h in
     let m = c.in_ok-round.ensures.merged vl_table.late before.a before.b w.frames_a w.frames_b w.cut w.merged in
     record {
       frames_a = m.0;

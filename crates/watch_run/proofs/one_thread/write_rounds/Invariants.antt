@@ -5,8 +5,8 @@ use Rattle.tap_merge.specs.Taps.{work_left}
 use Rattle.run_outcome.specs.Opening.{WatchDevices}
 use Rattle.watch_run.proofs.one_thread.write_rounds.Given as goal
 
-abbrev pub invariant-loop-round : goal.invariant-loop-round
-invariant-loop-round g l = record {
+abbrev pub invariant-loop-entries : goal.invariant-loop-entries
+invariant-loop-entries g l = record {
   watching : (vl_table : VlTable) (before : WatchDevices) →
       IsWatching g.S.TapSource g.T.TapSource
       g.W.OutSink g.L.OutSink l.programs vl_table before l.fn.taps l.fn.outputs →
@@ -14,5 +14,5 @@ invariant-loop-round g l = record {
       g.W.OutSink g.L.OutSink l.programs vl_table before l.taps l.outputs;
 }
 
-abbrev pub decreases-loop-round : goal.decreases-loop-round
-decreases-loop-round g l = work_left l.taps
+abbrev pub decreases-loop-entries : goal.decreases-loop-entries
+decreases-loop-entries g l = work_left l.taps

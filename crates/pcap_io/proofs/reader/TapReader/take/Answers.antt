@@ -1,53 +1,40 @@
-use Rattle.std.proofs.Common.{inl, rules, ◌≡◌, ◌∙◌, ℕ, List, ◌++◌, ap, length}
+use Rattle.std.proofs.Common.{rules, ◌∙◌, ap, Ok}
 use Rattle.std.proofs.lemmas.Result.{err_from_is_err_and}
-use Rattle.pcap_io.specs.Block.{drawn_bytes}
 use Rattle.pcap_io.specs.Position.{frame_at}
 use Rattle.pcap_io.specs.declared.position.Position.{Position}
 use Rattle.pcap_io.specs.Reader.{position_of}
-use Rattle.pcap_io.proofs.Steps.{lacks_body, takes_head, body_fault, cut_found, frame_found, takes_packet}
+use Rattle.pcap_io.proofs.Steps.{body_fault, cut_found, frame_found, takes_packet}
 use Rattle.pcap_io.proofs.reader.TapReader.take.Goals as goal
 
-pub returns-in_err-draw-clause-fault : goal.returns-in_err-draw-clause-fault
-returns-in_err-draw-clause-fault g c =
+pub returns-in_err-bytes-clause-fault : goal.returns-in_err-bytes-clause-fault
+returns-in_err-bytes-clause-fault g c =
     let start = rw c.in-Header.is at c.in_ok-header.ensures.start in
-    let p = err_from_is_err_and c.from_residual-in_err-draw.result c.from_residual-in_err-draw.ensures.1 in
-    rw (p.1, p.2) (body_fault _ _ _ _ _ _ _ _ _ start c.in_err-draw.ensures.kept c.in_ok-header.ensures.no_failure c.in_err-draw.ensures.fault)
+    let p = err_from_is_err_and c.from_residual-in_err-bytes.result c.from_residual-in_err-bytes.ensures.1 in
+    rw (p.1, p.2) (body_fault _ _ _ _ _ _ _ _ _ start c.in_err-bytes.ensures.kept c.in_ok-header.ensures.no_failure c.in_err-bytes.ensures.fault)
 
-pub returns-then-not-branch-clause-item : goal.returns-then-not-branch-clause-item
-returns-then-not-branch-clause-item g c =
-    let start = rw c.in-Header.is at c.in_ok-header.ensures.start in
-    let short = c.in_ok-draw.ensures.short (search rules) in
-    cut_found _ _ _ _ _ _ _ c.read_header.ensures.position start c.in_ok-draw.ensures.bytes short.0 short.1
-
-pub returns-then-not-branch-clause-taken : goal.returns-then-not-branch-clause-taken
-returns-then-not-branch-clause-taken g c =
-    let start = rw c.in-Header.is at c.in_ok-header.ensures.start in
-    takes_packet _ _ _ _ _ start (drawn_bytes c.draw.new.self, search rules, c.in_ok-draw.ensures.bytes)
-
-pub returns-clause-item : goal.returns-clause-item
-returns-clause-item g c =
+pub returns-in-Some-clause-item : goal.returns-in-Some-clause-item
+returns-in-Some-clause-item g c =
     let p = position_of c.args.self.now in
-    let q = position_of c.read_header.new.self in
     let header = c.in-Header.header in
-    let body = drawn_bytes c.draw.new.self in
     let start = rw c.in-Header.is at c.in_ok-header.ensures.start in
-    let held : length body ≡ header.captured_len = c.in_ok-draw.ensures.complete (search rules) in
-    let copied : c.extend_from_slice.new.self.items ≡ body =
-    (rw c.unwrap.ensures at c.extend_from_slice.ensures.items) ∙ ap (λ (l : List ℕ). l ++ c.drawn.result.now) c.in_ok-bytes.ensures.items ∙ c.drawn.ensures in
-    frame_found p _ _ _ header body _ (search rules) start held c.in_ok-draw.ensures.bytes
-    (c.frame.ensures ∙ ap (λ (l : List ℕ). frame_at q header l) copied ∙ ap (λ (x : Position). frame_at x header body) c.read_header.ensures.position)
+    let (held, gone) = rw c.in-Some.is at c.in_ok-bytes.ensures.complete in
+    frame_found p _ _ _ header c.in-Some.bytes _ (search rules) start held gone
+    (c.frame.ensures ∙ ap (λ (x : Position). frame_at x header c.in-Some.bytes) c.read_header.ensures.position)
 
-pub returns-clause-taken : goal.returns-clause-taken
-returns-clause-taken g c =
+pub returns-in-Some-clause-taken : goal.returns-in-Some-clause-taken
+returns-in-Some-clause-taken g c =
     let start = rw c.in-Header.is at c.in_ok-header.ensures.start in
-    takes_packet _ _ _ _ _ start (drawn_bytes c.draw.new.self, search rules, c.in_ok-draw.ensures.bytes)
+    let (held, gone) = rw c.in-Some.is at c.in_ok-bytes.ensures.complete in
+    takes_packet _ _ _ _ _ start (c.in-Some.bytes, search rules, gone)
 
-pub returns-in_err-draw-clause-taken : goal.returns-in_err-draw-clause-taken
-returns-in_err-draw-clause-taken g c =
+pub returns-in-None-clause-item : goal.returns-in-None-clause-item
+returns-in-None-clause-item g c =
     let start = rw c.in-Header.is at c.in_ok-header.ensures.start in
-    takes_head _ _ _ _ _ start c.in_err-draw.ensures.kept
+    let ((gone, less, took), end) = c.in_ok-bytes.ensures.short (ap Ok c.in-None.is) in
+    cut_found _ _ _ _ _ _ _ c.read_header.ensures.position start took less end
 
-pub returns-in_err-draw-clause-memory : goal.returns-in_err-draw-clause-memory
-returns-in_err-draw-clause-memory g c =
+pub returns-in-None-clause-taken : goal.returns-in-None-clause-taken
+returns-in-None-clause-taken g c =
     let start = rw c.in-Header.is at c.in_ok-header.ensures.start in
-    λ e. inl (lacks_body _ _ _ _ _ _ start c.in_err-draw.ensures.kept c.in_err-draw.ensures.unfinished)
+    let ((gone, less, took), end) = c.in_ok-bytes.ensures.short (ap Ok c.in-None.is) in
+    takes_packet _ _ _ _ _ start (gone, search rules, took)

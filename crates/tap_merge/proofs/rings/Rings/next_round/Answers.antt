@@ -4,6 +4,7 @@ use Rattle.afdx_frame.specs.Frame.{Frame}
 use Rattle.tap_queue.specs.Ring.{taken_items}
 use Rattle.tap_merge.proofs.RingItems.{at_most, is_met, stops_with, taken_after_cut, takes_none}
 use Rattle.tap_merge.proofs.TwoTaps.{all_cut, no_frames}
+use Rattle.tap_merge.specs.declared.taps.TheConstants.{ROUND}
 use Rattle.tap_merge.proofs.rings.Rings.next_round.Goals as goal
 
 pub returns-in-Err-clause-stopped : goal.returns-in-Err-clause-stopped
@@ -29,8 +30,8 @@ returns-clause-ended g c = λ _.
       is_met rings.end_a rings.merger.a (taken_items rings.a) h.ended_a both.0,
       is_met rings.end_b rings.merger.b (taken_items rings.b) h.ended_b both.1,
       sym (ap (λ (l : List Frame). l ++ c.cut.new.self.pending) none) ∙ sym c.in-Ok.ensures.whole
-          ∙ all_cut rings.merger 256 (omega arith) both.0 both.1 (sym c.in-Ok.ensures.round ∙ none),
+          ∙ all_cut rings.merger ROUND (omega arith) both.0 both.1 (sym c.in-Ok.ensures.round ∙ none),
     ))
 
 pub returns-then-merged-clause-size : goal.returns-then-merged-clause-size
-returns-then-merged-clause-size g c = rw c.in-Ok.ensures.round (at_most 256 (safe_frames c.merge_some.new.self.merger))
+returns-then-merged-clause-size g c = rw c.in-Ok.ensures.round (at_most ROUND (safe_frames c.merge_some.new.self.merger))

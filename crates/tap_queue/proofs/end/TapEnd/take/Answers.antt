@@ -1,5 +1,7 @@
 use Rattle.std.proofs.Common.{◌≡◌, ◌++◌, ◌∷◌, [], length, sym, ap, ◌∙◌, inr, List, arith}
 use Rattle.std.proofs.lemmas.Bool.{not-false, not-true, false≢true}
+use Rattle.tap_queue.specs.Batches.{taken_of}
+use Rattle.tap_queue.specs.Ring.{taken_items}
 use Rattle.rtrb.specs.Ring.{received}
 use Rattle.tap_queue.specs.Items.{frames_in, high_of, is_over}
 use Rattle.tap_queue.specs.declared.item.TapItem.{TapItem}
@@ -13,9 +15,9 @@ use Rattle.tap_queue.proofs.end.TapEnd.take.Goals.{in-Frame, in-End}
 
 pub invariant_of-self-in-Frame-1 : goal.invariant_of-self-in-Frame-1
 invariant_of-self-in-Frame-1 g c =
-    let before = received c.args.self.now.consumer in
+    let before = taken_items c.args.self.now in
     let (going, unended) = c.is_going.ensures.0 c.if-not-is_going.false in
-    let taken : received c.pop.new.consumer ≡ before ++ Frame c.in-Frame.frame ∷ [] =
+    let taken : taken_of (received c.next_item.new.consumer) c.next_item.new.rest.items ≡ before ++ Frame c.in-Frame.frame ∷ [] =
     c.in-Some.ensures.taken ∙ ap (λ (item : TapItem). before ++ item ∷ []) c.in-Frame.is in
     let kept = c.pass.ensures.passed in
     record {
@@ -31,11 +33,12 @@ invariant_of-self-in-Frame-1 g c =
           let old = c.args.self.now.highest going in
           omega (arith, now, all, old));
       ended = λ _. c.args.self.now.ended going ∙ (unended ∙ sym (ap is_over taken ∙ over_more before (Frame c.in-Frame.frame) unended));
+      kept = c.next_item.ensures.kept;
     }
 
 pub invariant_of-self-in-End : goal.invariant_of-self-in-End
 invariant_of-self-in-End g c =
-    let before = received c.args.self.now.consumer in
+    let before = taken_items c.args.self.now in
     let unended = (c.is_going.ensures.0 c.if-not-is_going.false).1 in
     let last = last_from c.in-Some.item c.in-End.is in
     let taken = c.in-Some.ensures.taken in
@@ -45,12 +48,13 @@ invariant_of-self-in-End g c =
       counted = λ going. c.args.self.now.counted going ∙ ap length (sym frames);
       highest = λ going. c.args.self.now.highest going ∙ ap high_of (sym frames);
       ended = λ going. sym (ap is_over taken ∙ (over_more before c.in-Some.item unended ∙ last));
+      kept = c.next_item.ensures.kept;
     }
 
 pub returns-clause-next : goal.returns-clause-next
 returns-clause-next g c =
     let place = c.args.self.now.next in
-    let before = received c.args.self.now.consumer in
+    let before = taken_items c.args.self.now in
     let (going, unended) = c.is_going.ensures.0 c.if-not-is_going.false in
     elim c.match-item.branch [
       | in-Frame w ↦
@@ -63,12 +67,12 @@ returns-clause-next g c =
 pub returns-then-self-clause-loss : goal.returns-then-self-clause-loss
 returns-then-self-clause-loss g c going unended =
     let place = c.args.self.now.next in
-    let before = received c.args.self.now.consumer in
+    let before = taken_items c.args.self.now in
     elim c.match-item.branch [
       | in-Frame w ↦
           inr (
             c.in-Some.item,
-            ap (λ (e : TapEnd). received e.consumer) w.self-is ∙ c.in-Some.ensures.taken,
+            ap taken_items w.self-is ∙ c.in-Some.ensures.taken,
             frame_refused place.network place.late place.number place.high before w.in-Frame.frame c.in-Some.item w.in-Frame.is (c.args.self.now.counted going)
                 (c.args.self.now.highest going)
                 (λ follows. false≢true (sym (not-true w.pass.result (sym (ap (λ (e : TapEnd). e.lost) w.self-is) ∙ c.if-self.true)) ∙ w.pass.ensures.next.1 follows)),

@@ -7,5 +7,5 @@ abbrev pub invariant-loop : goal.invariant-loop
 invariant-loop g l = record {
   ring : SamePut l.initial.self l.self;
   put : put_items l.self ≡ put_items l.initial.self;
-  same : l.item ≡ l.initial.item;
+  same : l.batch ≡ l.initial.batch;
 }

@@ -1,10 +1,13 @@
-use Rattle.std.proofs.Common.{arith}
-use Rattle.verdict_ledger.proofs.Counting.{frames_of}
+-- Whether the ledger stands after entries doesn't rest on its text.
+use Rattle.std.proofs.lemmas.Result.{on_ok_weaker, on_err_weaker}
 use Rattle.verdict_ledger.proofs.ledger.Ledger.round.Goals as goal
 
-pub returns-in-Ok-clause-counted : goal.returns-in-Ok-clause-counted
-returns-in-Ok-clause-counted g c = λ vl_table filters entries stands. record {
-  links = stands.links;
-  filters = stands.filters;
-  tally = c.count_round.ensures entries (omega (arith, c.requires.room, frames_of entries c.args.self.now.tally.totals stands.tally.totals)) stands.tally;
-}
+pub returns-clause-counted : goal.returns-clause-counted
+returns-clause-counted g c = on_ok_weaker c.settle.result
+    (λ more vl_table filters entries stands. more vl_table filters entries (record { links = stands.links; filters = stands.filters; tally = stands.tally }))
+    c.settle.ensures.counted
+
+pub returns-clause-not_counted : goal.returns-clause-not_counted
+returns-clause-not_counted g c = on_err_weaker c.settle.result
+    (λ same vl_table filters entries stands. same vl_table filters entries (record { links = stands.links; filters = stands.filters; tally = stands.tally }))
+    c.settle.ensures.not_counted

@@ -18,4 +18,4 @@ returns-clause-written g c =
     let text = line_text (entry_with c.args.frame.now c.args.verdict.now c.args.keep c.args.mask) in
     appended (fault_of c.flush.result) (contents sink) (contents after.sink) (failures sink) (failures after.sink)
     c.clear.new.self.items after.text.items text c.clear.ensures.items (where_no_fault c.flush.result c.flush.ensures.empty)
-    (spooled_flush _ _ _ _ _ _ _ _ _ c.in_ok-push_line.ensures c.flush.ensures.written)
+    (spooled_flush _ _ _ _ _ _ _ _ _ c.in_ok-push_line.ensures.line c.flush.ensures.written)

@@ -10,12 +10,12 @@ pub returns-in-Some : goal.returns-in-Some
 returns-in-Some c = λ entries few tallied.
     let e = entry_with c.args.frame.now c.args.verdict.now c.args.keep c.args.mask in
     let id = c.in-Some.id in
-    let at = c.from-index.result in
+    let at = c.from.result in
     let counts = c.args.self.now.counts in
-    let fits : at < 65536 = omega (arith, c.from-index.ensures) in
-    let now = c.with.ensures (filter (is_entry_of id) entries) e (few_of_link entries id _ few) refl
-    (c.index.ensures ∙ tallied.links at c.index.result.now fits ∙ ap (λ (n : ℕ). link_counts entries (record { 0 = n })) c.from-index.ensures) in
+    let fits : at < 65536 = omega (arith, c.from.ensures) in
+    let now = c.count-in-Some.ensures (filter (is_entry_of id) entries) e (few_of_link entries id _ few) refl
+    (c.index_mut.ensures.value ∙ tallied.links at c.index_mut.result.now fits ∙ ap (λ (n : ℕ). link_counts entries (record { 0 = n })) c.from.ensures) in
     record {
-      totals = c.with-self.ensures entries e few refl refl refl tallied.totals;
-      links = counts_move entries e counts.items id at c.with.result c.in-Some.ensures c.from-index.ensures (omega (arith, counts.ok.0)) (omega arith) now tallied.links;
+      totals = c.count.ensures entries e few refl refl refl tallied.totals;
+      links = counts_move entries e counts.items id at c.count-in-Some.new.self c.in-Some.ensures c.from.ensures (omega (arith, counts.ok.0)) (omega arith) now tallied.links;
     }

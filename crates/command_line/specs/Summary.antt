@@ -1,0 +1,71 @@
+-- What a run of watch came to, as a person at a terminal is told (this project's format), and which input its counts speak against.
+use Rattle.std.specs.Prelude.{ℕ, ◌-◌, ◌/◌, ◌==◌, nat_lt, nat_le, Bool, ◌&&◌, List, [], ◌++◌, Option, None, Some, codes, decimal, if◌then◌else◌}
+use Rattle.pcap_io.specs.declared.recording.Ending.{Ending}
+use Rattle.pcap_io.specs.declared.recording.Ending.TheVariants.{Clean, Cut, Bad}
+use Rattle.verdict_ledger.specs.declared.totals.Totals.{Totals}
+use Rattle.command_line.specs.declared.summary.Hint.{Hint}
+use Rattle.command_line.specs.declared.summary.Hint.TheVariants as hint
+
+-- how many frames stand before a recording's ending
+abbrev pub frames_before : Ending → ℕ
+frames_before (Clean n) = n
+frames_before (Cut n) = n
+frames_before (Bad n reason) = n
+
+-- all but a tenth of some frames at most
+abbrev pub is_nearly_all : ℕ → ℕ → Bool
+is_nearly_all count frames = nat_lt 0 frames && nat_le (frames - count) (frames / 10)
+
+-- both networks have frames, some are delivered, and none is a copy
+abbrev pub has_no_copy : ℕ → ℕ → Totals → Bool
+has_no_copy a b totals = nat_lt 0 a && (nat_lt 0 b && (nat_lt 0 totals.delivered && (totals.copy == 0)))
+
+-- the networks have as many frames, and each frame that is delivered has a copy
+abbrev pub has_each_copy : ℕ → ℕ → Totals → Bool
+has_each_copy a b totals = (a == b) && (nat_lt 0 totals.copy && (totals.copy == totals.delivered))
+
+-- the first of these that the counts show
+abbrev pub hint_by : ℕ → ℕ → Totals → Option Hint
+hint_by a b totals =
+    if is_nearly_all totals.foreign totals.frames then Some hint.Constant
+    else if is_nearly_all totals.toolong totals.frames then Some hint.FrameLength
+    else if has_no_copy a b totals then Some hint.Clocks
+    else if has_each_copy a b totals then Some hint.OneRecording else None
+
+unfoldable pub hint_of : Ending → Ending → Totals → Option Hint
+hint_of a b totals = hint_by (frames_before a) (frames_before b) totals
+
+abbrev pub hint_words : Hint → List ℕ
+hint_words hint.Constant = codes "nearly all frames are foreign: is the table's 'constant' that of this network?"
+hint_words hint.FrameLength = codes "nearly all frames are too long: does 'smax' count a frame without its check sequence?"
+hint_words hint.Clocks = codes "no frame is a copy of another: are the clocks of the taps apart?"
+hint_words hint.OneRecording = codes "each frame has its copy: are --a and --b two names of one recording?"
+
+unfoldable pub hint_part : Option Hint → List ℕ
+hint_part None = []
+hint_part (Some h) = codes "\nafdxmon: hint: " ++ hint_words h
+
+-- a count and what it counts
+abbrev pub count_part : List ℕ → ℕ → List ℕ
+count_part name n = name ++ codes " " ++ decimal n
+
+abbrev pub four_counts : List ℕ → ℕ → List ℕ → ℕ → List ℕ → ℕ → List ℕ → ℕ → List ℕ
+four_counts one k two l three m four n =
+    count_part one k ++ codes ", " ++ count_part two l ++ codes ", " ++ count_part three m ++ codes ", " ++ count_part four n
+
+-- what discarded frames, and how many
+unfoldable pub discards_part : Totals → List ℕ
+discards_part t =
+    four_counts (codes "cut") t.cut (codes "runt") t.runt (codes "oversize") t.oversize (codes "foreign") t.foreign ++ codes ", "
+    ++ four_counts (codes "unconfigured") t.unconfigured (codes "toolong") t.toolong (codes "excess") t.excess (codes "out") t.out
+
+-- how many frames there are, and of each network
+unfoldable pub frames_part : Ending → Ending → Totals → List ℕ
+frames_part a b t =
+    four_counts (codes "frames") t.frames (codes "delivered") t.delivered (codes "copies") t.copy (codes "accepted") t.accepted
+    ++ codes "; " ++ count_part (codes "of network A") (frames_before a) ++ codes ", " ++ count_part (codes "of network B") (frames_before b)
+
+-- the summary of a run, by how its recordings ended and the counts of their frames
+abbrev pub summary_of : Ending → Ending → Totals → List ℕ
+summary_of a b t =
+    codes "afdxmon: summary: " ++ (frames_part a b t ++ (codes "\nafdxmon: summary: discarded " ++ (discards_part t ++ hint_part (hint_of a b t))))

@@ -1,0 +1,209 @@
+//! What a run of `watch` came to, told to a person at a terminal.
+ghost use Rattle.std.specs.Prelude.{◌≡◌};
+ghost use Rattle.command_line.specs.Summary.{frames_before, hint_of, hint_words, is_nearly_all};
+
+use pcap_io::Ending;
+use std::fmt;
+use std::fmt::{Display, Formatter};
+use verdict_ledger::Totals;
+
+/// Which input of a run its counts speak against.
+#[derive(Clone, Copy, Debug, PartialEq, Eq)]
+pub enum Hint {
+    /// The table's constant: nearly all frames are foreign.
+    Constant,
+    /// Smax, or the recordings: nearly all frames are longer than their link's Smax.
+    FrameLength,
+    /// The clocks of the taps: both networks have frames, and none is the copy of another.
+    Clocks,
+    /// The recordings: one of them may be given as both.
+    OneRecording,
+}
+
+/// How many frames stand before a recording's ending.
+fn frames_before(ending: Ending) -> u64
+    ensures { result ≡ frames_before ending }
+{
+    match ending {
+        Ending::Clean(count) | Ending::Cut(count) | Ending::Bad(count, _) => count,
+    }
+}
+
+/// Are so many of all frames nearly all of them, nine in ten? Of no frame none are.
+fn is_nearly_all(count: u64, frames: u64) -> bool
+    ensures { result ≡ is_nearly_all count frames }
+{
+    0 < frames && frames.saturating_sub(count) <= frames / 10
+}
+
+/// Which input is likely wrong, by the endings of both recordings and the counts of their frames.
+#[tactic(auto, unfolding(crate::specs::Summary::hint_of))]
+pub fn hint_of(a: Ending, b: Ending, totals: &Totals) -> Option<Hint>
+    ensures { result ≡ hint_of a b totals.now }
+{
+    let (a, b) = (frames_before(a), frames_before(b));
+    if is_nearly_all(totals.foreign, totals.frames) {
+        Some(Hint::Constant)
+    } else if is_nearly_all(totals.toolong, totals.frames) {
+        Some(Hint::FrameLength)
+    } else if 0 < a && 0 < b && 0 < totals.delivered && totals.copy == 0 {
+        Some(Hint::Clocks)
+    } else if a == b && 0 < totals.copy && totals.copy == totals.delivered {
+        Some(Hint::OneRecording)
+    } else {
+        None
+    }
+}
+
+fn hint_words(hint: Hint) -> &'static str
+    ensures { result.now ≡ hint_words hint }
+{
+    match hint {
+        Hint::Constant => {
+            "nearly all frames are foreign: is the table's 'constant' that of this network?"
+        }
+        Hint::FrameLength => {
+            "nearly all frames are too long: does 'smax' count a frame without its check sequence?"
+        }
+        Hint::Clocks => "no frame is a copy of another: are the clocks of the taps apart?",
+        Hint::OneRecording => {
+            "each frame has its copy: are --a and --b two names of one recording?"
+        }
+    }
+}
+
+/// A hint on a line of its own, with the newline before it.
+#[derive(Clone, Copy)]
+struct HintPart(Option<Hint>);
+
+impl Display for HintPart {
+    ghost use Rattle.std.specs.Prelude.{Some};
+    ghost use Rattle.command_line.specs.Summary.{hint_part};
+
+    ghost output = { λ part. Some (hint_part part.0) };
+
+    #[tactic(auto, unfolding(crate::specs::Summary::hint_part))]
+    fn fmt<W: fmt::Write>(&self, f: &mut Formatter<W>) -> fmt::Result {
+        match self.0 {
+            Some(hint) => {
+                let words = hint_words(hint);
+                write!(f, "\nafdxmon: hint: {words}")
+            }
+            None => Ok(()),
+        }
+    }
+}
+
+/// A count and what it counts.
+#[derive(Clone, Copy)]
+struct Count(&'static str, u64);
+
+impl Display for Count {
+    ghost use Rattle.std.specs.Prelude.{Some};
+    ghost use Rattle.command_line.specs.Summary.{count_part};
+
+    ghost output = { λ part. Some (count_part part.0.now part.1) };
+
+    fn fmt<W: fmt::Write>(&self, f: &mut Formatter<W>) -> fmt::Result {
+        let (name, count) = (self.0, self.1);
+        write!(f, "{name} {count}")
+    }
+}
+
+/// Four counts, one after the other.
+#[derive(Clone, Copy)]
+struct FourCounts(Count, Count, Count, Count);
+
+impl Display for FourCounts {
+    ghost use Rattle.std.specs.Prelude.{Some};
+    ghost use Rattle.command_line.specs.Summary.{four_counts};
+
+    ghost output = { λ part. Some (four_counts
+        part.0.0.now part.0.1 part.1.0.now part.1.1 part.2.0.now part.2.1 part.3.0.now part.3.1) };
+
+    fn fmt<W: fmt::Write>(&self, f: &mut Formatter<W>) -> fmt::Result {
+        let (first, second, third, fourth) = (self.0, self.1, self.2, self.3);
+        write!(f, "{first}, {second}, {third}, {fourth}")
+    }
+}
+
+/// The counts of all frames by what discarded them.
+#[derive(Clone, Copy)]
+struct DiscardsPart(Totals);
+
+impl Display for DiscardsPart {
+    ghost use Rattle.std.specs.Prelude.{Some};
+    ghost use Rattle.command_line.specs.Summary.{discards_part};
+
+    ghost output = { λ part. Some (discards_part part.0) };
+
+    #[tactic(auto, unfolding(crate::specs::Summary::discards_part))]
+    fn fmt<W: fmt::Write>(&self, f: &mut Formatter<W>) -> fmt::Result {
+        let t = self.0;
+        let by_class = FourCounts(
+            Count("cut", t.cut),
+            Count("runt", t.runt),
+            Count("oversize", t.oversize),
+            Count("foreign", t.foreign),
+        );
+        let by_link = FourCounts(
+            Count("unconfigured", t.unconfigured),
+            Count("toolong", t.toolong),
+            Count("excess", t.excess),
+            Count("out", t.out),
+        );
+        write!(f, "{by_class}, {by_link}")
+    }
+}
+
+/// What a run over two recordings read and counted. Its text is the summary, without the last newline.
+#[derive(Clone, Copy, Debug)]
+pub struct Summary {
+    /// How the recording of network A ended.
+    pub a: Ending,
+    /// How the recording of network B ended.
+    pub b: Ending,
+    /// The counts of all frames.
+    pub totals: Totals,
+}
+
+/// The frames of a run, by network and by what became of them.
+#[derive(Clone, Copy)]
+struct FramesPart(Summary);
+
+impl Display for FramesPart {
+    ghost use Rattle.std.specs.Prelude.{Some};
+    ghost use Rattle.command_line.specs.Summary.{frames_part};
+
+    ghost output = { λ part. Some (frames_part part.0.a part.0.b part.0.totals) };
+
+    #[tactic(auto, unfolding(crate::specs::Summary::frames_part))]
+    fn fmt<W: fmt::Write>(&self, f: &mut Formatter<W>) -> fmt::Result {
+        let Summary { a, b, totals } = self.0;
+        let a = Count("of network A", frames_before(a));
+        let b = Count("of network B", frames_before(b));
+        let became = FourCounts(
+            Count("frames", totals.frames),
+            Count("delivered", totals.delivered),
+            Count("copies", totals.copy),
+            Count("accepted", totals.accepted),
+        );
+        write!(f, "{became}; {a}, {b}")
+    }
+}
+
+impl Display for Summary {
+    ghost use Rattle.std.specs.Prelude.{Some};
+    ghost use Rattle.command_line.specs.Summary.{summary_of};
+
+    ghost output = { λ run. Some (summary_of run.a run.b run.totals) };
+
+    fn fmt<W: fmt::Write>(&self, f: &mut Formatter<W>) -> fmt::Result {
+        let (frames, discards) = (FramesPart(*self), DiscardsPart(self.totals));
+        let hint = HintPart(hint_of(self.a, self.b, &self.totals));
+        write!(
+            f,
+            "afdxmon: summary: {frames}\nafdxmon: summary: discarded {discards}{hint}"
+        )
+    }
+}

@@ -1,0 +1,5 @@
+pub mod Chunking
+pub mod Claiming
+pub mod Crossing
+pub mod Asking
+pub mod Ordering

@@ -1,0 +1,4 @@
+pub mod Chunks
+pub mod Shares
+pub mod Replies
+pub mod Flights

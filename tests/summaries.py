@@ -1,0 +1,75 @@
+"""Tests of the summary that `watch` ends with at a terminal: whole, with each hint, and nowhere else."""
+import os
+import subprocess
+import tempfile
+
+from analyser import watch
+from harness import EVERY, SUCCESS, TOP, difference, frame, run_at_terminal, say
+from watching import LINK_5, TABLE, Desk, notes_on, read, tap
+
+DISCARDS = ("cut", "runt", "oversize", "foreign", "unconfigured", "toolong", "excess", "out")
+MS = 10**6
+
+
+def summary_of(ledger, hint):
+    """The summary of a run that wrote this ledger."""
+    rows = [line.split() for line in ledger.decode().splitlines()]
+    total = next(row for row in rows if row[0] == "total")
+    count = dict(zip(total[1::2], total[2::2]))
+    taps = {row[1]: row[3] for row in rows if row[0] == "tap"}
+    discards = ", ".join(f"{name} {count[name]}" for name in DISCARDS)
+    return (
+        f"afdxmon: summary: frames {count['frames']}, delivered {count['delivered']}, copies {count['copy']}, "
+        f"accepted {count['accepted']}; of network A {taps['A']}, of network B {taps['B']}\n"
+        f"afdxmon: summary: discarded {discards}\n" + (f"afdxmon: hint: {hint}\n" if hint else "")
+    )
+
+
+FOREIGN = "nearly all frames are foreign: is the table's 'constant' that of this network?"
+TOO_LONG = "nearly all frames are too long: does 'smax' count a frame without its check sequence?"
+NO_COPY = "no frame is a copy of another: are the clocks of the taps apart?"
+ONE_RECORDING = "each frame has its copy: are --a and --b two names of one recording?"
+
+
+def frames(count, start=0, size=60, first=0):
+    """So many frames of link 5, one each 2 ms, with sequence numbers that go on from `first`."""
+    return [(start + i * 2 * MS, frame(5, size, (first + i) % 255 + 1)) for i in range(count)]
+
+
+def summed(desk, name, config, a, b, hint):
+    """A run at a terminal, and then with --quiet: the notes alone."""
+    expected = watch(config, EVERY, a, b)
+    ledger = expected.lines + expected.summary
+    told = notes_on(ledger) + "\n" if notes_on(ledger) else ""
+    for more, whole in (((), told + summary_of(ledger, hint)), (("--quiet",), told)):
+        desk.lay(config=config, filter=EVERY, a=a, b=b)
+        ran = run_at_terminal([*desk.arguments(), *more], stdin=subprocess.DEVNULL)
+        fault = "" if (ran.returncode, ran.stderr, ran.stdout) == (SUCCESS, whole, b"") else f"status {ran.returncode}, {ran.stderr!r}, not {whole!r}"
+        left = desk.compared("capture", expected.capture) or desk.compared("ledger", ledger)
+        say(" ".join(["watch: the summary", *more, "of", name]), fault or left)
+    desk.lay(config=config, filter=EVERY, a=a, b=b)
+    say(f"watch: --quiet in a pipe, of {name}", difference(desk.watch("--quiet"), SUCCESS, notes_on(ledger), b""))
+
+
+def cases():
+    foreign = "constant = 117440512\n" + LINK_5
+    other = TABLE + LINK_5.replace("= 5", "= 6").replace("brake", "flaps")
+    short = TABLE.replace("smax = 200", "smax = 64")
+    sound, late = frames(20), frames(19, start=100)
+    day = frames(20, start=86_400 * 10**9)
+    # A frame of another class in each ten, so that nine in ten are foreign or too long, and then one less.
+    few = [(stamp, b"\4" + data[1:]) for stamp, data in frames(9)]
+    with tempfile.TemporaryDirectory() as directory:
+        desk = Desk(directory)
+        summed(desk, "two taps of which one lost a frame", TABLE, tap(*sound), tap(*late), None)
+        summed(desk, "a tap that is empty", TABLE, tap(*sound), tap(), None)
+        summed(desk, "two empty taps", TABLE, tap(), tap(), None)
+        summed(desk, "a truncated tap", TABLE, tap(*sound)[:-1], tap(*late), ONE_RECORDING)
+        summed(desk, "another constant", foreign, tap(*sound), tap(*sound), FOREIGN)
+        summed(desk, "nine foreign frames in ten", other, tap(*few, (10**9, frame(5, 60, 1))), tap(), FOREIGN)
+        summed(desk, "nine foreign frames in eleven", other, tap(*few, *frames(2, start=10**9)), tap(), None)
+        summed(desk, "frames over Smax", short, tap(*frames(20, size=120)), tap(*frames(20, size=120)), TOO_LONG)
+        summed(desk, "taps a day apart", TABLE, tap(*sound), tap(*day), NO_COPY)
+        summed(desk, "one recording twice", TABLE, tap(*sound), tap(*sound), ONE_RECORDING)
+        example = [read(os.path.join(TOP, "examples", "flight" + end)) for end in (".toml", "_a.pcap", "_b.pcap")]
+        summed(desk, "the flight of examples", example[0].decode(), *example[1:], None)
