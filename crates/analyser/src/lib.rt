@@ -21,9 +21,9 @@ pub use command_line::{
     read_arguments,
 };
 pub use commands::{
-    AsmRun, CaptureRun, DebugRun, HeldTap, Ran, TapRead, answer_line, asm_over, begin_session, capture_over,
-    debug_over, filter_of, load_filters, read_config, read_file, read_tap, run_asm, run_capture,
-    run_debug, run_session, source_means_its_program,
+    AsmRun, CaptureRun, DebugRun, HeldTap, Ran, TapRead, answer_line, asm_over, begin_session,
+    capture_over, debug_over, filter_of, load_filters, read_config, read_file, read_tap, run_asm,
+    run_capture, run_debug, run_session, source_means_its_program,
 };
 pub use run_outcome::{Output, WatchFault, WatchRefused};
 pub use watch_run::{OpenGate, Watched, same_bytes_in_same_bytes_out, watch, watch_whole};
