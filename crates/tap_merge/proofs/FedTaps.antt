@@ -113,3 +113,10 @@ nothing_left old new (items.Failed fault ∷ y ∷ given) more over (mid, one, l
 pub settled_gives : (old new : Reading) (put taken : List TapItem) → taken ≡ put → is_over taken ≡ true → IsFed old put new → Gives old taken new
 settled_gives old new put taken same over (more, gives, none) =
     nothing_left old new taken more over (subst (λ (l : List TapItem). Gives old (l ++ more) new) (sym same) gives)
+
+-- ---- some items are left over
+
+pub left_gives : (old new : Reading) (put taken : List TapItem) → (more : List TapItem) × (put ≡ taken ++ more) → IsFed old put new →
+    (more : List TapItem) × Gives old (taken ++ more) new
+left_gives old new put taken (more, all) (unput, gives, none) =
+    (more ++ unput, subst (λ (l : List TapItem). Gives old l new) (ap (λ (l : List TapItem). l ++ unput) all ∙ append_assoc taken more unput) gives)

@@ -20,7 +20,12 @@ use Rattle.ordered_merge.proofs.Following.{follows_cut, follows_end, follows_fet
 use Rattle.tap_queue.specs.Ring.{SameEnd}
 use Rattle.ordered_merge.specs.Merge.{after_cut, change_tap, cut_frames, fetched}
 use Rattle.tap_merge.specs.declared.taps.TheConstants.{ROUND}
-use Rattle.tap_merge.specs.Rings.{MergesItem, AgreesWith, AreFirst, EndsWith, HasEnding, HasTaken, StopsTaking, TakesOn}
+use Rattle.tap_queue.specs.Ring.{Looks}
+use Rattle.run_outcome.specs.declared.fault.WatchFault.{WatchFault}
+use Rattle.run_outcome.specs.declared.fault.WatchFault.TheVariants as watch
+use Rattle.std.specs.Prelude.{IfSome}
+use Rattle.pcap_io.specs.declared.item.ReadFault.TheVariants.{Device}
+use Rattle.tap_merge.specs.Rings.{RingsFault, TakesFailure, TapFault, WhereFailed, MergesItem, AgreesWith, AreFirst, EndsWith, HasEnding, HasTaken, StopsTaking, TakesOn}
 
 -- ---- what the merger knows of a network
 
@@ -241,6 +246,7 @@ taken_after_cut late cut rings m round h is round_is = record {
   follows = rw (is, round_is) (follows_cut rings.merger (frames_in (taken_items rings.a)) (frames_in (taken_items rings.b)) cut ROUND h.follows);
   ended_a = subst (λ (s : MergerState). HasEnding rings.end_a s.a (taken_items rings.a)) (sym is) h.ended_a;
   ended_b = subst (λ (s : MergerState). HasEnding rings.end_b s.b (taken_items rings.b)) (sym is) h.ended_b;
+  failed = h.failed;
 }
 
 -- ---- the rest of the rings is taken
@@ -279,3 +285,151 @@ ends_on item old new last (before, all) takes sound =
     let m = takes.more sound in
     let none = m.2 (ap is_over all ∙ over_with before item last) in
     subst (λ (l : List TapItem). EndsWith item l) (sym (m.1 ∙ ap (λ (l : List TapItem). taken_items old ++ l) none ∙ append-nil (taken_items old))) (before, all)
+
+-- ---- a ring was looked at, or a source's failure was taken
+
+fault_kept : (fault : WatchFault) (network : Network) (old new : TapEnd) → Looks old new → TapFault network fault old → TapFault network fault new
+fault_kept (watch.Read failed) network old new l (is, sound, ends) = (is, l.lost ∙ sound, subst (λ (t : List TapItem). EndsWith (items.Failed Device) t) (sym l.taken) ends)
+fault_kept watch.Memory network old new l f = tt
+fault_kept watch.RingLost network old new l f = tt
+fault_kept watch.Workers network old new l f = absurd f
+fault_kept (watch.Header n fault) network old new l f = absurd f
+fault_kept watch.Spawn network old new l f = absurd f
+fault_kept (watch.Write out) network old new l f = absurd f
+fault_kept watch.Filters network old new l f = absurd f
+
+none_of : (rings : Rings) (a b : TapEnd) → Looks rings.a a → Looks rings.b b → IfSome rings.fault (λ fault. RingsFault fault rings.a rings.b) →
+    IfSome rings.fault (λ fault. RingsFault fault a b)
+none_of rings a b on_a on_b h = by rings.fault h
+  where
+    by : (fault : Option WatchFault) → IfSome fault (λ fault. RingsFault fault rings.a rings.b) → IfSome fault (λ fault. RingsFault fault a b)
+    by None h = tt
+    by (Some fault) (A, f) = (A, fault_kept fault A rings.a a on_a f)
+    by (Some fault) (B, f) = (B, fault_kept fault B rings.b b on_b f)
+
+pub looks_none : (end : TapEnd) → Looks end end
+looks_none end = record { same = (((refl, refl, refl, refl), refl), refl, refl); taken = refl; lost = refl }
+
+pub taken_looks : (late : ℕ) (cut : List Frame) (rings : Rings) (a b : TapEnd) → Looks rings.a a → Looks rings.b b → HasTaken late cut rings →
+    HasTaken late cut (record rings { a = a; b = b })
+taken_looks late cut rings a b on_a on_b h = record {
+  late_is = h.late_is;
+  network_a = on_a.same.1 ∙ h.network_a;
+  network_b = on_b.same.1 ∙ h.network_b;
+  late_a = on_a.same.2 ∙ h.late_a;
+  late_b = on_b.same.2 ∙ h.late_b;
+  few_a = subst (λ (t : List TapItem). length (frames_in t) ≤ most_frames) (sym on_a.taken) h.few_a;
+  few_b = subst (λ (t : List TapItem). length (frames_in t) ≤ most_frames) (sym on_b.taken) h.few_b;
+  follows = subst (λ (t : List TapItem). Follows rings.merger (frames_in t) (frames_in (taken_items b)) cut) (sym on_a.taken)
+      (subst (λ (t : List TapItem). Follows rings.merger (frames_in (taken_items rings.a)) (frames_in t) cut) (sym on_b.taken) h.follows);
+  ended_a = subst (λ (t : List TapItem). HasEnding rings.end_a rings.merger.a t) (sym on_a.taken) h.ended_a;
+  ended_b = subst (λ (t : List TapItem). HasEnding rings.end_b rings.merger.b t) (sym on_b.taken) h.ended_b;
+  failed = none_of rings a b on_a on_b h.failed;
+}
+
+-- ---- a source's failure was taken, and nothing was merged
+
+frames_to_failure : (xs ys : List TapItem) → ys ≡ xs ++ items.Failed Device ∷ [] → frames_in xs ≡ frames_in ys
+frames_to_failure xs ys is = sym (append-nil (frames_in xs)) ∙ sym (frames_append xs (items.Failed Device ∷ [])) ∙ ap frames_in (sym is)
+
+ending_kept : (end : Option Ending) (tap : Tap) (xs ys : List TapItem) → tap.ended ≡ false → HasEnding end tap xs → HasEnding end tap ys
+ending_kept None tap xs ys going h = h
+ending_kept (Some e) tap xs ys going (is, ends) = absurd (false≢true (sym going ∙ is))
+
+pub failed_a : (fault : WatchFault) (rings : Rings) (m : MergerState) (new : TapEnd) → rings.fault ≡ None → rings.merger.a.ended ≡ false → m ≡ rings.merger →
+    TakesOn rings.a new → TakesFailure fault rings.a new →
+    WhereFailed fault ((late : ℕ) (cut : List Frame) → HasTaken late cut rings → HasTaken late cut (record rings { a = new; merger = m }))
+failed_a (watch.Read network) rings m new none going same takes taken = λ late cut h.
+    (let frames : frames_in (taken_items rings.a) ≡ frames_in (taken_items new) = frames_to_failure (taken_items rings.a) (taken_items new) taken in
+    record {
+      late_is = ap (λ (s : MergerState). s.late) same ∙ h.late_is;
+      network_a = takes.same.1 ∙ h.network_a;
+      network_b = h.network_b;
+      late_a = takes.same.2 ∙ h.late_a;
+      late_b = h.late_b;
+      few_a = subst (λ (l : List Frame). length l ≤ most_frames) frames h.few_a;
+      few_b = h.few_b;
+      follows = subst (λ (s : MergerState). Follows s (frames_in (taken_items new)) (frames_in (taken_items rings.b)) cut) (sym same)
+          (subst (λ (l : List Frame). Follows rings.merger l (frames_in (taken_items rings.b)) cut) frames h.follows);
+      ended_a = subst (λ (s : MergerState). HasEnding rings.end_a s.a (taken_items new)) (sym same)
+          (ending_kept rings.end_a rings.merger.a (taken_items rings.a) (taken_items new) going h.ended_a);
+      ended_b = subst (λ (s : MergerState). HasEnding rings.end_b s.b (taken_items rings.b)) (sym same) h.ended_b;
+      failed = subst (λ (f : Option WatchFault). IfSome f (λ fault. RingsFault fault new rings.b)) (sym none) tt;
+    })
+failed_a watch.Memory rings m new none going same takes taken = tt
+failed_a watch.RingLost rings m new none going same takes taken = tt
+failed_a watch.Workers rings m new none going same takes taken = tt
+failed_a (watch.Header n fault) rings m new none going same takes taken = tt
+failed_a watch.Spawn rings m new none going same takes taken = tt
+failed_a (watch.Write out) rings m new none going same takes taken = tt
+failed_a watch.Filters rings m new none going same takes taken = tt
+
+pub failed_b : (fault : WatchFault) (rings : Rings) (m : MergerState) (new : TapEnd) → rings.fault ≡ None → rings.merger.b.ended ≡ false → m ≡ rings.merger →
+    TakesOn rings.b new → TakesFailure fault rings.b new →
+    WhereFailed fault ((late : ℕ) (cut : List Frame) → HasTaken late cut rings → HasTaken late cut (record rings { b = new; merger = m }))
+failed_b (watch.Read network) rings m new none going same takes taken = λ late cut h.
+    (let frames : frames_in (taken_items rings.b) ≡ frames_in (taken_items new) = frames_to_failure (taken_items rings.b) (taken_items new) taken in
+    record {
+      late_is = ap (λ (s : MergerState). s.late) same ∙ h.late_is;
+      network_a = h.network_a;
+      network_b = takes.same.1 ∙ h.network_b;
+      late_a = h.late_a;
+      late_b = takes.same.2 ∙ h.late_b;
+      few_a = h.few_a;
+      few_b = subst (λ (l : List Frame). length l ≤ most_frames) frames h.few_b;
+      follows = subst (λ (s : MergerState). Follows s (frames_in (taken_items rings.a)) (frames_in (taken_items new)) cut) (sym same)
+          (subst (λ (l : List Frame). Follows rings.merger (frames_in (taken_items rings.a)) l cut) frames h.follows);
+      ended_a = subst (λ (s : MergerState). HasEnding rings.end_a s.a (taken_items rings.a)) (sym same) h.ended_a;
+      ended_b = subst (λ (s : MergerState). HasEnding rings.end_b s.b (taken_items new)) (sym same)
+          (ending_kept rings.end_b rings.merger.b (taken_items rings.b) (taken_items new) going h.ended_b);
+      failed = subst (λ (f : Option WatchFault). IfSome f (λ fault. RingsFault fault rings.a new)) (sym none) tt;
+    })
+failed_b watch.Memory rings m new none going same takes taken = tt
+failed_b watch.RingLost rings m new none going same takes taken = tt
+failed_b watch.Workers rings m new none going same takes taken = tt
+failed_b (watch.Header n fault) rings m new none going same takes taken = tt
+failed_b watch.Spawn rings m new none going same takes taken = tt
+failed_b (watch.Write out) rings m new none going same takes taken = tt
+failed_b watch.Filters rings m new none going same takes taken = tt
+
+-- what holds where a source failed
+pub where_failed : {P Q : Type 0} (fault : WatchFault) → (P → Q) → WhereFailed fault P → WhereFailed fault Q
+where_failed (watch.Read network) f p = f p
+where_failed watch.Memory f p = tt
+where_failed watch.RingLost f p = tt
+where_failed watch.Workers f p = tt
+where_failed (watch.Header n fault) f p = tt
+where_failed watch.Spawn f p = tt
+where_failed (watch.Write out) f p = tt
+where_failed watch.Filters f p = tt
+
+pub whatever_failed : {P : Type 0} (fault : WatchFault) → P → WhereFailed fault P
+whatever_failed (watch.Read network) p = p
+whatever_failed watch.Memory p = tt
+whatever_failed watch.RingLost p = tt
+whatever_failed watch.Workers p = tt
+whatever_failed (watch.Header n fault) p = tt
+whatever_failed watch.Spawn p = tt
+whatever_failed (watch.Write out) p = tt
+whatever_failed watch.Filters p = tt
+
+-- with the fault of a ring
+pub with_fault : (late : ℕ) (cut : List Frame) (rings : Rings) (fault : WatchFault) → HasTaken late cut rings → RingsFault fault rings.a rings.b →
+    HasTaken late cut (record rings { fault = Some fault })
+with_fault late cut rings fault h told = record {
+  late_is = h.late_is;
+  network_a = h.network_a;
+  network_b = h.network_b;
+  late_a = h.late_a;
+  late_b = h.late_b;
+  few_a = h.few_a;
+  few_b = h.few_b;
+  follows = h.follows;
+  ended_a = h.ended_a;
+  ended_b = h.ended_b;
+  failed = told;
+}
+
+-- the fault that was kept
+pub kept_fault : (late : ℕ) (cut : List Frame) (rings : Rings) (fault : WatchFault) → HasTaken late cut rings → rings.fault ≡ Some fault → RingsFault fault rings.a rings.b
+kept_fault late cut rings fault h is = subst (λ (f : Option WatchFault). IfSome f (λ x. RingsFault x rings.a rings.b)) is h.failed

@@ -6,7 +6,7 @@ use Rattle.std.specs.Option.{ForSome}
 use Rattle.afdx_frame.specs.Frame.{Frame}
 use Rattle.afdx_frame.specs.declared.key.Network.{Network}
 use Rattle.afdx_frame.specs.declared.key.Network.TheVariants.{A, B}
-use Rattle.ordered_merge.specs.Merge.{MergerState, Tap, CanFetch, Follows, IsInTime, after_cut, change_tap, cut_frames, ended, fetched, highest, tap_after, tap_of}
+use Rattle.ordered_merge.specs.Merge.{CanFetch, Follows, IsInTime, MergerState, Tap, after_cut, change_tap, cut_frames, ended, fetched, highest, safe_frames, tap_after, tap_of, without_first}
 use Rattle.ordered_merge.specs.Order.{IsOrder, insert_frame, is_before}
 use Rattle.pcap_io.specs.Position.{TakesAPacket, Reading, TakesFrame, after_frame, start_at}
 use Rattle.pcap_io.proofs.Parse.{reads_more}
@@ -375,3 +375,9 @@ all_cut m (suc most) less a b none = take_none most m.pending (ap (take (suc mos
 pub no_frames : (n : ℕ) (l : List Frame) → (n == 0) ≡ true → n ≡ length l → l ≡ []
 no_frames n [] e is = refl
 no_frames n (f ∷ l) e is = (let none : n ≡ 0 = eqb-true n 0 e in absurd (omega (arith, none, is)))
+
+-- where no frame was cut, none was safe, and none is
+pub none_safe : (m : MergerState) (most : ℕ) → 0 < most → cut_frames m most ≡ [] → safe_frames (after_cut m most) ≡ []
+none_safe m zero less none = absurd (omega (arith, less))
+none_safe m (suc most) less none =
+    subst (λ (n : ℕ). safe_frames (without_first n m) ≡ []) (sym (ap length none)) (take_none most (safe_frames m) none)

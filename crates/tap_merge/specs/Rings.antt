@@ -1,5 +1,5 @@
 -- Two recordings as their items come over rings, and are merged.
-use Rattle.std.specs.Prelude.{◌≡◌, ◌⊎◌, ℕ, ◌≤◌, true, false, List, [], ◌∷◌, ◌++◌, length, Option, Some, None, ⊤}
+use Rattle.std.specs.Prelude.{IfSome, ◌≡◌, ◌⊎◌, ℕ, ◌≤◌, true, false, List, [], ◌∷◌, ◌++◌, length, Option, Some, None, ⊤}
 use Rattle.std.specs.List.{AllByRecursion}
 use Rattle.std.specs.Option.{ForSome}
 use Rattle.afdx_frame.specs.Frame.{Frame}
@@ -59,6 +59,16 @@ IsNotFailed taken = EndsWith (items.Failed Device) taken → ⊥
 abbrev pub IsLost : TapEnd → TapEnd → Type 0
 IsLost old new = (has_lost new ≡ true) ⊎ (is_over (taken_items old) ≡ true) ⊎ EndsWith (items.Failed HasFailed) (taken_items new)
 
+-- the recording's source failed, and its failure was taken
+abbrev pub TakesFailure : WatchFault → TapEnd → TapEnd → Type 0
+TakesFailure (watch.Read network) old new = taken_items new ≡ taken_items old ++ items.Failed Device ∷ []
+TakesFailure fault old new = ⊤
+
+-- this, where a source failed
+abbrev pub WhereFailed : WatchFault → Type 0 → Type 0
+WhereFailed (watch.Read network) P = P
+WhereFailed fault P = ⊤
+
 -- ---- both rings
 
 -- what the merger knows of a network: it has ended where its ending was taken
@@ -66,7 +76,15 @@ abbrev pub HasEnding : Option Ending → Tap → List TapItem → Type 0
 HasEnding None tap items = tap.ended ≡ false
 HasEnding (Some ending) tap taken = (tap.ended ≡ true) × EndsWith (items.End ending) taken
 
--- All frames that were taken of both rings were merged, and of them these cut, in order.
+abbrev pub ring_of : TapEnd → TapEnd → Network → TapEnd
+ring_of a b A = a
+ring_of a b B = b
+
+-- what a fault says of both rings
+abbrev pub RingsFault : WatchFault → TapEnd → TapEnd → Type 0
+RingsFault fault a b = (network : Network) × TapFault network fault (ring_of a b network)
+
+-- All frames that were taken of both rings were merged, and of them these cut, in order. A fault that was met is of one of the rings.
 pub record HasTaken (late : ℕ) (cut : List Frame) (rings : Rings) : Type 0 where
   pub late_is : rings.merger.late ≡ late
   pub network_a : network_of rings.a ≡ A
@@ -78,6 +96,7 @@ pub record HasTaken (late : ℕ) (cut : List Frame) (rings : Rings) : Type 0 whe
   pub follows : Follows rings.merger (frames_in (taken_items rings.a)) (frames_in (taken_items rings.b)) cut
   pub ended_a : HasEnding rings.end_a rings.merger.a (taken_items rings.a)
   pub ended_b : HasEnding rings.end_b rings.merger.b (taken_items rings.b)
+  pub failed : IfSome rings.fault (λ fault. RingsFault fault rings.a rings.b)
 
 -- the merged frames of a network are the first of those taken; where it has ended in the merger they are all, and its ending was taken
 pub record AreFirst (frames : List Frame) (tap : Tap) (taken : List TapItem) : Type 0 where
@@ -94,11 +113,3 @@ pub record StopsTaking (late : ℕ) (cut : List Frame) (a b : TapEnd) : Type 0 w
   pub follows : Follows merger frames_a frames_b cut
   pub first_a : has_lost a ≡ false → AreFirst frames_a merger.a (taken_items a)
   pub first_b : has_lost b ≡ false → AreFirst frames_b merger.b (taken_items b)
-
-abbrev pub ring_of : TapEnd → TapEnd → Network → TapEnd
-ring_of a b A = a
-ring_of a b B = b
-
--- what a fault says of both rings
-abbrev pub RingsFault : WatchFault → TapEnd → TapEnd → Type 0
-RingsFault fault a b = (network : Network) × TapFault network fault (ring_of a b network)

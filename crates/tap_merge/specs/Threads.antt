@@ -1,5 +1,5 @@
 -- A tap that is read by a thread of its own.
-use Rattle.std.specs.Prelude.{◌≡◌, ℕ, true, false, List, [], None}
+use Rattle.std.specs.Prelude.{◌++◌, ◌≡◌, ℕ, true, false, List, [], None}
 use Rattle.afdx_frame.specs.declared.key.Network.{Network}
 use Rattle.pcap_io.specs.Position.{Reading}
 use Rattle.pcap_io.specs.Reader.{reading_of}
@@ -9,6 +9,7 @@ use Rattle.tap_queue.specs.Items.{Gives, IsFed, is_over}
 use Rattle.tap_queue.specs.Ring.{SamePut, has_lost, put_items, put_of, reader_of, taken_items}
 use Rattle.tap_queue.specs.declared.end.TapEnd.{TapEnd}
 use Rattle.tap_queue.specs.declared.feeding.Fed.{Fed}
+use Rattle.tap_queue.specs.declared.item.TapItem.{TapItem}
 use Rattle.tap_queue.specs.declared.ring.TapPut.{TapPut}
 use Rattle.run_outcome.specs.Recording.{LeavesUnread}
 use Rattle.tap_merge.specs.Taps.{HasRead}
@@ -32,6 +33,16 @@ pub record IsSettled {S : Type 0} (s : SourceMembers S) (reader : TapReader S) (
   pub ahead : List ℕ
   pub gives : Gives (reading_of s.remaining s.failures reader) (taken_items end) reading
   pub over : is_over (taken_items end) ≡ true
+  pub sound : has_lost end ≡ false
+  pub leaves : LeavesUnread ahead reading.remaining (s.remaining source)
+  pub same_failures : s.failures source ≡ reading.failures
+
+-- Some first items of a reader were taken from the ring, whatever it gave after them, and its source came back.
+pub record IsLeft {S : Type 0} (s : SourceMembers S) (reader : TapReader S) (end : TapEnd) (source : S) : Type 0 where
+  pub reading : Reading
+  pub ahead : List ℕ
+  pub more : List TapItem
+  pub gives : Gives (reading_of s.remaining s.failures reader) (taken_items end ++ more) reading
   pub sound : has_lost end ≡ false
   pub leaves : LeavesUnread ahead reading.remaining (s.remaining source)
   pub same_failures : s.failures source ≡ reading.failures

@@ -6,6 +6,6 @@ mod rings;
 mod tap_thread;
 mod taps;
 
-pub use rings::{Rings, drain};
-pub use tap_thread::{TapThread, settle_tap, start_tap};
+pub use rings::Rings;
+pub use tap_thread::{TapThread, leave_tap, settle_tap, start_tap};
 pub use taps::{Taps, Unopened};

@@ -5,7 +5,7 @@ ghost use Rattle.afdx_frame.specs.Frame.{Frame};
 ghost use Rattle.tap_queue.specs.Items.{frames_in};
 ghost use Rattle.tap_queue.specs.Ring.{taken_items};
 ghost use Rattle.tap_merge.specs.declared.taps.TheConstants.{ROUND};
-ghost use Rattle.tap_merge.specs.Rings.{AgreesWith, IsLost, IsNotFailed, MergesItem, TakesOn, TapFault};
+ghost use Rattle.tap_merge.specs.Rings.{AgreesWith, IsLost, IsNotFailed, MergesItem, TakesFailure, TakesOn, TapFault};
 
 use crate::taps::ROUND;
 use afdx_frame::{Network, TapFrame};
@@ -30,6 +30,7 @@ fn merge_item<R: Wait>(
     ensures few { OnOk result (length (frames_in (taken_items end.new)) ≤ 2 ^ 32) }
     ensures unchanged { OnErr result (merger.new ≡ merger.old) }
     ensures fault { IfErr result (λ fault. TapFault network fault end.new) }
+    ensures failed { IfErr result (λ fault. TakesFailure fault end.old end.new) }
     ensures not_failed { result ≡ Err WatchFault.Memory → IsNotFailed (taken_items end.new) }
     ensures lost { result ≡ Err WatchFault.RingLost → IsLost end.old end.new }
 {
@@ -51,25 +52,8 @@ fn merge_item<R: Wait>(
     }
 }
 
-/// Takes the next item of a ring. Whether it is a frame.
-fn take_frame<R: Wait>(rt: &R, end: &mut TapEnd) -> bool
-    ensures { TakesOn end.old end.new }
-{
-    matches!(end.take(rt), Ok(TapItem::Frame(_)))
-}
-
-/// Takes what is left of a ring, up to the recording's ending or a fault.
-pub fn drain<R: Wait>(rt: &R, end: &mut TapEnd)
-    ensures { TakesOn end.old end.new }
-{
-    for _ in rt.forever() {
-        if !take_frame(rt, end) {
-            return;
-        }
-    }
-}
-
-/// The rings of both networks, the merger of their frames, and the endings that were met.
+/// The rings of both networks, the merger of their frames, the endings that were met, and the fault of a
+/// source, which is told once all frames were given that are safe without it.
 #[derive(Drop)]
 pub struct Rings {
     pub a: TapEnd,
@@ -77,22 +61,59 @@ pub struct Rings {
     pub merger: Merger,
     pub end_a: Option<Ending>,
     pub end_b: Option<Ending>,
+    pub fault: Option<WatchFault>,
 }
 
 impl Rings {
     ghost use Rattle.std.specs.Prelude.{is_some};
+    ghost use Rattle.ordered_merge.specs.Merge.{safe_frames};
     ghost use Rattle.tap_queue.specs.Ring.{SameEnd};
-    ghost use Rattle.tap_merge.specs.Rings.{HasTaken, RingsFault, StopsTaking};
+    ghost use Rattle.tap_merge.specs.Rings.{HasTaken, RingsFault, StopsTaking, WhereFailed};
+
+    /// Whether the next item can be taken without waiting for it. No clause says so.
+    fn is_ready(&mut self) -> bool
+        ensures a { SameEnd self.old.a self.new.a }
+        ensures b { SameEnd self.old.b self.new.b }
+        ensures fault { self.new.fault ≡ self.old.fault }
+        ensures same { (late : ℕ) (cut : List Frame) → HasTaken late cut self.old → HasTaken late cut self.new }
+    {
+        match self.merger.wants() {
+            None => true,
+            Some(Network::A) => self.a.is_ready(),
+            Some(Network::B) => self.b.is_ready(),
+        }
+    }
+
+    /// Whether [`next_round`](Rings::next_round) has nothing to wait for, after some milliseconds at the
+    /// longest in which an item may come. No clause says so.
+    pub fn is_soon_ready<R: Wait>(&mut self, rt: &R) -> bool
+        ensures a { SameEnd self.old.a self.new.a }
+        ensures b { SameEnd self.old.b self.new.b }
+        ensures same { (late : ℕ) (cut : List Frame) → HasTaken late cut self.old → HasTaken late cut self.new }
+    {
+        if self.fault.is_some() {
+            return true;
+        }
+        match self.merger.wants() {
+            None => true,
+            Some(Network::A) => self.a.is_soon_ready(rt),
+            Some(Network::B) => self.b.is_soon_ready(rt),
+        }
+    }
 
     /// Merges the next item of the network whose turn it is. False: both have ended.
     fn merge_one<R: Wait>(&mut self, rt: &R) -> Result<bool, WatchFault>
-        requires { (late : ℕ) × (cut : List Frame) × HasTaken late cut self.old }
+        requires none { self.old.fault ≡ None }
+        requires taken { (late : ℕ) × (cut : List Frame) × HasTaken late cut self.old }
         ensures a { SameEnd self.old.a self.new.a }
         ensures b { SameEnd self.old.b self.new.b }
+        ensures none { self.new.fault ≡ None }
         ensures merged { OnOk result ((late : ℕ) (cut : List Frame)
             → HasTaken late cut self.old → HasTaken late cut self.new) }
         ensures ended { result ≡ Ok false
             → (self.new.merger.a.ended ≡ true) × (self.new.merger.b.ended ≡ true) }
+        ensures failed { IfErr result (λ fault. WhereFailed fault ((late : ℕ) (cut : List Frame)
+            → HasTaken late cut self.old → HasTaken late cut self.new)) }
         ensures stopped { OnErr result ((late : ℕ) (cut : List Frame)
             → HasTaken late cut self.old → StopsTaking late cut self.new.a self.new.b) }
         ensures fault { IfErr result (λ fault. RingsFault fault self.new.a self.new.b) }
@@ -109,15 +130,20 @@ impl Rings {
         Ok(true)
     }
 
-    /// Merges up to [`ROUND`] items. False: both have ended.
+    /// Merges up to [`ROUND`] items: one, which it waits for, and those after it that are there. False: both
+    /// have ended.
     fn merge_some<R: Wait>(&mut self, rt: &R) -> Result<bool, WatchFault>
-        requires { (late : ℕ) × (cut : List Frame) × HasTaken late cut self.old }
+        requires none { self.old.fault ≡ None }
+        requires taken { (late : ℕ) × (cut : List Frame) × HasTaken late cut self.old }
         ensures a { SameEnd self.old.a self.new.a }
         ensures b { SameEnd self.old.b self.new.b }
+        ensures none { self.new.fault ≡ None }
         ensures merged { OnOk result ((late : ℕ) (cut : List Frame)
             → HasTaken late cut self.old → HasTaken late cut self.new) }
         ensures ended { result ≡ Ok false
             → (self.new.merger.a.ended ≡ true) × (self.new.merger.b.ended ≡ true) }
+        ensures failed { IfErr result (λ fault. WhereFailed fault ((late : ℕ) (cut : List Frame)
+            → HasTaken late cut self.old → HasTaken late cut self.new)) }
         ensures stopped { OnErr result ((late : ℕ) (cut : List Frame)
             → HasTaken late cut self.old → StopsTaking late cut self.new.a self.new.b) }
         ensures fault { IfErr result (λ fault. RingsFault fault self.new.a self.new.b) }
@@ -126,12 +152,50 @@ impl Rings {
             if !self.merge_one(rt)? {
                 return Ok(false);
             }
+            // What is safe is given before this thread waits.
+            if !self.is_ready() {
+                break;
+            }
         }
         Ok(true)
     }
 
+    /// Merges more items, unless a source has failed, and keeps the fault of one that fails. False: both have
+    /// ended, or a source has failed.
+    fn merge_more<R: Wait>(&mut self, rt: &R) -> Result<bool, WatchFault>
+        requires { (late : ℕ) × (cut : List Frame) × HasTaken late cut self.old }
+        ensures a { SameEnd self.old.a self.new.a }
+        ensures b { SameEnd self.old.b self.new.b }
+        ensures merged { OnOk result ((late : ℕ) (cut : List Frame)
+            → HasTaken late cut self.old → HasTaken late cut self.new) }
+        ensures ended { result ≡ Ok false → self.new.fault ≡ None
+            → (self.new.merger.a.ended ≡ true) × (self.new.merger.b.ended ≡ true) }
+        ensures going { result ≡ Ok true → self.new.fault ≡ None }
+        ensures not_failed { IfErr result (λ fault. WhereFailed fault ⊥) }
+        ensures stopped { OnErr result ((late : ℕ) (cut : List Frame)
+            → HasTaken late cut self.old → StopsTaking late cut self.new.a self.new.b) }
+        ensures fault { IfErr result (λ fault. RingsFault fault self.new.a self.new.b) }
+    {
+        if self.fault.is_some() {
+            return Ok(false);
+        }
+        match self.merge_some(rt) {
+            Ok(more) => Ok(more),
+            Err(WatchFault::Read { network }) => {
+                self.fault = Some(WatchFault::Read { network });
+                Ok(false)
+            }
+            Err(fault) => Err(fault),
+        }
+    }
+
     /// The next frames in order, at most [`ROUND`]; there may be none yet. None: both recordings have ended,
     /// and all their frames were given.
+    ///
+    /// # Errors
+    ///
+    /// `Read` if a source failed, once all frames were given that are safe without what it didn't give.
+    /// `Memory` and `RingLost` at once.
     pub fn next_round<R: Wait>(&mut self, rt: &R) -> Result<Option<Vec<TapFrame>>, WatchFault>
         requires { (late : ℕ) × (cut : List Frame) × HasTaken late cut self.old }
         ensures a { SameEnd self.old.a self.new.a }
@@ -145,9 +209,12 @@ impl Rings {
             × (is_some self.new.end_b ≡ true) × (self.new.merger.pending ≡ []) }
         ensures stopped { OnErr result ((late : ℕ) (cut : List Frame)
             → HasTaken late cut self.old → StopsTaking late cut self.new.a self.new.b) }
+        ensures none_safe { IfErr result (λ fault. WhereFailed fault (
+            (safe_frames self.new.merger ≡ []) × ((late : ℕ) (cut : List Frame)
+            → HasTaken late cut self.old → HasTaken late cut self.new))) }
         ensures fault { IfErr result (λ fault. RingsFault fault self.new.a self.new.b) }
     {
-        let merged = self.merge_some(rt)?;
+        let merged = self.merge_more(rt)?;
         let round = match self.merger.cut(ROUND) {
             Ok(round) => round,
             Err(AllocError) => return Err(WatchFault::Memory),
@@ -155,6 +222,9 @@ impl Rings {
         if merged || !round.is_empty() {
             return Ok(Some(round));
         }
-        Ok(None)
+        match self.fault {
+            None => Ok(None),
+            Some(fault) => Err(fault),
+        }
     }
 }

@@ -1,7 +1,7 @@
 //! The thread that reads a tap into its ring.
 ghost use Rattle.std.specs.Prelude.{◌≡◌, [], IfSome, IsSome};
 ghost use Rattle.tap_queue.specs.Ring.{IsRing, put_items};
-ghost use Rattle.tap_merge.specs.Threads.{IsReadInto, IsSettled};
+ghost use Rattle.tap_merge.specs.Threads.{IsLeft, IsReadInto, IsSettled};
 
 use pcap_io::{TapReader, TapSource};
 use std::alloc::Global;
@@ -63,6 +63,22 @@ pub fn settle_tap<R: Threads, S: TapSource + Drop>(
     ensures { IfSome result (IsSettled S.TapSource thread.promise.reader.value end) }
 {
     match end.settle(thread.join(rt)) {
+        Ok(source) => Some(source),
+        Err(RingLost) => None,
+    }
+}
+
+/// Waits for a tap's thread, which [`TapEnd::stop`] has come to its end, and gives the source back, whatever is
+/// left in its ring. None: items were lost, and the source with them.
+pub fn leave_tap<R: Threads, S: TapSource + Drop>(
+    rt: &R,
+    end: TapEnd,
+    thread: TapThread<S>,
+) -> Option<S>
+    requires { IsRing thread.promise.put.value end }
+    ensures { IfSome result (IsLeft S.TapSource thread.promise.reader.value end) }
+{
+    match end.leave(thread.join(rt)) {
         Ok(source) => Some(source),
         Err(RingLost) => None,
     }

@@ -45,3 +45,12 @@ some_left batches before known sent after rest same fifo sent_is kept some all =
     let equal = ap length all in
     let each = at_least known in
     absurd (omega (arith, parts, two, ends, equal, each, some, length-append (items_in batches) (items_in known), length-append (taken_of batches rest) rest))
+
+-- what was taken is the first of what was put
+pub first_taken : (batches before known sent after : List Batch) (rest : List TapItem) → before ≡ batches → before ++ known ≡ after → after ≡ sent
+    → IsRest batches rest → items_in sent ≡ taken_of batches rest ++ (rest ++ items_in known)
+first_taken batches before known sent after rest same fifo sent_is kept =
+    ap items_in (sym sent_is ∙ sym fifo ∙ ap (λ (l : List Batch). l ++ known) same)
+    ∙ flat_map-append batch_items batches known
+    ∙ ap (λ (l : List TapItem). l ++ items_in known) kept
+    ∙ append_assoc (taken_of batches rest) rest (items_in known)

@@ -44,6 +44,12 @@ SamePut a b = SameProducer a.producer b.producer × (tap_of b ≡ tap_of a)
 abbrev pub SameEnd : TapEnd → TapEnd → Type 0
 SameEnd a b = SameConsumer a.consumer b.consumer × (network_of b ≡ network_of a) × (late_of b ≡ late_of a)
 
+-- The end was looked at: nothing was taken.
+pub record Looks (old new : TapEnd) : Type 0 where
+  pub same : SameEnd old new
+  pub taken : taken_items new ≡ taken_items old
+  pub lost : has_lost new ≡ has_lost old
+
 -- ---- a thread that has come to its end
 
 abbrev pub reader_of : {S : Type 0} → Fed S → TapReader S

@@ -55,6 +55,8 @@ pub(crate) struct Bells {
     pub(crate) taker: Bell,
     /// Of the thread that puts.
     pub(crate) putter: Bell,
+    /// Nothing more is wanted.
+    stopped: AtomicBool,
 }
 
 impl Bells {
@@ -62,6 +64,19 @@ impl Bells {
         Bells {
             taker: Bell::new(),
             putter: Bell::new(),
+            stopped: AtomicBool::new(false),
         }
+    }
+
+    /// Has the thread that puts come to its end.
+    pub(crate) fn stop(&self) {
+        self.stopped.store(true, Ordering::SeqCst);
+        self.putter.wake();
+    }
+
+    /// Whether nothing more is wanted.
+    #[inline]
+    pub(crate) fn is_stopped(&self) -> bool {
+        self.stopped.load(Ordering::SeqCst)
     }
 }

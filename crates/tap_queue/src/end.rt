@@ -105,12 +105,13 @@ fn next_item<R: Wait>(
 }
 
 impl TapEnd {
-    ghost use Rattle.std.specs.Prelude.{◌≢◌, ◌⊎◌, ◌↔◌, true, Err, IfOk, IsTrue, OnErr};
+    ghost use Rattle.std.specs.Prelude.{◌≢◌, ◌⊎◌, ◌↔◌, true, Err, IfOk, IsTrue, List, OnErr};
     ghost use Rattle.afdx_frame.specs.declared.bounds.TheConstants.{MAX_SNAPLEN};
     ghost use Rattle.pcap_io.specs.Reader.{source_of, unread_of};
     ghost use Rattle.tap_queue.specs.Items.{IsLoss, IsNextItem, ring_lost};
     ghost use Rattle.tap_queue.specs.Ring.{IsRing, SameEnd, has_lost, late_of, network_of};
-    ghost use Rattle.tap_queue.specs.Ring.{put_items, put_of, reader_of, taken_items};
+    ghost use Rattle.tap_queue.specs.Ring.{Looks, put_items, put_of, reader_of, taken_items};
+    ghost use Rattle.tap_queue.specs.declared.item.TapItem.{TapItem};
 
     pub(crate) fn new(
         alloc: Global,
@@ -143,6 +144,33 @@ impl TapEnd {
             ↔ (has_lost self.now ≡ false × is_over (taken_items self.now) ≡ false) }
     {
         !self.lost && !self.over
+    }
+
+    /// Whether the next call of [`take`](TapEnd::take) has nothing to wait for. No clause says so.
+    pub fn is_ready(&mut self) -> bool
+        ensures { Looks self.old self.new }
+    {
+        !self.is_going()
+            || !self.rest.is_empty()
+            || !self.consumer.is_empty()
+            || self.consumer.is_abandoned()
+    }
+
+    /// As [`is_ready`](TapEnd::is_ready), after some milliseconds at the longest, within which an item may
+    /// come.
+    pub fn is_soon_ready<R: Wait>(&mut self, rt: &R) -> bool
+        ensures { Looks self.old self.new }
+    {
+        if !self.is_ready() {
+            wait_for_batch(rt, &mut self.consumer, &self.bells.taker);
+        }
+        self.is_ready()
+    }
+
+    /// Has the thread that reads the recording stop: it puts no more than what it is about to put, and
+    /// reads no more.
+    pub fn stop(&self) {
+        self.bells.stop();
     }
 
     /// Takes the next item, and waits where there is none. A frame is the network's next: its
@@ -222,6 +250,41 @@ impl TapEnd {
         } = put;
         let left = consumer.slots_beside(&mut producer);
         if lost || !over || left > 0 || !rest.is_empty() {
+            return Err(RingLost);
+        }
+        Ok(reader.into_source())
+    }
+
+    /// Gives the source back, whatever is left of what was put: what was taken is the first of it.
+    ///
+    /// # Errors
+    ///
+    /// `RingLost` if an item was lost. The source is dropped.
+    pub fn leave<S: TapSource + Drop>(self, fed: Fed<S>) -> Result<S, RingLost>
+        requires ring { IsRing (put_of fed) self }
+        ensures source { IfOk result (λ source. source ≡ source_of (reader_of fed)) }
+        ensures ahead { length (unread_of (reader_of fed)) ≤ MAX_SNAPLEN }
+        ensures first { (more : List TapItem) × (put_items (put_of fed) ≡ taken_items self ++ more) }
+        ensures not_lost { IfOk result (λ _. has_lost self ≡ false) }
+        ensures refused { OnErr result (has_lost self ≡ true) }
+    {
+        let TapEnd {
+            next: _,
+            mut consumer,
+            rest: _,
+            bells: _,
+            over: _,
+            lost,
+        } = self;
+        let Fed { reader, put } = fed;
+        let TapPut {
+            network: _,
+            mut producer,
+            bells: _,
+        } = put;
+        // Its contract ties what both ends have seen.
+        let _left = consumer.slots_beside(&mut producer);
+        if lost {
             return Err(RingLost);
         }
         Ok(reader.into_source())

@@ -66,8 +66,8 @@ impl TapPut {
         self.bells.putter.awake();
     }
 
-    /// Puts a batch, and waits where the ring is full. False: the taker is gone, and the batch is
-    /// dropped.
+    /// Puts a batch, and waits where the ring is full. False: the taker is gone or wants no more, and the
+    /// batch is dropped.
     pub(crate) fn put<R: Wait>(&mut self, rt: &R, batch: Batch) -> bool
         ensures ring { SamePut self.old self.new }
         ensures put { IsTrue result → put_items self.new ≡ put_items self.old ++ batch_items batch }
@@ -75,6 +75,9 @@ impl TapPut {
     {
         let mut batch = batch;
         for _ in rt.forever() {
+            if self.bells.is_stopped() {
+                return false;
+            }
             match self.producer.push(batch) {
                 Ok(()) => {
                     self.bells.taker.wake();

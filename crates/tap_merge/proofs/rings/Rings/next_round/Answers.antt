@@ -1,31 +1,35 @@
-use Rattle.std.proofs.Common.{◌≡◌, ◌∙◌, ◌++◌, [], List, sym, ap, arith, rules}
+use Rattle.std.proofs.Common.{◌≡◌, ◌∙◌, ◌++◌, [], List, Ok, append-nil, sym, subst, ap, arith, rules}
 use Rattle.ordered_merge.specs.Merge.{safe_frames}
 use Rattle.afdx_frame.specs.Frame.{Frame}
 use Rattle.tap_queue.specs.Ring.{taken_items}
-use Rattle.tap_merge.proofs.RingItems.{at_most, is_met, stops_with, taken_after_cut, takes_none}
-use Rattle.tap_merge.proofs.TwoTaps.{all_cut, no_frames}
+use Rattle.tap_merge.proofs.RingItems.{at_most, is_met, kept_fault, stops_with, taken_after_cut, takes_none, whatever_failed}
+use Rattle.tap_merge.proofs.TwoTaps.{all_cut, no_frames, none_safe}
+use Rattle.tap_merge.specs.Rings.{HasTaken}
 use Rattle.tap_merge.specs.declared.taps.TheConstants.{ROUND}
 use Rattle.tap_merge.proofs.rings.Rings.next_round.Goals as goal
 
 pub returns-in-Err-clause-stopped : goal.returns-in-Err-clause-stopped
 returns-in-Err-clause-stopped g c = λ late cut h.
-    (let rings = c.merge_some.new.self in
+    (let rings = c.merge_more.new.self in
     stops_with late cut rings rings.a rings.b (c.in_ok-merged.ensures.merged late cut h) (takes_none rings.a) (takes_none rings.b))
 
 pub returns-then-merged-clause-merged : goal.returns-then-merged-clause-merged
 returns-then-merged-clause-merged g c = λ late cut h.
-    taken_after_cut late cut c.merge_some.new.self c.cut.new.self c.in-Ok.round.items (c.in_ok-merged.ensures.merged late cut h) (search rules) (search rules)
+    taken_after_cut late cut c.merge_more.new.self c.cut.new.self c.in-Ok.round.items (c.in_ok-merged.ensures.merged late cut h) (search rules) (search rules)
 
-pub returns-clause-merged : goal.returns-clause-merged
-returns-clause-merged g c = λ late cut h.
+pub returns-then-merged-clause-size : goal.returns-then-merged-clause-size
+returns-then-merged-clause-size g c = rw c.in-Ok.ensures.round (at_most ROUND (safe_frames c.merge_more.new.self.merger))
+
+pub returns-in-None-clause-merged : goal.returns-in-None-clause-merged
+returns-in-None-clause-merged g c = λ late cut h.
     (let none : c.in-Ok.round.items ≡ [] = no_frames _ c.in-Ok.round.items (sym c.is_empty.ensures ∙ c.if-not-is_empty.false) (search rules) in
-    taken_after_cut late cut c.merge_some.new.self c.cut.new.self [] (c.in_ok-merged.ensures.merged late cut h) c.in-Ok.ensures.rest (sym none ∙ c.in-Ok.ensures.round))
+    taken_after_cut late cut c.merge_more.new.self c.cut.new.self [] (c.in_ok-merged.ensures.merged late cut h) c.in-Ok.ensures.rest (sym none ∙ c.in-Ok.ensures.round))
 
-pub returns-clause-ended : goal.returns-clause-ended
-returns-clause-ended g c = λ _.
-    (let rings = c.merge_some.new.self in
+pub returns-in-None-clause-ended : goal.returns-in-None-clause-ended
+returns-in-None-clause-ended g c = λ _.
+    (let rings = c.merge_more.new.self in
     let h = c.in_ok-merged.ensures.merged c.requires.0 c.requires.1 c.requires.2 in
-    let both = c.in_ok-merged.ensures.ended (search rules) in
+    let both = c.in_ok-merged.ensures.ended (ap Ok c.if-merged.false) c.in-None.is in
     let none : c.in-Ok.round.items ≡ [] = no_frames _ c.in-Ok.round.items (sym c.is_empty.ensures ∙ c.if-not-is_empty.false) (search rules) in (
       is_met rings.end_a rings.merger.a (taken_items rings.a) h.ended_a both.0,
       is_met rings.end_b rings.merger.b (taken_items rings.b) h.ended_b both.1,
@@ -33,5 +37,22 @@ returns-clause-ended g c = λ _.
           ∙ all_cut rings.merger ROUND (omega arith) both.0 both.1 (sym c.in-Ok.ensures.round ∙ none),
     ))
 
-pub returns-then-merged-clause-size : goal.returns-then-merged-clause-size
-returns-then-merged-clause-size g c = rw c.in-Ok.ensures.round (at_most ROUND (safe_frames c.merge_some.new.self.merger))
+pub returns-clause-stopped : goal.returns-clause-stopped
+returns-clause-stopped g c = λ late cut h.
+    (let rings = c.merge_more.new.self in
+    stops_with late cut rings rings.a rings.b (c.in_ok-merged.ensures.merged late cut h) (takes_none rings.a) (takes_none rings.b))
+
+pub returns-clause-none_safe : goal.returns-clause-none_safe
+returns-clause-none_safe g c =
+    let rings = c.merge_more.new.self in
+    let none : c.in-Ok.round.items ≡ [] = no_frames _ c.in-Ok.round.items (sym c.is_empty.ensures ∙ c.if-not-is_empty.false) (search rules) in
+    whatever_failed c.in-Some.fault (
+      rw c.in-Ok.ensures.rest (none_safe rings.merger ROUND (omega arith) (sym c.in-Ok.ensures.round ∙ none)),
+      λ late cut h. subst (λ (l : List Frame). HasTaken late l (record rings { merger = c.cut.new.self })) (append-nil cut)
+          (taken_after_cut late cut rings c.cut.new.self [] (c.in_ok-merged.ensures.merged late cut h) c.in-Ok.ensures.rest (sym none ∙ c.in-Ok.ensures.round)),
+    )
+
+pub returns-clause-fault : goal.returns-clause-fault
+returns-clause-fault g c =
+    let h = c.in_ok-merged.ensures.merged c.requires.0 c.requires.1 c.requires.2 in
+    kept_fault c.requires.0 c.requires.1 c.merge_more.new.self c.in-Some.fault h c.in-Some.is

@@ -1,0 +1,19 @@
+use Rattle.std.proofs.Common.{refl}
+use Rattle.pcap_io.specs.Reader.{reading_of, unread_of}
+use Rattle.tap_queue.specs.Ring.{put_items, put_of, reader_of, taken_items}
+use Rattle.tap_merge.proofs.FedTaps.{left_gives}
+use Rattle.tap_merge.proofs.tap_thread.leave_tap.Goals as goal
+
+pub returns-in-Ok : goal.returns-in-Ok
+returns-in-Ok g c =
+    let reader = reader_of c.join.result in
+    let left = left_gives _ _ (put_items (put_of c.join.result)) (taken_items c.args.end) c.leave.ensures.first c.join.ensures.1 in
+    record {
+      reading = reading_of g.S.TapSource.remaining g.S.TapSource.failures reader;
+      ahead = unread_of reader;
+      more = left.0;
+      gives = left.1;
+      sound = c.in-Ok.ensures.not_lost;
+      leaves = rw c.in-Ok.ensures.source (c.leave.ensures.ahead, refl);
+      same_failures = rw c.in-Ok.ensures.source refl;
+    }
