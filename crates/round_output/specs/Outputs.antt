@@ -1,5 +1,6 @@
 -- The outputs of a run, round by round.
-use Rattle.std.specs.Prelude.{◌≡◌, ℕ, List, length}
+use Rattle.std.specs.Prelude.{◌≡◌, ℕ, List, [], ◌++◌, length, IfSome, Option}
+use Rattle.std.specs.Option.{option_map_or}
 use Rattle.std.specs.Io.KnownBytes.{Appends}
 use Rattle.afdx_frame.specs.Frame.{Frame}
 use Rattle.bpf_isa.specs.declared.packed.Packed.{Packed}
@@ -21,7 +22,10 @@ use Rattle.round_output.specs.Filters.{ledger_by, lines_by}
 use Rattle.run_outcome.specs.declared.fault.Output.TheVariants as output
 use Rattle.run_outcome.specs.declared.fault.WatchFault.{WatchFault}
 use Rattle.run_outcome.specs.declared.fault.WatchFault.TheVariants as watch
+use Rattle.round_output.specs.Entries.{AreVerdicts}
 use Rattle.round_output.specs.declared.outputs.Outputs.{Outputs}
+use Rattle.round_output.specs.declared.shared.JudgedRound.{JudgedRound}
+use Rattle.worker_pool.specs.Chunks.{Posted}
 
 -- what a fault of the ledger is to a run
 abbrev pub ledger_fault : LedgerFault → WatchFault
@@ -47,6 +51,21 @@ pub record HasWritten {W L : Type 0} (w : SinkMembers W) (l : SinkMembers L)
   pub lines : Appends ledger.contents (l.contents (ledger_sink outputs.ledger)) (lines_by ps vl_table frames)
   pub capture_failures : w.failures (sink_of outputs.capture) ≡ capture.failures
   pub ledger_failures : l.failures (ledger_sink outputs.ledger) ≡ ledger.failures
+
+-- the frames of a round that workers are at, none where they are at none
+abbrev pub frames_at : {T : Type 0} → Option (Posted T JudgedRound) → List Frame
+frames_at flight = option_map_or (λ p. p.round.frames.items) flight []
+
+-- The lanes know these frames; all were written but for the last, a round that workers are at.
+pub record HasShared {W L T : Type 0} (w : SinkMembers W) (l : SinkMembers L)
+    (ps : List (List Packed)) (vl_table : VlTable) (capture ledger : SinkView) (frames : List Frame) (outputs : Outputs W L)
+    (flight : Option (Posted T JudgedRound)) : Type 0 where
+  pub first : List Frame
+  pub before : LanesState
+  pub all : frames ≡ first ++ frames_at flight
+  pub lanes : StandsAfter outputs.lanes vl_table frames
+  pub written : HasWritten w l ps vl_table capture ledger first (outputs_of before outputs.capture outputs.ledger)
+  pub judged : IfSome flight (λ p. AreVerdicts vl_table first p.round.frames.items p.round.verdicts.items)
 
 -- a fault that writing finds, and this
 abbrev pub OfWriting : WatchFault → Type 0 → Type 0

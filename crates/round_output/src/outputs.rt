@@ -1,12 +1,12 @@
 //! The outputs of a run: the capture and the ledger of rounds of frames.
-ghost use Rattle.std.specs.Prelude.{◌≡◌, ◌⊎◌, ◌+◌, ◌≤◌, ◌++◌, [], List, length, IfErr, IfOk, OnOk, false};
+ghost use Rattle.std.specs.Prelude.{◌≡◌, ◌⊎◌, ◌+◌, ◌≤◌, ◌++◌, [], List, None, length, IfErr, IfOk, IfSome, OnOk, false};
 ghost use Rattle.afdx_frame.specs.Frame.{Frame};
 ghost use Rattle.bpf_isa.specs.declared.packed.Packed.{Packed};
 ghost use Rattle.filter_workers.specs.declared.decision.TheConstants.{MAX_FILTERS};
 ghost use Rattle.pcap_io.specs.Device.{Writes};
 ghost use Rattle.pcap_io.specs.Writer.{has_failed, sink_of};
 ghost use Rattle.round_output.specs.Entries.{AreEntries, AreVerdicts};
-ghost use Rattle.round_output.specs.Outputs.{HasWritten, IsFinished, StopsFinishing, StopsWriting, effect_of, ledger_fault, outputs_of};
+ghost use Rattle.round_output.specs.Outputs.{HasShared, HasWritten, IsFinished, StopsFinishing, StopsWriting, effect_of, frames_at, ledger_fault, outputs_of};
 ghost use Rattle.run_outcome.specs.Device.{SinkView, sink_at};
 ghost use Rattle.verdict_ledger.specs.Ledger.{has_failed as ledger_has_failed, totals_in};
 ghost use Rattle.verdict_ledger.specs.Ledger.{sink_of as ledger_sink};
@@ -26,7 +26,7 @@ use std::sync::Wait;
 use verdict_ledger::{Ledger, LedgerFault, LedgerRefused, Totals};
 use vl_config::Config;
 use vl_judge::{Lanes, Verdict};
-use worker_pool::{Done, Pool, PoolFault};
+use worker_pool::{Done, InFlight, Pool, PoolFault};
 
 /// Writes the packets of a round's accepted frames.
 fn write_packets<W: OutSink>(
@@ -115,24 +115,20 @@ fn fault_of_ledger(fault: LedgerFault) -> WatchFault
     }
 }
 
-/// Hands a round to the workers of a pool, of which this thread is one, until what is written of it is
-/// made. Gives the round back.
-fn share<R: Wait, G: RunGate + Sync>(
+/// Waits for the workers of a pool, of which this thread is one, until what is written of a round is made,
+/// and gives the round back.
+fn gather<'a, R: Wait, G: RunGate + Sync>(
     rt: &R,
-    pool: &mut Pool<Formatting<'_, G>>,
-    round: JudgedRound,
+    pool: &mut Pool<Formatting<'a, G>>,
+    flight: InFlight<Formatting<'a, G>>,
     entries: &mut Entries,
 ) -> Result<JudgedRound, WatchFault>
     ensures pool { pool.new ≡ pool.old }
-    ensures round { IfOk result (λ back. back ≡ round) }
-    ensures entries { OnOk result (AreEntries pool.old.task.programs.now
-        round.frames.items round.verdicts.items entries.new) }
+    ensures round { IfOk result (λ back. back ≡ flight.entry.round) }
+    ensures entries { OnOk result (AreEntries flight.entry.task.programs.now
+        flight.entry.round.frames.items flight.entry.round.verdicts.items entries.new) }
     ensures fault { IfErr result (λ fault. (fault ≡ WatchFault.Memory) ⊎ (fault ≡ WatchFault.RingLost)) }
 {
-    let flight = match pool.put(round) {
-        Ok(flight) => flight,
-        Err(fault) => return Err(fault_of_pool(fault)),
-    };
     let Done {
         round,
         chunk: _,
@@ -144,6 +140,46 @@ fn share<R: Wait, G: RunGate + Sync>(
     entries.gather(&batches)?;
     pool.give_back(batches);
     Ok(round)
+}
+
+/// Writes a round that workers are at, once what is written of it is made.
+fn write_flight<'a, R: Wait, W: OutSink, L: OutSink, G: RunGate + Sync>(
+    rt: &R,
+    pool: &mut Pool<Formatting<'a, G>>,
+    flight: InFlight<Formatting<'a, G>>,
+    capture: &mut CaptureWriter<W>,
+    ledger: &mut Ledger<L>,
+    entries: &mut Entries,
+) -> Result<(), WatchFault>
+    requires room { (totals_in ledger.old).frames + length flight.round.frames.items ≤ MAX_LINES }
+    requires capture_going { has_failed capture.old ≡ false }
+    requires ledger_going { ledger_has_failed ledger.old ≡ false }
+    ensures pool { pool.new ≡ pool.old }
+    ensures written { OnOk result ((vl_table : VlTable)
+        (capture_view ledger_view : SinkView) (frames : List Frame) (before after : LanesState)
+        → HasWritten W.OutSink L.OutSink
+        flight.entry.task.programs.now vl_table capture_view ledger_view frames (outputs_of before capture.old ledger.old)
+        → AreVerdicts vl_table frames flight.entry.round.frames.items flight.entry.round.verdicts.items
+        → StandsAfter after vl_table (frames ++ flight.entry.round.frames.items)
+        → HasWritten W.OutSink L.OutSink
+        flight.entry.task.programs.now vl_table capture_view ledger_view (frames ++ flight.entry.round.frames.items)
+        (outputs_of after capture.new ledger.new)) }
+    ensures capture_going { OnOk result (has_failed capture.new ≡ false) }
+    ensures ledger_going { OnOk result (ledger_has_failed ledger.new ≡ false) }
+    ensures stopped { IfErr result (λ fault. (vl_table : VlTable)
+        (capture_view ledger_view : SinkView) (frames : List Frame) (before : LanesState)
+        → HasWritten W.OutSink L.OutSink
+        flight.entry.task.programs.now vl_table capture_view ledger_view frames (outputs_of before capture.old ledger.old)
+        → AreVerdicts vl_table frames flight.entry.round.frames.items flight.entry.round.verdicts.items
+        → StopsWriting (effect_of fault) flight.entry.task.programs.now vl_table capture_view ledger_view
+        (sink_at W.OutSink (sink_of capture.new))
+        (sink_at L.OutSink (ledger_sink ledger.new)) (frames ++ flight.entry.round.frames.items)) }
+{
+    let done = match gather(rt, pool, flight, entries) {
+        Ok(round) => round,
+        Err(fault) => return Err(fault),
+    };
+    write_entries(capture, ledger, &done.frames, &done.verdicts, entries)
 }
 
 /// What a fault of a pool is to a run. No round of a run has too many chunks.
@@ -337,33 +373,39 @@ impl<W: OutSink, L: OutSink> Outputs<W, L> {
         )
     }
 
-    /// As `write_round`, where the workers of a pool run the filters and make the packets and the lines.
+    /// Judges a round's frames, which follow on all before, and hands it to the workers of a pool, which run
+    /// the filters and make the packets and the lines. Then writes the round that they were at before.
     ///
-    /// `RingLost` if what a worker made was lost.
-    pub fn write_shared<R: Wait, G: RunGate + Sync>(
+    /// # Errors
+    ///
+    /// `Write` if a sink failed, `Memory`, and `RingLost` if what a worker made was lost. The round is lost.
+    pub fn share_round<'a, R: Wait, G: RunGate + Sync>(
         &mut self,
         rt: &R,
-        pool: &mut Pool<Formatting<'_, G>>,
+        pool: &mut Pool<Formatting<'a, G>>,
+        flight: &mut Option<InFlight<Formatting<'a, G>>>,
         round: Vec<TapFrame>,
         entries: &mut Entries,
     ) -> Result<(), WatchFault>
         requires follows { FollowsOn self.old.lanes.last round.items }
-        requires room { (totals_in self.old.ledger).frames + length round.items ≤ MAX_LINES }
+        requires room { (totals_in self.old.ledger).frames + length (frames_at flight.old) ≤ MAX_LINES }
+        requires task { IfSome flight.old (λ p. p.task ≡ pool.old.task) }
         requires capture_going { has_failed self.old.capture ≡ false }
         requires ledger_going { ledger_has_failed self.old.ledger ≡ false }
         ensures pool { pool.new ≡ pool.old }
+        ensures task { IfSome flight.new (λ p. p.task ≡ pool.old.task) }
         ensures written { OnOk result ((vl_table : VlTable) (capture ledger : SinkView)
             (frames : List Frame)
-            → HasWritten W.OutSink L.OutSink
-            pool.old.task.programs.now vl_table capture ledger frames self.old
-            → HasWritten W.OutSink L.OutSink
-            pool.old.task.programs.now vl_table capture ledger (frames ++ round.items) self.new) }
+            → HasShared W.OutSink L.OutSink
+            pool.old.task.programs.now vl_table capture ledger frames self.old flight.old
+            → HasShared W.OutSink L.OutSink
+            pool.old.task.programs.now vl_table capture ledger (frames ++ round.items) self.new flight.new) }
         ensures capture_going { OnOk result (has_failed self.new.capture ≡ false) }
         ensures ledger_going { OnOk result (ledger_has_failed self.new.ledger ≡ false) }
         ensures stopped { IfErr result (λ fault. (vl_table : VlTable) (capture ledger : SinkView)
             (frames : List Frame)
-            → HasWritten W.OutSink L.OutSink
-            pool.old.task.programs.now vl_table capture ledger frames self.old
+            → HasShared W.OutSink L.OutSink
+            pool.old.task.programs.now vl_table capture ledger frames self.old flight.old
             → StopsWriting (effect_of fault) pool.old.task.programs.now vl_table capture ledger
             (sink_at W.OutSink (sink_of self.new.capture))
             (sink_at L.OutSink (ledger_sink self.new.ledger))
@@ -374,15 +416,63 @@ impl<W: OutSink, L: OutSink> Outputs<W, L> {
             frames: round,
             verdicts,
         };
-        let done = match share(rt, pool, judged, entries) {
-            Ok(round) => round,
-            Err(fault) => return Err(fault),
+        let next = match pool.put(judged) {
+            Ok(next) => next,
+            Err(fault) => return Err(fault_of_pool(fault)),
         };
-        write_entries(
+        self.settle_round(rt, pool, flight, entries)?;
+        *flight = Some(next);
+        Ok(())
+    }
+
+    /// Writes the round that the workers of a pool are at, if there is one, once what is written of it is
+    /// made.
+    ///
+    /// # Errors
+    ///
+    /// As [`share_round`](Outputs::share_round).
+    pub fn settle_round<'a, R: Wait, G: RunGate + Sync>(
+        &mut self,
+        rt: &R,
+        pool: &mut Pool<Formatting<'a, G>>,
+        flight: &mut Option<InFlight<Formatting<'a, G>>>,
+        entries: &mut Entries,
+    ) -> Result<(), WatchFault>
+        requires room { (totals_in self.old.ledger).frames + length (frames_at flight.old) ≤ MAX_LINES }
+        requires task { IfSome flight.old (λ p. p.task ≡ pool.old.task) }
+        requires capture_going { has_failed self.old.capture ≡ false }
+        requires ledger_going { ledger_has_failed self.old.ledger ≡ false }
+        ensures pool { pool.new ≡ pool.old }
+        ensures none { flight.new ≡ None }
+        ensures lanes { self.new.lanes ≡ self.old.lanes }
+        ensures written { OnOk result ((vl_table : VlTable) (capture ledger : SinkView)
+            (frames : List Frame) (after : LanesState)
+            → HasShared W.OutSink L.OutSink
+            pool.old.task.programs.now vl_table capture ledger frames
+            (outputs_of after self.old.capture self.old.ledger) flight.old
+            → HasWritten W.OutSink L.OutSink
+            pool.old.task.programs.now vl_table capture ledger frames
+            (outputs_of after self.new.capture self.new.ledger)) }
+        ensures capture_going { OnOk result (has_failed self.new.capture ≡ false) }
+        ensures ledger_going { OnOk result (ledger_has_failed self.new.ledger ≡ false) }
+        ensures stopped { IfErr result (λ fault. (vl_table : VlTable) (capture ledger : SinkView)
+            (frames : List Frame) (after : LanesState)
+            → HasShared W.OutSink L.OutSink
+            pool.old.task.programs.now vl_table capture ledger frames
+            (outputs_of after self.old.capture self.old.ledger) flight.old
+            → StopsWriting (effect_of fault) pool.old.task.programs.now vl_table capture ledger
+            (sink_at W.OutSink (sink_of self.new.capture))
+            (sink_at L.OutSink (ledger_sink self.new.ledger)) frames) }
+    {
+        let Some(flight) = flight.take() else {
+            return Ok(());
+        };
+        write_flight(
+            rt,
+            pool,
+            flight,
             &mut self.capture,
             &mut self.ledger,
-            &done.frames,
-            &done.verdicts,
             entries,
         )
     }

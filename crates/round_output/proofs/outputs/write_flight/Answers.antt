@@ -1,0 +1,32 @@
+use Rattle.std.proofs.Common.{◌∙◌, ap}
+use Rattle.round_output.specs.declared.shared.JudgedRound.{JudgedRound}
+use Rattle.run_outcome.proofs.Results.{with_err, with_on_ok}
+use Rattle.round_output.proofs.Writing.{capture_some, lines_some, no_sink_fails, same_effect}
+use Rattle.round_output.proofs.outputs.write_flight.Goals as goal
+
+pub returns-in-Err-clause-stopped : goal.returns-in-Err-clause-stopped
+returns-in-Err-clause-stopped g c =
+    let ps = c.args.flight.task.programs.now in
+    let round = c.args.flight.round.frames.items in
+    λ vl_table capture ledger frames before h said. record {
+      packets = capture_some ps frames round _ _ h.packets;
+      lines = lines_some ps vl_table frames round _ _ h.lines;
+      fails = no_sink_fails c.in-Err.fault _ _ _ _ c.in-Err.ensures.fault h.capture_failures h.ledger_failures;
+    }
+
+pub returns-clause-written : goal.returns-clause-written
+returns-clause-written g c =
+    let ps = c.args.flight.task.programs.now in
+    let round = c.deref.ensures.value ∙ ap (λ (r : JudgedRound). r.frames.items) c.in-Ok.ensures.round in
+    let judged = c.deref-2.ensures.value ∙ ap (λ (r : JudgedRound). r.verdicts.items) c.in-Ok.ensures.round in
+    with_on_ok c.write_entries.result _ _ (λ f. λ vl_table capture ledger frames before after h said stands.
+    f ps vl_table capture ledger frames before after h said c.in-Ok.ensures.entries stands) (rw (round, judged) at c.write_entries.ensures.written)
+
+pub returns-clause-stopped : goal.returns-clause-stopped
+returns-clause-stopped g c =
+    let ps = c.args.flight.task.programs.now in
+    let round = c.deref.ensures.value ∙ ap (λ (r : JudgedRound). r.frames.items) c.in-Ok.ensures.round in
+    let judged = c.deref-2.ensures.value ∙ ap (λ (r : JudgedRound). r.verdicts.items) c.in-Ok.ensures.round in
+    with_err c.write_entries.result _ _ (λ fault f. λ vl_table capture ledger frames before h said.
+    same_effect fault ps vl_table capture ledger _ _ _ (f ps vl_table capture ledger frames before h said
+    c.in-Ok.ensures.entries)) (rw (round, judged) at c.write_entries.ensures.stopped)
