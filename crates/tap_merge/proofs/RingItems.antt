@@ -1,5 +1,5 @@
 -- Items that are taken of rings, and merged.
-use Rattle.std.proofs.Common.{◌≡◌, ◌++◌, ◌∷◌, [], ℕ, ◌+◌, ◌≤◌, List, Option, Some, None, is_some, true, false, length, take, suc, refl, sym, subst, ap, ◌∙◌, append-nil, append_assoc, arith}
+use Rattle.std.proofs.Common.{◌≡◌, ◌++◌, ◌∷◌, [], ℕ, ◌+◌, ◌≤◌, List, Option, Some, None, is_some, true, false, length, take, suc, refl, sym, subst, ap, ◌∙◌, append-nil, arith}
 use Rattle.std.specs.List.{AllByRecursion}
 use Rattle.std.specs.Option.{ForSome}
 use Rattle.std.proofs.lemmas.Bool.{false≢true}
@@ -248,43 +248,6 @@ taken_after_cut late cut rings m round h is round_is = record {
   ended_b = subst (λ (s : MergerState). HasEnding rings.end_b s.b (taken_items rings.b)) (sym is) h.ended_b;
   failed = h.failed;
 }
-
--- ---- the rest of the rings is taken
-
-first_on : (frames : List Frame) (tap : Tap) (old new : TapEnd) → (has_lost old ≡ false → AreFirst frames tap (taken_items old)) → TakesOn old new → has_lost new ≡ false →
-    AreFirst frames tap (taken_items new)
-first_on frames tap old new known takes sound =
-    let k = known (takes.going sound) in
-    let m = takes.more sound in
-    record {
-      more = k.more ++ frames_in m.0;
-      all = ap frames_in m.1 ∙ frames_append (taken_items old) m.0 ∙ ap (λ (l : List Frame). l ++ frames_in m.0) k.all ∙ append_assoc frames k.more (frames_in m.0);
-      over = λ done.
-          (let ended = k.over done in
-          let none = m.2 (ap is_over ended.2.1 ∙ over_with ended.2.0 (items.End ended.1) refl) in (
-            ap (λ (l : List TapItem). k.more ++ frames_in l) none ∙ append-nil k.more ∙ ended.0,
-            ended.1,
-            subst (λ (l : List TapItem). EndsWith (items.End ended.1) l) (sym (m.1 ∙ ap (λ (l : List TapItem). taken_items old ++ l) none ∙ append-nil (taken_items old))) ended.2,
-          ));
-    }
-
-pub stops_on : (late : ℕ) (cut : List Frame) (a b a' b' : TapEnd) → StopsTaking late cut a b → TakesOn a a' → TakesOn b b' → StopsTaking late cut a' b'
-stops_on late cut a b a' b' s takes_a takes_b = record {
-  merger = s.merger;
-  frames_a = s.frames_a;
-  frames_b = s.frames_b;
-  late_is = s.late_is;
-  follows = s.follows;
-  first_a = first_on s.frames_a s.merger.a a a' s.first_a takes_a;
-  first_b = first_on s.frames_b s.merger.b b b' s.first_b takes_b;
-}
-
--- a last item stays the last
-pub ends_on : (item : TapItem) (old new : TapEnd) → is_last item ≡ true → EndsWith item (taken_items old) → TakesOn old new → has_lost new ≡ false → EndsWith item (taken_items new)
-ends_on item old new last (before, all) takes sound =
-    let m = takes.more sound in
-    let none = m.2 (ap is_over all ∙ over_with before item last) in
-    subst (λ (l : List TapItem). EndsWith item l) (sym (m.1 ∙ ap (λ (l : List TapItem). taken_items old ++ l) none ∙ append-nil (taken_items old))) (before, all)
 
 -- ---- a ring was looked at, or a source's failure was taken
 

@@ -1,5 +1,5 @@
 -- A run that is ready to start its threads, and what it comes to.
-use Rattle.std.specs.Prelude.{◌≡◌, ℕ, false, List, [], length, Result, MatchResult}
+use Rattle.std.specs.Prelude.{◌≡◌, ℕ, false, List, [], length, None, Result, MatchResult}
 use Rattle.std.specs.Option.{option_map}
 use Rattle.afdx_frame.specs.declared.key.Network.TheVariants.{A, B}
 use Rattle.bpf_isa.specs.declared.packed.Packed.{Packed}
@@ -77,6 +77,6 @@ ready_of put_a a put_b b taps outputs = record {
   b = taps.b;
   put_a = put_a;
   put_b = put_b;
-  rings = record { a = a; b = b; merger = taps.merger; end_a = taps.end_a; end_b = taps.end_b };
+  rings = record { a = a; b = b; merger = taps.merger; end_a = taps.end_a; end_b = taps.end_b; fault = None };
   outputs = outputs;
 }

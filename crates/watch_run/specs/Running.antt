@@ -1,5 +1,5 @@
 -- A run whose recordings are read by threads of their own: why it was aborted, and what it leaves.
-use Rattle.std.specs.Prelude.{◌≡◌, ◌⊎◌, ℕ, Bool, true, false, List, [], length, is_some, Option, Some, None, Result, IfOk, IfErr, ⊤}
+use Rattle.std.specs.Prelude.{◌≡◌, ◌⊎◌, ℕ, Bool, true, false, List, [], length, is_some, Option, Some, None, Result, Ok, IfOk, IfErr, ⊤}
 use Rattle.std.specs.Io.KnownBytes.{Appends}
 use Rattle.afdx_frame.specs.Frame.{Frame}
 use Rattle.afdx_frame.specs.declared.key.Network.{Network}
@@ -8,20 +8,19 @@ use Rattle.bpf_isa.specs.declared.packed.Packed.{Packed}
 use Rattle.ordered_merge.specs.Order.{IsOrder}
 use Rattle.ordered_merge.specs.Recording.{IsRecording as IsTapRecording}
 use Rattle.pcap_io.specs.Device.{CountsFailure}
-use Rattle.pcap_io.specs.Position.{LacksMemory}
-use Rattle.pcap_io.specs.declared.position.Position.{Position}
-use Rattle.pcap_io.specs.declared.recording.Ending.{Ending}
 use Rattle.pcap_io.specs.Writer.{has_failed}
 use Rattle.tap_queue.specs.Ring.{SameEnd}
 use Rattle.tap_queue.specs.declared.end.TapEnd.{TapEnd}
-use Rattle.run_outcome.specs.Recording.{LeavesUnread}
-use Rattle.verdict_ledger.specs.Ledger.{has_failed as ledger_has_failed}
+use Rattle.verdict_ledger.specs.Ledger.{has_failed as ledger_has_failed, sink_of as ledger_sink}
 use Rattle.vl_config.specs.Document.{VlTable}
 use Rattle.round_output.specs.Filters.{capture_by}
-use Rattle.round_output.specs.Outputs.{HasWritten, StopsWriting, effect_of}
+use Rattle.pcap_io.specs.Writer.{sink_of}
+use Rattle.round_output.specs.Outputs.{HasShared, HasWritten, StopsWriting, effect_of}
+use Rattle.round_output.specs.declared.shared.JudgedRound.{JudgedRound}
+use Rattle.worker_pool.specs.Chunks.{Posted}
 use Rattle.tap_merge.specs.Rings.{HasTaken, RingsFault, StopsTaking}
 use Rattle.run_outcome.specs.Device.{SinkMembers, AppendsSome, SinkView, SourceView, sink_at}
-use Rattle.run_outcome.specs.Recording.{HasReadTap, IsReadPart, IsReadWhole, WasOpened}
+use Rattle.run_outcome.specs.Recording.{IsReadPart, WasOpened}
 use Rattle.run_outcome.specs.Fault.{MayFail, CaptureSink, Fails, LedgerSink, SourceA, SourceB, names}
 use Rattle.run_outcome.specs.Opening.{AbortsAtOpening, WatchDevices, watch_devices}
 use Rattle.watch_run.specs.Watch.{AbortsRun, StopsRun}
@@ -41,6 +40,16 @@ pub record IsRunning {W L : Type 0} (w : SinkMembers W) (l : SinkMembers L)
   pub cut : List Frame
   pub taken : HasTaken vl_table.late cut rings
   pub written : HasWritten w l ps vl_table capture ledger cut outputs
+  pub capture_going : has_failed outputs.capture ≡ false
+  pub ledger_going : ledger_has_failed outputs.ledger ≡ false
+
+-- As `IsRunning`, where the workers are at the last of these frames, which are still to be written.
+pub record IsSharing {W L T : Type 0} (w : SinkMembers W) (l : SinkMembers L)
+    (ps : List (List Packed)) (vl_table : VlTable) (capture ledger : SinkView) (rings : Rings) (outputs : Outputs W L)
+    (flight : Option (Posted T JudgedRound)) : Type 0 where
+  pub cut : List Frame
+  pub taken : HasTaken vl_table.late cut rings
+  pub shared : HasShared w l ps vl_table capture ledger cut outputs flight
   pub capture_going : has_failed outputs.capture ≡ false
   pub ledger_going : ledger_has_failed outputs.ledger ≡ false
 
@@ -70,6 +79,19 @@ pub record GoesOn {W L : Type 0} (w : SinkMembers W) (l : SinkMembers L)
       IsRunning w l ps vl_table capture ledger before outputs →
       StopsRunning e.fault ps vl_table capture ledger after.a after.b (sink_at w e.capture) (sink_at l e.ledger))
 
+-- One round more is taken of the rings and handed to the workers, and the one before is written; or nothing was there, or the run stops.
+pub record Steps {W L T : Type 0} (w : SinkMembers W) (l : SinkMembers L)
+    (ps : List (List Packed)) (before : Rings) (outputs : Outputs W L) (flight : Option (Posted T JudgedRound))
+    (after : Rings) (outputs' : Outputs W L) (flight' : Option (Posted T JudgedRound)) (result : Result Bool WatchFault) : Type 0 where
+  pub same_a : SameEnd before.a after.a
+  pub same_b : SameEnd before.b after.b
+  pub sharing : IfOk result (λ more. (vl_table : VlTable) (capture ledger : SinkView) →
+      IsSharing w l ps vl_table capture ledger before outputs flight → IsSharing w l ps vl_table capture ledger after outputs' flight')
+  pub ended : result ≡ Ok false → (is_some after.end_a ≡ true) × (is_some after.end_b ≡ true) × (after.merger.pending ≡ []) × (flight' ≡ None)
+  pub stopped : IfErr result (λ fault. (vl_table : VlTable) (capture ledger : SinkView) →
+      IsSharing w l ps vl_table capture ledger before outputs flight →
+      StopsRunning fault ps vl_table capture ledger after.a after.b (sink_at w (sink_of outputs'.capture)) (sink_at l (ledger_sink outputs'.ledger)))
+
 -- ---- what is left of an aborted run
 
 -- a source that is named failed once, and another may have
@@ -95,30 +117,11 @@ abbrev pub BothBack : Option SourceView → Option SourceView → (SourceView �
 BothBack (Some a) (Some b) P = P a b
 BothBack _ _ P = ⊥
 
--- There was no memory for the packet after these frames: its header is gone, and no more, but for what was read ahead.
-pub record LacksPacketMemory (network : Network) (late : ℕ) (before after : SourceView) (frames : List Frame) : Type 0 where
-  pub position : Position
-  pub left : Option (List ℕ)
-  pub rest : Option (List ℕ)
-  pub ahead : List ℕ
-  pub read : HasReadTap network late before.remaining frames position left
-  pub lacks : LacksMemory position left rest
-  pub unread : LeavesUnread ahead rest after.remaining
-
--- A recording was read on, whatever had happened to the run: to its ending, or until its source failed or there was no memory for a packet.
-abbrev pub IsReadOut : Network → ℕ → SourceView → SourceView → List Frame → Type 0
-IsReadOut network late before after frames =
-    ((ending : Ending) × IsReadWhole network late before after frames ending)
-    ⊎ CountsFailure before.failures after.failures
-    ⊎ LacksPacketMemory network late before after frames
-
 -- why a run was aborted whose sources came back, and what it leaves
 pub record AbortsRunning (fault : WatchFault) (ps : List (List Packed)) (vl_table : VlTable) (before after : WatchDevices) : Type 0 where
   pub fails : FailsAmong fault before after
   pub run : IsRunningFault fault
   pub stops : StopsRun fault ps vl_table before after
-  pub out_a : IsReadOut A vl_table.late before.a after.a stops.frames_a
-  pub out_b : IsReadOut B vl_table.late before.b after.b stops.frames_b
 
 -- A tap's thread couldn't be started, and its source is gone with it. The other one came back: B as it was opened, or A read by its
 -- thread.

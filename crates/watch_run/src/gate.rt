@@ -1,8 +1,19 @@
-//! A gate that lets all through.
+//! What a run tells while it runs, and a gate that lets all through.
 
 use afdx_frame::Network;
 use filter_workers::RunGate;
+use run_outcome::WatchFault;
 use tap_queue::TapGate;
+
+/// Is told how a run on threads gets on. No clause speaks of it.
+pub trait RunObserver {
+    /// Nothing came of the recordings for some milliseconds. What is safe was handed to the sinks. Told again
+    /// and again until something comes.
+    fn waits(&self) {}
+
+    /// The run is aborted by this fault. The threads that read the recordings are still to be waited for.
+    fn aborts(&self, _fault: WatchFault) {}
+}
 
 /// A gate of both kinds that lets all through: what a run is told that no test watches.
 #[derive(Clone, Copy, Debug)]
@@ -15,3 +26,5 @@ impl RunGate for OpenGate {
 impl TapGate for OpenGate {
     fn tap(&self, _network: Network) {}
 }
+
+impl RunObserver for OpenGate {}

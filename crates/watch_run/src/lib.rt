@@ -12,7 +12,7 @@ mod one_thread;
 mod running;
 mod threads;
 
-pub use gate::OpenGate;
+pub use gate::{OpenGate, RunObserver};
 pub use laws::same_bytes_in_same_bytes_out;
 pub use one_thread::{Watched, watch_whole};
 pub use threads::watch;

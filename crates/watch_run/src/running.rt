@@ -1,10 +1,12 @@
 //! A run whose taps are read by threads of their own.
-ghost use Rattle.std.specs.Prelude.{◌≡◌, ◌∷◌, List, Some, false, length, true, [], is_some, IfErr, IfOk};
+ghost use Rattle.std.specs.Prelude.{◌≡◌, ◌∷◌, List, Some, false, length, true, [], is_some, IfErr, IfOk, IfSome, OnOk};
 ghost use Rattle.std.specs.Option.{option_map};
 ghost use Rattle.bpf_isa.specs.declared.packed.Packed.{Packed};
 ghost use Rattle.pcap_io.specs.Reader.{reading_of};
+ghost use Rattle.pcap_io.specs.Writer.{sink_of};
+ghost use Rattle.tap_queue.specs.Ring.{SameEnd};
 ghost use Rattle.vl_config.specs.Document.{VlTable};
-ghost use Rattle.watch_run.specs.Running.{AbortsBegun, GoesOn, IsRunning, StopsRunning};
+ghost use Rattle.watch_run.specs.Running.{AbortsBegun, GoesOn, IsRunning, IsSharing, Steps, StopsRunning};
 ghost use Rattle.tap_merge.specs.Threads.{IsStarted};
 ghost use Rattle.round_output.specs.Outputs.{HasWritten, IsFinished, StopsFinishing};
 ghost use Rattle.run_outcome.specs.Device.{SinkView};
@@ -13,9 +15,10 @@ ghost use Rattle.watch_run.specs.Watch.{IsWatched};
 ghost use Rattle.run_outcome.specs.Opening.{WatchDevices, devices_at};
 ghost use Rattle.run_outcome.specs.Device.{sink_at, source_at};
 ghost use Rattle.run_outcome.specs.Opening.{watch_devices};
-ghost use Rattle.verdict_ledger.specs.Ledger.{has_failed as ledger_has_failed};
+ghost use Rattle.verdict_ledger.specs.Ledger.{has_failed as ledger_has_failed, sink_of as ledger_sink};
 ghost use Rattle.afdx_frame.specs.Frame.{Frame};
 
+use crate::gate::RunObserver;
 use crate::one_thread::Watched;
 use afdx_frame::Network;
 use filter_workers::RunGate;
@@ -25,15 +28,89 @@ use run_outcome::{WatchFault, WatchRefused};
 use std::alloc::{AllocError, Global};
 use std::sync::Wait;
 use std::thread::{Scope, Threads};
-use tap_merge::{Rings, TapThread, drain, settle_tap};
-use worker_pool::Pool;
+use tap_merge::{Rings, TapThread, leave_tap, settle_tap};
+use worker_pool::{InFlight, Pool};
+
+/// Writes the round that workers are at where nothing more comes for some milliseconds, and tells of it.
+fn settle_idle<'a, R: Wait, W: OutSink, L: OutSink, G: RunGate + RunObserver + Sync>(
+    rt: &R,
+    gate: &G,
+    pool: &mut Pool<Formatting<'a, G>>,
+    rings: &mut Rings,
+    outputs: &mut Outputs<W, L>,
+    flight: &mut Option<InFlight<Formatting<'a, G>>>,
+    entries: &mut Entries,
+) -> Result<(), WatchFault>
+    requires begun { (vl_table : VlTable) × (capture : SinkView) × (ledger : SinkView)
+        × IsSharing W.OutSink L.OutSink
+        pool.old.task.programs.now vl_table capture ledger rings.old outputs.old flight.old }
+    requires task { IfSome flight.old (λ p. p.task ≡ pool.old.task) }
+    ensures pool { pool.new ≡ pool.old }
+    ensures task { IfSome flight.new (λ p. p.task ≡ pool.old.task) }
+    ensures a { SameEnd rings.old.a rings.new.a }
+    ensures b { SameEnd rings.old.b rings.new.b }
+    ensures sharing { OnOk result ((vl_table : VlTable) (capture ledger : SinkView)
+        → IsSharing W.OutSink L.OutSink
+        pool.old.task.programs.now vl_table capture ledger rings.old outputs.old flight.old
+        → IsSharing W.OutSink L.OutSink
+        pool.old.task.programs.now vl_table capture ledger rings.new outputs.new flight.new) }
+    ensures stopped { IfErr result (λ fault. (vl_table : VlTable) (capture ledger : SinkView)
+        → IsSharing W.OutSink L.OutSink
+        pool.old.task.programs.now vl_table capture ledger rings.old outputs.old flight.old
+        → StopsRunning fault pool.old.task.programs.now vl_table capture ledger rings.new.a rings.new.b
+        (sink_at W.OutSink (sink_of outputs.new.capture))
+        (sink_at L.OutSink (ledger_sink outputs.new.ledger))) }
+{
+    if rings.is_soon_ready(rt) {
+        return Ok(());
+    }
+    outputs.settle_round(rt, pool, flight, entries)?;
+    gate.waits();
+    Ok(())
+}
+
+/// Takes and merges the next frames, hands a round of them to the workers of a pool, and writes the one
+/// before, which they were at. False: both recordings have ended, and all is written.
+fn write_next<'a, R: Wait, W: OutSink, L: OutSink, G: RunGate + Sync>(
+    rt: &R,
+    pool: &mut Pool<Formatting<'a, G>>,
+    rings: &mut Rings,
+    outputs: &mut Outputs<W, L>,
+    flight: &mut Option<InFlight<Formatting<'a, G>>>,
+    entries: &mut Entries,
+) -> Result<bool, WatchFault>
+    requires begun { (vl_table : VlTable) × (capture : SinkView) × (ledger : SinkView)
+        × IsSharing W.OutSink L.OutSink
+        pool.old.task.programs.now vl_table capture ledger rings.old outputs.old flight.old }
+    requires task { IfSome flight.old (λ p. p.task ≡ pool.old.task) }
+    ensures pool { pool.new ≡ pool.old }
+    ensures task { IfSome flight.new (λ p. p.task ≡ pool.old.task) }
+    ensures stepped { Steps W.OutSink L.OutSink pool.old.task.programs.now
+        rings.old outputs.old flight.old rings.new outputs.new flight.new result }
+{
+    match rings.next_round(rt) {
+        Ok(Some(round)) => {
+            outputs.share_round(rt, pool, flight, round, entries)?;
+            Ok(true)
+        }
+        Ok(None) => {
+            outputs.settle_round(rt, pool, flight, entries)?;
+            Ok(false)
+        }
+        Err(fault) => {
+            outputs.settle_round(rt, pool, flight, entries)?;
+            Err(fault)
+        }
+    }
+}
 
 /// Takes and merges all frames, and shares each round of them among the workers of a pool, until both
 /// recordings have ended.
-fn write_rounds<R: Wait, W: OutSink, L: OutSink, G: RunGate + Sync>(
+fn write_rounds<'a, R: Wait, W: OutSink, L: OutSink, G: RunGate + RunObserver + Sync>(
     rt: &R,
     alloc: Global,
-    pool: &mut Pool<Formatting<'_, G>>,
+    gate: &G,
+    pool: &mut Pool<Formatting<'a, G>>,
     rings: &mut Rings,
     outputs: Outputs<W, L>,
 ) -> Result<Outputs<W, L>, Unwritten<W, L>>
@@ -46,14 +123,24 @@ fn write_rounds<R: Wait, W: OutSink, L: OutSink, G: RunGate + Sync>(
 {
     let mut outputs = outputs;
     let mut entries = Entries::new(alloc);
+    let mut flight = None;
     for _ in rt.forever() {
-        let round = match rings.next_round(rt) {
-            Ok(Some(round)) => round,
-            Ok(None) => return Ok(outputs),
-            Err(fault) => return Err(outputs.unwritten(fault)),
-        };
-        if let Err(fault) = outputs.write_shared(rt, pool, round, &mut entries) {
+        let idle = settle_idle(
+            rt,
+            gate,
+            pool,
+            rings,
+            &mut outputs,
+            &mut flight,
+            &mut entries,
+        );
+        if let Err(fault) = idle {
             return Err(outputs.unwritten(fault));
+        }
+        match write_next(rt, pool, rings, &mut outputs, &mut flight, &mut entries) {
+            Ok(true) => {}
+            Ok(false) => return Ok(outputs),
+            Err(fault) => return Err(outputs.unwritten(fault)),
         }
     }
     unreachable!()
@@ -61,7 +148,7 @@ fn write_rounds<R: Wait, W: OutSink, L: OutSink, G: RunGate + Sync>(
 
 /// Starts the workers of a run, and takes, merges and writes all frames with them. A worker that can't be
 /// started is no fault: the others do its share.
-pub fn write_all<'s, E, R, W: OutSink, L: OutSink, G: RunGate + Sync>(
+pub fn write_all<'s, E, R, W: OutSink, L: OutSink, G: RunGate + RunObserver + Sync>(
     scope: &Scope<'s, E>,
     rt: &'s R,
     alloc: Global,
@@ -77,11 +164,12 @@ where
         task.programs.now vl_table capture ledger rings.old outputs }
     ensures { GoesOn W.OutSink L.OutSink task.entry.programs.now rings.old outputs rings.new result }
 {
+    let gate = task.gate;
     let mut pool = match Pool::start(scope, rt, alloc, task, workers) {
         Ok(pool) => pool,
         Err(AllocError) => return Err(outputs.unwritten(WatchFault::Memory)),
     };
-    let written = write_rounds(rt, alloc, &mut pool, rings, outputs);
+    let written = write_rounds(rt, alloc, gate, &mut pool, rings, outputs);
     pool.close();
     written
 }
@@ -189,6 +277,7 @@ impl<S: TapSource + Drop, T: TapSource + Drop> Running<S, T> {
             merger: _,
             end_a: _,
             end_b: _,
+            fault: _,
         } = rings;
         match (settle_tap(rt, ring_a, a), settle_tap(rt, ring_b, b)) {
             (Some(a), Some(b)) => finish_outputs(outputs, end_a, end_b, a, b),
@@ -205,8 +294,8 @@ impl<S: TapSource + Drop, T: TapSource + Drop> Running<S, T> {
         }
     }
 
-    /// Aborts a run: takes what is left of both rings, waits for the threads, and gives the sources back.
-    pub fn abort<R: Threads + Wait, W: OutSink, L: OutSink>(
+    /// Aborts a run: has the threads stop, waits for them, and gives the sources back.
+    pub fn abort<R: Threads, W: OutSink, L: OutSink>(
         self,
         rt: &R,
         unwritten: Unwritten<W, L>,
@@ -228,22 +317,23 @@ impl<S: TapSource + Drop, T: TapSource + Drop> Running<S, T> {
             (sink_at W.OutSink result.capture)
             (sink_at L.OutSink result.ledger) }
     {
-        let Running { mut rings, a, b } = self;
-        drain(rt, &mut rings.a);
-        drain(rt, &mut rings.b);
+        let Running { rings, a, b } = self;
         let Rings {
             a: ring_a,
             b: ring_b,
             merger: _,
             end_a: _,
             end_b: _,
+            fault: _,
         } = rings;
+        ring_a.stop();
+        ring_b.stop();
         let Unwritten {
             fault,
             capture,
             ledger,
         } = unwritten;
-        match (settle_tap(rt, ring_a, a), settle_tap(rt, ring_b, b)) {
+        match (leave_tap(rt, ring_a, a), leave_tap(rt, ring_b, b)) {
             (Some(a), Some(b)) => WatchRefused::new(fault, a, b, capture, ledger),
             (a, b) => WatchRefused {
                 fault: WatchFault::RingLost,

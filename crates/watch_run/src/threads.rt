@@ -15,6 +15,7 @@ ghost use Rattle.run_outcome.specs.Opening.{WatchDevices, devices_at};
 ghost use Rattle.run_outcome.specs.Device.{sink_at, source_at};
 ghost use Rattle.run_outcome.specs.Opening.{watch_devices};
 
+use crate::gate::RunObserver;
 use crate::one_thread::Watched;
 use crate::running::{Running, write_all};
 use afdx_frame::Network;
@@ -27,7 +28,7 @@ use std::alloc::{AllocError, Global};
 use std::sync::Wait;
 use std::thread;
 use std::thread::{Scope, Threads};
-use tap_merge::{Rings, Taps, Unopened, drain, settle_tap, start_tap};
+use tap_merge::{Rings, Taps, Unopened, leave_tap, start_tap};
 use tap_queue::{TapEnd, TapGate, TapPut, tap_ring};
 use vl_config::Config;
 
@@ -108,7 +109,7 @@ impl<S: TapSource + Drop + Send, T: TapSource + Drop + Send, W: OutSink, L: OutS
             b,
             put_a,
             put_b,
-            mut rings,
+            rings,
             outputs,
         } = self;
         let Some(a) = start_tap(scope, rt, alloc, gate, a, put_a) else {
@@ -122,8 +123,8 @@ impl<S: TapSource + Drop + Send, T: TapSource + Drop + Send, W: OutSink, L: OutS
             });
         };
         let Some(b) = start_tap(scope, rt, alloc, gate, b, put_b) else {
-            drain(rt, &mut rings.a);
-            return Err(not_started(settle_tap(rt, rings.a, a), outputs));
+            rings.a.stop();
+            return Err(not_started(leave_tap(rt, rings.a, a), outputs));
         };
         Ok((Running { rings, a, b }, outputs))
     }
@@ -144,7 +145,7 @@ where
     T: TapSource + Drop + Send + 's,
     W: OutSink,
     L: OutSink,
-    G: RunGate + TapGate + Sync,
+    G: RunGate + TapGate + RunObserver + Sync,
     requires new { AreNew ready }
     requires ready { (vl_table : VlTable) × (before : WatchDevices)
         × IsReady S.TapSource T.TapSource W.OutSink L.OutSink
@@ -155,9 +156,13 @@ where
         Ok(started) => started,
         Err(refused) => return Err(refused),
     };
+    let gate = task.gate;
     match write_all(scope, rt, alloc, task, workers, &mut running.rings, outputs) {
         Ok(outputs) => running.finish(rt, outputs),
-        Err(unwritten) => Err(running.abort(rt, unwritten)),
+        Err(unwritten) => {
+            gate.aborts(unwritten.fault);
+            Err(running.abort(rt, unwritten))
+        }
     }
 }
 
@@ -249,6 +254,7 @@ impl<S, T, W, L> Ready<S, T, W, L> {
                 merger,
                 end_a,
                 end_b,
+                fault: None,
             },
             outputs,
         }
@@ -300,7 +306,7 @@ where
     T: TapSource + Drop + Send,
     W: OutSink + Drop,
     L: OutSink + Drop,
-    G: RunGate + TapGate + Sync,
+    G: RunGate + TapGate + RunObserver + Sync,
     ensures watched { IfOk result (λ done. IsWorkerCount workers × IsWatched programs.now config.now
         done.endings done.totals
         (devices_at S.TapSource T.TapSource W.OutSink L.OutSink a b capture ledger)
@@ -342,7 +348,7 @@ where
     T: TapSource + Drop + Send,
     W: OutSink + Drop,
     L: OutSink + Drop,
-    G: RunGate + TapGate + Sync,
+    G: RunGate + TapGate + RunObserver + Sync,
     requires few { length programs.now ≤ MAX_FILTERS }
     requires new { AreNew ready }
     requires ready { (vl_table : VlTable) × (before : WatchDevices)
