@@ -26,9 +26,9 @@ use Rattle.vl_config.specs.Document.{VlTable}
 use Rattle.run_outcome.specs.Recording.{IsRecording, LeavesUnread}
 use Rattle.round_output.specs.Filters.{capture_by}
 use Rattle.round_output.specs.Outputs.{SinkFails, StopsWriting, effect_of}
-use Rattle.tap_merge.specs.Rings.{AreFirst, EndsWith, RingsFault, StopsTaking, TakesOn, TapFault}
-use Rattle.watch_run.specs.Running.{AbortsBegun, AbortsRunning, FailsAmong, HasWholeRounds, IsReadOut, IsRunningFault, LosesRing, StopsRunning}
-use Rattle.tap_merge.specs.Threads.{IsSettled, IsStarted}
+use Rattle.tap_merge.specs.Rings.{AreFirst, EndsWith, RingsFault, StopsTaking}
+use Rattle.watch_run.specs.Running.{AbortsBegun, AbortsRunning, FailsAmong, HasWholeRounds, IsRunningFault, LosesRing, StopsRunning}
+use Rattle.tap_merge.specs.Threads.{IsLeft, IsSettled, IsStarted}
 use Rattle.run_outcome.specs.Fault.{MayFail}
 use Rattle.tap_merge.specs.Taps.{HasRead, ReadsPart}
 use Rattle.run_outcome.specs.Device.{SourceMembers, AppendsSome, SinkView, SourceView, source_at}
@@ -39,39 +39,55 @@ use Rattle.round_output.specs.Filters.{lines_by}
 use Rattle.run_outcome.specs.declared.fault.Output.TheVariants as output
 use Rattle.run_outcome.specs.declared.fault.WatchFault.{WatchFault}
 use Rattle.run_outcome.specs.declared.fault.WatchFault.TheVariants as watch
-use Rattle.tap_merge.proofs.FedTaps.{IsOut, IsTapRun, tap_run}
-use Rattle.watch_run.proofs.Returned.{whole_given}
-use Rattle.tap_merge.proofs.RingItems.{ends_on, stops_on}
+use Rattle.tap_merge.proofs.FedTaps.{IsTapRun, still_ends, tap_run}
+use Rattle.tap_merge.proofs.RingItems.{frames_append}
+use Rattle.tap_queue.specs.declared.item.TapItem.{TapItem}
 use Rattle.tap_merge.proofs.TwoTaps.{high_after, in_time}
 use Rattle.watch_run.proofs.Watching.{first_of_all, wholes_before}
 use Rattle.watch_run.proofs.WholeOrder.{IsFirst, goes_on, recorded}
 use Rattle.round_output.proofs.Writing.{capture_all, capture_longer, lines_all, lines_longer}
 
--- ---- a tap whose ring is settled
+-- ---- a tap whose source came back
 
-pub record IsTapSettled (network : Network) (late : ℕ) (before : SourceView) (end : TapEnd) (after : SourceView) : Type 0 where
+-- a source came back whose reader gave these items
+pub record IsTapBack (network : Network) (late : ℕ) (before : SourceView) (given : List TapItem) (after : SourceView) : Type 0 where
+  pub start : Reading
   pub reading : Reading
   pub ahead : List ℕ
-  pub run : IsTapRun network late before (frames_in (taken_items end)) (taken_items end) reading
-  pub sound : has_lost end ≡ false
+  pub gives : Gives start given reading
+  pub run : IsTapRun network late before (frames_in given) given reading
   pub leaves : LeavesUnread ahead reading.remaining after.remaining
   pub same_failures : after.failures ≡ reading.failures
 
-pub tap_settled : (network : Network) (late : ℕ) (before after : SourceView) (start reading : Reading) (end : TapEnd) (ahead : List ℕ) → IsStarted network late before start →
-    Gives start (taken_items end) reading → is_over (taken_items end) ≡ true → has_lost end ≡ false → LeavesUnread ahead reading.remaining after.remaining →
-    after.failures ≡ reading.failures → IsTapSettled network late before end after
-tap_settled network late before after start reading end ahead started gives over sound leaves same = record {
+tap_back : (network : Network) (late : ℕ) (before after : SourceView) (start reading : Reading) (given : List TapItem) (ahead : List ℕ) → IsStarted network late before start →
+    Gives start given reading → LeavesUnread ahead reading.remaining after.remaining → after.failures ≡ reading.failures → IsTapBack network late before given after
+tap_back network late before after start reading given ahead started gives leaves same = record {
+  start = start;
   reading = reading;
   ahead = ahead;
-  run = tap_run network late before [] (taken_items end) start reading started.read started.going started.most gives over;
-  sound = sound;
+  gives = gives;
+  run = tap_run network late before [] given start reading started.read started.going started.most gives;
   leaves = leaves;
   same_failures = same;
 }
 
-pub part_back : (network : Network) (late : ℕ) (before after : SourceView) (end : TapEnd) → IsTapSettled network late before end after →
-    IsReadPart network late before after (frames_in (taken_items end))
-part_back network late before after end s = record {
+pub settled_of : {S : Type 0} (s : SourceMembers S) (network : Network) (late : ℕ) (before : SourceView) (reader : TapReader S) (end : TapEnd) (source : S) →
+    IsStarted network late before (reading_of s.remaining s.failures reader) → IsSettled s reader end source →
+    IsTapBack network late before (taken_items end) (source_at s source)
+settled_of s network late before reader end source started settled =
+    tap_back network late before (source_at s source) (reading_of s.remaining s.failures reader) settled.reading (taken_items end) settled.ahead started settled.gives settled.leaves
+    settled.same_failures
+
+pub left_of : {S : Type 0} (s : SourceMembers S) (network : Network) (late : ℕ) (before : SourceView) (reader : TapReader S) (end : TapEnd) (source : S) →
+    IsStarted network late before (reading_of s.remaining s.failures reader) → (left : IsLeft s reader end source) →
+    IsTapBack network late before (taken_items end ++ left.more) (source_at s source)
+left_of s network late before reader end source started left =
+    tap_back network late before (source_at s source) (reading_of s.remaining s.failures reader) left.reading (taken_items end ++ left.more) left.ahead started left.gives left.leaves
+    left.same_failures
+
+pub part_back : (network : Network) (late : ℕ) (before after : SourceView) (given : List TapItem) → IsTapBack network late before given after →
+    IsReadPart network late before after (frames_in given)
+part_back network late before after given s = record {
   position = s.run.part.position;
   left = s.run.part.left;
   rest = s.reading.remaining;
@@ -81,29 +97,30 @@ part_back network late before after end s = record {
   unread = s.leaves;
 }
 
-pub may_fail_back : (network : Network) (late : ℕ) (before after : SourceView) (end : TapEnd) → IsTapSettled network late before end after → MayFail before.failures after.failures
-may_fail_back network late before after end s = subst (MayFail before.failures) (sym s.same_failures) s.run.may_fail
+pub may_fail_back : (network : Network) (late : ℕ) (before after : SourceView) (given : List TapItem) → IsTapBack network late before given after → MayFail before.failures after.failures
+may_fail_back network late before after given s = subst (MayFail before.failures) (sym s.same_failures) s.run.may_fail
 
-failed_back : (network : Network) (late : ℕ) (before after : SourceView) (end : TapEnd) → IsTapSettled network late before end after →
-    EndsWith (items.Failed faults.Device) (taken_items end) → CountsFailure before.failures after.failures
-failed_back network late before after end s ends = subst (CountsFailure before.failures) (sym s.same_failures) (s.run.failed ends)
+failed_back : (network : Network) (late : ℕ) (before after : SourceView) (taken more : List TapItem) → IsTapBack network late before (taken ++ more) after →
+    EndsWith (items.Failed faults.Device) taken → CountsFailure before.failures after.failures
+failed_back network late before after taken more s ends =
+    let none = still_ends s.start s.reading (items.Failed faults.Device) taken more refl ends s.gives in
+    subst (CountsFailure before.failures) (sym s.same_failures)
+    (s.run.failed (subst (λ (l : List TapItem). EndsWith (items.Failed faults.Device) l) (sym (ap (λ (l : List TapItem). taken ++ l) none ∙ append-nil taken)) ends))
 
-out_back : (network : Network) (late : ℕ) (before after : SourceView) (end : TapEnd) → IsTapSettled network late before end after →
-    IsReadOut network late before after (frames_in (taken_items end))
-out_back network late before after end s = by s.run.out
-  where
-    by : IsOut network late before (frames_in (taken_items end)) s.reading → IsReadOut network late before after (frames_in (taken_items end))
-    by (inl (ending, read)) = inl (ending, whole_given network late before after (frames_in (taken_items end)) ending s.reading s.ahead read s.leaves s.same_failures)
-    by (inr (inl counts)) = inr (inl (subst (CountsFailure before.failures) (sym s.same_failures) counts))
-    by (inr (inr (position, left, read, lacks))) = inr (inr (record {
-      position = position;
-      left = left;
-      rest = s.reading.remaining;
-      ahead = s.ahead;
-      read = read;
-      lacks = lacks;
-      unread = s.leaves;
-    }))
+-- the merged frames are the first of all that the reader gave
+first_given : (frames : List Frame) (tap : Tap) (taken more : List TapItem) (start reading : Reading) → AreFirst frames tap taken → Gives start (taken ++ more) reading →
+    AreFirst frames tap (taken ++ more)
+first_given frames tap taken more start reading k gives = record {
+  more = k.more ++ frames_in more;
+  all = frames_append taken more ∙ ap (λ (l : List Frame). l ++ frames_in more) k.all ∙ append_assoc frames k.more (frames_in more);
+  over = λ done.
+      (let ended = k.over done in
+      let none = still_ends start reading (items.End ended.1) taken more refl ended.2 gives in (
+        ap (λ (l : List TapItem). k.more ++ frames_in l) none ∙ append-nil k.more ∙ ended.0,
+        ended.1,
+        subst (λ (l : List TapItem). EndsWith (items.End ended.1) l) (sym (ap (λ (l : List TapItem). taken ++ l) none ∙ append-nil taken)) ended.2,
+      ));
+}
 
 -- ---- the frames that were read are those of a tap
 
@@ -137,11 +154,11 @@ none_behind : (xs ys : List Frame) → xs ≡ xs ++ ys → ys ≡ []
 none_behind [] ys e = sym e
 none_behind (f ∷ xs) ys e = none_behind xs ys (cc e)
 
-goes_on_after : (network : Network) (late : ℕ) (before after : SourceView) (end : TapEnd) (whole : List Frame) (bytes : List ℕ) (ending : Ending) →
-    IsTapSettled network late before end after → before.remaining ≡ Some bytes → IsRecording network late bytes whole ending →
-    (others : List Frame) × (whole ≡ frames_in (taken_items end) ++ others) × ((e : Ending) → EndsWith (items.End e) (taken_items end) → others ≡ [])
-goes_on_after network late before after end whole bytes ending s known r =
-    let frames = frames_in (taken_items end) in
+goes_on_after : (network : Network) (late : ℕ) (before after : SourceView) (given : List TapItem) (whole : List Frame) (bytes : List ℕ) (ending : Ending) →
+    IsTapBack network late before given after → before.remaining ≡ Some bytes → IsRecording network late bytes whole ending →
+    (others : List Frame) × (whole ≡ frames_in given ++ others) × ((e : Ending) → EndsWith (items.End e) given → others ≡ [])
+goes_on_after network late before after given whole bytes ending s known r =
+    let frames = frames_in given in
     let on = goes_on network late before frames whole None _ bytes ending known (as_read network late before frames s.reading s.run.part) r in (
       on.others,
       on.all,
@@ -155,38 +172,45 @@ goes_on_after network late before after end whole bytes ending s known r =
 both_none : (xs ys : List Frame) → xs ≡ [] → ys ≡ [] → xs ++ ys ≡ []
 both_none xs ys none also = ap (λ (l : List Frame). l ++ ys) none ∙ also
 
-pub record IsStopped (late : ℕ) (cut : List Frame) (before_a before_b : SourceView) (a b : TapEnd) : Type 0 where
+pub record IsStopped (late : ℕ) (cut : List Frame) (before_a before_b : SourceView) (given_a given_b : List TapItem) : Type 0 where
   pub rest : List Frame
-  pub order : IsOrder (frames_in (taken_items a)) (frames_in (taken_items b)) (cut ++ rest)
+  pub order : IsOrder (frames_in given_a) (frames_in given_b) (cut ++ rest)
   pub first : IsFirst late before_a before_b cut
 
-pub stopped_so : (late : ℕ) (cut : List Frame) (before_a before_b after_a after_b : SourceView) (a b : TapEnd) → IsTapSettled A late before_a a after_a →
-    IsTapSettled B late before_b b after_b → StopsTaking late cut a b → IsStopped late cut before_a before_b a b
-stopped_so late cut before_a before_b after_a after_b a b settled_a settled_b s = record { rest = found.0; order = order; first = first }
+pub stopped_so : (late : ℕ) (cut : List Frame) (before_a before_b after_a after_b : SourceView) (a b : TapEnd) (more_a more_b : List TapItem) →
+    IsTapBack A late before_a (taken_items a ++ more_a) after_a → IsTapBack B late before_b (taken_items b ++ more_b) after_b → has_lost a ≡ false → has_lost b ≡ false →
+    StopsTaking late cut a b → IsStopped late cut before_a before_b (taken_items a ++ more_a) (taken_items b ++ more_b)
+stopped_so late cut before_a before_b after_a after_b a b more_a more_b settled_a settled_b sound_a sound_b s = record { rest = found.0; order = order; first = first }
   where
-    on_a : AreFirst s.frames_a s.merger.a (taken_items a)
-    on_a = s.first_a settled_a.sound
+    given_a : List TapItem
+    given_a = taken_items a ++ more_a
 
-    on_b : AreFirst s.frames_b s.merger.b (taken_items b)
-    on_b = s.first_b settled_b.sound
+    given_b : List TapItem
+    given_b = taken_items b ++ more_b
+
+    on_a : AreFirst s.frames_a s.merger.a given_a
+    on_a = first_given s.frames_a s.merger.a (taken_items a) more_a settled_a.start settled_a.reading (s.first_a sound_a) settled_a.gives
+
+    on_b : AreFirst s.frames_b s.merger.b given_b
+    on_b = first_given s.frames_b s.merger.b (taken_items b) more_b settled_b.start settled_b.reading (s.first_b sound_b) settled_b.gives
 
     tap_a : IsTapRecording A late (s.frames_a ++ on_a.more)
-    tap_a = subst (IsTapRecording A late) on_a.all (part_recorded A late before_a (frames_in (taken_items a)) settled_a.reading settled_a.run.part)
+    tap_a = subst (IsTapRecording A late) on_a.all (part_recorded A late before_a (frames_in given_a) settled_a.reading settled_a.run.part)
 
     tap_b : IsTapRecording B late (s.frames_b ++ on_b.more)
-    tap_b = subst (IsTapRecording B late) on_b.all (part_recorded B late before_b (frames_in (taken_items b)) settled_b.reading settled_b.run.part)
+    tap_b = subst (IsTapRecording B late) on_b.all (part_recorded B late before_b (frames_in given_b) settled_b.reading settled_b.run.part)
 
     found : (rest : List Frame) × IsOrder (s.frames_a ++ on_a.more) (s.frames_b ++ on_b.more) (cut ++ rest)
     found = cut_comes_first s.merger late s.frames_a s.frames_b cut on_a.more on_b.more s.follows s.late_is (λ done. (on_a.over done).0) (λ done. (on_b.over done).0) tap_a tap_b
 
-    order : IsOrder (frames_in (taken_items a)) (frames_in (taken_items b)) (cut ++ found.0)
-    order = subst (λ (l : List Frame). IsOrder l (frames_in (taken_items b)) (cut ++ found.0)) (sym on_a.all)
+    order : IsOrder (frames_in given_a) (frames_in given_b) (cut ++ found.0)
+    order = subst (λ (l : List Frame). IsOrder l (frames_in given_b) (cut ++ found.0)) (sym on_a.all)
         (subst (λ (l : List Frame). IsOrder (s.frames_a ++ on_a.more) l (cut ++ found.0)) (sym on_b.all) found.1)
 
     first : IsFirst late before_a before_b cut
     first = λ bytes_a bytes_b whole_a whole_b whole x y known_a known_b r_a r_b all.
-        (let more_a = goes_on_after A late before_a after_a a whole_a bytes_a x settled_a known_a r_a in
-        let more_b = goes_on_after B late before_b after_b b whole_b bytes_b y settled_b known_b r_b in
+        (let more_a = goes_on_after A late before_a after_a given_a whole_a bytes_a x settled_a known_a r_a in
+        let more_b = goes_on_after B late before_b after_b given_b whole_b bytes_b y settled_b known_b r_b in
         let is_a : whole_a ≡ s.frames_a ++ (on_a.more ++ more_a.0) = more_a.1 ∙ ap (λ (l : List Frame). l ++ more_a.0) on_a.all ∙ append_assoc s.frames_a on_a.more more_a.0 in
         let is_b : whole_b ≡ s.frames_b ++ (on_b.more ++ more_b.0) = more_b.1 ∙ ap (λ (l : List Frame). l ++ more_b.0) on_b.all ∙ append_assoc s.frames_b on_b.more more_b.0 in
         let there = cut_comes_first s.merger late s.frames_a s.frames_b cut (on_a.more ++ more_a.0) (on_b.more ++ more_b.0) s.follows s.late_is
@@ -261,39 +285,22 @@ loses_ring fault ps vl_table before a b capture ledger s =
 
 -- ---- both sources came back
 
-ring_fault_on : (network : Network) (fault : WatchFault) (old new : TapEnd) → TapFault network fault old → TakesOn old new → has_lost new ≡ false → TapFault network fault new
-ring_fault_on network (watch.Read failed) old new (is, going, ends) takes sound = (is, sound, ends_on (items.Failed faults.Device) old new refl ends takes sound)
-ring_fault_on network watch.Memory old new h takes sound = tt
-ring_fault_on network watch.RingLost old new h takes sound = tt
-ring_fault_on network watch.Workers old new h takes sound = absurd h
-ring_fault_on network (watch.Header n f) old new h takes sound = absurd h
-ring_fault_on network (watch.Write out) old new h takes sound = absurd h
-ring_fault_on network watch.Spawn old new h takes sound = absurd h
-ring_fault_on network watch.Filters old new h takes sound = absurd h
-
-pub runs_on : (fault : WatchFault) (ps : List (List Packed)) (vl_table : VlTable) (capture ledger capture' ledger' : SinkView) (a b a' b' : TapEnd) →
-    StopsRunning fault ps vl_table capture ledger a b capture' ledger' → TakesOn a a' → TakesOn b b' → has_lost a' ≡ false → has_lost b' ≡ false →
-    StopsRunning fault ps vl_table capture ledger a' b' capture' ledger'
-runs_on fault ps vl_table capture ledger capture' ledger' a b a' b' s takes_a takes_b sound_a sound_b = record {
-  cut = s.cut;
-  taken = stops_on vl_table.late s.cut a b a' b' s.taken takes_a takes_b;
-  why = by s.why;
-}
-  where
-    by : ((RingsFault fault a b × HasWholeRounds ps vl_table s.cut capture ledger capture' ledger') ⊎ StopsWriting (effect_of fault) ps vl_table capture ledger capture' ledger' s.cut) →
-        ((RingsFault fault a' b' × HasWholeRounds ps vl_table s.cut capture ledger capture' ledger') ⊎ StopsWriting (effect_of fault) ps vl_table capture ledger capture' ledger' s.cut)
-    by (inl ((A, h), whole)) = inl ((A, ring_fault_on A fault a a' h takes_a sound_a), whole)
-    by (inl ((B, h), whole)) = inl ((B, ring_fault_on B fault b b' h takes_b sound_b), whole)
-    by (inr w) = inr w
-
-pub running_aborts : (fault : WatchFault) (ps : List (List Packed)) (vl_table : VlTable) (before : WatchDevices) (a b : TapEnd) (after_a after_b : SourceView) (capture ledger : SinkView) →
-    IsTapSettled A vl_table.late before.a a after_a → IsTapSettled B vl_table.late before.b b after_b →
+pub running_aborts : (fault : WatchFault) (ps : List (List Packed)) (vl_table : VlTable) (before : WatchDevices) (a b : TapEnd) (after_a after_b : SourceView) (capture ledger : SinkView)
+    (more_a more_b : List TapItem) →
+    IsTapBack A vl_table.late before.a (taken_items a ++ more_a) after_a → IsTapBack B vl_table.late before.b (taken_items b ++ more_b) after_b →
+    has_lost a ≡ false → has_lost b ≡ false →
     StopsRunning fault ps vl_table before.capture before.ledger a b capture ledger → ((fault ≡ watch.RingLost) → ⊥) →
     AbortsRunning fault ps vl_table before (watch_devices after_a after_b capture ledger)
-running_aborts fault ps vl_table before a b after_a after_b capture ledger settled_a settled_b s not_lost = by fault s.why not_lost
+running_aborts fault ps vl_table before a b after_a after_b capture ledger more_a more_b settled_a settled_b sound_a sound_b s not_lost = by fault s.why not_lost
   where
-    stopped : IsStopped vl_table.late s.cut before.a before.b a b
-    stopped = stopped_so vl_table.late s.cut before.a before.b after_a after_b a b settled_a settled_b s.taken
+    given_a : List TapItem
+    given_a = taken_items a ++ more_a
+
+    given_b : List TapItem
+    given_b = taken_items b ++ more_b
+
+    stopped : IsStopped vl_table.late s.cut before.a before.b given_a given_b
+    stopped = stopped_so vl_table.late s.cut before.a before.b after_a after_b a b more_a more_b settled_a settled_b sound_a sound_b s.taken
 
     packets : AppendsSome before.capture.contents capture.contents (capture_by ps s.cut)
     packets = some_packets fault ps vl_table before.capture before.ledger capture ledger a b s
@@ -304,11 +311,11 @@ running_aborts fault ps vl_table before a b after_a after_b capture ledger settl
     stops : (f : WatchFault) → HasWholes f ps vl_table (s.cut ++ stopped.rest) before.capture before.ledger capture ledger →
         StopsRun f ps vl_table before (watch_devices after_a after_b capture ledger)
     stops f wholes = record {
-      frames_a = frames_in (taken_items a);
-      frames_b = frames_in (taken_items b);
+      frames_a = frames_in given_a;
+      frames_b = frames_in given_b;
       frames = s.cut ++ stopped.rest;
-      read_a = part_back A vl_table.late before.a after_a a settled_a;
-      read_b = part_back B vl_table.late before.b after_b b settled_b;
+      read_a = part_back A vl_table.late before.a after_a given_a settled_a;
+      read_b = part_back B vl_table.late before.b after_b given_b settled_b;
       order = stopped.order;
       capture = capture_longer ps s.cut stopped.rest before.capture.contents capture.contents packets;
       ledger = inl (lines_longer ps vl_table s.cut stopped.rest before.ledger.contents ledger.contents lines);
@@ -326,10 +333,10 @@ running_aborts fault ps vl_table before a b after_a after_b capture ledger settl
     )
 
     back_a : MayFail before.a.failures after_a.failures
-    back_a = may_fail_back A vl_table.late before.a after_a a settled_a
+    back_a = may_fail_back A vl_table.late before.a after_a given_a settled_a
 
     back_b : MayFail before.b.failures after_b.failures
-    back_b = may_fail_back B vl_table.late before.b after_b b settled_b
+    back_b = may_fail_back B vl_table.late before.b after_b given_b settled_b
 
     aborts : (f : WatchFault) → FailsAmong f before (watch_devices after_a after_b capture ledger) → IsRunningFault f →
         HasWholes f ps vl_table (s.cut ++ stopped.rest) before.capture before.ledger capture ledger →
@@ -338,17 +345,15 @@ running_aborts fault ps vl_table before a b after_a after_b capture ledger settl
       fails = fails;
       run = run;
       stops = stops f wholes;
-      out_a = out_back A vl_table.late before.a after_a a settled_a;
-      out_b = out_back B vl_table.late before.b after_b b settled_b;
     }
 
     by : (f : WatchFault) → ((RingsFault f a b × HasWholeRounds ps vl_table s.cut before.capture before.ledger capture ledger)
         ⊎ StopsWriting (effect_of f) ps vl_table before.capture before.ledger capture ledger s.cut) → ((f ≡ watch.RingLost) → ⊥) →
         AbortsRunning f ps vl_table before (watch_devices after_a after_b capture ledger)
     by (watch.Read A) (inl ((A, (is, sound, ends)), w)) other =
-        aborts (watch.Read A) (failed_back A vl_table.late before.a after_a a settled_a ends, back_b, w.capture_failures, w.ledger_failures) tt (whole w)
+        aborts (watch.Read A) (failed_back A vl_table.late before.a after_a (taken_items a) more_a settled_a ends, back_b, w.capture_failures, w.ledger_failures) tt (whole w)
     by (watch.Read B) (inl ((B, (is, sound, ends)), w)) other =
-        aborts (watch.Read B) (back_a, failed_back B vl_table.late before.b after_b b settled_b ends, w.capture_failures, w.ledger_failures) tt (whole w)
+        aborts (watch.Read B) (back_a, failed_back B vl_table.late before.b after_b (taken_items b) more_b settled_b ends, w.capture_failures, w.ledger_failures) tt (whole w)
     by (watch.Read A) (inl ((B, (is, sound, ends)), w)) other = (let wrong : ⊥ = cc is in absurd wrong)
     by (watch.Read B) (inl ((A, (is, sound, ends)), w)) other = (let wrong : ⊥ = cc is in absurd wrong)
     by watch.Memory (inl (rings, w)) other = aborts watch.Memory (back_a, back_b, w.capture_failures, w.ledger_failures) tt tt
@@ -375,31 +380,25 @@ running_aborts fault ps vl_table before a b after_a after_b capture ledger settl
 
 -- ---- a run that was aborted
 
-pub settled_of : {S : Type 0} (s : SourceMembers S) (network : Network) (late : ℕ) (before : SourceView) (reader : TapReader S) (end : TapEnd) (source : S) →
-    IsStarted network late before (reading_of s.remaining s.failures reader) → IsSettled s reader end source →
-    IsTapSettled network late before end (source_at s source)
-settled_of s network late before reader end source started settled =
-    tap_settled network late before (source_at s source) (reading_of s.remaining s.failures reader) settled.reading end settled.ahead started settled.gives settled.over settled.sound settled.leaves settled.same_failures
-
-pub begun_aborts : (fault : WatchFault) (ps : List (List Packed)) (vl_table : VlTable) (before : WatchDevices) (a b : TapEnd) (after_a after_b : SourceView) (capture ledger : SinkView) →
-    IsTapSettled A vl_table.late before.a a after_a → IsTapSettled B vl_table.late before.b b after_b →
-    StopsRunning fault ps vl_table before.capture before.ledger a b capture ledger → AbortsBegun fault ps vl_table before (Some after_a) (Some after_b) capture ledger
-begun_aborts watch.RingLost ps vl_table before a b after_a after_b capture ledger settled_a settled_b s =
+pub begun_aborts : (fault : WatchFault) (ps : List (List Packed)) (vl_table : VlTable) (before : WatchDevices) (a b : TapEnd) (after_a after_b : SourceView) (capture ledger : SinkView)
+    (more_a more_b : List TapItem) → IsTapBack A vl_table.late before.a (taken_items a ++ more_a) after_a → IsTapBack B vl_table.late before.b (taken_items b ++ more_b) after_b →
+    has_lost a ≡ false → has_lost b ≡ false → StopsRunning fault ps vl_table before.capture before.ledger a b capture ledger → AbortsBegun fault ps vl_table before (Some after_a) (Some after_b) capture ledger
+begun_aborts watch.RingLost ps vl_table before a b after_a after_b capture ledger more_a more_b settled_a settled_b sound_a sound_b s =
     inr (inr (refl, loses_ring watch.RingLost ps vl_table before a b capture ledger s))
-begun_aborts (watch.Read n) ps vl_table before a b after_a after_b capture ledger settled_a settled_b s =
-    inl (running_aborts (watch.Read n) ps vl_table before a b after_a after_b capture ledger settled_a settled_b s (λ is. (let wrong : ⊥ = cc is in absurd wrong)))
-begun_aborts (watch.Write out) ps vl_table before a b after_a after_b capture ledger settled_a settled_b s =
-    inl (running_aborts (watch.Write out) ps vl_table before a b after_a after_b capture ledger settled_a settled_b s (λ is. (let wrong : ⊥ = cc is in absurd wrong)))
-begun_aborts watch.Memory ps vl_table before a b after_a after_b capture ledger settled_a settled_b s =
-    inl (running_aborts watch.Memory ps vl_table before a b after_a after_b capture ledger settled_a settled_b s (λ is. (let wrong : ⊥ = cc is in absurd wrong)))
-begun_aborts watch.Spawn ps vl_table before a b after_a after_b capture ledger settled_a settled_b s =
-    inl (running_aborts watch.Spawn ps vl_table before a b after_a after_b capture ledger settled_a settled_b s (λ is. (let wrong : ⊥ = cc is in absurd wrong)))
-begun_aborts watch.Workers ps vl_table before a b after_a after_b capture ledger settled_a settled_b s =
-    inl (running_aborts watch.Workers ps vl_table before a b after_a after_b capture ledger settled_a settled_b s (λ is. (let wrong : ⊥ = cc is in absurd wrong)))
-begun_aborts (watch.Header n f) ps vl_table before a b after_a after_b capture ledger settled_a settled_b s =
-    inl (running_aborts (watch.Header n f) ps vl_table before a b after_a after_b capture ledger settled_a settled_b s (λ is. (let wrong : ⊥ = cc is in absurd wrong)))
-begun_aborts watch.Filters ps vl_table before a b after_a after_b capture ledger settled_a settled_b s =
-    inl (running_aborts watch.Filters ps vl_table before a b after_a after_b capture ledger settled_a settled_b s (λ is. (let wrong : ⊥ = cc is in absurd wrong)))
+begun_aborts (watch.Read n) ps vl_table before a b after_a after_b capture ledger more_a more_b settled_a settled_b sound_a sound_b s =
+    inl (running_aborts (watch.Read n) ps vl_table before a b after_a after_b capture ledger more_a more_b settled_a settled_b sound_a sound_b s (λ is. (let wrong : ⊥ = cc is in absurd wrong)))
+begun_aborts (watch.Write out) ps vl_table before a b after_a after_b capture ledger more_a more_b settled_a settled_b sound_a sound_b s =
+    inl (running_aborts (watch.Write out) ps vl_table before a b after_a after_b capture ledger more_a more_b settled_a settled_b sound_a sound_b s (λ is. (let wrong : ⊥ = cc is in absurd wrong)))
+begun_aborts watch.Memory ps vl_table before a b after_a after_b capture ledger more_a more_b settled_a settled_b sound_a sound_b s =
+    inl (running_aborts watch.Memory ps vl_table before a b after_a after_b capture ledger more_a more_b settled_a settled_b sound_a sound_b s (λ is. (let wrong : ⊥ = cc is in absurd wrong)))
+begun_aborts watch.Spawn ps vl_table before a b after_a after_b capture ledger more_a more_b settled_a settled_b sound_a sound_b s =
+    inl (running_aborts watch.Spawn ps vl_table before a b after_a after_b capture ledger more_a more_b settled_a settled_b sound_a sound_b s (λ is. (let wrong : ⊥ = cc is in absurd wrong)))
+begun_aborts watch.Workers ps vl_table before a b after_a after_b capture ledger more_a more_b settled_a settled_b sound_a sound_b s =
+    inl (running_aborts watch.Workers ps vl_table before a b after_a after_b capture ledger more_a more_b settled_a settled_b sound_a sound_b s (λ is. (let wrong : ⊥ = cc is in absurd wrong)))
+begun_aborts (watch.Header n f) ps vl_table before a b after_a after_b capture ledger more_a more_b settled_a settled_b sound_a sound_b s =
+    inl (running_aborts (watch.Header n f) ps vl_table before a b after_a after_b capture ledger more_a more_b settled_a settled_b sound_a sound_b s (λ is. (let wrong : ⊥ = cc is in absurd wrong)))
+begun_aborts watch.Filters ps vl_table before a b after_a after_b capture ledger more_a more_b settled_a settled_b sound_a sound_b s =
+    inl (running_aborts watch.Filters ps vl_table before a b after_a after_b capture ledger more_a more_b settled_a settled_b sound_a sound_b s (λ is. (let wrong : ⊥ = cc is in absurd wrong)))
 
 pub begun_loses : (fault : WatchFault) (ps : List (List Packed)) (vl_table : VlTable) (before : WatchDevices) (a b : TapEnd) (back_a back_b : Option SourceView) (capture ledger : SinkView) →
     StopsRunning fault ps vl_table before.capture before.ledger a b capture ledger → AbortsBegun watch.RingLost ps vl_table before back_a back_b capture ledger

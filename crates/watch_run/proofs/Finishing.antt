@@ -26,7 +26,7 @@ use Rattle.run_outcome.specs.declared.fault.WatchFault.{WatchFault}
 use Rattle.run_outcome.specs.declared.fault.WatchFault.TheVariants as watch
 use Rattle.round_output.specs.declared.outputs.Outputs.{Outputs}
 use Rattle.tap_merge.specs.declared.rings.Rings.{Rings}
-use Rattle.watch_run.proofs.Aborting.{IsTapSettled}
+use Rattle.watch_run.proofs.Aborting.{IsTapBack}
 use Rattle.watch_run.proofs.Returned.{Returned, StopsAtEnd, stopped_at_the_end, watched}
 use Rattle.tap_merge.proofs.RingItems.{stops_with, takes_none}
 
@@ -45,7 +45,7 @@ err_with (Err e) p q f = f e p q
 ending_taken : (end : Option Ending) (ending : Ending) (tap : Tap) (taken : List TapItem) → HasEnding end tap taken → end ≡ Some ending → EndsWith (items.End ending) taken
 ending_taken end ending tap taken h is = (subst (λ (e : Option Ending). HasEnding e tap taken) is h).1
 
-settled_return : (late : ℕ) (before after : WatchDevices) (rings : Rings) (settled_a : IsTapSettled A late before.a rings.a after.a) (settled_b : IsTapSettled B late before.b rings.b after.b) →
+settled_return : (late : ℕ) (before after : WatchDevices) (rings : Rings) (settled_a : IsTapBack A late before.a (taken_items rings.a) after.a) (settled_b : IsTapBack B late before.b (taken_items rings.b) after.b) →
     Returned settled_a.reading settled_b.reading settled_a.ahead settled_b.ahead after
 settled_return late before after rings settled_a settled_b = record {
   a_left = settled_a.leaves;
@@ -55,7 +55,7 @@ settled_return late before after rings settled_a settled_b = record {
 }
 
 pub finishes : (ps : List (List Packed)) (vl_table : VlTable) (before after : WatchDevices) (rings : Rings) (cut : List Frame) (end_a end_b : Ending) (totals : Totals) →
-    IsTapSettled A vl_table.late before.a rings.a after.a → IsTapSettled B vl_table.late before.b rings.b after.b → HasTaken vl_table.late cut rings →
+    IsTapBack A vl_table.late before.a (taken_items rings.a) after.a → IsTapBack B vl_table.late before.b (taken_items rings.b) after.b → HasTaken vl_table.late cut rings →
     rings.end_a ≡ Some end_a → rings.end_b ≡ Some end_b → rings.merger.pending ≡ [] →
     IsFinished ps vl_table before.capture before.ledger after.capture after.ledger cut end_a end_b totals → IsFilterCount (length ps) →
     IsWatched ps vl_table (end_a ∷ end_b ∷ []) totals before after
@@ -79,12 +79,12 @@ among watch.Filters before after h run = absurd run
 
 pub finish_aborts : (fault : WatchFault) (ps : List (List Packed)) (vl_table : VlTable) (before : WatchDevices) (rings : Rings) (a b : SourceView) (capture ledger : SinkView)
     (cut : List Frame) (end_a end_b : Ending) →
-    IsTapSettled A vl_table.late before.a rings.a a → IsTapSettled B vl_table.late before.b rings.b b → HasTaken vl_table.late cut rings →
+    IsTapBack A vl_table.late before.a (taken_items rings.a) a → IsTapBack B vl_table.late before.b (taken_items rings.b) b → HasTaken vl_table.late cut rings →
     rings.end_a ≡ Some end_a → rings.end_b ≡ Some end_b → rings.merger.pending ≡ [] →
     StopsFinishing fault ps vl_table before.capture before.ledger capture ledger cut end_a end_b →
     AbortsBegun fault ps vl_table before (Some a) (Some b) capture ledger
 finish_aborts fault ps vl_table before rings a b capture ledger cut end_a end_b settled_a settled_b h is_a is_b none s =
-    inl (record { fails = f.0; run = f.1; stops = aborts.stops; out_a = inl (end_a, aborts.whole_a); out_b = inl (end_b, aborts.whole_b) })
+    inl (record { fails = f.0; run = f.1; stops = aborts.stops })
   where
     aborts : StopsAtEnd fault ps vl_table before (watch_devices a b capture ledger) end_a end_b
     aborts = stopped_at_the_end fault ps vl_table before (watch_devices a b capture ledger) (frames_in (taken_items rings.a)) (frames_in (taken_items rings.b)) cut end_a end_b rings.merger

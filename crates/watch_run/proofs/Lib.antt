@@ -3,6 +3,7 @@ pub mod Finishing
 pub mod Returned
 pub mod RoundsTaken
 pub mod SameBytes
+pub mod Sharing
 pub mod Starting
 pub mod Watching
 pub mod WholeOrder

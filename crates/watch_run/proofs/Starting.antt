@@ -27,7 +27,7 @@ use Rattle.tap_merge.specs.Rings.{HasEnding}
 use Rattle.tap_merge.specs.Taps.{Agree, Agrees, Fits, HasMerged, HasRead}
 use Rattle.tap_merge.specs.declared.taps.Taps.{Taps}
 use Rattle.watch_run.specs.Running.{AbortsBegun, HasWholeRounds, IsRunning, StopsRunning}
-use Rattle.tap_merge.specs.Threads.{IsSettled, IsStarted}
+use Rattle.tap_merge.specs.Threads.{IsLeft, IsStarted}
 use Rattle.run_outcome.specs.Device.{SourceMembers, SinkMembers, SinkView, SourceView, sink_at, source_at}
 use Rattle.run_outcome.specs.Recording.{WasOpened, most_frames}
 use Rattle.run_outcome.specs.Opening.{WatchDevices}
@@ -35,7 +35,7 @@ use Rattle.run_outcome.specs.declared.fault.WatchFault.TheVariants as watch
 use Rattle.round_output.specs.declared.outputs.Outputs.{Outputs}
 use Rattle.tap_merge.specs.declared.rings.Rings.{Rings}
 use Rattle.watch_run.specs.declared.threads.Ready.{Ready}
-use Rattle.watch_run.proofs.Aborting.{begun_loses, may_fail_back, part_back, settled_of}
+use Rattle.watch_run.proofs.Aborting.{begun_loses, left_of, may_fail_back, part_back}
 
 nothing_ahead : (ahead : List ℕ) (left : Option (List ℕ)) → ahead ≡ [] → prepend_known ahead left ≡ left
 nothing_ahead ahead None none = refl
@@ -86,19 +86,20 @@ ready_runs s t w l ps vl_table before ready h = record {
 -- the thread of B couldn't be started
 pub without_b : {S : Type 0} (s : SourceMembers S) (ps : List (List Packed)) (vl_table : VlTable) (before : WatchDevices) (reader : TapReader S)
     (a b end : TapEnd) (back : Option S) (capture ledger : SinkView) → IsStarted A vl_table.late before.a (reading_of s.remaining s.failures reader) →
-    IfSome back (IsSettled s reader end) → HasWholeRounds ps vl_table [] before.capture before.ledger capture ledger →
+    IfSome back (IsLeft s reader end) → HasWholeRounds ps vl_table [] before.capture before.ledger capture ledger →
     StopsRunning watch.RingLost ps vl_table before.capture before.ledger a b capture ledger →
     AbortsBegun (if is_some back then watch.Spawn else watch.RingLost) ps vl_table before (option_map (source_at s) back) None capture ledger
 without_b s ps vl_table before reader a b end None capture ledger started settled whole stops =
     begun_loses watch.RingLost ps vl_table before a b None None capture ledger stops
 without_b s ps vl_table before reader a b end (Some source) capture ledger started settled whole stops =
-    let back = settled_of s A vl_table.late before.a reader end source started settled in
+    let back = left_of s A vl_table.late before.a reader end source started settled in
+    let given : List TapItem = taken_items end ++ settled.more in
     inr (inl (
       refl,
       (
-        frames_in (taken_items end),
-        part_back A vl_table.late before.a (source_at s source) end back,
-        may_fail_back A vl_table.late before.a (source_at s source) end back,
+        frames_in given,
+        part_back A vl_table.late before.a (source_at s source) given back,
+        may_fail_back A vl_table.late before.a (source_at s source) given back,
       ),
       whole,
     ))
@@ -170,6 +171,7 @@ ready_made s t w l ps vl_table before ends taps outputs late is merged agree mer
             (subst (λ (l : List TapItem). Follows taps.merger [] (frames_in l) []) (sym rings.none_taken_b) merged.follows);
         ended_a = subst (λ (e : Option Ending). HasEnding e taps.merger.a (taken_items ends.0.1)) (sym none.0) fits_a.going;
         ended_b = subst (λ (e : Option Ending). HasEnding e taps.merger.b (taken_items ends.1.1)) (sym none.1) fits_b.going;
+        failed = tt;
       };
       written = written;
       capture_going = going;

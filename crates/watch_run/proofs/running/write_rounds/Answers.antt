@@ -1,125 +1,88 @@
-use Rattle.std.proofs.Common.{◌++◌, ◌∙◌, ap, inl, inr, refl, Ok, subst, sym}
-use Rattle.tap_merge.proofs.RingItems.{same_trans, stops_with, takes_none}
-use Rattle.vl_judge.specs.Lanes.{FollowsOn}
-use Rattle.watch_run.proofs.RoundsTaken.{none_taken, some_taken, taken_follows, taken_room}
-use Rattle.watch_run.proofs.Watching.{frames_counted}
+use Rattle.std.proofs.Common.{◌≡◌, ◌∙◌, ap, Ok}
+use Rattle.round_output.proofs.Sharing.{all_written}
+use Rattle.tap_merge.proofs.RingItems.{same_trans}
 use Rattle.watch_run.proofs.running.write_rounds.Goals as goal
 
-pub next_round-requires : goal.next_round-requires
-next_round-requires g c =
+pub settle_idle-idle-requires-clause-begun : goal.settle_idle-idle-requires-clause-begun
+settle_idle-idle-requires-clause-begun g c κs within =
     let begun = c.requires.begun in
-    let w = c.loop.invariant.running begun.0 begun.1 begun.2 begun.3 in
-    (begun.0.late, w.cut, w.taken)
-
-pub returns-in-Ok-None-clause-written : goal.returns-in-Ok-None-clause-written
-returns-in-Ok-None-clause-written g c =
-    let before = c.args.rings.now in
-    let rings = c.next_round.new.self in
-    record {
-      same_a = same_trans before.a c.loop.rings.a rings.a c.loop.invariant.a c.next_round.ensures.a;
-      same_b = same_trans before.b c.loop.rings.b rings.b c.loop.invariant.b c.next_round.ensures.b;
-      running = λ vl_table capture ledger h.
-          (let w = c.loop.invariant.running vl_table capture ledger h in
-          record {
-            cut = w.cut;
-            taken = none_taken vl_table.late w.cut rings _ c.in-Ok-None.field-0 (c.in-Ok-None.ensures.merged vl_table.late w.cut w.taken) c.in-Ok-None.field-0-is;
-            written = w.written;
-            capture_going = w.capture_going;
-            ledger_going = w.ledger_going;
-          });
-      ended = c.in-Ok-None.ensures.ended (ap Ok c.in-Ok-None.field-0-is);
-      stopped = tt;
-    }
+    (begun.0, begun.1, begun.2, rw c.loop.invariant.pool (c.loop.invariant.running begun.0 begun.1 begun.2 begun.3))
 
 pub returns-in-Err-clause-written : goal.returns-in-Err-clause-written
 returns-in-Err-clause-written g c =
     let before = c.args.rings.now in
-    let rings = c.next_round.new.self in
+    let rings = c.settle_idle-idle.new.rings in
     record {
-      same_a = same_trans before.a c.loop.rings.a rings.a c.loop.invariant.a c.next_round.ensures.a;
-      same_b = same_trans before.b c.loop.rings.b rings.b c.loop.invariant.b c.next_round.ensures.b;
+      same_a = same_trans before.a c.loop.rings.a rings.a c.loop.invariant.a c.settle_idle-idle.ensures.a;
+      same_b = same_trans before.b c.loop.rings.b rings.b c.loop.invariant.b c.settle_idle-idle.ensures.b;
       running = tt;
       ended = tt;
       stopped = rw c.unwritten.ensures (λ vl_table capture ledger h.
-          (let w = c.loop.invariant.running vl_table capture ledger h in
-          record {
-            cut = w.cut;
-            taken = c.in-Err.ensures.stopped vl_table.late w.cut w.taken;
-            why = inl (
-              c.in-Err.ensures.fault,
-              record {
-                packets = w.written.packets;
-                lines = w.written.lines;
-                capture_failures = w.written.capture_failures;
-                ledger_failures = w.written.ledger_failures;
-              },
-            );
-          }));
+          (rw c.loop.invariant.pool at c.in-Err.ensures.stopped) vl_table capture ledger (c.loop.invariant.running vl_table capture ledger h));
     }
 
-pub write_shared-requires-clause-follows : goal.write_shared-requires-clause-follows
-write_shared-requires-clause-follows g c κs within =
+pub write_next-requires-clause-begun : goal.write_next-requires-clause-begun
+write_next-requires-clause-begun g c κs within =
     let begun = c.requires.begun in
-    let w = c.loop.invariant.running begun.0 begun.1 begun.2 begun.3 in
-    let taken = some_taken begun.0.late w.cut c.next_round.new.self _ c.in-Ok-Some.field-0 c.in-Ok-Some.round c.in-Ok-Some.round.items
-    (c.in-Ok-Some.ensures.merged begun.0.late w.cut w.taken) c.in-Ok-Some.field-0-is refl in
-    subst (λ last. FollowsOn last c.in-Ok-Some.round.items) (sym w.written.lanes.last) (taken_follows begun.0.late w.cut c.in-Ok-Some.round.items c.next_round.new.self taken)
-
-pub write_shared-requires-clause-room : goal.write_shared-requires-clause-room
-write_shared-requires-clause-room g c κs within =
-    let begun = c.requires.begun in
-    let w = c.loop.invariant.running begun.0 begun.1 begun.2 begun.3 in
-    let taken = some_taken begun.0.late w.cut c.next_round.new.self _ c.in-Ok-Some.field-0 c.in-Ok-Some.round c.in-Ok-Some.round.items
-    (c.in-Ok-Some.ensures.merged begun.0.late w.cut w.taken) c.in-Ok-Some.field-0-is refl in
-    taken_room begun.0.late w.cut c.in-Ok-Some.round.items c.next_round.new.self _ taken (frames_counted c.args.pool.now.task.programs.now begun.0 w.cut _ w.written.tally.tally.totals)
-
-pub write_shared-requires-clause-capture_going : goal.write_shared-requires-clause-capture_going
-write_shared-requires-clause-capture_going g c κs within =
-    let begun = c.requires.begun in
-    (c.loop.invariant.running begun.0 begun.1 begun.2 begun.3).capture_going
-
-pub write_shared-requires-clause-ledger_going : goal.write_shared-requires-clause-ledger_going
-write_shared-requires-clause-ledger_going g c κs within =
-    let begun = c.requires.begun in
-    (c.loop.invariant.running begun.0 begun.1 begun.2 begun.3).ledger_going
-
-pub returns-in-Err-write_shared-clause-written : goal.returns-in-Err-write_shared-clause-written
-returns-in-Err-write_shared-clause-written g c =
-    let before = c.args.rings.now in
-    let rings = c.next_round.new.self in
-    record {
-      same_a = same_trans before.a c.loop.rings.a rings.a c.loop.invariant.a c.next_round.ensures.a;
-      same_b = same_trans before.b c.loop.rings.b rings.b c.loop.invariant.b c.next_round.ensures.b;
-      running = tt;
-      ended = tt;
-      stopped = rw c.unwritten-in-Err-write_shared.ensures (λ vl_table capture ledger h.
-          (let w = c.loop.invariant.running vl_table capture ledger h in
-          let taken = some_taken vl_table.late w.cut rings _ c.in-Ok-Some.field-0 c.in-Ok-Some.round c.in-Ok-Some.round.items
-          (c.in-Ok-Some.ensures.merged vl_table.late w.cut w.taken) c.in-Ok-Some.field-0-is refl in
-          record {
-            cut = w.cut ++ c.in-Ok-Some.round.items;
-            taken = stops_with vl_table.late (w.cut ++ c.in-Ok-Some.round.items) rings rings.a rings.b taken (takes_none rings.a) (takes_none rings.b);
-            why = inr ((rw c.loop.invariant.pool at c.in-Err-write_shared.ensures.stopped) vl_table capture ledger w.cut w.written);
-          }));
-    }
+    let pool : c.settle_idle-idle.new.pool ≡ c.args.pool.now = c.settle_idle-idle.ensures.pool ∙ c.loop.invariant.pool in
+    (begun.0, begun.1, begun.2,
+      rw pool ((rw c.loop.invariant.pool at c.in_default.ensures.sharing) begun.0 begun.1 begun.2 (c.loop.invariant.running begun.0 begun.1 begun.2 begun.3)))
 
 pub loop-preserved : goal.loop-preserved
 loop-preserved g c =
     let before = c.args.rings.now in
-    let rings = c.next_round.new.self in
+    let idle = c.settle_idle-idle.new.rings in
+    let rings = c.write_next.new.rings in
+    let pool : c.settle_idle-idle.new.pool ≡ c.args.pool.now = c.settle_idle-idle.ensures.pool ∙ c.loop.invariant.pool in
     record {
-      pool = c.write_shared.ensures.pool ∙ c.loop.invariant.pool;
-      a = same_trans before.a c.loop.rings.a rings.a c.loop.invariant.a c.next_round.ensures.a;
-      b = same_trans before.b c.loop.rings.b rings.b c.loop.invariant.b c.next_round.ensures.b;
+      pool = c.write_next.ensures.pool ∙ pool;
+      task = rw pool at c.write_next.ensures.task;
+      a = same_trans before.a idle.a rings.a (same_trans before.a c.loop.rings.a idle.a c.loop.invariant.a c.settle_idle-idle.ensures.a) c.write_next.ensures.stepped.same_a;
+      b = same_trans before.b idle.b rings.b (same_trans before.b c.loop.rings.b idle.b c.loop.invariant.b c.settle_idle-idle.ensures.b) c.write_next.ensures.stepped.same_b;
       running = λ vl_table capture ledger h.
-          (let w = c.loop.invariant.running vl_table capture ledger h in
-          let taken = some_taken vl_table.late w.cut rings _ c.in-Ok-Some.field-0 c.in-Ok-Some.round c.in-Ok-Some.round.items
-          (c.in-Ok-Some.ensures.merged vl_table.late w.cut w.taken) c.in-Ok-Some.field-0-is refl in
+          (rw pool at c.in-Ok-true.ensures.stepped).sharing vl_table capture ledger
+          ((rw c.loop.invariant.pool at c.in_default.ensures.sharing) vl_table capture ledger (c.loop.invariant.running vl_table capture ledger h));
+    }
+
+pub returns-in-Ok-false-clause-written : goal.returns-in-Ok-false-clause-written
+returns-in-Ok-false-clause-written g c =
+    let before = c.args.rings.now in
+    let idle = c.settle_idle-idle.new.rings in
+    let rings = c.write_next.new.rings in
+    let pool : c.settle_idle-idle.new.pool ≡ c.args.pool.now = c.settle_idle-idle.ensures.pool ∙ c.loop.invariant.pool in
+    let stepped = rw pool at c.in-Ok-false.ensures.stepped in
+    let ended = stepped.ended (ap Ok c.in-Ok-false.field-0-test) in
+    record {
+      same_a = same_trans before.a idle.a rings.a (same_trans before.a c.loop.rings.a idle.a c.loop.invariant.a c.settle_idle-idle.ensures.a) c.write_next.ensures.stepped.same_a;
+      same_b = same_trans before.b idle.b rings.b (same_trans before.b c.loop.rings.b idle.b c.loop.invariant.b c.settle_idle-idle.ensures.b) c.write_next.ensures.stepped.same_b;
+      running = λ vl_table capture ledger h.
+          (let s = stepped.sharing vl_table capture ledger
+          ((rw c.loop.invariant.pool at c.in_default.ensures.sharing) vl_table capture ledger (c.loop.invariant.running vl_table capture ledger h)) in
           record {
-            cut = w.cut ++ c.in-Ok-Some.round.items;
-            taken = taken;
-            written = (rw c.loop.invariant.pool at c.in_default.ensures.written) vl_table capture ledger w.cut w.written;
-            capture_going = c.in_default.ensures.capture_going;
-            ledger_going = c.in_default.ensures.ledger_going;
+            cut = s.cut;
+            taken = s.taken;
+            written = all_written g.W.OutSink g.L.OutSink c.args.pool.now.task.programs.now vl_table capture ledger s.cut c.write_next.new.outputs.lanes
+                c.write_next.new.outputs.capture c.write_next.new.outputs.ledger c.write_next.new.flight s.shared ended.3;
+            capture_going = s.capture_going;
+            ledger_going = s.ledger_going;
           });
+      ended = (ended.0, ended.1, ended.2);
+      stopped = tt;
+    }
+
+pub returns-in-Err-write_next-clause-written : goal.returns-in-Err-write_next-clause-written
+returns-in-Err-write_next-clause-written g c =
+    let before = c.args.rings.now in
+    let idle = c.settle_idle-idle.new.rings in
+    let rings = c.write_next.new.rings in
+    let pool : c.settle_idle-idle.new.pool ≡ c.args.pool.now = c.settle_idle-idle.ensures.pool ∙ c.loop.invariant.pool in
+    let stepped = rw pool at c.in-Err-write_next.ensures.stepped in
+    record {
+      same_a = same_trans before.a idle.a rings.a (same_trans before.a c.loop.rings.a idle.a c.loop.invariant.a c.settle_idle-idle.ensures.a) c.write_next.ensures.stepped.same_a;
+      same_b = same_trans before.b idle.b rings.b (same_trans before.b c.loop.rings.b idle.b c.loop.invariant.b c.settle_idle-idle.ensures.b) c.write_next.ensures.stepped.same_b;
+      running = tt;
+      ended = tt;
+      stopped = rw c.unwritten-in-Err-write_next.ensures (λ vl_table capture ledger h.
+          stepped.stopped vl_table capture ledger
+          ((rw c.loop.invariant.pool at c.in_default.ensures.sharing) vl_table capture ledger (c.loop.invariant.running vl_table capture ledger h)));
     }

@@ -16,7 +16,7 @@ pub returns-in_default-start_tap-clause-lost : goal.returns-in_default-start_tap
 returns-in_default-start_tap-clause-lost g c =
     let told = c.not_started.ensures in
     rw (told.fault, told.a, told.b, told.capture, told.ledger) (λ ps vl_table before h.
-    without_b g.S.TapSource ps vl_table before c.args.self.a c.args.self.rings.a c.args.self.rings.b c.drain.new.end c.settle_tap.result _ _ h.a
-    (rw c.in-Some.ensures.reader at c.settle_tap.ensures)
+    without_b g.S.TapSource ps vl_table before c.args.self.a c.args.self.rings.a c.args.self.rings.b c.args.self.rings.a c.leave_tap.result _ _ h.a
+    (rw c.in-Some.ensures.reader at c.leave_tap.ensures)
     (beginnings _ _ ps vl_table before.capture before.ledger c.args.self.outputs h.written)
     (lost_at_end _ _ ps vl_table before.capture before.ledger c.args.self.rings c.args.self.outputs (ready_runs _ _ _ _ ps vl_table before c.args.self h)))

@@ -1,0 +1,53 @@
+-- Rounds that are shared while the next one is merged.
+use Rattle.std.proofs.Common.{◌≡◌, ◌++◌, ◌+◌, ◌≤◌, List, Option, None, length, sym, subst}
+use Rattle.afdx_frame.specs.Frame.{Frame}
+use Rattle.bpf_isa.specs.declared.packed.Packed.{Packed}
+use Rattle.pcap_io.specs.Writer.{sink_of}
+use Rattle.round_output.specs.Outputs.{HasShared, HasWritten, frames_at, outputs_of}
+use Rattle.round_output.specs.declared.outputs.Outputs.{Outputs}
+use Rattle.round_output.specs.declared.shared.JudgedRound.{JudgedRound}
+use Rattle.round_output.proofs.Sharing.{none_shared}
+use Rattle.run_outcome.specs.Device.{SinkMembers, SinkView, sink_at}
+use Rattle.tap_merge.specs.Rings.{HasTaken}
+use Rattle.tap_merge.specs.declared.rings.Rings.{Rings}
+use Rattle.verdict_ledger.specs.Ledger.{sink_of as ledger_sink, totals_in}
+use Rattle.verdict_ledger.specs.declared.bounds.TheConstants.{MAX_LINES}
+use Rattle.vl_config.specs.Document.{VlTable}
+use Rattle.vl_judge.specs.Lanes.{FollowsOn, LanesState}
+use Rattle.worker_pool.specs.Chunks.{Posted}
+use Rattle.watch_run.specs.Running.{HasWholeRounds, IsSharing}
+use Rattle.watch_run.proofs.RoundsTaken.{taken_follows, taken_room}
+use Rattle.watch_run.proofs.Watching.{frames_counted}
+
+module _ {W L T : Type 0} (w : SinkMembers W) (l : SinkMembers L) (ps : List (List Packed)) where
+  -- the ledger has room for the round that workers are at
+  pub shared_room : (vl_table : VlTable) (capture ledger : SinkView) (rings : Rings) (outputs : Outputs W L) (flight : Option (Posted T JudgedRound)) →
+      IsSharing w l ps vl_table capture ledger rings outputs flight → (totals_in outputs.ledger).frames + length (frames_at flight) ≤ MAX_LINES
+  shared_room vl_table capture ledger rings outputs flight h =
+      taken_room vl_table.late h.shared.first (frames_at flight) rings _ (subst (λ (c : List Frame). HasTaken vl_table.late c rings) h.shared.all h.taken)
+      (frames_counted ps vl_table h.shared.first _ h.shared.written.tally.tally.totals)
+
+  -- a further round follows on what the lanes know
+  pub shared_follows : (vl_table : VlTable) (capture ledger : SinkView) (rings rings' : Rings) (outputs : Outputs W L) (flight : Option (Posted T JudgedRound)) (round : List Frame)
+      (h : IsSharing w l ps vl_table capture ledger rings outputs flight) → HasTaken vl_table.late (h.cut ++ round) rings' → FollowsOn outputs.lanes.last round
+  shared_follows vl_table capture ledger rings rings' outputs flight round h taken =
+      subst (λ last. FollowsOn last round) (sym h.shared.lanes.last) (taken_follows vl_table.late h.cut round rings' taken)
+
+  -- all was written that was shared
+  pub settled_shared : (vl_table : VlTable) (capture ledger : SinkView) (cut : List Frame) (outputs : Outputs W L) (lanes : LanesState) (flight : Option (Posted T JudgedRound)) →
+      outputs.lanes ≡ lanes → flight ≡ None → HasWritten w l ps vl_table capture ledger cut (outputs_of lanes outputs.capture outputs.ledger) →
+      HasShared w l ps vl_table capture ledger cut outputs flight
+  settled_shared vl_table capture ledger cut outputs lanes flight same none h =
+      subst (λ (f : Option (Posted T JudgedRound)). HasShared w l ps vl_table capture ledger cut outputs f) (sym none)
+      (none_shared w l ps vl_table capture ledger cut outputs
+      (subst (λ (s : LanesState). HasWritten w l ps vl_table capture ledger cut (outputs_of s outputs.capture outputs.ledger)) (sym same) h))
+
+pub whole_rounds : {W L : Type 0} (w : SinkMembers W) (l : SinkMembers L) (ps : List (List Packed)) (vl_table : VlTable) (capture ledger : SinkView) (cut : List Frame)
+    (outputs : Outputs W L) (lanes : LanesState) → HasWritten w l ps vl_table capture ledger cut (outputs_of lanes outputs.capture outputs.ledger) →
+    HasWholeRounds ps vl_table cut capture ledger (sink_at w (sink_of outputs.capture)) (sink_at l (ledger_sink outputs.ledger))
+whole_rounds w l ps vl_table capture ledger cut outputs lanes h = record {
+  packets = h.packets;
+  lines = h.lines;
+  capture_failures = h.capture_failures;
+  ledger_failures = h.ledger_failures;
+}
