@@ -85,8 +85,19 @@ def run(arguments, **how):
     return ended([PROGRAM, *arguments], stderr=subprocess.PIPE, **how)
 
 
+def shown(told):
+    """What is left on a terminal of what was written to it: a carriage return goes back to the line's start."""
+    lines = []
+    for line in told.split("\n"):
+        cells = ""
+        for piece in line.split("\r"):
+            cells = piece + cells[len(piece) :]
+        lines.append(cells.rstrip(" ") if "\r" in line else cells)
+    return "\n".join(lines)
+
+
 def told_to(terminal):
-    """All that is written to a terminal up to its close, with the newlines of a file."""
+    """All that is written to a terminal up to its close and stands there then, with the newlines of a file."""
     told = b""
     while True:
         try:
@@ -94,7 +105,7 @@ def told_to(terminal):
         except OSError:
             piece = b""  # nobody has the terminal open any more
         if not piece:
-            return told.decode("utf-8", "replace").replace("\r\n", "\n")
+            return shown(told.decode("utf-8", "replace").replace("\r\n", "\n"))
         told += piece
 
 

@@ -110,6 +110,13 @@ def faults(desk):
     desk.lay(filter=EVERY)
     debug = ["debug", "--filter", desk.paths["filter"], "--tap", places["missing"]]
     told.append(twice("a session", "file --tap", "", debug, stdin=subprocess.DEVNULL))
+    desk.lay(a=header())
+    for line, arguments in (
+        ("file RECORDING", ["--code", EVERY, places["missing"]]),
+        ("file --source", ["--source", places["missing"], desk.paths["a"]]),
+        ("file --output", ["--code", EVERY, desk.paths["a"], "-o", desk.directory]),
+    ):
+        told.append(twice("a capture", line, "", ["capture", *arguments], stdin=subprocess.DEVNULL))
     told += little_memory(desk)
     for key in ADVICE:
         if not any((line + " ").startswith(key) for line in told):
@@ -140,8 +147,9 @@ def helps():
     for command in ABOUT:
         asked += [([command, "--help"], help_of(command)), ([command, "-h"], help_of(command)), (["help", command], help_of(command))]
     for arguments, text in asked:
-        # clap names the program by its file.
-        text = text.replace("Usage: afdxmon", "Usage: " + os.path.basename(PROGRAM))
+        # Where the usage is clap's own it names the program by its file.
+        for usage in ("Usage: afdxmon <COMMAND>", "Usage: afdxmon asm"):
+            text = text.replace(usage, usage.replace("afdxmon", os.path.basename(PROGRAM)))
         fault = difference(run(arguments, stdin=subprocess.DEVNULL, stdout=subprocess.PIPE), SUCCESS, "", text.encode())
         ran = run_at_terminal(arguments, stdin=subprocess.DEVNULL)
         if not fault and (ran.returncode != SUCCESS or ran.stderr or ran.stdout != text.encode()):

@@ -16,6 +16,9 @@ ADVICE = {
     "file --a": NO_RECORDING,
     "file --b": NO_RECORDING,
     "file --tap": NO_RECORDING,
+    "file RECORDING": NO_RECORDING,
+    "file --source": NO_FILE,
+    "file --output": NO_OUTPUT,
     "file --capture": NO_OUTPUT,
     "file --ledger": NO_OUTPUT,
     "file -": "standard input or output fails, or the text is longer than 16 MiB or not UTF-8",
@@ -75,7 +78,7 @@ def advice_on(line):
 
 
 ABOUT = {
-    "capture": "Copies the frames that a filter accepts, from standard input to standard output",
+    "capture": "Copies the frames of a recording that a filter accepts",
     "asm": "Assembles a filter's source from standard input, and prints its numeric form",
     "watch": "Judges the frames of two recordings, and writes those that a filter accepts",
     "debug": "Steps through a filter on the frames of a recording, by commands from standard input",
@@ -83,14 +86,22 @@ ABOUT = {
 # What each command's help says after the line of what it does.
 HELP = {
     "capture": r"""
-Usage: afdxmon capture --code <FILTER>
+Usage: afdxmon capture [OPTIONS] <--code <TEXT>|--filter <FILE>|--source <FILE>> [RECORDING]
+
+Arguments:
+  [RECORDING]  The recording, a pcap file [default: -]
 
 Options:
-      --code <FILTER>  The filter in the numeric form, as `tcpdump -ddd` prints it
+      --code <TEXT>    The filter in the numeric form, as `tcpdump -ddd` prints it
+      --filter <FILE>  The filter in the numeric form, as `afdxmon asm` prints it
+      --source <FILE>  The filter's source, as `afdxmon asm` reads it
+  -o, --output <FILE>  The capture to write, a nanosecond pcap file [default: -]
   -h, --help           Print help
 
+One of --code, --filter and --source gives the filter. '-' is standard input, or standard output.
+
 Example: keep the frames of virtual link 5
-  afdxmon capture --code "$(tcpdump -y EN10MB -ddd 'ether[4:2] = 5')" < recording.pcap > link5.pcap
+  afdxmon capture --code "$(tcpdump -y EN10MB -ddd 'ether[4:2] = 5')" recording.pcap -o link5.pcap
 """,
     "asm": r"""
 Usage: afdxmon asm
@@ -102,7 +113,7 @@ Example: keep the frames of virtual link 5
   printf 'ldh [4]\njne #5, drop\nret #-1\ndrop: ret #0\n' | afdxmon asm
 """,
     "watch": r"""
-Usage: afdxmon watch [OPTIONS] --config <FILE> --filter <FILE> --a <FILE> --b <FILE> --capture <FILE> --ledger <FILE>
+Usage: afdxmon watch [OPTIONS] --config <FILE> --ledger <FILE> <--a <FILE>|--b <FILE>>
 
 Options:
       --config <FILE>   The table of virtual links, a TOML document
@@ -115,15 +126,19 @@ Options:
       --quiet           Leave out the summary at a terminal
   -h, --help            Print help
 
+A network whose recording isn't given has no frames. Without --filter no frame is accepted, and
+--capture can't be given. '-' is standard input, or standard output.
+
 Example: keep the frames that examples/flight.filter accepts, and judge them all
   afdxmon watch --config flight.toml --filter flight.filter --a a.pcap --b b.pcap \
     --capture kept.pcap --ledger verdicts.ledger
 """,
     "debug": r"""
-Usage: afdxmon debug --filter <FILE> --tap <FILE>
+Usage: afdxmon debug --tap <FILE> <--filter <FILE>|--source <FILE>>
 
 Options:
       --filter <FILE>  The filter in the numeric form, as `afdxmon asm` prints it
+      --source <FILE>  The filter's source, as `afdxmon asm` reads it
       --tap <FILE>     The recording, a pcap file
   -h, --help           Print help
 
@@ -146,3 +161,26 @@ COMMANDS = "commands: select N, step [+|-]N, cont, breakpoint N, disassemble, ta
 
 def help_of(command):
     return ABOUT[command] + "\n" + HELP[command]
+
+
+# What clap's error says of arguments that don't go together.
+MISUSE = {
+    "NoFilter": "no filter is given",
+    "TwoFilters": "more than one filter is given",
+    "NoRecording": "no recording is given: --a, --b or both name one",
+    "Unfiltered": "--capture needs --filter, which says what frames it is to have",
+}
+
+
+def usage_error(command, message):
+    """The text on arguments that a command refuses."""
+    usage = HELP[command].split("\n\n")[0].strip("\n")
+    return f"error: {message}\n\n{usage}\n\nFor more information, try '--help'.\n"
+
+
+# The last line at a terminal where a standard stream is named twice, by what has it already.
+TAKEN = {
+    "commands": "the commands are read from standard input: name a file",
+    **{name: f"'-' stands for --{name} already: name a file" for name in ("config", "filter", "source", "a", "capture")},
+}
+TO_A_TERMINAL = "afdxmon: packets aren't written to a terminal: name a file by -o (of watch by --capture), or use a pipe"

@@ -309,7 +309,7 @@ def workers(desk):
 
 def usage(desk):
     """Invalid arguments: status 2, and no file is touched."""
-    cases = [(f"without --{option}", desk.arguments(**{option: None}), f"--{option}") for option in OPTIONS]
+    cases = [(f"without --{option}", desk.arguments(**{option: None}), f"--{option}") for option in ("config", "ledger")]
     cases += [(f"--workers {count}", [*desk.arguments(), "--workers", count], count) for count in ("256", "two", "1.5", "")]
     cases += [
         ("--workers -1", [*desk.arguments(), "--workers", "-1"], "-1"),

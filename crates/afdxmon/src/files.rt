@@ -1,8 +1,10 @@
-//! The files that `watch` writes: that none of them is another of its files, and that what an older run left
-//! stands until this one writes.
-use analyser::{Fault, Inode, Named, WatchArguments, WatchFiles};
-use std::fs::{File, Metadata, OpenOptions};
-use std::io::{ErrorKind, Write};
+//! That no output is another file of its command, and that the standard streams are there.
+use analyser::{
+    CaptureArguments, CaptureFiles, Fault, FileOption, FilterArgument, Inode, Named,
+    WatchArguments, WatchFiles, is_standard,
+};
+use std::fs::Metadata;
+use std::io::{ErrorKind, Read, Write};
 use std::os::unix::fs::MetadataExt;
 use std::path::Path;
 use std::{fs, io};
@@ -44,50 +46,102 @@ fn named_by<'a>(rt: &HostRuntime, path: &'a str) -> Named<'a> {
     }
 }
 
-/// Refuses an output that is another of the six files.
+/// What the path of an input names. Standard input may be a file too.
+fn input<'a>(rt: &HostRuntime, path: &'a str) -> Named<'a> {
+    named_by(
+        rt,
+        if is_standard(path) {
+            "/dev/stdin"
+        } else {
+            path
+        },
+    )
+}
+
+/// What the path of an output names. Standard output may be a file too.
+fn output<'a>(rt: &HostRuntime, path: &'a str) -> Named<'a> {
+    named_by(
+        rt,
+        if is_standard(path) {
+            "/dev/stdout"
+        } else {
+            path
+        },
+    )
+}
+
+/// What an input names, if it is given.
+fn input_if<'a>(rt: &HostRuntime, path: Option<&'a str>) -> Named<'a> {
+    match path {
+        Some(path) => input(rt, path),
+        None => Named::Other,
+    }
+}
+
+/// Refuses an output of `watch` that is another of its six files.
 pub fn refuse_shared(rt: &HostRuntime, given: &WatchArguments<'_>) -> Result<(), Fault> {
     let files = WatchFiles {
-        config: named_by(rt, given.config),
-        filter: named_by(rt, given.filter),
-        a: named_by(rt, given.a),
-        b: named_by(rt, given.b),
-        capture: named_by(rt, given.capture),
-        ledger: named_by(rt, given.ledger),
+        config: input(rt, given.config),
+        filter: input_if(rt, given.filter),
+        a: input_if(rt, given.a),
+        b: input_if(rt, given.b),
+        capture: match given.capture {
+            Some(path) => output(rt, path),
+            None => Named::Other,
+        },
+        ledger: output(rt, given.ledger),
     };
     files.refuse_shared()
 }
 
-/// An output. A regular file is emptied by the first write to it, so that what stood there is lost only
-/// once there is something to write. Devices and pipes can't be emptied.
-#[derive(Drop)]
-pub struct OutputFile {
-    file: File,
-    /// Is it a regular file that nothing was written to?
-    to_be_emptied: bool,
+/// Refuses an output of `capture` that is its filter or its recording.
+pub fn refuse_shared_output(rt: &HostRuntime, given: &CaptureArguments<'_>) -> Result<(), Fault> {
+    let (filter, source) = match given.filter {
+        FilterArgument::Code(_) => (Named::Other, Named::Other),
+        FilterArgument::Numeric(path) => (input(rt, path), Named::Other),
+        FilterArgument::Source(path) => (Named::Other, input(rt, path)),
+    };
+    let files = CaptureFiles {
+        filter,
+        source,
+        recording: input(rt, given.recording),
+        output: output(rt, given.output),
+    };
+    files.refuse_shared()
 }
 
-impl OutputFile {
-    /// Opens an output as it stands. One that isn't there is made, and empty.
-    pub fn open(rt: &HostRuntime, path: &str) -> io::Result<OutputFile> {
-        let file = OpenOptions::new().write(true).create(true).open(rt, path)?;
-        let to_be_emptied = file.metadata()?.is_file();
-        Ok(OutputFile {
-            file,
-            to_be_emptied,
-        })
+/// The system's error for a stream that is closed.
+const EBADF: i32 = 9;
+
+/// Is a stream closed that answers a read or a write of nothing so?
+fn is_closed(answer: &io::Result<usize>) -> bool {
+    match answer {
+        Ok(_) => false,
+        Err(error) => error.raw_os_error() == Some(EBADF),
     }
 }
 
-impl Write for OutputFile {
-    fn write(&mut self, bytes: &[u8]) -> io::Result<usize> {
-        if self.to_be_emptied && !bytes.is_empty() {
-            self.file.set_len(0)?;
-            self.to_be_emptied = false;
+/// Refuses a standard stream of `watch` that is closed: the next file that is opened would get its number.
+pub fn refuse_closed(rt: &HostRuntime, given: &WatchArguments<'_>) -> Result<(), Fault> {
+    let inputs = [
+        (FileOption::Config, Some(given.config)),
+        (FileOption::Filter, given.filter),
+        (FileOption::A, given.a),
+        (FileOption::B, given.b),
+    ];
+    for (option, path) in inputs {
+        if path.is_some_and(|path| is_standard(path)) && is_closed(&rt.stdin().read(&mut [])) {
+            return Err(Fault::File(option));
         }
-        self.file.write(bytes)
     }
-
-    fn flush(&mut self) -> io::Result<()> {
-        self.file.flush()
+    let outputs = [
+        (FileOption::Capture, given.capture),
+        (FileOption::Ledger, Some(given.ledger)),
+    ];
+    for (option, path) in outputs {
+        if path.is_some_and(|path| is_standard(path)) && is_closed(&rt.stdout().write(&[])) {
+            return Err(Fault::File(option));
+        }
     }
+    Ok(())
 }

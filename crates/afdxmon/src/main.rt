@@ -1,53 +1,54 @@
 //! `afdxmon`: analyses recordings of AFDX networks (ARINC 664 Part 7).
 //!
-//! The program opens standard input and output, hands them to the command of `analyser` and tells how
+//! The program opens files and standard streams, hands them to the command of `analyser` and tells how
 //! it ended. What a command does stands in that crate, with its contract.
 #![tactic(auto)]
 
 mod files;
+mod streams;
 
 use afdx_frame::{Network, TapFrame};
 use analyser::{
-    AsmRun, CaptureRun, DebugArguments, Exit, Fault, FileOption, HeldTap, Invocation, Note,
-    OpenGate, Summary, TapNote, TapRead, USAGE, WatchArguments, WatchFault, advice, answer_line,
-    begin_session, caret_at, filter_of, load_filters, read_arguments, read_config, read_file,
-    read_tap, run_asm, run_capture, run_session,
+    AsmRun, CaptureArguments, CaptureRun, DebugArguments, Exit, Fault, FileOption, FilterArgument,
+    HeldTap, Invocation, Note, OpenGate, Summary, TO_A_TERMINAL, TapNote, TapRead, USAGE,
+    WatchArguments, WatchFault, advice, answer_line, begin_session, capture_by, caret_at,
+    filter_of, filter_of_source, is_standard, load_filters, read_arguments, read_config, read_file,
+    read_tap, run_asm, run_session,
 };
 use bpf_debugger::DebugFault;
 use bpf_loader::Program;
-use files::{OutputFile, refuse_shared};
+use files::{refuse_closed, refuse_shared, refuse_shared_output};
 use pcap_io::{Ending, ReadSource, WriteSink};
 use std::alloc::Global;
-use std::fs::File;
 use std::io;
 use std::io::{BufRead, BufReader, BufWriter, ErrorKind, IsTerminal, Write};
 use std::process::ExitCode;
 use std::sync::Wait;
 use std::thread::Threads;
+use streams::{Input, Output};
 use vl_config::Config;
 
 /// How many bytes are handed to the system at once.
 const BLOCK: usize = 65536;
 
-/// Copies the frames that the filter accepts from standard input to standard output. What was
-/// written before a fault is handed to the system too.
-fn capture(rt: &HostRuntime, code: &str) -> Exit {
-    let Ok(output) = BufWriter::with_capacity(rt.alloc(), BLOCK, rt.stdout()) else {
-        return Exit::Fault(Fault::Watch(WatchFault::Memory));
-    };
-    let source = ReadSource::new(rt.stdin());
-    let CaptureRun {
-        outcome,
-        source: _,
-        sink,
-    } = run_capture(rt.alloc(), code, source, WriteSink::new(output));
-    let flushed = sink.into_writer().flush().is_ok();
-    Exit::of_capture(outcome, flushed)
+/// Why a command was not begun. Of a filter's source the text shows a person where its fault lies.
+#[derive(Drop)]
+struct Refused {
+    fault: Fault,
+    source: Option<String>,
 }
 
-/// Assembles the filter's source on standard input, and prints its numeric form to standard output. To a
-/// person at a terminal a fault is shown in its line of the source.
-fn asm(rt: &HostRuntime) -> Exit {
+impl From<Fault> for Refused {
+    fn from(fault: Fault) -> Refused {
+        Refused {
+            fault,
+            source: None,
+        }
+    }
+}
+
+/// Assembles the filter's source on standard input, and prints its numeric form to standard output.
+fn asm(rt: &HostRuntime) -> Result<Exit, Refused> {
     let AsmRun {
         outcome,
         text,
@@ -59,37 +60,60 @@ fn asm(rt: &HostRuntime) -> Exit {
         WriteSink::new(rt.stdout()),
     );
     let flushed = sink.into_writer().flush().is_ok();
-    let exit = Exit::of_text(outcome, flushed);
-    let _ = tell(rt, &exit, text.as_deref());
-    exit
+    match Exit::of_text(outcome, flushed) {
+        Exit::Fault(fault) => Err(Refused {
+            fault,
+            source: text,
+        }),
+        exit => Ok(exit),
+    }
 }
 
+/// What is read in blocks.
+type Source = ReadSource<Input>;
+
 /// Opens a file that is read.
-fn open(rt: &HostRuntime, path: &str, file: FileOption) -> Result<ReadSource<File>, Fault> {
-    match File::open(rt, path) {
+fn open(rt: &HostRuntime, path: &str, file: FileOption) -> Result<Source, Fault> {
+    match Input::open(rt, path) {
         Ok(opened) => Ok(ReadSource::new(opened)),
         Err(_) => Err(Fault::File(file)),
     }
 }
 
-/// An output of `watch`, which is written in blocks.
-type Output = WriteSink<BufWriter<OutputFile>>;
+/// Opens the recording of a network. A network without one has no frames.
+fn open_tap(rt: &HostRuntime, path: Option<&str>, file: FileOption) -> Result<Source, Fault> {
+    match path {
+        Some(path) => open(rt, path, file),
+        None => Ok(ReadSource::new(Input::empty_recording())),
+    }
+}
 
-/// Opens a file that is written. The first block that is written empties it before.
-fn create(rt: &HostRuntime, path: &str, file: FileOption) -> Result<Output, Fault> {
-    let Ok(opened) = OutputFile::open(rt, path) else {
-        return Err(Fault::File(file));
-    };
-    match BufWriter::with_capacity(rt.alloc(), BLOCK, opened) {
+/// What is written in blocks.
+type Sink = WriteSink<BufWriter<Output>>;
+
+/// What hands an output its bytes in blocks.
+fn sink_to(rt: &HostRuntime, output: Output) -> Result<Sink, Fault> {
+    match BufWriter::with_capacity(rt.alloc(), BLOCK, output) {
         Ok(writer) => Ok(WriteSink::new(writer)),
         Err(_) => Err(Fault::Watch(WatchFault::Memory)),
     }
 }
 
+/// Opens a file that is written. The first block that is written empties it before.
+fn create(rt: &HostRuntime, path: &str, file: FileOption) -> Result<Sink, Fault> {
+    match Output::open(rt, path) {
+        Ok(opened) => sink_to(rt, opened),
+        Err(_) => Err(Fault::File(file)),
+    }
+}
+
 /// Opens the capture and the ledger, if neither is another file of the run.
-fn open_outputs(rt: &HostRuntime, given: &WatchArguments<'_>) -> Result<(Output, Output), Fault> {
+fn open_outputs(rt: &HostRuntime, given: &WatchArguments<'_>) -> Result<(Sink, Sink), Fault> {
     refuse_shared(rt, given)?;
-    let capture = create(rt, given.capture, FileOption::Capture)?;
+    let capture = match given.capture {
+        Some(path) => create(rt, path, FileOption::Capture)?,
+        None => sink_to(rt, Output::Nowhere)?,
+    };
     let ledger = create(rt, given.ledger, FileOption::Ledger)?;
     // Of one new file with two names, as that of a link to it, this shows only once it is there.
     refuse_shared(rt, given)?;
@@ -102,12 +126,66 @@ fn text_of(rt: &HostRuntime, path: &str, file: FileOption) -> Result<String, Fau
     read_file(rt.alloc(), file, &mut source)
 }
 
-/// The table, and the filters of the command line and of the table.
+/// The filter that a command is given.
+fn filter(rt: &HostRuntime, given: FilterArgument<'_>) -> Result<Program, Refused> {
+    match given {
+        FilterArgument::Code(code) => Ok(filter_of(rt.alloc(), code, None)?),
+        FilterArgument::Numeric(path) => {
+            let code = text_of(rt, path, FileOption::Filter)?;
+            Ok(filter_of(rt.alloc(), &code, None)?)
+        }
+        FilterArgument::Source(path) => {
+            let text = text_of(rt, path, FileOption::Source)?;
+            match filter_of_source(rt.alloc(), &text) {
+                Ok(program) => Ok(program),
+                Err(fault) => Err(Refused {
+                    fault,
+                    source: Some(text),
+                }),
+            }
+        }
+    }
+}
+
+/// Is this path standard output, and that a terminal?
+fn is_at_terminal(rt: &HostRuntime, path: &str) -> bool {
+    is_standard(path) && rt.stdout().is_terminal()
+}
+
+/// Copies the frames of a recording that the filter accepts. What was written before a fault is handed to
+/// the system too. An error is a fault that was met before.
+fn capture(rt: &HostRuntime, given: &CaptureArguments<'_>) -> Result<Exit, Refused> {
+    if is_at_terminal(rt, given.output) {
+        return Ok(Exit::Terminal);
+    }
+    let program = filter(rt, given.filter)?;
+    let source = open(rt, given.recording, FileOption::Recording)?;
+    refuse_shared_output(rt, given)?;
+    let output = create(rt, given.output, FileOption::Output)?;
+    let CaptureRun {
+        outcome,
+        source: _,
+        sink,
+    } = capture_by(rt.alloc(), &program, source, output);
+    let flushed = sink.into_writer().flush().is_ok();
+    Ok(Exit::of_capture(outcome, flushed))
+}
+
+/// A filter that accepts no frame.
+const NO_FRAME: &str = "1,6 0 0 0,";
+
+/// The table, and the filters of the command line and of the table. Where the command line has none, one that
+/// accepts no frame stands in its place.
 fn set_up(rt: &HostRuntime, given: &WatchArguments<'_>) -> Result<(Config, Vec<Program>), Fault> {
     let table = text_of(rt, given.config, FileOption::Config)?;
     let config = read_config(rt.alloc(), &table)?;
-    let code = text_of(rt, given.filter, FileOption::Filter)?;
-    let programs = load_filters(rt.alloc(), &code, &config)?;
+    let programs = match given.filter {
+        Some(path) => {
+            let code = text_of(rt, path, FileOption::Filter)?;
+            load_filters(rt.alloc(), &code, &config)?
+        }
+        None => load_filters(rt.alloc(), NO_FRAME, &config)?,
+    };
     Ok((config, programs))
 }
 
@@ -117,10 +195,14 @@ fn watch<R: Threads + Wait + Sync>(
     rt: &HostRuntime,
     threads: &R,
     given: &WatchArguments<'_>,
-) -> Result<Exit, Fault> {
+) -> Result<Exit, Refused> {
+    if given.capture.is_some_and(|path| is_at_terminal(rt, path)) {
+        return Ok(Exit::Terminal);
+    }
+    refuse_closed(rt, given)?;
     let (config, programs) = set_up(rt, given)?;
-    let a = open(rt, given.a, FileOption::A)?;
-    let b = open(rt, given.b, FileOption::B)?;
+    let a = open_tap(rt, given.a, FileOption::A)?;
+    let b = open_tap(rt, given.b, FileOption::B)?;
     let (capture, ledger) = open_outputs(rt, given)?;
     let run = analyser::watch(
         threads,
@@ -209,14 +291,13 @@ fn debug_terminal(rt: &HostRuntime, program: Program, frames: Vec<TapFrame>) -> 
 }
 
 /// Steps through a filter on the frames of a recording. An error is a fault that was met before the session.
-fn debug(rt: &HostRuntime, given: &DebugArguments<'_>) -> Result<Exit, Fault> {
-    let code = text_of(rt, given.filter, FileOption::Filter)?;
-    let program = filter_of(rt.alloc(), &code, None)?;
+fn debug(rt: &HostRuntime, given: &DebugArguments<'_>) -> Result<Exit, Refused> {
+    let program = filter(rt, given.filter)?;
     let tap = open(rt, given.tap, FileOption::Tap)?;
     let TapRead { outcome, source: _ } = read_tap(rt.alloc(), tap);
     let tap = match outcome {
         Ok(tap) => tap,
-        Err(fault) => return Err(Fault::Watch(fault)),
+        Err(fault) => return Err(Refused::from(Fault::Watch(fault))),
     };
     if rt.stdin().is_terminal() {
         let outcome = debug_terminal(rt, program, tap.frames);
@@ -238,6 +319,7 @@ fn note_ending(rt: &HostRuntime, network: Network, ending: Ending) -> io::Result
 fn tell(rt: &HostRuntime, exit: &Exit, source: Option<&str>) -> io::Result<()> {
     match exit {
         Exit::Success => Ok(()),
+        Exit::Terminal => rt.eprintln(TO_A_TERMINAL),
         Exit::Note(ending) => rt.eprintln(Note(*ending)),
         Exit::Watched(run) => {
             note_ending(rt, Network::A, run.a)?;
@@ -262,7 +344,9 @@ fn tell(rt: &HostRuntime, exit: &Exit, source: Option<&str>) -> io::Result<()> {
 fn summarise(rt: &HostRuntime, exit: &Exit) -> io::Result<()> {
     match exit {
         Exit::Watched(summary) if rt.stderr().is_terminal() => rt.eprintln(*summary),
-        Exit::Watched(_) | Exit::Success | Exit::Note(_) | Exit::Fault(_) => Ok(()),
+        Exit::Watched(_) | Exit::Success | Exit::Note(_) | Exit::Fault(_) | Exit::Terminal => Ok(
+            (),
+        ),
     }
 }
 
@@ -279,6 +363,21 @@ fn arguments(rt: &HostRuntime) -> io::Result<Vec<String>> {
     Ok(std::env::args(rt)?.collect(rt.alloc())?)
 }
 
+/// Carries out a command. An error is a fault that was met before it began.
+fn run<R: Threads + Wait + Sync>(
+    rt: &HostRuntime,
+    threads: &R,
+    command: Invocation<'_>,
+) -> Result<Exit, Refused> {
+    command.refuse_taken()?;
+    match command {
+        Invocation::Asm => asm(rt),
+        Invocation::Capture(given) => capture(rt, &given),
+        Invocation::Watch(given) => watch(rt, threads, &given),
+        Invocation::Debug(given) => debug(rt, &given),
+    }
+}
+
 /// Carries out a command, and tells standard error how it ended.
 fn carry_out<R: Threads + Wait + Sync>(
     rt: &HostRuntime,
@@ -286,18 +385,17 @@ fn carry_out<R: Threads + Wait + Sync>(
     command: Invocation<'_>,
 ) -> Exit {
     let quiet = matches!(command, Invocation::Watch(given) if given.quiet);
-    let ended = match command {
-        // It tells its own end, since it has the source that a fault lies in.
-        Invocation::Asm => return asm(rt),
-        Invocation::Capture { code } => Ok(capture(rt, code)),
-        Invocation::Watch(given) => watch(rt, threads, &given),
-        Invocation::Debug(given) => debug(rt, &given),
+    let exit = match run(rt, threads, command) {
+        Ok(exit) => {
+            let _ = tell(rt, &exit, None);
+            exit
+        }
+        Err(Refused { fault, source }) => {
+            let exit = Exit::Fault(fault);
+            let _ = tell(rt, &exit, source.as_deref());
+            exit
+        }
     };
-    let exit = match ended {
-        Ok(exit) => exit,
-        Err(fault) => Exit::Fault(fault),
-    };
-    let _ = tell(rt, &exit, None);
     if !quiet {
         let _ = summarise(rt, &exit);
     }
@@ -314,9 +412,7 @@ fn main(rt: HostRuntime) -> ExitCode {
         }
     };
     let status = match read_arguments(rt.alloc(), &arguments) {
-        Ok(Some(command)) => carry_out(&rt, &rt, command).status(),
-        // clap requires a command, so this is not met.
-        Ok(None) => USAGE,
+        Ok(command) => carry_out(&rt, &rt, command).status(),
         // Help and the version are asked for: they go to standard output, and are no mistake.
         Err(error) => {
             let _ = error.print(&rt);

@@ -16,14 +16,14 @@
 
 pub use capture_run::{capture_gives_the_accepted_frames, capture_one};
 pub use command_line::{
-    Caret, DebugArguments, Exit, Fault, FileOption, Hint, Inode, Invocation, Named, Note, Summary,
-    TapNote, USAGE, WatchArguments, WatchFiles, advice, caret_at, fault_line, hint_of,
-    read_arguments,
+    CaptureArguments, CaptureFiles, Caret, DebugArguments, Exit, Fault, FileOption, FilterArgument,
+    Hint, Inode, Invocation, Misuse, Named, Note, Summary, TO_A_TERMINAL, TapNote, USAGE,
+    WatchArguments, WatchFiles, advice, caret_at, fault_line, hint_of, is_standard, read_arguments,
 };
 pub use commands::{
     AsmRun, CaptureRun, DebugRun, HeldTap, Ran, TapRead, answer_line, asm_over, begin_session,
-    capture_over, debug_over, filter_of, load_filters, read_config, read_file, read_tap, run_asm,
-    run_capture, run_debug, run_session, source_means_its_program,
+    capture_by, capture_over, debug_over, filter_of, filter_of_source, load_filters, read_config,
+    read_file, read_tap, run_asm, run_capture, run_debug, run_session, source_means_its_program,
 };
 pub use run_outcome::{Output, WatchFault, WatchRefused};
 pub use watch_run::{

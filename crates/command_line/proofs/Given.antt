@@ -1,5 +1,5 @@
 -- What the options of watch and debug give.
-use Rattle.std.proofs.Common.{◌≡◌, ◌≢◌, ℕ, ◌<◌, ◌^◌, Bool, true, false, ◌&&◌, [], ◌∷◌, length, Option, Some, None, Err, refl, ap, ◌∙◌, codes}
+use Rattle.std.proofs.Common.{◌≡◌, ◌≢◌, ℕ, ◌<◌, ◌^◌, Bool, true, false, ◌&&◌, [], ◌∷◌, length, Option, Some, None, Result, Err, refl, ap, ◌∙◌, codes}
 use Rattle.std.proofs.lemmas.Bool.{lt-ltb, ltb-true}
 use Rattle.std.proofs.lemmas.Slice.Eq.{bytes_eq-Decides}
 use Rattle.std.specs.Str.{bytes_eq}
@@ -9,7 +9,8 @@ use Rattle.std.specs.Str.Parse.{AllDigits, IsNumeral, ParsesUnsigned, false_text
 use Rattle.clap.specs.Words.{Text, first_value, one_text, rows_of}
 use Rattle.clap.specs.declared.parser.matches.Found.{Found}
 use Rattle.clap.proofs.WalkLemmas.{first_value-rows, one_text-rows}
-use Rattle.command_line.specs.Arguments.{are_digits, debug_in, debug_with, flag_in, is_byte_numeral, number_in, watch_in, watch_with}
+use Rattle.command_line.specs.declared.misuse.Misuse.{Misuse}
+use Rattle.command_line.specs.Arguments.{FilterWords, are_digits, capture_in, capture_with, debug_in, debug_with, filter_in, flag_in, is_byte_numeral, number_in, one_filter, watch_in, watch_with}
 
 -- ---- the texts
 
@@ -28,9 +29,18 @@ watch_is f config filter a b capture ledger workers quiet e1 e2 e3 e4 e5 e6 e7 e
   e8 ∙ ap (option_and_then flag_in) (one_text-rows f (codes "quiet")),
 )
 
-pub debug_is : (f : Found) (filter tap : Option Text) → filter ≡ first_value f (codes "filter") → tap ≡ first_value f (codes "tap") →
+pub filter_is : (f : Found) (code filter source : Option Text) → code ≡ first_value f (codes "code") → filter ≡ first_value f (codes "filter") →
+    source ≡ first_value f (codes "source") → one_filter code filter source ≡ filter_in (rows_of f)
+filter_is f code filter source e1 e2 e3 =
+    cc (e1 ∙ first_value-rows f (codes "code"), e2 ∙ first_value-rows f (codes "filter"), e3 ∙ first_value-rows f (codes "source"))
+
+pub capture_is : (f : Found) (filter : Result FilterWords Misuse) (recording output : Option Text) → filter ≡ filter_in (rows_of f) →
+    recording ≡ first_value f (codes "recording") → output ≡ first_value f (codes "output") → capture_with filter recording output ≡ capture_in (rows_of f)
+capture_is f filter recording output e1 e2 e3 = cc (e1, e2 ∙ first_value-rows f (codes "recording"), e3 ∙ first_value-rows f (codes "output"))
+
+pub debug_is : (f : Found) (filter : Result FilterWords Misuse) (tap : Option Text) → filter ≡ filter_in (rows_of f) → tap ≡ first_value f (codes "tap") →
     debug_with filter tap ≡ debug_in (rows_of f)
-debug_is f filter tap e1 e2 = cc (e1 ∙ first_value-rows f (codes "filter"), e2 ∙ first_value-rows f (codes "tap"))
+debug_is f filter tap e1 e2 = cc (e1, e2 ∙ first_value-rows f (codes "tap"))
 
 -- ---- the number
 

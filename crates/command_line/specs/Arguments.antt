@@ -1,25 +1,50 @@
--- The command-line arguments (this project's profile), as clap reads them: `afdxmon capture --code <numeric text>`, `afdxmon asm`,
--- `afdxmon watch` with its files and its number of workers, and `afdxmon debug` with its files.
-use Rattle.std.specs.Prelude.{◌≡◌, ℕ, pos, nat_lt, Bool, true, false, ◌&&◌, List, [], ◌∷◌, length, Option, Some, None, codes, option_and_then, if◌then◌else◌}
+-- The command-line arguments (this project's profile), as clap reads them, and what the commands ask of them besides: `capture` and
+-- `debug` take one filter, `watch` at least one recording, and a capture only with a filter.
+use Rattle.std.specs.Prelude.{◌≡◌, ℕ, pos, nat_lt, Bool, true, false, ◌&&◌, not, List, [], ◌∷◌, length, Option, Some, None, is_some, Result, Ok, Err, codes, option_and_then, if◌then◌else◌}
 use Rattle.std.specs.Char.{digit_value}
 use Rattle.std.specs.Str.Parse.{digits_value, without_leading_plus}
+use Rattle.std.specs.Borrow.{Bor}
 use Rattle.std.specs.Option.{option_map}
 use Rattle.std.specs.Str.{bytes_eq}
+use Rattle.clap.specs.Faults.{fault_of}
+use Rattle.clap.specs.Kinds.{Kinds, or_else}
 use Rattle.clap.specs.Words.{App, app_of, Row, Rule, Text, first_of, new_app, one_of, new_rule, subcommand_of, with_rule, with_subcommand}
 use Rattle.clap.specs.declared.builder.value_parser.ValueParser.TheVariants.{Signed}
 use Rattle.clap.specs.declared.builder.command.Command.{Command}
 use Rattle.clap.specs.declared.builder.command.Command.TheViews.{out-Command}
 use Rattle.clap.specs.declared.builder.action.ArgAction.TheVariants.{Set, SetTrue}
-use Rattle.command_line.specs.declared.arguments.WatchArguments.{WatchArguments}
+use Rattle.clap.specs.declared.error.kind.ErrorKind.{ErrorKind}
+use Rattle.clap.specs.declared.error.kind.ErrorKind.TheVariants as kind
+use Rattle.command_line.specs.declared.arguments.CaptureArguments.{CaptureArguments}
 use Rattle.command_line.specs.declared.arguments.DebugArguments.{DebugArguments}
+use Rattle.command_line.specs.declared.arguments.FilterArgument.{FilterArgument}
+use Rattle.command_line.specs.declared.arguments.FilterArgument.TheVariants as given
 use Rattle.command_line.specs.declared.arguments.Invocation.{Invocation}
 use Rattle.command_line.specs.declared.arguments.Invocation.TheVariants as words
+use Rattle.command_line.specs.declared.arguments.WatchArguments.{WatchArguments}
+use Rattle.command_line.specs.declared.misuse.Misuse.{Misuse}
+use Rattle.command_line.specs.declared.misuse.Misuse.TheVariants as misuse
 
-abbrev pub code_rule : Rule
-code_rule = record (new_rule (codes "code")) { long = Some (codes "code"); value_names = 1; action = Some Set; required = true }
+-- ---- clap's rules
 
-abbrev pub capture_app : App
-capture_app = with_rule (new_app (codes "capture")) code_rule
+-- an option with a value
+abbrev pub option_rule : Text → Bool → Rule
+option_rule name required = record (new_rule name) { long = Some name; value_names = 1; action = Some Set; required = required }
+
+-- where the capture is written: standard output where it isn't given
+abbrev pub output_rule : Rule
+output_rule = record (option_rule (codes "output") false) { short = Some 111; defaults = codes "-" ∷ [] }
+
+-- a word that names the recording: standard input where it isn't given
+abbrev pub recording_rule : Rule
+recording_rule = record (new_rule (codes "recording")) { value_names = 1; action = Some Set; defaults = codes "-" ∷ [] }
+
+abbrev pub with_option : Text → Bool → App → App
+with_option name required app = with_rule app (option_rule name required)
+
+unfoldable pub capture_app : App
+capture_app =
+    with_rule (with_rule (with_option (codes "source") false (with_option (codes "filter") false (with_option (codes "code") false (new_app (codes "capture"))))) output_rule) recording_rule
 
 -- the program's own command, which has a version and requires a subcommand
 abbrev pub program_app : App
@@ -30,36 +55,23 @@ program_app =
 abbrev pub asm_app : App
 asm_app = new_app (codes "asm")
 
--- a required option that names a file
-abbrev pub file_rule : Text → Rule
-file_rule name = record (new_rule name) { long = Some name; value_names = 1; action = Some Set; required = true }
-
 -- a number of 8 bits, 2 where it isn't given
 abbrev pub workers_rule : Rule
-workers_rule = record (new_rule (codes "workers")) {
-  long = Some (codes "workers");
-  value_names = 1;
-  action = Some Set;
-  defaults = codes "2" ∷ [];
-  parser = Some (Signed (pos 0) (pos 255));
-}
+workers_rule = record (option_rule (codes "workers") false) { defaults = codes "2" ∷ []; parser = Some (Signed (pos 0) (pos 255)) }
 
 -- a flag, false where it isn't given
 abbrev pub quiet_rule : Rule
 quiet_rule = record (new_rule (codes "quiet")) { long = Some (codes "quiet"); action = Some SetTrue }
 
-abbrev pub with_file : Text → App → App
-with_file name app = with_rule app (file_rule name)
-
 abbrev pub watch_files : App → App
 watch_files app =
-    with_file (codes "ledger") (with_file (codes "capture") (with_file (codes "b") (with_file (codes "a") (with_file (codes "filter") (with_file (codes "config") app)))))
+    with_option (codes "ledger") true (with_option (codes "capture") false (with_option (codes "b") false (with_option (codes "a") false (with_option (codes "filter") false (with_option (codes "config") true app)))))
 
 unfoldable pub watch_app : App
 watch_app = with_rule (with_rule (watch_files (new_app (codes "watch"))) workers_rule) quiet_rule
 
 unfoldable pub debug_app : App
-debug_app = with_file (codes "tap") (with_file (codes "filter") (new_app (codes "debug")))
+debug_app = with_option (codes "tap") true (with_option (codes "source") false (with_option (codes "filter") false (new_app (codes "debug"))))
 
 unfoldable pub afdxmon_app : App
 afdxmon_app = with_subcommand (with_subcommand (with_subcommand (with_subcommand program_app capture_app.top) asm_app.top) watch_app.top) debug_app.top
@@ -80,25 +92,38 @@ IsWatch c = (app_of c ≡ watch_app) × ((out-Command c).has_globals ≡ false)
 abbrev pub IsDebug : Command → Type 0
 IsDebug c = (app_of c ≡ debug_app) × ((out-Command c).has_globals ≡ false)
 
+-- ---- what arguments ask for
+
+-- a filter: a text in the numeric form, a file in that form, or a file of a filter's source
+pub data FilterWords : Type 0 where
+  CodeText : Text → FilterWords
+  NumericFile : Text → FilterWords
+  SourceFile : Text → FilterWords
+
+-- a filter, and the files of a capture
+pub record CaptureWords : Type 0 where
+  pub filter : FilterWords
+  pub recording : Text
+  pub output : Text
+
 -- the files of a run over two recordings, its number of workers, and whether its summary is left out
 pub record WatchWords : Type 0 where
   pub config : Text
-  pub filter : Text
-  pub a : Text
-  pub b : Text
-  pub capture : Text
+  pub filter : Option Text
+  pub a : Option Text
+  pub b : Option Text
+  pub capture : Option Text
   pub ledger : Text
   pub workers : ℕ
   pub quiet : Bool
 
--- the files of a session
+-- a filter, and the recording of a session
 pub record DebugWords : Type 0 where
-  pub filter : Text
+  pub filter : FilterWords
   pub tap : Text
 
--- what arguments ask for
 pub data Meant : Type 0 where
-  Captures : Text → Meant  -- to capture by the filter of this text
+  Captures : CaptureWords → Meant
   Assembles : Meant
   Watches : WatchWords → Meant
   Debugs : DebugWords → Meant
@@ -120,8 +145,42 @@ number_in text =
 abbrev pub flag_in : Text → Option Bool
 flag_in text = if bytes_eq text (codes "true") then Some true else if bytes_eq text (codes "false") then Some false else None
 
+-- what makes a result of two
+abbrev pub and_then : {X Y : Type 0} → (X → Result Y Misuse) → Result X Misuse → Result Y Misuse
+and_then f (Ok x) = f x
+and_then f (Err m) = Err m
+
+abbrev pub mapped : {X Y : Type 0} → (X → Y) → Result X Misuse → Result Y Misuse
+mapped f (Ok x) = Ok (f x)
+mapped f (Err m) = Err m
+
+-- what clap's rules have let be given
+abbrev pub required : {X : Type 0} → Option X → Result X Misuse
+required (Some x) = Ok x
+required None = Err misuse.Incomplete
+
+-- the one filter that is given by its text, as a file in the numeric form or as a source
+abbrev pub one_filter : Option Text → Option Text → Option Text → Result FilterWords Misuse
+one_filter (Some code) None None = Ok (CodeText code)
+one_filter None (Some path) None = Ok (NumericFile path)
+one_filter None None (Some path) = Ok (SourceFile path)
+one_filter None None None = Err misuse.NoFilter
+one_filter _ _ _ = Err misuse.TwoFilters
+
+abbrev pub filter_in : List Row → Result FilterWords Misuse
+filter_in rows = one_filter (first_of (codes "code") rows) (first_of (codes "filter") rows) (first_of (codes "source") rows)
+
+abbrev pub capture_with : Result FilterWords Misuse → Option Text → Option Text → Result CaptureWords Misuse
+capture_with (Ok filter) (Some recording) (Some output) = Ok (record { filter = filter; recording = recording; output = output })
+capture_with (Err m) _ _ = Err m
+capture_with _ _ _ = Err misuse.Incomplete
+
+-- what the arguments of capture give
+abbrev pub capture_in : List Row → Result CaptureWords Misuse
+capture_in rows = capture_with (filter_in rows) (first_of (codes "recording") rows) (first_of (codes "output") rows)
+
 abbrev pub watch_with : Option Text → Option Text → Option Text → Option Text → Option Text → Option Text → Option ℕ → Option Bool → Option WatchWords
-watch_with (Some config) (Some filter) (Some a) (Some b) (Some capture) (Some ledger) (Some workers) (Some quiet) =
+watch_with (Some config) filter a b capture (Some ledger) (Some workers) (Some quiet) =
     Some (record { config = config; filter = filter; a = a; b = b; capture = capture; ledger = ledger; workers = workers; quiet = quiet })
 watch_with _ _ _ _ _ _ _ _ = None
 
@@ -132,44 +191,82 @@ watch_in rows =
     (first_of (codes "capture") rows) (first_of (codes "ledger") rows) (option_and_then number_in (one_of (codes "workers") rows))
     (option_and_then flag_in (one_of (codes "quiet") rows))
 
-abbrev pub debug_with : Option Text → Option Text → Option DebugWords
-debug_with (Some filter) (Some tap) = Some (record { filter = filter; tap = tap })
-debug_with _ _ = None
+-- there is a recording, and a capture has its filter
+abbrev pub checked : WatchWords → Result WatchWords Misuse
+checked w =
+    if not (is_some w.a) && not (is_some w.b) then Err misuse.NoRecording
+    else if is_some w.capture && not (is_some w.filter) then Err misuse.Unfiltered else Ok w
+
+abbrev pub debug_with : Result FilterWords Misuse → Option Text → Result DebugWords Misuse
+debug_with (Ok filter) (Some tap) = Ok (record { filter = filter; tap = tap })
+debug_with (Err m) _ = Err m
+debug_with _ _ = Err misuse.Incomplete
 
 -- what the options of debug give
-abbrev pub debug_in : List Row → Option DebugWords
-debug_in rows = debug_with (first_of (codes "filter") rows) (first_of (codes "tap") rows)
+abbrev pub debug_in : List Row → Result DebugWords Misuse
+debug_in rows = debug_with (filter_in rows) (first_of (codes "tap") rows)
 
 -- by the subcommand that was met and what it was given
-abbrev pub meant_in : Option (Text × List Row) → Option Meant
-meant_in None = None
+abbrev pub meant_in : Option (Text × List Row) → Result Meant Misuse
+meant_in None = Err misuse.Incomplete
 meant_in (Some met) =
-    if bytes_eq met.0 (codes "capture") then option_map Captures (first_of (codes "code") met.1)
-    else if bytes_eq met.0 (codes "asm") then Some Assembles
-    else if bytes_eq met.0 (codes "watch") then option_map Watches (watch_in met.1)
-    else if bytes_eq met.0 (codes "debug") then option_map Debugs (debug_in met.1) else None
+    if bytes_eq met.0 (codes "capture") then mapped Captures (capture_in met.1)
+    else if bytes_eq met.0 (codes "asm") then Ok Assembles
+    else if bytes_eq met.0 (codes "watch") then mapped Watches (and_then checked (required (watch_in met.1)))
+    else if bytes_eq met.0 (codes "debug") then mapped Debugs (debug_in met.1) else Err misuse.Incomplete
 
 -- by the arguments, the program's name first
-abbrev pub meant_asked : List Text → Option Meant
+abbrev pub meant_asked : List Text → Result Meant Misuse
 meant_asked texts = meant_in (subcommand_of afdxmon_app texts)
 
+-- ---- how arguments are refused
+
+-- an option more than there may be, or one too few
+abbrev pub misuse_kind : Misuse → ErrorKind
+misuse_kind misuse.TwoFilters = kind.ArgumentConflict
+misuse_kind misuse.NoFilter = kind.MissingRequiredArgument
+misuse_kind misuse.NoRecording = kind.MissingRequiredArgument
+misuse_kind misuse.Unfiltered = kind.MissingRequiredArgument
+misuse_kind misuse.Incomplete = kind.MissingRequiredArgument
+
+abbrev pub misuse_kinds : {X : Type 0} → Result X Misuse → Kinds
+misuse_kinds (Ok x) = []
+misuse_kinds (Err m) = misuse_kind m ∷ []
+
+-- the kinds of error that the arguments may have: those of clap's rules, and where these find none that of the commands' own
+abbrev pub kinds_asked : List Text → Kinds
+kinds_asked texts = or_else (fault_of afdxmon_app texts) (misuse_kinds (meant_asked texts))
+
+-- ---- what the program's types hold
+
+abbrev pub text_of : Bor Text → Text
+text_of text = text.now
+
+abbrev pub filter_words : FilterArgument → FilterWords
+filter_words (given.Code code) = CodeText code.now
+filter_words (given.Numeric path) = NumericFile path.now
+filter_words (given.Source path) = SourceFile path.now
+
+abbrev pub capture_words : CaptureArguments → CaptureWords
+capture_words c = record { filter = filter_words c.filter; recording = c.recording.now; output = c.output.now }
+
 abbrev pub watch_words : WatchArguments → WatchWords
-watch_words given = record {
-  config = given.config.now;
-  filter = given.filter.now;
-  a = given.a.now;
-  b = given.b.now;
-  capture = given.capture.now;
-  ledger = given.ledger.now;
-  workers = given.workers;
-  quiet = given.quiet;
+watch_words w = record {
+  config = w.config.now;
+  filter = option_map text_of w.filter;
+  a = option_map text_of w.a;
+  b = option_map text_of w.b;
+  capture = option_map text_of w.capture;
+  ledger = w.ledger.now;
+  workers = w.workers;
+  quiet = w.quiet;
 }
 
 abbrev pub debug_words : DebugArguments → DebugWords
-debug_words given = record { filter = given.filter.now; tap = given.tap.now }
+debug_words d = record { filter = filter_words d.filter; tap = d.tap.now }
 
 abbrev pub meant_by : Invocation → Meant
-meant_by (words.Capture code) = Captures code.now
+meant_by (words.Capture c) = Captures (capture_words c)
 meant_by words.Asm = Assembles
-meant_by (words.Watch given) = Watches (watch_words given)
-meant_by (words.Debug given) = Debugs (debug_words given)
+meant_by (words.Watch w) = Watches (watch_words w)
+meant_by (words.Debug d) = Debugs (debug_words d)

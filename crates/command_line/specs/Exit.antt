@@ -1,4 +1,5 @@
--- How the program ends (this project's profile): status 0 where the command did its work, 1 after a fault. A recording that didn't
+-- How the program ends (this project's profile): status 0 where the command did its work, 1 after a fault, 2 where it asks for what
+-- isn't done. A recording that didn't
 -- end clean is no fault, but noted.
 use Rattle.std.specs.Prelude.{ℕ, List, ◌++◌, Bool, true, false, Result, Ok, Err, codes, decimal, ◌==◌, if◌then◌else◌}
 use Rattle.afdx_frame.specs.declared.key.Network.{Network}
@@ -52,6 +53,7 @@ status_of exit.Success = 0
 status_of (exit.Note ending) = 0
 status_of (exit.Watched summary) = 0
 status_of (exit.Fault f) = 1
+status_of exit.Terminal = 2
 
 -- so many frames
 abbrev pub frames_text : ℕ → List ℕ

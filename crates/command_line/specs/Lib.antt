@@ -2,4 +2,5 @@ pub mod Arguments
 pub mod Exit
 pub mod Line
 pub mod Shared
+pub mod Standard
 pub mod Summary

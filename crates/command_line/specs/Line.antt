@@ -86,6 +86,9 @@ file_part file.A = codes "--a"
 file_part file.B = codes "--b"
 file_part file.Capture = codes "--capture"
 file_part file.Ledger = codes "--ledger"
+file_part file.Source = codes "--source"
+file_part file.Recording = codes "RECORDING"
+file_part file.Output = codes "--output"
 
 abbrev pub header_part : HeaderFault → List ℕ
 header_part header.Short = codes "1 Short"
@@ -122,6 +125,7 @@ filter_part (Some number) = codes " filter " ++ decimal number
 abbrev pub line_of : Fault → List ℕ
 line_of (fault.File f) = codes "afdxmon: file " ++ file_part f
 line_of (fault.Shared output other) = codes "afdxmon: file " ++ file_part output
+line_of (fault.Taken f by) = codes "afdxmon: file " ++ file_part f
 line_of (fault.Config f) = codes "afdxmon: config " ++ config_part f
 line_of (fault.Asm f) = codes "afdxmon: asm " ++ asm_part f
 line_of (fault.Numeric f filter) = codes "afdxmon: numeric " ++ numeric_part f ++ filter_part filter

@@ -1,10 +1,11 @@
--- Which output of watch is a file that another option names too (this project's profile).
+-- Which output is a file that another option names too (this project's profile).
 use Rattle.std.specs.Prelude.{◌==◌, Bool, false, ◌&&◌, List, [], ◌∷◌, Option, None, Some, Result, Ok, Err, find}
 use Rattle.std.specs.Str.{bytes_eq}
 use Rattle.command_line.specs.declared.fault.Fault.{Fault}
 use Rattle.command_line.specs.declared.fault.Fault.TheVariants as fault
 use Rattle.command_line.specs.declared.fault.FileOption.{FileOption}
 use Rattle.command_line.specs.declared.fault.FileOption.TheVariants as file
+use Rattle.command_line.specs.declared.shared.CaptureFiles.{CaptureFiles}
 use Rattle.command_line.specs.declared.shared.Inode.{Inode}
 use Rattle.command_line.specs.declared.shared.Named.{Named}
 use Rattle.command_line.specs.declared.shared.Named.TheVariants as named
@@ -30,6 +31,9 @@ named_by files file.Capture = files.capture
 named_by files file.Ledger = files.ledger
 named_by files file.Standard = named.Other
 named_by files file.Tap = named.Other
+named_by files file.Source = named.Other
+named_by files file.Recording = named.Other
+named_by files file.Output = named.Other
 
 -- the first of these options that names the file of an output
 abbrev pub twin_of : WatchFiles → FileOption → List FileOption → Option FileOption
@@ -49,3 +53,15 @@ answer_by None None = Ok tt
 -- the capture is none of the inputs and not the ledger, and the ledger none of the inputs; else the first that isn't so
 abbrev pub shared_answer : WatchFiles → Result (Unit {0}) Fault
 shared_answer files = answer_by (twin_of files file.Capture inputs_and_ledger) (twin_of files file.Ledger inputs)
+
+-- what the output of capture must not be, with the option that names it
+abbrev pub capture_inputs : CaptureFiles → List (FileOption × Named)
+capture_inputs files = (file.Filter, files.filter) ∷ (file.Source, files.source) ∷ (file.Recording, files.recording) ∷ []
+
+abbrev pub output_answer : Option (FileOption × Named) → Result (Unit {0}) Fault
+output_answer None = Ok tt
+output_answer (Some other) = Err (fault.Shared file.Output other.0)
+
+-- the output of capture is none of its inputs; else the first that it is
+abbrev pub capture_answer : CaptureFiles → Result (Unit {0}) Fault
+capture_answer files = output_answer (find (λ other. is_one_file files.output other.1) (capture_inputs files))

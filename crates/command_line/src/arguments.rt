@@ -1,20 +1,18 @@
 //! The command-line arguments.
-ghost use Rattle.std.specs.Prelude.{◌≡◌, false, true, map, IfOk, IfErr, option_map, string_bytes};
-ghost use Rattle.clap.specs.Words.{FailsBy, app_of, fault_of, found_of, kind_of, rows_of, rule_of, subcommand_rows_of, takes};
+ghost use Rattle.std.specs.Prelude.{◌≡◌, [], false, true, map, IfOk, IfErr, option_map, string_bytes, Ok};
+ghost use Rattle.clap.specs.Words.{FailsBy, app_of, found_of, kind_of, rows_of, rule_of, subcommand_rows_of, takes};
 ghost use Rattle.clap.specs.declared.error.kind.ErrorKind.TheVariants.{OutOfMemory};
-ghost use Rattle.command_line.specs.Arguments.{IsAsm, IsCapture, IsDebug, IsWatch, afdxmon_app, debug_in, debug_words, file_rule, meant_asked, meant_by, meant_in, program_app, quiet_rule, watch_in, watch_words, workers_rule};
+ghost use Rattle.command_line.specs.Arguments.{IsAsm, IsCapture, IsDebug, IsWatch, afdxmon_app, capture_in, capture_words, checked, debug_in, debug_words, filter_in, filter_words, kinds_asked, mapped, meant_asked, meant_by, meant_in, misuse_kind, misuse_kinds, one_filter, option_rule, output_rule, program_app, quiet_rule, recording_rule, text_of, watch_in, watch_words, workers_rule};
 
+use crate::misuse::Misuse;
 use clap::{Arg, ArgAction, ArgMatches, Command, Error};
 use std::alloc::{AllocError, Global};
 
 /// What the arguments ask for.
 #[derive(Clone, Copy, Debug, PartialEq, Eq)]
 pub enum Invocation<'a> {
-    /// Copy the frames that a filter accepts from standard input to standard output.
-    Capture {
-        /// The filter, in the numeric form.
-        code: &'a str,
-    },
+    /// Copy the frames of a recording that a filter accepts.
+    Capture(CaptureArguments<'a>),
     /// Assemble a filter's source from standard input, and print its numeric form.
     Asm,
     /// Judge the frames of two recordings, and write those that a filter accepts.
@@ -23,32 +21,54 @@ pub enum Invocation<'a> {
     Debug(DebugArguments<'a>),
 }
 
-/// The files of a run over two recordings, its number of workers, and what it tells.
+/// A filter, by how it is given.
+#[derive(Clone, Copy, Debug, PartialEq, Eq)]
+pub enum FilterArgument<'a> {
+    /// The text of its numeric form.
+    Code(&'a str),
+    /// The path of a file that has its numeric form.
+    Numeric(&'a str),
+    /// The path of a file that has its source.
+    Source(&'a str),
+}
+
+/// A filter, and the files of a capture. `-` is standard input or output.
+#[derive(Clone, Copy, Debug, PartialEq, Eq)]
+pub struct CaptureArguments<'a> {
+    pub filter: FilterArgument<'a>,
+    /// The recording.
+    pub recording: &'a str,
+    /// The capture that is written.
+    pub output: &'a str,
+}
+
+/// The files of a run over two recordings, its number of workers, and what it tells. `-` is standard input
+/// or output.
 #[derive(Clone, Copy, Debug, PartialEq, Eq)]
 pub struct WatchArguments<'a> {
     /// The table of virtual links, a TOML document.
     pub config: &'a str,
-    /// The filter, in the numeric form.
-    pub filter: &'a str,
-    /// The recording of network A.
-    pub a: &'a str,
+    /// The filter, in the numeric form. There is one where a capture is written; without it no frame is
+    /// accepted.
+    pub filter: Option<&'a str>,
+    /// The recording of network A. A network without one has no frames; one of the two has one.
+    pub a: Option<&'a str>,
     /// The recording of network B.
-    pub b: &'a str,
-    /// The capture that is written.
-    pub capture: &'a str,
+    pub b: Option<&'a str>,
+    /// The capture that is written, if one is.
+    pub capture: Option<&'a str>,
     /// The ledger that is written.
     pub ledger: &'a str,
     /// How many workers there are to be.
     pub workers: u8,
-    /// Is there to be no summary at a terminal?
+    /// Is a terminal to be told of faults and notes alone?
     pub quiet: bool,
 }
 
-/// The files of a session.
+/// A filter, which is never given by its text, and the recording of a session.
 #[derive(Clone, Copy, Debug, PartialEq, Eq)]
 pub struct DebugArguments<'a> {
-    /// The filter, in the numeric form.
-    pub filter: &'a str,
+    pub filter: FilterArgument<'a>,
     /// The recording.
     pub tap: &'a str,
 }
@@ -56,25 +76,86 @@ pub struct DebugArguments<'a> {
 /// The version that `--version` prints.
 const VERSION: &str = "0.1.0";
 
+const NUMERIC_HELP: &str = "The filter in the numeric form, as `afdxmon asm` prints it";
+
+const SOURCE_HELP: &str = "The filter's source, as `afdxmon asm` reads it";
+
+/// An option with a value.
+fn option<'a>(
+    alloc: Global,
+    name: &'a str,
+    value: &'a str,
+    help: &'a str,
+    required: bool,
+) -> Arg<'a>
+    ensures rule { rule_of result ≡ option_rule name.now required }
+    ensures local { result.global ≡ false }
+{
+    Arg::new(alloc, name)
+        .long(name)
+        .value_name(value)
+        .help(help)
+        .required(required)
+        .action(ArgAction::Set)
+}
+
+/// The option that names the capture that is written.
+fn output_option<'a>(alloc: Global) -> Arg<'a>
+    ensures rule { rule_of result ≡ output_rule }
+    ensures local { result.global ≡ false }
+{
+    option(
+        alloc,
+        "output",
+        "FILE",
+        "The capture to write, a nanosecond pcap file",
+        false,
+    )
+    .short('o')
+    .default_value("-")
+}
+
+/// The word that names the recording.
+fn recording_word<'a>(alloc: Global) -> Arg<'a>
+    ensures rule { rule_of result ≡ recording_rule }
+    ensures local { result.global ≡ false }
+{
+    Arg::new(alloc, "recording")
+        .value_name("RECORDING")
+        .help("The recording, a pcap file")
+        .default_value("-")
+        .action(ArgAction::Set)
+}
+
+const CAPTURE_USAGE: &str = "\
+afdxmon capture [OPTIONS] <--code <TEXT>|--filter <FILE>|--source <FILE>> [RECORDING]";
+
 /// What stands after the options in the help of `capture`.
 const CAPTURE_EXAMPLE: &str = "\
+One of --code, --filter and --source gives the filter. '-' is standard input, or standard output.
+
 Example: keep the frames of virtual link 5
-  afdxmon capture --code \"$(tcpdump -y EN10MB -ddd 'ether[4:2] = 5')\" < recording.pcap > link5.pcap";
+  afdxmon capture --code \"$(tcpdump -y EN10MB -ddd 'ether[4:2] = 5')\" recording.pcap -o link5.pcap";
 
 /// The command `capture`.
 fn capture_command<'a>(alloc: Global) -> Result<Command<'a>, AllocError>
     ensures { IfOk result IsCapture }
 {
-    let code = Arg::new(alloc, "code")
-        .long("code")
-        .value_name("FILTER")
-        .help("The filter in the numeric form, as `tcpdump -ddd` prints it")
-        .required(true)
-        .action(ArgAction::Set);
     Command::new(alloc, "capture")
-        .about("Copies the frames that a filter accepts, from standard input to standard output")
+        .about("Copies the frames of a recording that a filter accepts")
+        .override_usage(CAPTURE_USAGE)
         .after_help(CAPTURE_EXAMPLE)
-        .arg(code)
+        .arg(option(
+            alloc,
+            "code",
+            "TEXT",
+            "The filter in the numeric form, as `tcpdump -ddd` prints it",
+            false,
+        ))?
+        .arg(option(alloc, "filter", "FILE", NUMERIC_HELP, false))?
+        .arg(option(alloc, "source", "FILE", SOURCE_HELP, false))?
+        .arg(output_option(alloc))?
+        .arg(recording_word(alloc))
 }
 
 /// What stands after the options in the help of `asm`.
@@ -91,37 +172,32 @@ fn asm_command<'a>(alloc: Global) -> Command<'a>
         .after_help(ASM_EXAMPLE)
 }
 
+const WATCH_USAGE: &str = "\
+afdxmon watch [OPTIONS] --config <FILE> --ledger <FILE> <--a <FILE>|--b <FILE>>";
+
 /// What stands after the options in the help of `watch`.
 const WATCH_EXAMPLE: &str = "\
+A network whose recording isn't given has no frames. Without --filter no frame is accepted, and
+--capture can't be given. '-' is standard input, or standard output.
+
 Example: keep the frames that examples/flight.filter accepts, and judge them all
   afdxmon watch --config flight.toml --filter flight.filter --a a.pcap --b b.pcap \\
     --capture kept.pcap --ledger verdicts.ledger";
-
-/// A required option that names a file.
-fn file_option<'a>(alloc: Global, name: &'a str, help: &'a str) -> Arg<'a>
-    ensures rule { rule_of result ≡ file_rule name.now }
-    ensures local { result.global ≡ false }
-{
-    Arg::new(alloc, name)
-        .long(name)
-        .value_name("FILE")
-        .help(help)
-        .required(true)
-        .action(ArgAction::Set)
-}
 
 /// The option that names the number of workers.
 fn workers_option<'a>(alloc: Global) -> Arg<'a>
     ensures rule { rule_of result ≡ workers_rule }
     ensures local { result.global ≡ false }
 {
-    Arg::new(alloc, "workers")
-        .long("workers")
-        .value_name("N")
-        .help("The number of workers, 1 to 8")
-        .value_parser(clap::value_parser!(u8))
-        .default_value("2")
-        .action(ArgAction::Set)
+    option(
+        alloc,
+        "workers",
+        "N",
+        "The number of workers, 1 to 8",
+        false,
+    )
+    .value_parser(clap::value_parser!(u8))
+    .default_value("2")
 }
 
 /// The option that leaves out the summary.
@@ -139,30 +215,42 @@ fn quiet_option<'a>(alloc: Global) -> Arg<'a>
 fn watch_command<'a>(alloc: Global) -> Result<Command<'a>, AllocError>
     ensures { IfOk result IsWatch }
 {
+    let config = "The table of virtual links, a TOML document";
+    let capture = "The capture to write, a nanosecond pcap file";
     Command::new(alloc, "watch")
         .about("Judges the frames of two recordings, and writes those that a filter accepts")
+        .override_usage(WATCH_USAGE)
         .after_help(WATCH_EXAMPLE)
-        .arg(file_option(
+        .arg(option(alloc, "config", "FILE", config, true))?
+        .arg(option(alloc, "filter", "FILE", NUMERIC_HELP, false))?
+        .arg(option(
             alloc,
-            "config",
-            "The table of virtual links, a TOML document",
+            "a",
+            "FILE",
+            "The recording of network A, a pcap file",
+            false,
         ))?
-        .arg(file_option(
+        .arg(option(
             alloc,
-            "filter",
-            "The filter in the numeric form, as `afdxmon asm` prints it",
+            "b",
+            "FILE",
+            "The recording of network B, a pcap file",
+            false,
         ))?
-        .arg(file_option(alloc, "a", "The recording of network A, a pcap file"))?
-        .arg(file_option(alloc, "b", "The recording of network B, a pcap file"))?
-        .arg(file_option(
+        .arg(option(alloc, "capture", "FILE", capture, false))?
+        .arg(option(
             alloc,
-            "capture",
-            "The capture to write, a nanosecond pcap file",
+            "ledger",
+            "FILE",
+            "The ledger of verdicts to write",
+            true,
         ))?
-        .arg(file_option(alloc, "ledger", "The ledger of verdicts to write"))?
         .arg(workers_option(alloc))?
         .arg(quiet_option(alloc))
 }
+
+const DEBUG_USAGE: &str = "\
+afdxmon debug --tap <FILE> <--filter <FILE>|--source <FILE>>";
 
 /// What stands after the options in the help of `debug`.
 const DEBUG_EXAMPLE: &str = "\
@@ -179,13 +267,11 @@ fn debug_command<'a>(alloc: Global) -> Result<Command<'a>, AllocError>
         .about(
             "Steps through a filter on the frames of a recording, by commands from standard input",
         )
+        .override_usage(DEBUG_USAGE)
         .after_help(DEBUG_EXAMPLE)
-        .arg(file_option(
-            alloc,
-            "filter",
-            "The filter in the numeric form, as `afdxmon asm` prints it",
-        ))?
-        .arg(file_option(alloc, "tap", "The recording, a pcap file"))
+        .arg(option(alloc, "filter", "FILE", NUMERIC_HELP, false))?
+        .arg(option(alloc, "source", "FILE", SOURCE_HELP, false))?
+        .arg(option(alloc, "tap", "FILE", "The recording, a pcap file", true))
 }
 
 /// The program's own command, before its subcommands.
@@ -209,73 +295,152 @@ fn whole_command<'a>(alloc: Global) -> Result<Command<'a>, AllocError>
         .subcommand(debug_command(alloc)?)
 }
 
+/// The one filter that is given by its text, as a file in the numeric form or as a source.
+fn one_filter<'a>(
+    code: Option<&'a str>,
+    filter: Option<&'a str>,
+    source: Option<&'a str>,
+) -> Result<FilterArgument<'a>, Misuse>
+    ensures { mapped filter_words result ≡ one_filter
+        (option_map text_of code.entry) (option_map text_of filter.entry)
+        (option_map text_of source.entry) }
+{
+    match (code, filter, source) {
+        (Some(code), None, None) => Ok(FilterArgument::Code(code)),
+        (None, Some(path), None) => Ok(FilterArgument::Numeric(path)),
+        (None, None, Some(path)) => Ok(FilterArgument::Source(path)),
+        (None, None, None) => Err(Misuse::NoFilter),
+        _ => Err(Misuse::TwoFilters),
+    }
+}
+
+/// The filter that is given to a command, of which each has as many of the options as it takes.
+fn filter_argument<'a>(given: &ArgMatches<'a>) -> Result<FilterArgument<'a>, Misuse>
+    ensures { mapped filter_words result ≡ filter_in (rows_of (found_of given.now)) }
+{
+    one_filter(
+        given.get_str("code"),
+        given.get_str("filter"),
+        given.get_str("source"),
+    )
+}
+
+/// What the arguments of `capture` give.
+fn capture_arguments<'a>(given: &ArgMatches<'a>) -> Result<CaptureArguments<'a>, Misuse>
+    ensures { mapped capture_words result ≡ capture_in (rows_of (found_of given.now)) }
+{
+    let filter = filter_argument(given)?;
+    let Some(recording) = given.get_str("recording") else {
+        return Err(Misuse::Incomplete);
+    };
+    let Some(output) = given.get_str("output") else {
+        return Err(Misuse::Incomplete);
+    };
+    Ok(CaptureArguments {
+        filter,
+        recording,
+        output,
+    })
+}
+
 /// What the options of `watch` give.
 fn watch_arguments<'a>(given: &ArgMatches<'a>) -> Option<WatchArguments<'a>>
     ensures { option_map watch_words result ≡ watch_in (rows_of (found_of given.now)) }
 {
     Some(WatchArguments {
         config: given.get_str("config")?,
-        filter: given.get_str("filter")?,
-        a: given.get_str("a")?,
-        b: given.get_str("b")?,
-        capture: given.get_str("capture")?,
+        filter: given.get_str("filter"),
+        a: given.get_str("a"),
+        b: given.get_str("b"),
+        capture: given.get_str("capture"),
         ledger: given.get_str("ledger")?,
         workers: given.get_one::<u8>("workers")?,
         quiet: given.get_one::<bool>("quiet")?,
     })
 }
 
-/// What the options of `debug` give.
-fn debug_arguments<'a>(given: &ArgMatches<'a>) -> Option<DebugArguments<'a>>
-    ensures { option_map debug_words result ≡ debug_in (rows_of (found_of given.now)) }
+/// Refuses a run without a recording, and one that writes a capture without a filter.
+fn checked(given: WatchArguments<'_>) -> Result<WatchArguments<'_>, Misuse>
+    ensures { mapped watch_words result ≡ checked (watch_words given.entry) }
 {
-    Some(DebugArguments {
-        filter: given.get_str("filter")?,
-        tap: given.get_str("tap")?,
-    })
+    if given.a.is_none() && given.b.is_none() {
+        return Err(Misuse::NoRecording);
+    }
+    if given.capture.is_some() && given.filter.is_none() {
+        return Err(Misuse::Unfiltered);
+    }
+    Ok(given)
+}
+
+/// What the options of `debug` give.
+fn debug_arguments<'a>(given: &ArgMatches<'a>) -> Result<DebugArguments<'a>, Misuse>
+    ensures { mapped debug_words result ≡ debug_in (rows_of (found_of given.now)) }
+{
+    let filter = filter_argument(given)?;
+    let Some(tap) = given.get_str("tap") else {
+        return Err(Misuse::Incomplete);
+    };
+    Ok(DebugArguments { filter, tap })
 }
 
 /// What the matches of a command line ask for.
-fn arguments_of<'a>(matches: &ArgMatches<'a>) -> Option<Invocation<'a>>
-    ensures { option_map meant_by result ≡ meant_in (subcommand_rows_of matches.now) }
+fn arguments_of<'a>(matches: &ArgMatches<'a>) -> Result<Invocation<'a>, Misuse>
+    ensures { mapped meant_by result ≡ meant_in (subcommand_rows_of matches.now) }
 {
-    let (name, given) = matches.subcommand()?;
+    let Some((name, given)) = matches.subcommand() else {
+        return Err(Misuse::Incomplete);
+    };
     if name == "capture" {
-        let code = given.get_str("code")?;
-        return Some(Invocation::Capture { code });
+        return Ok(Invocation::Capture(capture_arguments(given)?));
     }
     if name == "asm" {
-        return Some(Invocation::Asm);
+        return Ok(Invocation::Asm);
     }
     if name == "watch" {
-        return Some(Invocation::Watch(watch_arguments(given)?));
+        let Some(given) = watch_arguments(given) else {
+            return Err(Misuse::Incomplete);
+        };
+        return Ok(Invocation::Watch(checked(given)?));
     }
     if name == "debug" {
-        return Some(Invocation::Debug(debug_arguments(given)?));
+        return Ok(Invocation::Debug(debug_arguments(given)?));
     }
-    None
+    Err(Misuse::Incomplete)
+}
+
+/// The error of a command that refuses its arguments, with its usage.
+fn refusal(alloc: Global, command: Option<&str>, misuse: Misuse) -> Result<Error, AllocError>
+    ensures { IfOk result (λ e. kind_of e ≡ misuse_kind misuse) }
+{
+    let mut command = match command {
+        Some("capture") => capture_command(alloc)?,
+        Some("watch") => watch_command(alloc)?,
+        Some("debug") => debug_command(alloc)?,
+        _ => whole_command(alloc)?,
+    };
+    command.error(misuse.kind(), misuse.message())
 }
 
 /// Reads the command-line arguments, the program's own name first.
 ///
 /// # Errors
 ///
-/// clap's error if clap's rules for this command refuse the arguments, or out of memory. It prints as the
-/// text for the user. A request for help or for the version is one too.
-///
-/// None: clap took the arguments and found no command.
-pub fn read_arguments<'a>(
-    alloc: Global,
-    arguments: &'a [String],
-) -> Result<Option<Invocation<'a>>, Error>
+/// clap's error if clap's rules or the command's own refuse the arguments, or out of memory. It prints as
+/// the text for the user. A request for help or for the version is one too.
+pub fn read_arguments<'a>(alloc: Global, arguments: &'a [String]) -> Result<Invocation<'a>, Error>
     ensures meant { IfOk result (λ found.
-        option_map meant_by found ≡ meant_asked (map string_bytes arguments.now)) }
-    // Ok where clap's rules find no fault; else an error of the kind that they find, or out of memory.
-    ensures kinds { FailsBy (fault_of afdxmon_app (map string_bytes arguments.now)) result }
+        meant_asked (map string_bytes arguments.now) ≡ Ok (meant_by found)) }
+    // Ok where neither clap's rules nor the command's own find a fault; else an error of the kind that the
+    // first of them finds, or out of memory.
+    ensures kinds { FailsBy (kinds_asked (map string_bytes arguments.now)) result }
     ensures refused { IfErr result (λ e.
-        takes afdxmon_app (map string_bytes arguments.now) ≡ true → kind_of e ≡ OutOfMemory) }
+        takes afdxmon_app (map string_bytes arguments.now) ≡ true
+        → misuse_kinds (meant_asked (map string_bytes arguments.now)) ≡ [] → kind_of e ≡ OutOfMemory) }
 {
     let command = whole_command(alloc)?;
     let matches = command.try_get_matches_from(arguments)?;
-    Ok(arguments_of(&matches))
+    match arguments_of(&matches) {
+        Ok(invocation) => Ok(invocation),
+        Err(misuse) => Err(refusal(alloc, matches.subcommand_name(), misuse)?),
+    }
 }

@@ -10,6 +10,10 @@ use run_outcome::{Output, WatchFault};
 /// The exit status of invalid arguments, after clap's text.
 pub const USAGE: u8 = 2;
 
+/// What a person is told whose terminal packets would be written to.
+pub const TO_A_TERMINAL: &str = "\
+afdxmon: packets aren't written to a terminal: name a file by -o (of watch by --capture), or use a pipe";
+
 /// How a command ended.
 #[derive(Clone, Copy, Debug)]
 pub enum Exit {
@@ -21,6 +25,8 @@ pub enum Exit {
     Watched(Summary),
     /// Status 1.
     Fault(Fault),
+    /// Status 2: packets would be written to a terminal. Nothing was opened.
+    Terminal,
 }
 
 impl Exit {
@@ -95,6 +101,7 @@ impl Exit {
         match self {
             Exit::Success | Exit::Note(_) | Exit::Watched(_) => 0,
             Exit::Fault(_) => 1,
+            Exit::Terminal => USAGE,
         }
     }
 }

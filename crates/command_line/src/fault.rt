@@ -27,6 +27,11 @@ pub enum FileOption {
     B,
     Capture,
     Ledger,
+    Source,
+    /// The word that names the recording of `capture`.
+    Recording,
+    /// The file that `capture` writes.
+    Output,
 }
 
 /// A fault that the program reports by a line. A numeric text or a program may be that of a numbered
@@ -39,6 +44,11 @@ pub enum Fault {
     Shared {
         output: FileOption,
         other: FileOption,
+    },
+    /// A file that is standard input or output, as another is already.
+    Taken {
+        file: FileOption,
+        by: FileOption,
     },
     /// The table of virtual links.
     Config(ConfigFault),
@@ -220,6 +230,9 @@ fn file_name(file: FileOption) -> &'static str
         FileOption::B => "--b",
         FileOption::Capture => "--capture",
         FileOption::Ledger => "--ledger",
+        FileOption::Source => "--source",
+        FileOption::Recording => "RECORDING",
+        FileOption::Output => "--output",
     }
 }
 
@@ -305,7 +318,7 @@ impl Display for Fault {
 
     fn fmt<W: fmt::Write>(&self, f: &mut Formatter<W>) -> fmt::Result {
         match *self {
-            Fault::File(file) | Fault::Shared { output: file, .. } => {
+            Fault::File(file) | Fault::Shared { output: file, .. } | Fault::Taken { file, .. } => {
                 let file = file_name(file);
                 write!(f, "afdxmon: file {file}")
             }

@@ -7,13 +7,19 @@ mod caret;
 mod exit;
 mod fault;
 mod message;
+mod misuse;
 mod shared;
+mod standard;
 mod summary;
 
-pub use arguments::{DebugArguments, Invocation, WatchArguments, read_arguments};
+pub use arguments::{
+    CaptureArguments, DebugArguments, FilterArgument, Invocation, WatchArguments, read_arguments,
+};
 pub use caret::{Caret, caret_at};
-pub use exit::{Exit, USAGE};
+pub use exit::{Exit, TO_A_TERMINAL, USAGE};
 pub use fault::{Fault, FileOption, fault_line};
 pub use message::{Note, TapNote, advice};
-pub use shared::{Inode, Named, WatchFiles};
+pub use misuse::Misuse;
+pub use shared::{CaptureFiles, Inode, Named, WatchFiles};
+pub use standard::is_standard;
 pub use summary::{Hint, Summary, hint_of};

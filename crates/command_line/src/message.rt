@@ -174,11 +174,15 @@ fn file_advice(file: FileOption) -> &'static str {
         FileOption::Standard => {
             "standard input or output fails, or the text is longer than 16 MiB or not UTF-8"
         }
-        FileOption::Config | FileOption::Filter => {
+        FileOption::Config | FileOption::Filter | FileOption::Source => {
             "the file can't be opened or read, or is longer than 16 MiB or not UTF-8"
         }
-        FileOption::Tap | FileOption::A | FileOption::B => "the recording can't be opened",
-        FileOption::Capture | FileOption::Ledger => "the file can't be created",
+        FileOption::Tap | FileOption::A | FileOption::B | FileOption::Recording => {
+            "the recording can't be opened"
+        }
+        FileOption::Capture | FileOption::Ledger | FileOption::Output => {
+            "the file can't be created"
+        }
     }
 }
 
@@ -191,7 +195,28 @@ fn shared_advice(other: FileOption) -> &'static str {
         FileOption::B => "it is the file of --b too: name another file to write",
         FileOption::Capture => "it is the file of --capture too: name another file to write",
         FileOption::Ledger => "it is the file of --ledger too: name another file to write",
-        FileOption::Standard | FileOption::Tap => "it is another file too: name another to write",
+        FileOption::Source => "it is the file of --source too: name another file to write",
+        FileOption::Recording => "it is the recording too: name another file to write",
+        FileOption::Standard | FileOption::Tap | FileOption::Output => {
+            "it is another file too: name another to write"
+        }
+    }
+}
+
+/// What is standard input or output already.
+fn taken_advice(by: FileOption) -> &'static str {
+    match by {
+        FileOption::Standard => "the commands are read from standard input: name a file",
+        FileOption::Config => "'-' stands for --config already: name a file",
+        FileOption::Filter => "'-' stands for --filter already: name a file",
+        FileOption::Source => "'-' stands for --source already: name a file",
+        FileOption::A => "'-' stands for --a already: name a file",
+        FileOption::Capture => "'-' stands for --capture already: name a file",
+        FileOption::Tap
+        | FileOption::B
+        | FileOption::Ledger
+        | FileOption::Recording
+        | FileOption::Output => "'-' stands for another file already: name a file",
     }
 }
 
@@ -249,6 +274,7 @@ pub fn advice(fault: &Fault) -> &'static str {
     match *fault {
         Fault::File(file) => file_advice(file),
         Fault::Shared { other, .. } => shared_advice(other),
+        Fault::Taken { by, .. } => taken_advice(by),
         Fault::Config(fault) => config_advice(fault),
         Fault::Asm(fault) => asm_advice(fault),
         Fault::Numeric { fault, .. } => numeric_advice(fault),

@@ -1,6 +1,6 @@
-//! Which output of `watch` is a file that another option names too.
+//! Which output is a file that another option names too.
 ghost use Rattle.std.specs.Prelude.{◌≡◌};
-ghost use Rattle.command_line.specs.Shared.{is_one_file, named_by, shared_answer, twin_of};
+ghost use Rattle.command_line.specs.Shared.{capture_answer, is_one_file, named_by, shared_answer, twin_of};
 
 use crate::fault::{Fault, FileOption};
 
@@ -54,7 +54,7 @@ impl Named<'_> {
     }
 }
 
-/// What the six options of `watch` name.
+/// What the six options of `watch` name. One that isn't given names nothing, which is `Other`.
 #[derive(Clone, Copy, Debug, PartialEq, Eq)]
 pub struct WatchFiles<'a> {
     pub config: Named<'a>,
@@ -76,7 +76,11 @@ impl<'a> WatchFiles<'a> {
             FileOption::B => self.b,
             FileOption::Capture => self.capture,
             FileOption::Ledger => self.ledger,
-            FileOption::Standard | FileOption::Tap => Named::Other,
+            FileOption::Standard
+            | FileOption::Tap
+            | FileOption::Source
+            | FileOption::Recording
+            | FileOption::Output => Named::Other,
         }
     }
 
@@ -113,5 +117,39 @@ impl<'a> WatchFiles<'a> {
             }),
             None => Ok(()),
         }
+    }
+}
+
+/// What the options of `capture` name. One that isn't given names nothing, which is `Other`.
+#[derive(Clone, Copy, Debug, PartialEq, Eq)]
+pub struct CaptureFiles<'a> {
+    pub filter: Named<'a>,
+    pub source: Named<'a>,
+    pub recording: Named<'a>,
+    pub output: Named<'a>,
+}
+
+impl CaptureFiles<'_> {
+    /// Refuses an output that is the filter or the recording: writing it would destroy what stands there.
+    ///
+    /// # Errors
+    ///
+    /// `Fault::Shared`, with the first of them that is its file too.
+    pub fn refuse_shared(&self) -> Result<(), Fault>
+        ensures { result ≡ capture_answer self.now }
+    {
+        let other = if self.output.is_one_file(&self.filter) {
+            FileOption::Filter
+        } else if self.output.is_one_file(&self.source) {
+            FileOption::Source
+        } else if self.output.is_one_file(&self.recording) {
+            FileOption::Recording
+        } else {
+            return Ok(());
+        };
+        Err(Fault::Shared {
+            output: FileOption::Output,
+            other,
+        })
     }
 }

@@ -9,6 +9,12 @@ use Rattle.command_line.specs.Line.{line_of}
 use Rattle.command_line.specs.declared.fault.Fault.{Fault}
 use Rattle.command_line.specs.declared.fault.Fault.TheVariants as fault
 
+-- what a capture by a filter came to, and what it leaves
+abbrev pub IsCaptureBy : List Packed → Result Ending Fault → Devices → Devices → Type 0
+IsCaptureBy p (Ok ending) before after = IsCaptured p ending before after
+IsCaptureBy p (Err (fault.Watch w)) before after = IsAborted p w before after
+IsCaptureBy p (Err f) before after = ⊥
+
 -- a fault, and what it leaves: of a filter nothing, of a capture what stands when it is aborted
 abbrev pub Leaves : List ℕ → Fault → Devices → Devices → Type 0
 Leaves text (fault.Watch w) before after = (p : List Packed) × IsFilter text p × IsAborted p w before after

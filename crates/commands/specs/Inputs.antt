@@ -1,5 +1,6 @@
 -- The texts that a run is set up by: the filters and the table of virtual links (this project's profile).
 use Rattle.std.specs.Prelude.{◌≡◌, ◌⊎◌, ℕ, ◌+◌, List, [], ◌∷◌, map, Option, None, Some, Ok, ⊤}
+use Rattle.bpf_asm.specs.Assembly.{IsSourceOf, IsTextFault}
 use Rattle.bpf_isa.specs.Numeric.{numeric_of, IsFault, HasCount}
 use Rattle.bpf_isa.specs.Table.{canonical_form}
 use Rattle.bpf_isa.specs.declared.numeric.fault.NumericFault.TheVariants as numeric
@@ -25,6 +26,16 @@ abbrev pub IsFilterFault : List ℕ → Option ℕ → Fault → Type 0
 IsFilterFault text number (fault.Numeric f n) = (n ≡ number) × IsFault f (numeric_of text) × (f ≡ numeric.Memory → HasCount text)
 IsFilterFault text number (fault.Load f n) = (n ≡ number) × ((words : List Packed) × (numeric_of text ≡ Ok words) × IsFirstFault words f)
 IsFilterFault text number _ = ⊥
+
+-- the source text holds this filter, in the form in which it runs
+abbrev pub IsSourceFilter : List ℕ → List Packed → Type 0
+IsSourceFilter text p = (words : List Packed) × IsSourceOf text words × IsLoadable words × (p ≡ map canonical_form words)
+
+-- the source text holds no filter, and this is its fault: that of its statements, or that of their program
+abbrev pub IsSourceFault : List ℕ → Fault → Type 0
+IsSourceFault text (fault.Asm f) = IsTextFault text f
+IsSourceFault text (fault.Load f number) = (number ≡ None) × ((words : List Packed) × IsSourceOf text words × IsFirstFault words f)
+IsSourceFault text _ = ⊥
 
 -- ---- several filters
 

@@ -3,9 +3,10 @@ ghost use Rattle.std.specs.Prelude.{Result, option_map, string_bytes};
 ghost use Rattle.pcap_io.specs.declared.recording.Ending.{Ending};
 ghost use Rattle.command_line.specs.declared.fault.Fault.{Fault};
 ghost use Rattle.run_outcome.specs.Device.{devices_of};
-ghost use Rattle.commands.specs.Capture.{IsCaptureRun, IsRan};
+ghost use Rattle.commands.specs.Capture.{IsCaptureBy, IsCaptureRun, IsRan};
 
 use crate::inputs::filter_of;
+use bpf_loader::Program;
 use capture_run::capture_one;
 use command_line::{Exit, Fault, fault_line};
 use pcap_io::{Ending, OutSink, TapSource};
@@ -33,29 +34,18 @@ pub struct Ran<W> {
     pub sink: W,
 }
 
-/// The command `capture`: reads the filter from its numeric form, and copies the frames of the
-/// recording that it accepts. A filter that doesn't load leaves both devices as they are.
-pub fn run_capture<S: TapSource, W: OutSink>(
+/// Copies the frames of the recording that a filter accepts.
+pub fn capture_by<S: TapSource, W: OutSink>(
     alloc: Global,
-    code: &str,
+    program: &Program,
     source: S,
     sink: W,
 ) -> CaptureRun<S, W>
-    ensures { IsCaptureRun code.now result.outcome
+    ensures { IsCaptureBy program.now result.outcome
         (devices_of S.TapSource W.OutSink source sink)
         (devices_of S.TapSource W.OutSink result.source result.sink) }
 {
-    let program = match filter_of(alloc, code, None) {
-        Ok(program) => program,
-        Err(fault) => {
-            return CaptureRun {
-                outcome: Err(fault),
-                source,
-                sink,
-            };
-        }
-    };
-    match capture_one(alloc, &program, source, sink) {
+    match capture_one(alloc, program, source, sink) {
         Ok((ending, source, sink)) => CaptureRun {
             outcome: Ok(ending),
             source,
@@ -76,6 +66,28 @@ pub fn run_capture<S: TapSource, W: OutSink>(
                 sink,
             }
         }
+    }
+}
+
+/// The command `capture` with the filter's numeric form in hand: reads the filter, and copies the frames of
+/// the recording that it accepts. A filter that doesn't load leaves both devices as they are.
+pub fn run_capture<S: TapSource, W: OutSink>(
+    alloc: Global,
+    code: &str,
+    source: S,
+    sink: W,
+) -> CaptureRun<S, W>
+    ensures { IsCaptureRun code.now result.outcome
+        (devices_of S.TapSource W.OutSink source sink)
+        (devices_of S.TapSource W.OutSink result.source result.sink) }
+{
+    match filter_of(alloc, code, None) {
+        Ok(program) => capture_by(alloc, &program, source, sink),
+        Err(fault) => CaptureRun {
+            outcome: Err(fault),
+            source,
+            sink,
+        },
     }
 }
 

@@ -2,11 +2,12 @@
 ghost use Rattle.std.specs.Prelude.{◌≡◌, ◌+◌, ◌≤◌, ◌∷◌, ◌++◌, IfErr, IfOk, List, None, OnOk, length, map, string_bytes, vec_capacity, vec_len};
 ghost use Rattle.bpf_isa.specs.declared.packed.Packed.{Packed};
 ghost use Rattle.vl_config.specs.Document.{IsTableOfText, first_fault};
-ghost use Rattle.commands.specs.Inputs.{AreFilters, IsConfigFault, IsFilter, IsFilterFault, IsFiltersFault, IsFirstFilterFault, file_fault};
+ghost use Rattle.commands.specs.Inputs.{AreFilters, IsConfigFault, IsFilter, IsFilterFault, IsFiltersFault, IsFirstFilterFault, IsSourceFault, IsSourceFilter, file_fault};
 ghost use Rattle.commands.specs.Text.{IsTextRefusal, IsWholeText};
 ghost use Rattle.commands.specs.declared.text.TextRefusal.{TextRefusal};
 
 use crate::text::{TextRefusal, read_text};
+use bpf_asm::assemble;
 use bpf_isa::read_numeric;
 use bpf_loader::Program;
 use command_line::{Fault, FileOption};
@@ -29,6 +30,28 @@ pub fn filter_of(alloc: Global, code: &str, number: Option<u8>) -> Result<Progra
         fault: refused.fault,
         filter: number,
     })
+}
+
+/// The filter that a source text holds.
+///
+/// # Errors
+///
+/// `Fault::Asm` if the text isn't the source of a program, `Fault::Load` if the program isn't a filter.
+pub fn filter_of_source(alloc: Global, text: &str) -> Result<Program, Fault>
+    ensures filter { IfOk result (λ program. IsSourceFilter text.now program) }
+    ensures fault { IfErr result (λ fault. IsSourceFault text.now fault) }
+{
+    let words = match assemble(alloc, text) {
+        Ok(words) => words,
+        Err(fault) => return Err(Fault::Asm(fault)),
+    };
+    match Program::load(words) {
+        Ok(program) => Ok(program),
+        Err(refused) => Err(Fault::Load {
+            fault: refused.fault,
+            filter: None,
+        }),
+    }
 }
 
 /// What it means that the text of a file wasn't read.

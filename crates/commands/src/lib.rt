@@ -11,8 +11,8 @@ mod tap;
 mod text;
 
 pub use asm::{AsmRun, asm_over, run_asm};
-pub use capture::{CaptureRun, Ran, capture_over, run_capture};
+pub use capture::{CaptureRun, Ran, capture_by, capture_over, run_capture};
 pub use debug::{DebugRun, answer_line, begin_session, debug_over, run_debug, run_session};
-pub use inputs::{filter_of, load_filters, read_config, read_file};
+pub use inputs::{filter_of, filter_of_source, load_filters, read_config, read_file};
 pub use laws::source_means_its_program;
 pub use tap::{HeldTap, TapRead, read_tap};

@@ -1,6 +1,8 @@
 //! The words of the command line.
 
-use analyser::{Invocation, read_arguments};
+use analyser::{
+    CaptureArguments, DebugArguments, FilterArgument, Invocation, WatchArguments, read_arguments,
+};
 use std::alloc::{AllocError, Global};
 use std::test::Fail;
 
@@ -13,27 +15,111 @@ fn words(alloc: Global, texts: &[&str]) -> Result<Vec<String>, AllocError> {
     Ok(words)
 }
 
+/// What `capture` is given, by its words after its name.
+fn captured(
+    filter: FilterArgument<'static>,
+    recording: &'static str,
+    output: &'static str,
+) -> Invocation<'static> {
+    Invocation::Capture(CaptureArguments {
+        filter,
+        recording,
+        output,
+    })
+}
+
 #[test]
-fn filters_are_taken(rt: HostRuntime) -> Result<(), Fail> {
-    let cases: [(&[&str], &str); 6] = [
+fn captures_are_taken(rt: HostRuntime) -> Result<(), Fail> {
+    let code = FilterArgument::Code("1,6 0 0 0,");
+    let cases: [(&[&str], Invocation<'_>); 10] = [
+        (&["--code", "1,6 0 0 0,"], captured(code, "-", "-")),
+        (&["--code=1,6 0 0 0,"], captured(code, "-", "-")),
         (
-            &["afdxmon", "capture", "--code", "1,6 0 0 0,"],
-            "1,6 0 0 0,",
+            &["--code", ""],
+            captured(FilterArgument::Code(""), "-", "-"),
         ),
-        (&["afdxmon", "capture", "--code=1,6 0 0 0,"], "1,6 0 0 0,"),
-        (&["afdxmon", "capture", "--code", ""], ""),
-        (&["afdxmon", "capture", "--code="], ""),
-        (&["afdxmon", "capture", "--code", "-"], "-"),
-        (&["afdxmon", "capture", "--code=-1"], "-1"),
+        (&["--code="], captured(FilterArgument::Code(""), "-", "-")),
+        (
+            &["--code", "-"],
+            captured(FilterArgument::Code("-"), "-", "-"),
+        ),
+        (
+            &["--code=-1"],
+            captured(FilterArgument::Code("-1"), "-", "-"),
+        ),
+        (
+            &["--filter", "f"],
+            captured(FilterArgument::Numeric("f"), "-", "-"),
+        ),
+        (
+            &["a", "--source", "s"],
+            captured(FilterArgument::Source("s"), "a", "-"),
+        ),
+        (
+            &["-o", "o", "--filter", "f", "-"],
+            captured(FilterArgument::Numeric("f"), "-", "o"),
+        ),
+        (
+            &["--output=o", "--filter", "f", "a"],
+            captured(FilterArgument::Numeric("f"), "a", "o"),
+        ),
     ];
-    for (texts, code) in cases {
-        let words = words(rt.alloc(), texts)?;
-        let read = read_arguments(rt.alloc(), &words)?;
-        match read {
-            Some(Invocation::Capture { code: found }) => assert_eq!(rt; found, code),
-            _ => assert!(rt; false, "{texts:?}"),
-        }
+    for (texts, expected) in cases {
+        let mut words = words(rt.alloc(), &["afdxmon", "capture"])?;
+        words.extend(self::words(rt.alloc(), texts)?)?;
+        assert_eq!(rt; read_arguments(rt.alloc(), &words)?, expected);
     }
+    Ok(())
+}
+
+#[test]
+fn runs_are_taken(rt: HostRuntime) -> Result<(), Fail> {
+    let words = words(
+        rt.alloc(),
+        &[
+            "afdxmon",
+            "watch",
+            "--config",
+            "t",
+            "--ledger",
+            "l",
+            "--b",
+            "b",
+            "--workers",
+            "8",
+        ],
+    )?;
+    let expected = WatchArguments {
+        config: "t",
+        filter: None,
+        a: None,
+        b: Some("b"),
+        capture: None,
+        ledger: "l",
+        workers: 8,
+        quiet: false,
+    };
+    assert_eq!(rt;
+        read_arguments(rt.alloc(), &words)?,
+        Invocation::Watch(expected)
+    );
+    Ok(())
+}
+
+#[test]
+fn sessions_are_taken(rt: HostRuntime) -> Result<(), Fail> {
+    let words = words(
+        rt.alloc(),
+        &["afdxmon", "debug", "--source", "s", "--tap", "t"],
+    )?;
+    let expected = DebugArguments {
+        filter: FilterArgument::Source("s"),
+        tap: "t",
+    };
+    assert_eq!(rt;
+        read_arguments(rt.alloc(), &words)?,
+        Invocation::Debug(expected)
+    );
     Ok(())
 }
 
@@ -41,13 +127,13 @@ fn filters_are_taken(rt: HostRuntime) -> Result<(), Fail> {
 fn asm_is_taken(rt: HostRuntime) -> Result<(), Fail> {
     let words = words(rt.alloc(), &["afdxmon", "asm"])?;
     let read = read_arguments(rt.alloc(), &words)?;
-    assert_eq!(rt; read, Some(Invocation::Asm));
+    assert_eq!(rt; read, Invocation::Asm);
     Ok(())
 }
 
 #[test]
 fn other_words_are_refused(rt: HostRuntime) -> Result<(), Fail> {
-    let cases: [&[&str]; 17] = [
+    let cases: [&[&str]; 25] = [
         &[],
         &["afdxmon"],
         &["afdxmon", "help"],
@@ -61,8 +147,29 @@ fn other_words_are_refused(rt: HostRuntime) -> Result<(), Fail> {
         &["afdxmon", "capture", "--code", "-1"],
         &["afdxmon", "capture", "--code", "--code"],
         &["afdxmon", "capture", "--code", "0,", "--code", "0,"],
-        &["afdxmon", "capture", "--code", "0,", "more"],
-        &["afdxmon", "capture", "--filter", "0,"],
+        &["afdxmon", "capture", "--code", "0,", "more", "words"],
+        &["afdxmon", "capture", "--code", "0,", "--filter", "0,"],
+        &["afdxmon", "capture", "--filter", "0,", "--source", "0,"],
+        &["afdxmon", "capture", "more"],
+        &["afdxmon", "debug", "--tap", "t"],
+        &["afdxmon", "debug", "--tap", "t", "--code", "0,"],
+        &[
+            "afdxmon", "debug", "--tap", "t", "--filter", "f", "--source", "s",
+        ],
+        &["afdxmon", "watch", "--config", "t", "--ledger", "l"],
+        &[
+            "afdxmon",
+            "watch",
+            "--config",
+            "t",
+            "--ledger",
+            "l",
+            "--a",
+            "a",
+            "--capture",
+            "c",
+        ],
+        &["afdxmon", "watch", "--config", "t", "--a", "a"],
         &["afdxmon", "asm", "source"],
         &["afdxmon", "asm", "--code", "0,"],
     ];

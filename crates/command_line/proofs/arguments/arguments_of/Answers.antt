@@ -1,9 +1,8 @@
-use Rattle.std.proofs.Common.{rules, ap, ap₂, ◌≡◌, ◌∙◌, codes, true, List, Option, Some, None, option_map}
+use Rattle.std.proofs.Common.{rules, ap, ap₂, ◌≡◌, ◌∙◌, codes, false, true, List, Ok, Option, Some, None, option_map}
 use Rattle.std.specs.Str.{bytes_eq}
-use Rattle.clap.specs.Words.{Row, Text, found_of, first_value, rows_of}
+use Rattle.clap.specs.Words.{Row, Text, found_of, rows_of}
 use Rattle.clap.specs.declared.parser.matches.Found.{Found}
-use Rattle.clap.proofs.WalkLemmas.{first_value-rows}
-use Rattle.command_line.specs.Arguments.{Captures, meant_in}
+use Rattle.command_line.specs.Arguments.{WatchWords, Watches, and_then, checked, mapped, meant_in, required, watch_in, watch_words}
 use Rattle.command_line.proofs.arguments.arguments_of.Goals as goal
 
 -- the two halves of what was met
@@ -15,17 +14,16 @@ both (Some b) f g x y p q =
     let second : g b ≡ y = cc in
     ap₂ (λ u v. Some (u, v)) first second
 
--- the code of the subcommand that was met
-asked : (met : Option (Text × List Row)) (name : Text) (given : Found) → met ≡ Some (name, rows_of given) → bytes_eq name (codes "capture") ≡ true
-    → option_map Captures (first_value given (codes "code")) ≡ meant_in met
-asked met name given e is = rw (e, is) (ap (option_map Captures) (first_value-rows given (codes "code")))
+-- a run over two recordings was met, and this is what it is given
+watches : (met : Option (Text × List Row)) (name : Text) (given : Found) (w v : WatchWords) → met ≡ Some (name, rows_of given) → bytes_eq name (codes "capture") ≡ false →
+    bytes_eq name (codes "asm") ≡ false → bytes_eq name (codes "watch") ≡ true → Some w ≡ watch_in (rows_of given) → Ok v ≡ checked w → Ok (Watches v) ≡ meant_in met
+watches met name given w v e no_capture no_asm is same right =
+    rw (e, no_capture, no_asm, is) (ap (mapped Watches) (right ∙ ap (λ o. and_then checked (required o)) same))
 
-pub returns-in_err-code : goal.returns-in_err-code
-returns-in_err-code c =
-    let named : bytes_eq c.in_ok-name.name.now (codes "capture") ≡ true = search rules in
-    rw c.from_residual-in_err-code.ensures (ap (option_map Captures) c.in_err-code.ensures ∙ asked _ c.in_ok-name.name.now (found_of c.in_ok-name.given.now) (both _ _ _ _ _ c.in_ok-name.ensures.name c.in_ok-name.ensures.rows) named)
-
-pub returns-then-eq : goal.returns-then-eq
-returns-then-eq c =
-    let named : bytes_eq c.in_ok-name.name.now (codes "capture") ≡ true = search rules in
-    ap (option_map Captures) c.in_ok-code.ensures ∙ asked _ c.in_ok-name.name.now (found_of c.in_ok-name.given.now) (both _ _ _ _ _ c.in_ok-name.ensures.name c.in_ok-name.ensures.rows) named
+pub returns-then-eq-3 : goal.returns-then-eq-3
+returns-then-eq-3 c =
+    let no_capture : bytes_eq c.in-Some.name.now (codes "capture") ≡ false = search rules in
+    let no_asm : bytes_eq c.in-Some.name.now (codes "asm") ≡ false = search rules in
+    let is : bytes_eq c.in-Some.name.now (codes "watch") ≡ true = search rules in
+    watches _ c.in-Some.name.now (found_of c.in-Some.given.now) (watch_words c.in-Some-watch_arguments.given) _ (both _ _ _ _ _ c.in-Some.ensures.name c.in-Some.ensures.rows) no_capture no_asm is
+    c.in-Some-watch_arguments.ensures c.in_ok-checked.ensures

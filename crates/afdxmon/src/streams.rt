@@ -1,0 +1,116 @@
+//! What the program reads and writes: files, the standard streams, and what stands in the place of a file that
+//! isn't named.
+use std::fs::{File, OpenOptions};
+use std::io;
+use std::io::{Read, Stdin, Stdout, Write};
+
+/// A recording without frames: the header of a nanosecond pcap file of Ethernet.
+const EMPTY_RECORDING: [u8; 24] = [
+    0x4d, 0x3c, 0xb2, 0xa1, 2, 0, 4, 0, 0, 0, 0, 0, 0, 0, 0, 0, 0, 0, 4, 0, 1, 0, 0, 0,
+];
+
+/// What is read.
+#[derive(Drop)]
+pub enum Input {
+    File(File),
+    Standard(Stdin),
+    /// The bytes that are left of those that stand in the place of a file.
+    Held(&'static [u8]),
+}
+
+impl Input {
+    /// A recording without frames.
+    pub fn empty_recording() -> Input {
+        Input::Held(&EMPTY_RECORDING)
+    }
+
+    /// Opens a file, or standard input for `-`.
+    pub fn open(rt: &HostRuntime, path: &str) -> io::Result<Input> {
+        if analyser::is_standard(path) {
+            return Ok(Input::Standard(rt.stdin()));
+        }
+        Ok(Input::File(File::open(rt, path)?))
+    }
+}
+
+impl Read for Input {
+    fn read(&mut self, buf: &mut [u8]) -> io::Result<usize> {
+        match self {
+            Input::File(file) => file.read(buf),
+            Input::Standard(stdin) => stdin.read(buf),
+            Input::Held(bytes) => bytes.read(buf),
+        }
+    }
+}
+
+/// A file that is written. A regular one is emptied by the first write to it, so that what stood there is
+/// lost only once there is something to write. Devices and pipes can't be emptied.
+#[derive(Drop)]
+pub struct OutputFile {
+    file: File,
+    /// Is it a regular file that nothing was written to?
+    to_be_emptied: bool,
+}
+
+impl OutputFile {
+    /// Opens a file as it stands. One that isn't there is made, and empty.
+    fn open(rt: &HostRuntime, path: &str) -> io::Result<OutputFile> {
+        let file = OpenOptions::new().write(true).create(true).open(rt, path)?;
+        let to_be_emptied = file.metadata()?.is_file();
+        Ok(OutputFile {
+            file,
+            to_be_emptied,
+        })
+    }
+}
+
+impl Write for OutputFile {
+    fn write(&mut self, bytes: &[u8]) -> io::Result<usize> {
+        if self.to_be_emptied && !bytes.is_empty() {
+            self.file.set_len(0)?;
+            self.to_be_emptied = false;
+        }
+        self.file.write(bytes)
+    }
+
+    fn flush(&mut self) -> io::Result<()> {
+        self.file.flush()
+    }
+}
+
+/// What is written.
+#[derive(Drop)]
+pub enum Output {
+    File(OutputFile),
+    Standard(Stdout),
+    /// Nobody wants it.
+    Nowhere,
+}
+
+impl Output {
+    /// Opens a file as it stands, or standard output for `-`.
+    pub fn open(rt: &HostRuntime, path: &str) -> io::Result<Output> {
+        if analyser::is_standard(path) {
+            return Ok(Output::Standard(rt.stdout()));
+        }
+        Ok(Output::File(OutputFile::open(rt, path)?))
+    }
+}
+
+impl Write for Output {
+    fn write(&mut self, bytes: &[u8]) -> io::Result<usize> {
+        match self {
+            Output::File(file) => file.write(bytes),
+            Output::Standard(stdout) => stdout.write(bytes),
+            Output::Nowhere => Ok(bytes.len()),
+        }
+    }
+
+    fn flush(&mut self) -> io::Result<()> {
+        match self {
+            Output::File(file) => file.flush(),
+            Output::Standard(stdout) => stdout.flush(),
+            Output::Nowhere => Ok(()),
+        }
+    }
+}

@@ -1,0 +1,45 @@
+//! Arguments that clap takes and a command doesn't.
+ghost use Rattle.std.specs.Prelude.{◌≡◌};
+ghost use Rattle.command_line.specs.Arguments.{misuse_kind};
+
+use clap::error::ErrorKind;
+
+/// Why a command refuses arguments that clap takes each by itself.
+#[derive(Clone, Copy, Debug, PartialEq, Eq)]
+pub enum Misuse {
+    /// No filter is given to a command that needs one.
+    NoFilter,
+    /// A filter is given in more than one way.
+    TwoFilters,
+    /// A run has neither of its two recordings.
+    NoRecording,
+    /// A capture is to be written, and no filter says of which frames.
+    Unfiltered,
+    /// An argument isn't there that clap requires or has a default for. This is not met.
+    Incomplete,
+}
+
+impl Misuse {
+    /// The kind of clap's error that says so.
+    pub fn kind(self) -> ErrorKind
+        ensures { result ≡ misuse_kind self }
+    {
+        match self {
+            Misuse::TwoFilters => ErrorKind::ArgumentConflict,
+            Misuse::NoFilter | Misuse::NoRecording | Misuse::Unfiltered | Misuse::Incomplete => {
+                ErrorKind::MissingRequiredArgument
+            }
+        }
+    }
+
+    /// What clap's error says, after `error: `.
+    pub fn message(self) -> &'static str {
+        match self {
+            Misuse::NoFilter => "no filter is given",
+            Misuse::TwoFilters => "more than one filter is given",
+            Misuse::NoRecording => "no recording is given: --a, --b or both name one",
+            Misuse::Unfiltered => "--capture needs --filter, which says what frames it is to have",
+            Misuse::Incomplete => "a required argument is missing",
+        }
+    }
+}

@@ -1,0 +1,294 @@
+"""Tests of how files are given: options that are left out, the standard streams by `-`, and the ways to give `capture` its
+filter, its recording and its output.
+"""
+import itertools
+import os
+import pty
+import subprocess
+import tempfile
+
+from analyser import watch
+from harness import EVERY, FAULT, LINK5, PROGRAM, SUCCESS, USAGE, difference, ended, frame, judge, recording, run
+from harness import run_at_terminal, say, told_to
+from reference import HEADER, capture
+from texts import MISUSE, TAKEN, TO_A_TERMINAL, usage_error
+from watching import OLDER, TABLE, Desk, notes_on, read, tap
+
+INPUTS = ("config", "filter", "a", "b")
+OUTPUTS = ("capture", "ledger")
+NO_FRAME = "1,6 0 0 0,"
+LINK5_SOURCE = "ldh [4]\njne #5, drop\nret #-1\ndrop: ret #0\n"
+A = tap(*((i * 1000, frame(5, 60 + i, i + 1)) for i in range(40)))
+B = tap(*((i * 1000 + 500, frame(5, 60 + i, i + 1)) for i in range(3, 50)))
+GIVEN = {"config": TABLE, "filter": EVERY, "a": A, "b": B}
+WHOLE = watch(TABLE, EVERY, A, B)
+RECORDING = recording(300)
+
+
+def ledger_of(whole):
+    return whole.lines + whole.summary
+
+
+def left_out(desk):
+    """What isn't given stands for nothing: no capture, a filter that accepts no frame, a recording without frames."""
+    table = f'filters = ["{EVERY}"]\n' + TABLE
+    for name, absent, config, (code, a, b) in (
+        ("--capture", ["capture"], TABLE, (EVERY, A, B)),
+        ("--capture and --filter", ["capture", "filter"], TABLE, (NO_FRAME, A, B)),
+        ("--capture and --filter, beside a filter of the table", ["capture", "filter"], table, (NO_FRAME, A, B)),
+        ("--a", ["a"], TABLE, (EVERY, HEADER, B)),
+        ("--b", ["b"], TABLE, (EVERY, A, HEADER)),
+        ("--b, --capture and --filter", ["b", "capture", "filter"], TABLE, (NO_FRAME, A, HEADER)),
+    ):
+        expected = watch(config, code, a, b)
+        for workers in ("1", "2", "8"):
+            desk.lay(**{**GIVEN, "config": config})
+            ran = desk.watch("--workers", workers, **dict.fromkeys(absent))
+            written = OLDER if "capture" in absent else expected.capture
+            say(f"watch: without {name}, --workers {workers}", desk.agrees(ran, written, ledger_of(expected)))
+    for name, absent in (
+        ("--capture without --filter", ["filter"]),
+        ("neither --a nor --b", ["a", "b"]),
+        ("neither --a nor --b nor --filter", ["a", "b", "filter"]),
+    ):
+        desk.lay(**GIVEN)
+        whole = usage_error("watch", MISUSE["Unfiltered" if absent == ["filter"] else "NoRecording"])
+        fault = difference(desk.watch(**dict.fromkeys(absent)), USAGE, lambda told: told == whole, b"")
+        say(f"watch: {name}", fault or desk.compared("capture", OLDER) or desk.compared("ledger", OLDER))
+
+
+def standard_input(desk):
+    """Each input of `watch` on standard input, in turn, from a file and from a pipe."""
+    for option in INPUTS:
+        desk.lay(**GIVEN)
+        with open(desk.paths[option], "rb") as given:
+            ran = run(desk.arguments(**{option: "-"}), stdin=given, stdout=subprocess.PIPE)
+        say(f"watch: --{option} - from a file", desk.agrees(ran, WHOLE.capture, ledger_of(WHOLE)))
+        content = read(desk.paths[option])
+        desk.lay(**{**GIVEN, option: "another"})
+        ran = run(desk.arguments(**{option: "-"}), input=content, stdout=subprocess.PIPE)
+        say(f"watch: --{option} - from a pipe", desk.agrees(ran, WHOLE.capture, ledger_of(WHOLE)))
+    desk.lay(**GIVEN)
+    os.rename(desk.paths["a"], os.path.join(desk.directory, "-"))
+    ran = run(desk.arguments(a="./-"), cwd=desk.directory, stdin=subprocess.DEVNULL, stdout=subprocess.PIPE)
+    say("watch: --a ./- is a file of that name", desk.agrees(ran, WHOLE.capture, ledger_of(WHOLE)))
+
+
+def standard_output(desk):
+    for option, text, other in (("capture", WHOLE.capture, "ledger"), ("ledger", ledger_of(WHOLE), "capture")):
+        desk.lay(**GIVEN)
+        fault = difference(desk.watch(**{option: "-"}), SUCCESS, notes_on(ledger_of(WHOLE)), text)
+        rest = WHOLE.capture if other == "capture" else ledger_of(WHOLE)
+        say(f"watch: --{option} -", fault or desk.compared(option, OLDER) or desk.compared(other, rest))
+    desk.lay(**GIVEN)
+    ran = run(desk.arguments(capture=None, filter=None, b=None, a="-", ledger="-"), input=A, stdout=subprocess.PIPE)
+    judge("watch: verdicts from standard input to standard output", ran, SUCCESS, "", ledger_of(watch(TABLE, NO_FRAME, A, HEADER)))
+    with open("/dev/full", "wb") as full:
+        ran = run(desk.arguments(ledger="-"), stdin=subprocess.DEVNULL, stdout=full)
+    judge("watch: --ledger - on a full disk", ran, FAULT, "afdxmon: watch 4 Write ledger")
+
+
+def refused_twice(name, line, advice, arguments, **how):
+    """A fault at a terminal, with its advice, and elsewhere."""
+    judge(name, run(arguments, stdout=subprocess.PIPE, **how), FAULT, f"afdxmon: {line}", b"")
+    ran = run_at_terminal(arguments, **how)
+    whole = f"afdxmon: {line}\n{advice}\n"
+    fault = "" if (ran.returncode, ran.stderr, ran.stdout) == (FAULT, whole, b"") else f"status {ran.returncode}, {ran.stderr!r}, not {whole!r}"
+    say(f"{name}, at a terminal", fault)
+
+
+def taken(desk):
+    """A stream that two options name is refused before anything is opened."""
+    for first, second in [*itertools.combinations(INPUTS, 2), OUTPUTS]:
+        desk.lay(**GIVEN)
+        arguments = desk.arguments(**{first: "-", second: "-"})
+        refused_twice(f"watch: --{first} - and --{second} -", f"file --{second}", TAKEN[first], arguments, input=b"")
+        say("watch: the outputs stand", desk.compared("capture", OLDER) or desk.compared("ledger", OLDER))
+    every = desk.arguments(**dict.fromkeys((*INPUTS, *OUTPUTS), "-"))
+    refused_twice("watch: - everywhere", "file --filter", TAKEN["config"], every, input=b"")
+    refused_twice("capture: --filter - and no recording", "file RECORDING", TAKEN["filter"], ["capture", "--filter", "-"], input=b"")
+    refused_twice("capture: --source - and -", "file RECORDING", TAKEN["source"], ["capture", "--source", "-", "-"], input=b"")
+    for option, more in (("filter", ["--tap", "nowhere"]), ("source", ["--tap", "nowhere"]), ("tap", ["--filter", "nowhere"])):
+        refused_twice(f"debug: --{option} -", f"file --{option}", TAKEN["commands"], ["debug", f"--{option}", "-", *more], input=b"")
+
+
+def closed(desk):
+    """A stream that is closed is refused, though a file that is opened would get its number."""
+    for option, redirection in (("a", "<&-"), ("config", "<&-"), ("ledger", ">&-"), ("capture", ">&-")):
+        desk.lay(**GIVEN)
+        words = " ".join(f"'{word}'" for word in [PROGRAM, *desk.arguments(**{option: "-"})])
+        ran = ended(["bash", "-c", f"{words} {redirection}"], stdout=subprocess.DEVNULL, stderr=subprocess.PIPE)
+        fault = difference(ran, FAULT, f"afdxmon: file --{option}")
+        say(f"watch: --{option} - {redirection}", fault or desk.compared("capture", OLDER) or desk.compared("ledger", OLDER))
+
+
+class Files:
+    """Files of one command, by name."""
+
+    def __init__(self, folder):
+        self.folder = folder
+
+    def path(self, name):
+        return os.path.join(self.folder, name)
+
+    def write(self, name, data):
+        with open(self.path(name), "wb") as out:
+            out.write(data if isinstance(data, bytes) else data.encode())
+        return self.path(name)
+
+    def left(self, name):
+        return read(self.path(name)) if os.path.lexists(self.path(name)) else None
+
+
+def captures(files):
+    """Each way to give the filter, with each way to give the recording, with each way to give the output."""
+    expected = capture(RECORDING, LINK5)
+    code, source = files.write("code", LINK5), files.write("source", LINK5_SOURCE)
+    given = files.write("in.pcap", RECORDING)
+    out = files.path("out.pcap")
+    filters = (["--code", LINK5], ["--filter", code], ["--source", source])
+    words = ([], ["-"], [given])
+    outputs = ([], ["-o", "-"], ["--output=-"], ["-o", out], [f"-o{out}"], ["--output", out])
+    for flt, word, output in itertools.product(filters, words, outputs):
+        files.write("out.pcap", bytes(len(RECORDING)))
+        to_file = any(out in it for it in output)
+        stdin = {"stdin": subprocess.DEVNULL} if word == [given] else {"input": RECORDING}
+        ran = run(["capture", *flt, *word, *output], stdout=subprocess.PIPE, **stdin)
+        fault = difference(ran, SUCCESS, "", b"" if to_file else expected)
+        left = files.left("out.pcap") if to_file else expected
+        name = " ".join(["capture:", flt[0], *("FILE" if it == given else it for it in word), *(it.replace(out, "FILE") for it in output)])
+        say(name, fault or ("" if left == expected else f"{len(left)} bytes in the file, not {len(expected)}"))
+    judge("capture: the filter on standard input", run(["capture", "--filter", "-", given], input=LINK5.encode(), stdout=subprocess.PIPE), SUCCESS, "", expected)
+    judge("capture: the source on standard input", run(["capture", "--source", "-", given], input=LINK5_SOURCE.encode(), stdout=subprocess.PIPE), SUCCESS, "", expected)
+    os.remove(out)
+    judge("capture: a new output", run(["capture", *filters[0], "-o", out, given], stdin=subprocess.DEVNULL, stdout=subprocess.PIPE), SUCCESS, "", b"")
+    say("capture: it is written", "" if files.left("out.pcap") == expected else "it is another")
+
+
+def capture_faults(files):
+    """Faults in their order, each with all that may come after it. The output stands."""
+    absent, code = files.path("absent"), files.write("code", LINK5)
+    given, short = files.write("in.pcap", RECORDING), files.write("short.pcap", b"\x4d")
+    for name, flt, word, output, line in (
+        ("no filter file", ["--filter", absent], absent, files.folder, "file --filter"),
+        ("a directory as filter", ["--filter", files.folder], absent, files.folder, "file --filter"),
+        ("a filter file that isn't UTF-8", ["--filter", files.write("latin", b"\xff")], absent, files.folder, "file --filter"),
+        ("a filter file that isn't numeric", ["--filter", files.write("words", "ret")], absent, files.folder, "numeric 1 Character at 0"),
+        ("a filter file that doesn't load", ["--filter", files.write("none", "0,")], absent, files.folder, "load 1 Length"),
+        ("no source file", ["--source", absent], absent, files.folder, "file --source"),
+        ("a source that isn't assembled", ["--source", files.write("bad", "ld @")], absent, files.folder, "asm 1 Text 1 Character at 3"),
+        ("a source that doesn't load", ["--source", files.write("open", "ld #1")], absent, files.folder, "load 8 NoReturn"),
+        ("no recording", ["--filter", code], absent, absent, "file RECORDING"),
+        ("an output that is the recording", ["--filter", code], given, given, "file --output"),
+        ("an output that is the filter", ["--filter", code], short, code, "file --output"),
+        ("a directory as output", ["--filter", code], short, files.folder, "file --output"),
+        ("a recording without a file header", ["--filter", code], short, files.write("out.pcap", OLDER), "watch 2 Header A 1 Short"),
+        ("a directory as recording", ["--filter", code], files.folder, files.path("out.pcap"), "watch 3 Read A"),
+        ("a full disk", ["--filter", code], given, "/dev/full", "watch 4 Write capture"),
+    ):
+        ran = run(["capture", *flt, word, "-o", output], stdin=subprocess.DEVNULL, stdout=subprocess.PIPE)
+        judge(f"capture: {name}", ran, FAULT, f"afdxmon: {line}", b"")
+    for name, expected in (("in.pcap", RECORDING), ("code", LINK5.encode()), ("out.pcap", OLDER), ("absent", None)):
+        say(f"capture: {name} stands after its faults", "" if files.left(name) == expected else "it has changed")
+    shown = "ld @\n   ^\nno token begins with this byte\n"
+    ran = run_at_terminal(["capture", "--source", files.path("bad"), given], stdin=subprocess.DEVNULL)
+    whole = "afdxmon: asm 1 Text 1 Character at 3\n" + shown
+    say("capture: a source's fault is shown at a terminal", "" if (ran.returncode, ran.stderr) == (FAULT, whole) else f"{ran.returncode}, {ran.stderr!r}")
+
+
+def same_files(files):
+    """An output that is the recording, the filter or the source, by each way to name it."""
+    paths = {"filter": files.write("code", LINK5), "source": files.write("source", LINK5_SOURCE), "recording": files.write("in.pcap", RECORDING)}
+    for kind, path in paths.items():
+        names = [path, os.path.join(files.folder, ".", os.path.basename(path))]
+        for make, link in ((os.symlink, f"symlink_{kind}"), (os.link, f"hard_{kind}")):
+            make(path, files.path(link))
+            names.append(files.path(link))
+        flt = ["--source", paths["source"]] if kind == "source" else ["--filter", paths["filter"]]
+        also = "it is the recording too" if kind == "recording" else f"it is the file of --{kind} too"
+        for name in names:
+            command = ["capture", *flt, paths["recording"], "-o", name]
+            refused_twice(f"capture: the output is the {kind}", "file --output", f"{also}: name another file to write", command, stdin=subprocess.DEVNULL)
+    command = [PROGRAM, "capture", "--code", EVERY]
+    with open(paths["recording"], "rb") as given:
+        ran = ended([*command, "-o", paths["recording"]], stdin=given, stdout=subprocess.PIPE, stderr=subprocess.PIPE)
+    judge("capture: the output is the file on standard input", ran, FAULT, "afdxmon: file --output", b"")
+    with open(paths["recording"], "ab") as out:
+        ran = ended([*command, paths["recording"]], stdin=subprocess.DEVNULL, stdout=out, stderr=subprocess.PIPE)
+    judge("capture: standard output is the recording", ran, FAULT, "afdxmon: file --output")
+    for name, expected in (("in.pcap", RECORDING), ("code", LINK5.encode()), ("source", LINK5_SOURCE.encode())):
+        say(f"capture: {name} stands", "" if files.left(name) == expected else "it has changed")
+
+
+def at_terminal(arguments):
+    """A run whose standard output is a terminal: its status, what the terminal shows, and standard error."""
+    ours, theirs = pty.openpty()
+    try:
+        ran = ended([PROGRAM, *arguments], stdin=subprocess.DEVNULL, stdout=theirs, stderr=subprocess.PIPE)
+    finally:
+        os.close(theirs)
+    shown = told_to(ours)
+    os.close(ours)
+    return ran.returncode, shown, ran.stderr.decode()
+
+
+def terminals(desk, files):
+    """Packets aren't written to a terminal, and nothing is looked at then. A ledger is."""
+    told = (USAGE, "", TO_A_TERMINAL + "\n")
+    for name, arguments in (
+        ("capture", ["capture", "--filter", "nowhere", "nowhere"]),
+        ("capture -o -", ["capture", "--code", EVERY, "nowhere", "-o", "-"]),
+        ("watch --capture -", desk.arguments(config="nowhere", capture="-")),
+    ):
+        found = at_terminal(arguments)
+        say(f"{name} at a terminal", "" if found == told else f"{found!r}")
+    desk.lay(**GIVEN)
+    found = at_terminal(desk.arguments(ledger="-"))
+    expected = (SUCCESS, ledger_of(WHOLE).decode(), "")
+    say("watch --ledger - at a terminal", "" if found == expected else f"{found!r}"[:300])
+    given = files.write("in.pcap", RECORDING)
+    found = at_terminal(["capture", "--code", LINK5, given, "-o", files.path("out.pcap")])
+    say("capture -o FILE at a terminal", "" if found == (SUCCESS, "", "") and files.left("out.pcap") == capture(RECORDING, LINK5) else f"{found!r}")
+
+
+def misuse(files):
+    """Options that don't go together, with the whole text."""
+    for command, more, name in (
+        ("capture", [], "NoFilter"),
+        ("capture", ["in.pcap", "-o", "out.pcap"], "NoFilter"),
+        ("capture", ["--code", EVERY, "--filter", "f"], "TwoFilters"),
+        ("capture", ["--code", EVERY, "--source", "f"], "TwoFilters"),
+        ("capture", ["--filter", "f", "--source", "f"], "TwoFilters"),
+        ("capture", ["--code", EVERY, "--filter", "f", "--source", "f"], "TwoFilters"),
+        ("debug", ["--tap", "t"], "NoFilter"),
+        ("debug", ["--tap", "t", "--filter", "f", "--source", "f"], "TwoFilters"),
+    ):
+        whole = usage_error(command, MISUSE[name])
+        ran = run([command, *more], input=b"", stdout=subprocess.PIPE)
+        judge(" ".join([command, *more, "is refused"]), ran, USAGE, lambda told, whole=whole: told == whole, b"")
+    source, given = files.write("source", LINK5_SOURCE), files.write("in.pcap", RECORDING)
+    ran = run(["debug", "--source", source, "--tap", given], input=b"disassemble\ntally\n", stdout=subprocess.PIPE)
+    by_code = run(["debug", "--filter", files.write("code", LINK5), "--tap", given], input=b"disassemble\ntally\n", stdout=subprocess.PIPE)
+    accepted = (len(capture(RECORDING, LINK5)) > 24) and by_code.stdout
+    judge("debug --source is as --filter with its numeric form", ran, SUCCESS, "", accepted)
+    shown = "ld @\n   ^\nno token begins with this byte\n"
+    ran = run_at_terminal(["debug", "--source", files.write("bad", "ld @"), "--tap", given], stdin=subprocess.DEVNULL)
+    whole = "afdxmon: asm 1 Text 1 Character at 3\n" + shown
+    say("debug: a source's fault is shown at a terminal", "" if (ran.returncode, ran.stderr) == (FAULT, whole) else f"{ran.returncode}, {ran.stderr!r}")
+
+
+def cases():
+    with tempfile.TemporaryDirectory() as directory:
+        desk = Desk(directory)
+        left_out(desk)
+        standard_input(desk)
+        standard_output(desk)
+        taken(desk)
+        closed(desk)
+        with tempfile.TemporaryDirectory() as folder:
+            files = Files(folder)
+            captures(files)
+            capture_faults(files)
+            same_files(files)
+            terminals(desk, files)
+            misuse(files)
