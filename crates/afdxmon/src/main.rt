@@ -5,25 +5,28 @@
 #![tactic(auto)]
 
 mod files;
+mod live;
 mod streams;
 
 use afdx_frame::{Network, TapFrame};
 use analyser::{
     AsmRun, CaptureArguments, CaptureRun, DebugArguments, Exit, Fault, FileOption, FilterArgument,
-    HeldTap, Invocation, Note, OpenGate, Summary, TO_A_TERMINAL, TapNote, TapRead, USAGE,
-    WatchArguments, WatchFault, advice, answer_line, begin_session, capture_by, caret_at,
-    filter_of, filter_of_source, is_standard, load_filters, read_arguments, read_config, read_file,
-    read_tap, run_asm, run_session,
+    HeldTap, Invocation, Note, Summary, TO_A_TERMINAL, TapNote, TapRead, USAGE, WatchArguments,
+    WatchFault, advice, answer_line, begin_session, capture_by, caret_at, filter_of,
+    filter_of_source, is_standard, load_filters, read_arguments, read_config, read_file, read_tap,
+    run_asm, run_session,
 };
 use bpf_debugger::DebugFault;
 use bpf_loader::Program;
 use files::{refuse_closed, refuse_shared, refuse_shared_output};
+use live::{Blocks, LiveInput, Watcher};
 use pcap_io::{Ending, ReadSource, WriteSink};
 use std::alloc::Global;
 use std::io;
 use std::io::{BufRead, BufReader, BufWriter, ErrorKind, IsTerminal, Write};
 use std::process::ExitCode;
 use std::sync::Wait;
+use std::sync::atomic::{AtomicBool, Ordering};
 use std::thread::Threads;
 use streams::{Input, Output};
 use vl_config::Config;
@@ -88,31 +91,33 @@ fn open_tap(rt: &HostRuntime, path: Option<&str>, file: FileOption) -> Result<So
     }
 }
 
-/// What is written in blocks.
-type Sink = WriteSink<BufWriter<Output>>;
+/// There is no memory for a run.
+const NO_RUN: Fault = Fault::Watch(WatchFault::Memory);
 
 /// What hands an output its bytes in blocks.
-fn sink_to(rt: &HostRuntime, output: Output) -> Result<Sink, Fault> {
-    match BufWriter::with_capacity(rt.alloc(), BLOCK, output) {
-        Ok(writer) => Ok(WriteSink::new(writer)),
-        Err(_) => Err(Fault::Watch(WatchFault::Memory)),
-    }
+fn blocks_of(rt: &HostRuntime, output: Output) -> Result<Blocks, Fault> {
+    Blocks::new(rt.alloc(), output).map_err(|_| NO_RUN)
+}
+
+/// The same output.
+fn same(output: &Blocks) -> Result<Blocks, Fault> {
+    output.share().map_err(|_| NO_RUN)
 }
 
 /// Opens a file that is written. The first block that is written empties it before.
-fn create(rt: &HostRuntime, path: &str, file: FileOption) -> Result<Sink, Fault> {
+fn create(rt: &HostRuntime, path: &str, file: FileOption) -> Result<Blocks, Fault> {
     match Output::open(rt, path) {
-        Ok(opened) => sink_to(rt, opened),
+        Ok(opened) => blocks_of(rt, opened),
         Err(_) => Err(Fault::File(file)),
     }
 }
 
 /// Opens the capture and the ledger, if neither is another file of the run.
-fn open_outputs(rt: &HostRuntime, given: &WatchArguments<'_>) -> Result<(Sink, Sink), Fault> {
+fn open_outputs(rt: &HostRuntime, given: &WatchArguments<'_>) -> Result<(Blocks, Blocks), Fault> {
     refuse_shared(rt, given)?;
     let capture = match given.capture {
         Some(path) => create(rt, path, FileOption::Capture)?,
-        None => sink_to(rt, Output::Nowhere)?,
+        None => blocks_of(rt, Output::Nowhere)?,
     };
     let ledger = create(rt, given.ledger, FileOption::Ledger)?;
     // Of one new file with two names, as that of a link to it, this shows only once it is there.
@@ -159,14 +164,23 @@ fn capture(rt: &HostRuntime, given: &CaptureArguments<'_>) -> Result<Exit, Refus
         return Ok(Exit::Terminal);
     }
     let program = filter(rt, given.filter)?;
-    let source = open(rt, given.recording, FileOption::Recording)?;
+    let Ok(recording) = Input::open(rt, given.recording) else {
+        return Err(Refused::from(Fault::File(FileOption::Recording)));
+    };
     refuse_shared_output(rt, given)?;
     let output = create(rt, given.output, FileOption::Output)?;
+    // What was kept so far can be seen while a pipe gives no more.
+    let live = if recording.may_pause(rt) {
+        Some(same(&output)?)
+    } else {
+        None
+    };
+    let source = ReadSource::new(LiveInput::new(recording, live));
     let CaptureRun {
         outcome,
         source: _,
         sink,
-    } = capture_by(rt.alloc(), &program, source, output);
+    } = capture_by(rt.alloc(), &program, source, WriteSink::new(output));
     let flushed = sink.into_writer().flush().is_ok();
     Ok(Exit::of_capture(outcome, flushed))
 }
@@ -195,6 +209,7 @@ fn watch<R: Threads + Wait + Sync>(
     rt: &HostRuntime,
     threads: &R,
     given: &WatchArguments<'_>,
+    told: &AtomicBool,
 ) -> Result<Exit, Refused> {
     if given.capture.is_some_and(|path| is_at_terminal(rt, path)) {
         return Ok(Exit::Terminal);
@@ -204,6 +219,7 @@ fn watch<R: Threads + Wait + Sync>(
     let a = open_tap(rt, given.a, FileOption::A)?;
     let b = open_tap(rt, given.b, FileOption::B)?;
     let (capture, ledger) = open_outputs(rt, given)?;
+    let watcher = Watcher::new(rt, same(&capture)?, same(&ledger)?, told);
     let run = analyser::watch(
         threads,
         rt.alloc(),
@@ -212,9 +228,9 @@ fn watch<R: Threads + Wait + Sync>(
         u32::from(given.workers),
         a,
         b,
-        capture,
-        ledger,
-        &OpenGate,
+        WriteSink::new(capture),
+        WriteSink::new(ledger),
+        &watcher,
     );
     let (outcome, capture, ledger) = match run {
         Ok(done) => {
@@ -368,12 +384,13 @@ fn run<R: Threads + Wait + Sync>(
     rt: &HostRuntime,
     threads: &R,
     command: Invocation<'_>,
+    told: &AtomicBool,
 ) -> Result<Exit, Refused> {
     command.refuse_taken()?;
     match command {
         Invocation::Asm => asm(rt),
         Invocation::Capture(given) => capture(rt, &given),
-        Invocation::Watch(given) => watch(rt, threads, &given),
+        Invocation::Watch(given) => watch(rt, threads, &given, told),
         Invocation::Debug(given) => debug(rt, &given),
     }
 }
@@ -385,7 +402,9 @@ fn carry_out<R: Threads + Wait + Sync>(
     command: Invocation<'_>,
 ) -> Exit {
     let quiet = matches!(command, Invocation::Watch(given) if given.quiet);
-    let exit = match run(rt, threads, command) {
+    let told = AtomicBool::new(false);
+    let exit = match run(rt, threads, command, &told) {
+        Ok(exit) if told.load(Ordering::SeqCst) => exit,
         Ok(exit) => {
             let _ = tell(rt, &exit, None);
             exit

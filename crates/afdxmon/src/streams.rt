@@ -1,8 +1,8 @@
 //! What the program reads and writes: files, the standard streams, and what stands in the place of a file that
 //! isn't named.
 use std::fs::{File, OpenOptions};
-use std::io;
 use std::io::{Read, Stdin, Stdout, Write};
+use std::{fs, io};
 
 /// A recording without frames: the header of a nanosecond pcap file of Ethernet.
 const EMPTY_RECORDING: [u8; 24] = [
@@ -30,6 +30,19 @@ impl Input {
             return Ok(Input::Standard(rt.stdin()));
         }
         Ok(Input::File(File::open(rt, path)?))
+    }
+
+    /// Whether a read may have to wait for somebody who writes: no regular file's has to.
+    pub fn may_pause(&self, rt: &HostRuntime) -> bool {
+        let found = match self {
+            Input::File(file) => file.metadata(),
+            Input::Standard(_) => fs::metadata(rt, "/dev/stdin"),
+            Input::Held(_) => return false,
+        };
+        match found {
+            Ok(metadata) => !metadata.is_file(),
+            Err(_) => true,
+        }
     }
 }
 

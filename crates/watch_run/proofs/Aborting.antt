@@ -26,8 +26,8 @@ use Rattle.vl_config.specs.Document.{VlTable}
 use Rattle.run_outcome.specs.Recording.{IsRecording, LeavesUnread}
 use Rattle.round_output.specs.Filters.{capture_by}
 use Rattle.round_output.specs.Outputs.{SinkFails, StopsWriting, effect_of}
-use Rattle.tap_merge.specs.Rings.{AreFirst, EndsWith, RingsFault, StopsTaking}
-use Rattle.watch_run.specs.Running.{AbortsBegun, AbortsRunning, FailsAmong, HasWholeRounds, IsRunningFault, LosesRing, StopsRunning}
+use Rattle.tap_merge.specs.Rings.{AreFirst, EndsWith, RingsFault, StopsTaking, WhereFailed}
+use Rattle.watch_run.specs.Running.{AbortsBegun, AbortsRunning, FailsAmong, HasCutSafe, HasMergedFailed, HasWholeRounds, IsRunningFault, LosesRing, StopsRunning, WroteSafe}
 use Rattle.tap_merge.specs.Threads.{IsLeft, IsSettled, IsStarted}
 use Rattle.run_outcome.specs.Fault.{MayFail}
 use Rattle.tap_merge.specs.Taps.{HasRead, ReadsPart}
@@ -291,7 +291,7 @@ pub running_aborts : (fault : WatchFault) (ps : List (List Packed)) (vl_table : 
     has_lost a ≡ false → has_lost b ≡ false →
     StopsRunning fault ps vl_table before.capture before.ledger a b capture ledger → ((fault ≡ watch.RingLost) → ⊥) →
     AbortsRunning fault ps vl_table before (watch_devices after_a after_b capture ledger)
-running_aborts fault ps vl_table before a b after_a after_b capture ledger more_a more_b settled_a settled_b sound_a sound_b s not_lost = by fault s.why not_lost
+running_aborts fault ps vl_table before a b after_a after_b capture ledger more_a more_b settled_a settled_b sound_a sound_b s not_lost = by fault s.why not_lost s.safe
   where
     given_a : List TapItem
     given_a = taken_items a ++ more_a
@@ -340,43 +340,72 @@ running_aborts fault ps vl_table before a b after_a after_b capture ledger more_
 
     aborts : (f : WatchFault) → FailsAmong f before (watch_devices after_a after_b capture ledger) → IsRunningFault f →
         HasWholes f ps vl_table (s.cut ++ stopped.rest) before.capture before.ledger capture ledger →
+        WhereFailed f (WroteSafe f ps vl_table (frames_in given_a) (frames_in given_b) before (watch_devices after_a after_b capture ledger)) →
         AbortsRunning f ps vl_table before (watch_devices after_a after_b capture ledger)
-    aborts f fails run wholes = record {
+    aborts f fails run wholes safe = record {
       fails = fails;
       run = run;
       stops = stops f wholes;
+      safe = safe;
     }
+
+    wrote : (f : WatchFault) → HasWholeRounds ps vl_table s.cut before.capture before.ledger capture ledger → HasCutSafe vl_table.late s.cut a b →
+        HasMergedFailed f (frames_in more_a) (frames_in more_b) →
+        WroteSafe f ps vl_table (frames_in given_a) (frames_in given_b) before (watch_devices after_a after_b capture ledger)
+    wrote f w safe all = record {
+      taken_a = frames_in (taken_items a);
+      taken_b = frames_in (taken_items b);
+      more_a = frames_in more_a;
+      more_b = frames_in more_b;
+      all_a = frames_append (taken_items a) more_a;
+      all_b = frames_append (taken_items b) more_b;
+      all_failed = all;
+      written = s.cut;
+      merger = safe.merger;
+      late_is = safe.late_is;
+      follows = safe.follows;
+      none_safe = safe.none_safe;
+      packets = w.packets;
+      lines = w.lines;
+    }
+
+    none_of : (network : Network) (start reading : Reading) (taken more : List TapItem) → EndsWith (items.Failed faults.Device) taken → Gives start (taken ++ more) reading →
+        frames_in more ≡ []
+    none_of network start reading taken more ends gives = ap frames_in (still_ends start reading (items.Failed faults.Device) taken more refl ends gives)
 
     by : (f : WatchFault) → ((RingsFault f a b × HasWholeRounds ps vl_table s.cut before.capture before.ledger capture ledger)
         ⊎ StopsWriting (effect_of f) ps vl_table before.capture before.ledger capture ledger s.cut) → ((f ≡ watch.RingLost) → ⊥) →
+        WhereFailed f (HasCutSafe vl_table.late s.cut a b) →
         AbortsRunning f ps vl_table before (watch_devices after_a after_b capture ledger)
-    by (watch.Read A) (inl ((A, (is, sound, ends)), w)) other =
+    by (watch.Read A) (inl ((A, (is, sound, ends)), w)) other safe =
         aborts (watch.Read A) (failed_back A vl_table.late before.a after_a (taken_items a) more_a settled_a ends, back_b, w.capture_failures, w.ledger_failures) tt (whole w)
-    by (watch.Read B) (inl ((B, (is, sound, ends)), w)) other =
+        (wrote (watch.Read A) w safe (none_of A settled_a.start settled_a.reading (taken_items a) more_a ends settled_a.gives))
+    by (watch.Read B) (inl ((B, (is, sound, ends)), w)) other safe =
         aborts (watch.Read B) (back_a, failed_back B vl_table.late before.b after_b (taken_items b) more_b settled_b ends, w.capture_failures, w.ledger_failures) tt (whole w)
-    by (watch.Read A) (inl ((B, (is, sound, ends)), w)) other = (let wrong : ⊥ = cc is in absurd wrong)
-    by (watch.Read B) (inl ((A, (is, sound, ends)), w)) other = (let wrong : ⊥ = cc is in absurd wrong)
-    by watch.Memory (inl (rings, w)) other = aborts watch.Memory (back_a, back_b, w.capture_failures, w.ledger_failures) tt tt
-    by watch.RingLost (inl (rings, w)) other = absurd (other refl)
-    by watch.Workers (inl ((A, h), w)) other = absurd h
-    by watch.Workers (inl ((B, h), w)) other = absurd h
-    by (watch.Header n f) (inl ((A, h), w)) other = absurd h
-    by (watch.Header n f) (inl ((B, h), w)) other = absurd h
-    by (watch.Write out) (inl ((A, h), w)) other = absurd h
-    by (watch.Write out) (inl ((B, h), w)) other = absurd h
-    by watch.Spawn (inl ((A, h), w)) other = absurd h
-    by watch.Spawn (inl ((B, h), w)) other = absurd h
-    by watch.Filters (inl ((A, h), w)) other = absurd h
-    by watch.Filters (inl ((B, h), w)) other = absurd h
-    by (watch.Write output.Capture) (inr w) other = aborts (watch.Write output.Capture) (back_a, back_b, w.fails.0, w.fails.1) tt tt
-    by (watch.Write output.Ledger) (inr w) other = aborts (watch.Write output.Ledger) (back_a, back_b, w.fails.0, w.fails.1) tt tt
-    by watch.Memory (inr w) other = aborts watch.Memory (back_a, back_b, w.fails.0, w.fails.1) tt tt
-    by watch.Spawn (inr w) other = absurd w.fails
-    by (watch.Read n) (inr w) other = absurd w.fails
-    by watch.RingLost (inr w) other = absurd (other refl)
-    by watch.Workers (inr w) other = absurd w.fails
-    by (watch.Header n f) (inr w) other = absurd w.fails
-    by watch.Filters (inr w) other = absurd w.fails
+        (wrote (watch.Read B) w safe (none_of B settled_b.start settled_b.reading (taken_items b) more_b ends settled_b.gives))
+    by (watch.Read A) (inl ((B, (is, sound, ends)), w)) other safe = (let wrong : ⊥ = cc is in absurd wrong)
+    by (watch.Read B) (inl ((A, (is, sound, ends)), w)) other safe = (let wrong : ⊥ = cc is in absurd wrong)
+    by watch.Memory (inl (rings, w)) other safe = aborts watch.Memory (back_a, back_b, w.capture_failures, w.ledger_failures) tt tt tt
+    by watch.RingLost (inl (rings, w)) other safe = absurd (other refl)
+    by watch.Workers (inl ((A, h), w)) other safe = absurd h
+    by watch.Workers (inl ((B, h), w)) other safe = absurd h
+    by (watch.Header n f) (inl ((A, h), w)) other safe = absurd h
+    by (watch.Header n f) (inl ((B, h), w)) other safe = absurd h
+    by (watch.Write out) (inl ((A, h), w)) other safe = absurd h
+    by (watch.Write out) (inl ((B, h), w)) other safe = absurd h
+    by watch.Spawn (inl ((A, h), w)) other safe = absurd h
+    by watch.Spawn (inl ((B, h), w)) other safe = absurd h
+    by watch.Filters (inl ((A, h), w)) other safe = absurd h
+    by watch.Filters (inl ((B, h), w)) other safe = absurd h
+    by (watch.Write output.Capture) (inr w) other safe = aborts (watch.Write output.Capture) (back_a, back_b, w.fails.0, w.fails.1) tt tt tt
+    by (watch.Write output.Ledger) (inr w) other safe = aborts (watch.Write output.Ledger) (back_a, back_b, w.fails.0, w.fails.1) tt tt tt
+    by watch.Memory (inr w) other safe = aborts watch.Memory (back_a, back_b, w.fails.0, w.fails.1) tt tt tt
+    by watch.Spawn (inr w) other safe = absurd w.fails
+    by (watch.Read n) (inr w) other safe = absurd w.fails
+    by watch.RingLost (inr w) other safe = absurd (other refl)
+    by watch.Workers (inr w) other safe = absurd w.fails
+    by (watch.Header n f) (inr w) other safe = absurd w.fails
+    by watch.Filters (inr w) other safe = absurd w.fails
 
 -- ---- a run that was aborted
 

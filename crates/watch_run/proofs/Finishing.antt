@@ -14,8 +14,8 @@ use Rattle.tap_queue.specs.declared.item.TapItem.TheVariants as items
 use Rattle.verdict_ledger.specs.Ledger.{sink_of as ledger_sink}
 use Rattle.verdict_ledger.specs.declared.totals.Totals.{Totals}
 use Rattle.vl_config.specs.Document.{VlTable}
-use Rattle.round_output.specs.Outputs.{IsFinished, StopsFinishing}
-use Rattle.tap_merge.specs.Rings.{EndsWith, HasEnding, HasTaken}
+use Rattle.round_output.specs.Outputs.{IsFinished, SinkFails, StopsFinishing}
+use Rattle.tap_merge.specs.Rings.{EndsWith, HasEnding, HasTaken, WhereFailed}
 use Rattle.watch_run.specs.Running.{AbortsBegun, FailsAmong, IsRunning, IsRunningFault, StopsRunning}
 use Rattle.run_outcome.specs.Device.{SinkMembers, SinkView, SourceView, sink_at}
 use Rattle.run_outcome.specs.Opening.{FailsOnly, WatchDevices, watch_devices}
@@ -77,6 +77,17 @@ among (watch.Header n f) before after h run = absurd run
 among watch.RingLost before after h run = absurd run
 among watch.Filters before after h run = absurd run
 
+-- the end of a ledger is no source's
+no_read : (P : Type 0) (c c' l l' : ℕ) (f : WatchFault) → IsRunningFault f → SinkFails f c c' l l' → WhereFailed f P
+no_read P c c' l l' (watch.Read network) run fails = absurd fails
+no_read P c c' l l' (watch.Write out) run fails = tt
+no_read P c c' l l' watch.Memory run fails = tt
+no_read P c c' l l' watch.RingLost run fails = tt
+no_read P c c' l l' watch.Workers run fails = tt
+no_read P c c' l l' (watch.Header network fault) run fails = tt
+no_read P c c' l l' watch.Spawn run fails = tt
+no_read P c c' l l' watch.Filters run fails = tt
+
 pub finish_aborts : (fault : WatchFault) (ps : List (List Packed)) (vl_table : VlTable) (before : WatchDevices) (rings : Rings) (a b : SourceView) (capture ledger : SinkView)
     (cut : List Frame) (end_a end_b : Ending) →
     IsTapBack A vl_table.late before.a (taken_items rings.a) a → IsTapBack B vl_table.late before.b (taken_items rings.b) b → HasTaken vl_table.late cut rings →
@@ -84,7 +95,7 @@ pub finish_aborts : (fault : WatchFault) (ps : List (List Packed)) (vl_table : V
     StopsFinishing fault ps vl_table before.capture before.ledger capture ledger cut end_a end_b →
     AbortsBegun fault ps vl_table before (Some a) (Some b) capture ledger
 finish_aborts fault ps vl_table before rings a b capture ledger cut end_a end_b settled_a settled_b h is_a is_b none s =
-    inl (record { fails = f.0; run = f.1; stops = aborts.stops })
+    inl (record { fails = f.0; run = f.1; stops = aborts.stops; safe = no_read _ _ _ _ _ fault f.1 s.fails })
   where
     aborts : StopsAtEnd fault ps vl_table before (watch_devices a b capture ledger) end_a end_b
     aborts = stopped_at_the_end fault ps vl_table before (watch_devices a b capture ledger) (frames_in (taken_items rings.a)) (frames_in (taken_items rings.b)) cut end_a end_b rings.merger
@@ -113,4 +124,5 @@ lost_at_end w l ps vl_table capture ledger rings outputs running = record {
       ledger_failures = running.written.ledger_failures;
     },
   );
+  safe = tt;
 }

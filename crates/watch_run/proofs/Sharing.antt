@@ -1,21 +1,24 @@
 -- Rounds that are shared while the next one is merged.
-use Rattle.std.proofs.Common.{◌≡◌, ◌++◌, ◌+◌, ◌≤◌, List, Option, None, length, sym, subst}
+use Rattle.std.proofs.Common.{◌≡◌, ◌++◌, ◌+◌, ◌≤◌, ℕ, [], List, Option, None, length, sym, subst}
+use Rattle.ordered_merge.specs.Merge.{safe_frames}
+use Rattle.run_outcome.specs.declared.fault.WatchFault.{WatchFault}
+use Rattle.run_outcome.specs.declared.fault.WatchFault.TheVariants as watch
 use Rattle.afdx_frame.specs.Frame.{Frame}
 use Rattle.bpf_isa.specs.declared.packed.Packed.{Packed}
 use Rattle.pcap_io.specs.Writer.{sink_of}
-use Rattle.round_output.specs.Outputs.{HasShared, HasWritten, frames_at, outputs_of}
+use Rattle.round_output.specs.Outputs.{HasShared, HasWritten, StopsWriting, effect_of, frames_at, outputs_of}
 use Rattle.round_output.specs.declared.outputs.Outputs.{Outputs}
 use Rattle.round_output.specs.declared.shared.JudgedRound.{JudgedRound}
 use Rattle.round_output.proofs.Sharing.{none_shared}
 use Rattle.run_outcome.specs.Device.{SinkMembers, SinkView, sink_at}
-use Rattle.tap_merge.specs.Rings.{HasTaken}
+use Rattle.tap_merge.specs.Rings.{HasTaken, WhereFailed}
 use Rattle.tap_merge.specs.declared.rings.Rings.{Rings}
 use Rattle.verdict_ledger.specs.Ledger.{sink_of as ledger_sink, totals_in}
 use Rattle.verdict_ledger.specs.declared.bounds.TheConstants.{MAX_LINES}
 use Rattle.vl_config.specs.Document.{VlTable}
 use Rattle.vl_judge.specs.Lanes.{FollowsOn, LanesState}
 use Rattle.worker_pool.specs.Chunks.{Posted}
-use Rattle.watch_run.specs.Running.{HasWholeRounds, IsSharing}
+use Rattle.watch_run.specs.Running.{HasCutSafe, HasWholeRounds, IsSharing}
 use Rattle.watch_run.proofs.RoundsTaken.{taken_follows, taken_room}
 use Rattle.watch_run.proofs.Watching.{frames_counted}
 
@@ -51,3 +54,19 @@ whole_rounds w l ps vl_table capture ledger cut outputs lanes h = record {
   capture_failures = h.capture_failures;
   ledger_failures = h.ledger_failures;
 }
+
+-- a fault of writing is no source's
+pub no_source : (P : Type 0) (fault : WatchFault) (ps : List (List Packed)) (vl_table : VlTable) (capture ledger capture' ledger' : SinkView) (cut : List Frame) →
+    StopsWriting (effect_of fault) ps vl_table capture ledger capture' ledger' cut → WhereFailed fault P
+no_source P (watch.Read network) ps vl_table capture ledger capture' ledger' cut s = absurd s.fails
+no_source P watch.Memory ps vl_table capture ledger capture' ledger' cut s = tt
+no_source P watch.RingLost ps vl_table capture ledger capture' ledger' cut s = tt
+no_source P watch.Workers ps vl_table capture ledger capture' ledger' cut s = tt
+no_source P (watch.Header network fault) ps vl_table capture ledger capture' ledger' cut s = tt
+no_source P watch.Spawn ps vl_table capture ledger capture' ledger' cut s = tt
+no_source P (watch.Write out) ps vl_table capture ledger capture' ledger' cut s = tt
+no_source P watch.Filters ps vl_table capture ledger capture' ledger' cut s = tt
+
+-- no frame is safe of those that were taken
+pub cut_safe : (late : ℕ) (cut : List Frame) (rings : Rings) → HasTaken late cut rings → safe_frames rings.merger ≡ [] → HasCutSafe late cut rings.a rings.b
+cut_safe late cut rings h none = record { merger = rings.merger; late_is = h.late_is; follows = h.follows; none_safe = none }

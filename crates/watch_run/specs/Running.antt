@@ -1,15 +1,17 @@
 -- A run whose recordings are read by threads of their own: why it was aborted, and what it leaves.
-use Rattle.std.specs.Prelude.{◌≡◌, ◌⊎◌, ℕ, Bool, true, false, List, [], length, is_some, Option, Some, None, Result, Ok, IfOk, IfErr, ⊤}
+use Rattle.std.specs.Prelude.{◌≡◌, ◌⊎◌, ℕ, Bool, true, false, List, [], ◌++◌, length, is_some, Option, Some, None, Result, Ok, IfOk, IfErr, ⊤}
 use Rattle.std.specs.Io.KnownBytes.{Appends}
 use Rattle.afdx_frame.specs.Frame.{Frame}
 use Rattle.afdx_frame.specs.declared.key.Network.{Network}
 use Rattle.afdx_frame.specs.declared.key.Network.TheVariants.{A, B}
 use Rattle.bpf_isa.specs.declared.packed.Packed.{Packed}
+use Rattle.ordered_merge.specs.Merge.{Follows, MergerState, safe_frames}
 use Rattle.ordered_merge.specs.Order.{IsOrder}
 use Rattle.ordered_merge.specs.Recording.{IsRecording as IsTapRecording}
 use Rattle.pcap_io.specs.Device.{CountsFailure}
 use Rattle.pcap_io.specs.Writer.{has_failed}
-use Rattle.tap_queue.specs.Ring.{SameEnd}
+use Rattle.tap_queue.specs.Items.{frames_in}
+use Rattle.tap_queue.specs.Ring.{SameEnd, taken_items}
 use Rattle.tap_queue.specs.declared.end.TapEnd.{TapEnd}
 use Rattle.verdict_ledger.specs.Ledger.{has_failed as ledger_has_failed, sink_of as ledger_sink}
 use Rattle.vl_config.specs.Document.{VlTable}
@@ -18,7 +20,7 @@ use Rattle.pcap_io.specs.Writer.{sink_of}
 use Rattle.round_output.specs.Outputs.{HasShared, HasWritten, StopsWriting, effect_of}
 use Rattle.round_output.specs.declared.shared.JudgedRound.{JudgedRound}
 use Rattle.worker_pool.specs.Chunks.{Posted}
-use Rattle.tap_merge.specs.Rings.{HasTaken, RingsFault, StopsTaking}
+use Rattle.tap_merge.specs.Rings.{HasTaken, RingsFault, StopsTaking, WhereFailed}
 use Rattle.run_outcome.specs.Device.{SinkMembers, AppendsSome, SinkView, SourceView, sink_at}
 use Rattle.run_outcome.specs.Recording.{IsReadPart, WasOpened}
 use Rattle.run_outcome.specs.Fault.{MayFail, CaptureSink, Fails, LedgerSink, SourceA, SourceB, names}
@@ -60,12 +62,20 @@ pub record HasWholeRounds (ps : List (List Packed)) (vl_table : VlTable) (cut : 
   pub capture_failures : capture'.failures ≡ capture.failures
   pub ledger_failures : ledger'.failures ≡ ledger.failures
 
--- The run stopped with these frames cut: by what was taken of the rings, or by what was written.
+-- Of the frames that were taken of the rings, none is safe that isn't among these.
+pub record HasCutSafe (late : ℕ) (cut : List Frame) (a b : TapEnd) : Type 0 where
+  pub merger : MergerState
+  pub late_is : merger.late ≡ late
+  pub follows : Follows merger (frames_in (taken_items a)) (frames_in (taken_items b)) cut
+  pub none_safe : safe_frames merger ≡ []
+
+-- The run stopped with these frames cut: by what was taken of the rings, or by what was written. Where a source failed, all safe ones were cut.
 pub record StopsRunning (fault : WatchFault) (ps : List (List Packed)) (vl_table : VlTable) (capture ledger : SinkView) (a b : TapEnd) (capture' ledger' : SinkView) : Type 0 where
   pub cut : List Frame
   pub taken : StopsTaking vl_table.late cut a b
   pub why : (RingsFault fault a b × HasWholeRounds ps vl_table cut capture ledger capture' ledger')
       ⊎ StopsWriting (effect_of fault) ps vl_table capture ledger capture' ledger' cut
+  pub safe : WhereFailed fault (HasCutSafe vl_table.late cut a b)
 
 -- What is done with the frames of the rings: the run goes on to the end of both recordings, or it stops.
 pub record GoesOn {W L : Type 0} (w : SinkMembers W) (l : SinkMembers L)
@@ -117,11 +127,36 @@ abbrev pub BothBack : Option SourceView → Option SourceView → (SourceView �
 BothBack (Some a) (Some b) P = P a b
 BothBack _ _ P = ⊥
 
+-- all frames were merged of the source that failed
+abbrev pub HasMergedFailed : WatchFault → List Frame → List Frame → Type 0
+HasMergedFailed (watch.Read A) more_a more_b = more_a ≡ []
+HasMergedFailed (watch.Read B) more_a more_b = more_b ≡ []
+HasMergedFailed fault more_a more_b = ⊤
+
+-- The first so many frames of both recordings were merged, all of the one whose source failed. The outputs have what belongs to some of them, in
+-- order, and none of the others is safe: each may come after a frame that was not read.
+pub record WroteSafe (fault : WatchFault) (ps : List (List Packed)) (vl_table : VlTable) (frames_a frames_b : List Frame) (before after : WatchDevices) : Type 0 where
+  pub taken_a : List Frame
+  pub taken_b : List Frame
+  pub more_a : List Frame
+  pub more_b : List Frame
+  pub all_a : frames_a ≡ taken_a ++ more_a
+  pub all_b : frames_b ≡ taken_b ++ more_b
+  pub all_failed : HasMergedFailed fault more_a more_b
+  pub written : List Frame
+  pub merger : MergerState
+  pub late_is : merger.late ≡ vl_table.late
+  pub follows : Follows merger taken_a taken_b written
+  pub none_safe : safe_frames merger ≡ []
+  pub packets : Appends before.capture.contents after.capture.contents (capture_by ps written)
+  pub lines : Appends before.ledger.contents after.ledger.contents (lines_by ps vl_table written)
+
 -- why a run was aborted whose sources came back, and what it leaves
 pub record AbortsRunning (fault : WatchFault) (ps : List (List Packed)) (vl_table : VlTable) (before after : WatchDevices) : Type 0 where
   pub fails : FailsAmong fault before after
   pub run : IsRunningFault fault
   pub stops : StopsRun fault ps vl_table before after
+  pub safe : WhereFailed fault (WroteSafe fault ps vl_table stops.frames_a stops.frames_b before after)
 
 -- A tap's thread couldn't be started, and its source is gone with it. The other one came back: B as it was opened, or A read by its
 -- thread.

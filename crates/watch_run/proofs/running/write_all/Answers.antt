@@ -23,5 +23,6 @@ returns-in-Err g c =
             ledger_failures = h.written.ledger_failures;
           },
         );
+        safe = tt;
       });
     }

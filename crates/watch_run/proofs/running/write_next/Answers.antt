@@ -1,8 +1,8 @@
 use Rattle.std.proofs.Common.{◌++◌, ap, inl, inr, refl, Ok}
 use Rattle.std.proofs.lemmas.Result.{err_from_is_err_and}
-use Rattle.tap_merge.proofs.RingItems.{stops_with, takes_none}
+use Rattle.tap_merge.proofs.RingItems.{stops_with, takes_none, where_failed}
 use Rattle.watch_run.proofs.RoundsTaken.{none_taken, some_taken}
-use Rattle.watch_run.proofs.Sharing.{settled_shared, shared_follows, shared_room, whole_rounds}
+use Rattle.watch_run.proofs.Sharing.{cut_safe, no_source, settled_shared, shared_follows, shared_room, whole_rounds}
 use Rattle.watch_run.proofs.running.write_next.Goals as goal
 
 pub share_round-requires-clause-follows : goal.share_round-requires-clause-follows
@@ -45,6 +45,8 @@ returns-in_err-share_round-in-Ok-Some-clause-stepped g c =
             cut = h.cut ++ c.in-Ok-Some.round.items;
             taken = stops_with vl_table.late (h.cut ++ c.in-Ok-Some.round.items) rings rings.a rings.b taken (takes_none rings.a) (takes_none rings.b);
             why = inr (c.in_err-share_round-in-Ok-Some.ensures.stopped vl_table capture ledger h.cut h.shared);
+            safe = no_source _ c.in_err-share_round-in-Ok-Some.field-0.0 c.args.pool.now.task.programs.now vl_table capture ledger _ _ _
+                (c.in_err-share_round-in-Ok-Some.ensures.stopped vl_table capture ledger h.cut h.shared);
           });
     })
 
@@ -81,6 +83,8 @@ returns-in_err-settle_round-in-Ok-None-clause-stepped g c =
             cut = h.cut;
             taken = stops_with vl_table.late h.cut rings rings.a rings.b taken (takes_none rings.a) (takes_none rings.b);
             why = inr (c.in_err-settle_round-in-Ok-None.ensures.stopped vl_table capture ledger h.cut c.args.outputs.now.lanes h.shared);
+            safe = no_source _ c.in_err-settle_round-in-Ok-None.field-0.0 c.args.pool.now.task.programs.now vl_table capture ledger _ _ _
+                (c.in_err-settle_round-in-Ok-None.ensures.stopped vl_table capture ledger h.cut c.args.outputs.now.lanes h.shared);
           });
     })
 
@@ -116,6 +120,8 @@ returns-in_err-settle_round-in-Err-clause-stepped g c =
         cut = h.cut;
         taken = c.in-Err.ensures.stopped vl_table.late h.cut h.taken;
         why = inr (c.in_err-settle_round-in-Err.ensures.stopped vl_table capture ledger h.cut c.args.outputs.now.lanes h.shared);
+        safe = no_source _ c.in_err-settle_round-in-Err.field-0.0 c.args.pool.now.task.programs.now vl_table capture ledger _ _ _
+            (c.in_err-settle_round-in-Err.ensures.stopped vl_table capture ledger h.cut c.args.outputs.now.lanes h.shared);
       };
     })
 
@@ -133,5 +139,6 @@ returns-in_ok-settle_round-in-Err-clause-stepped g c = record {
       whole_rounds g.W.OutSink g.L.OutSink c.args.pool.now.task.programs.now vl_table capture ledger h.cut c.settle_round-in-Err.new.self c.args.outputs.now.lanes
           (c.in_ok-settle_round-in-Err.ensures.written vl_table capture ledger h.cut c.args.outputs.now.lanes h.shared),
     );
+    safe = where_failed c.in-Err.fault (λ told. cut_safe vl_table.late h.cut c.next_round.new.self (told.1 vl_table.late h.cut h.taken) told.0) c.in-Err.ensures.none_safe;
   };
 }

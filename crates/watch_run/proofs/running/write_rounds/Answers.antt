@@ -24,9 +24,12 @@ returns-in-Err-clause-written g c =
 pub write_next-requires-clause-begun : goal.write_next-requires-clause-begun
 write_next-requires-clause-begun g c κs within =
     let begun = c.requires.begun in
-    let pool : c.settle_idle-idle.new.pool ≡ c.args.pool.now = c.settle_idle-idle.ensures.pool ∙ c.loop.invariant.pool in
-    (begun.0, begun.1, begun.2,
-      rw pool ((rw c.loop.invariant.pool at c.in_default.ensures.sharing) begun.0 begun.1 begun.2 (c.loop.invariant.running begun.0 begun.1 begun.2 begun.3)))
+    let pool : c.settle_idle-idle.new.pool ≡ c.args.pool.now = c.settle_idle-idle.ensures.pool ∙ c.loop.invariant.pool in (
+      begun.0,
+      begun.1,
+      begun.2,
+      rw pool ((rw c.loop.invariant.pool at c.in_default.ensures.sharing) begun.0 begun.1 begun.2 (c.loop.invariant.running begun.0 begun.1 begun.2 begun.3)),
+    )
 
 pub loop-preserved : goal.loop-preserved
 loop-preserved g c =

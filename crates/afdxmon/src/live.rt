@@ -1,0 +1,142 @@
+//! What is written of inputs that pause, as pipes do: it is handed to the system before the program waits for
+//! more, and a fault is told before the program waits for its threads.
+use crate::streams::{Input, Output};
+use crate::tell;
+use afdx_frame::Network;
+use analyser::{Exit, Fault, RunObserver, WatchFault};
+use filter_workers::RunGate;
+use std::alloc::{AllocError, Global};
+use std::io;
+use std::io::{BufWriter, ErrorKind, Read, Write};
+use std::sync::atomic::{AtomicBool, Ordering};
+use std::sync::{Arc, Mutex};
+use tap_queue::TapGate;
+
+/// How many bytes are handed to the system at once.
+const BLOCK: usize = 65536;
+
+/// An output that is written in blocks, by one thread. It is shared with what hands a part of a block to the
+/// system on that thread.
+#[derive(Drop)]
+pub struct Blocks {
+    writer: Arc<Mutex<BufWriter<Output>>, Global>,
+}
+
+impl Blocks {
+    pub fn new(alloc: Global, output: Output) -> Result<Blocks, AllocError> {
+        let Ok(writer) = BufWriter::with_capacity(alloc, BLOCK, output) else {
+            return Err(AllocError);
+        };
+        match Arc::new(alloc, Mutex::new(writer)) {
+            Ok(writer) => Ok(Blocks { writer }),
+            Err(_) => Err(AllocError),
+        }
+    }
+
+    /// The same output.
+    pub fn share(&self) -> Result<Blocks, AllocError> {
+        Ok(Blocks {
+            writer: Arc::try_clone(&self.writer)?,
+        })
+    }
+
+    /// Hands the system what was written. What it refuses is refused again to the next that is written.
+    fn hand_over(&self) {
+        if let Some(mut writer) = self.writer.try_lock() {
+            let _ = writer.flush();
+        }
+    }
+}
+
+/// Another thread is writing, which none does.
+fn is_busy() -> io::Error {
+    io::Error::from(ErrorKind::WouldBlock)
+}
+
+impl Write for Blocks {
+    fn write(&mut self, bytes: &[u8]) -> io::Result<usize> {
+        match self.writer.try_lock() {
+            Some(mut writer) => writer.write(bytes),
+            None => Err(is_busy()),
+        }
+    }
+
+    fn flush(&mut self) -> io::Result<()> {
+        match self.writer.try_lock() {
+            Some(mut writer) => writer.flush(),
+            None => Err(is_busy()),
+        }
+    }
+}
+
+/// An input whose output is handed to the system before more is read, where the input may pause.
+#[derive(Drop)]
+pub struct LiveInput {
+    input: Input,
+    output: Option<Blocks>,
+}
+
+impl LiveInput {
+    /// `output` is that of an input that may pause.
+    pub fn new(input: Input, output: Option<Blocks>) -> LiveInput {
+        LiveInput { input, output }
+    }
+}
+
+impl Read for LiveInput {
+    fn read(&mut self, buf: &mut [u8]) -> io::Result<usize> {
+        if let Some(output) = &self.output {
+            output.hand_over();
+        }
+        self.input.read(buf)
+    }
+}
+
+/// Watches a run over two recordings: before it waits for them, what was written is handed to the system,
+/// and before it waits for the threads that read them, its fault is told.
+#[derive(Drop)]
+pub struct Watcher<'a> {
+    rt: &'a HostRuntime,
+    capture: Blocks,
+    ledger: Blocks,
+    told: &'a AtomicBool,
+}
+
+impl<'a> Watcher<'a> {
+    /// `told` becomes true once a fault was told.
+    pub fn new(
+        rt: &'a HostRuntime,
+        capture: Blocks,
+        ledger: Blocks,
+        told: &'a AtomicBool,
+    ) -> Watcher<'a> {
+        Watcher {
+            rt,
+            capture,
+            ledger,
+            told,
+        }
+    }
+}
+
+impl RunObserver for Watcher<'_> {
+    fn waits(&self) {
+        self.capture.hand_over();
+        self.ledger.hand_over();
+    }
+
+    fn aborts(&self, fault: WatchFault) {
+        self.waits();
+        // Where standard error can't be written, the status alone tells of it.
+        let _ = tell(self.rt, &Exit::Fault(Fault::Watch(fault)), None);
+        self.told.store(true, Ordering::SeqCst);
+    }
+}
+
+impl RunGate for Watcher<'_> {
+    fn run(&self, _worker: u32, _number: u64) {}
+}
+
+impl TapGate for Watcher<'_> {
+    fn tap(&self, _network: Network) {}
+}
