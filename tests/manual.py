@@ -238,7 +238,7 @@ def lint():
             if not shutil.which(command[0]):
                 skip(f"{command[0]} on {page}", f"no {command[0]} here")
                 continue
-            environment = {**os.environ, "MANPAGER": "cat"}
+            environment = {**os.environ, "MANPAGER": "cat", "LC_ALL": "C"}
             ran = subprocess.run([*command, path], capture_output=True, env=environment, timeout=60)
             told = ran.stdout if command[0] == "mandoc" else ran.stderr
             # Whether the pages of others are installed says nothing of this one.
