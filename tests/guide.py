@@ -1,0 +1,87 @@
+"""The commands of README and docs/RECIPES.md print what stands there, and what these pages say beside them is so."""
+import os
+import re
+import shutil
+import subprocess
+import tempfile
+
+from analyser import watch
+from harness import EVERY, PROGRAM, SUCCESS, TOP, difference, frame, header, say, skip
+from watching import TABLE, Desk, read, tap
+
+TOOLS = ("editcap", "gzip", "tcpdump", "tshark", "xxd", "zcat")
+MS = 10**6
+
+
+def commands_of(page):
+    """Each command of a page that stands with what it prints, and that."""
+    for block in re.findall(r"^```console\n(.*?)^```", read(os.path.join(TOP, page)).decode(), re.M | re.S):
+        for part in re.split(r"^\$ ", block, flags=re.M)[1:]:
+            lines = part.splitlines(keepends=True)
+            count = 1
+            while "".join(lines[:count]).count("'") % 2 or lines[count - 1].endswith(("\\\n", "&\n")):
+                count += 1
+            yield "".join(lines[:count]), "".join(lines[count:])
+
+
+def pages(directory):
+    """Runs the commands of the pages in a directory with the examples."""
+    programs = os.path.join(directory, "bin")
+    os.mkdir(programs)
+    os.symlink(PROGRAM, os.path.join(programs, "afdxmon"))
+    os.symlink(os.path.join(TOP, "examples"), os.path.join(directory, "examples"))
+    environment = {**os.environ, "LC_ALL": "C", "PATH": f"{programs}:{os.environ['PATH']}"}
+    how = {"cwd": directory, "env": environment, "timeout": 60}
+    for page in (os.path.join("docs", "RECIPES.md"), "README.md"):
+        for command, printed in commands_of(page):
+            name = f"{page}: {' '.join(command.split())[:100]}"
+            missing = [tool for tool in TOOLS if re.search(rf"\b{tool} ", command) and not shutil.which(tool)]
+            if missing:
+                skip(name, f"no {missing[0]} here")
+                continue
+            ran = subprocess.run(["bash", "-c", command], stdout=subprocess.PIPE, stderr=subprocess.STDOUT, **how)
+            say(name, "" if ran.stdout == printed.encode() else f"printed {ran.stdout[:300]!r}")
+
+
+def table_of_csv(directory):
+    """The table that an interface document makes is that of the flight, but for what the document doesn't say."""
+    script, document = (os.path.join(TOP, "examples", name) for name in ("table_of_csv", "flight.csv"))
+    written = read(os.path.join(TOP, "examples", "flight.toml")).decode()
+    links = [re.sub(r"#.*", "", link).split() for link in written.split("[[link]]")[1:]]
+    for name, text in (("as it is", read(document)), ("of Windows", b"\xef\xbb\xbf" + read(document).replace(b"\n", b"\r\n"))):
+        path = os.path.join(directory, "links.csv")
+        with open(path, "wb") as out:
+            out.write(text)
+        made = subprocess.run([script, path, "0x07000000"], stdout=subprocess.PIPE, timeout=60).stdout.decode()
+        head, *rest = made.split("[[link]]")
+        same = head == "constant = 0x07000000\n\n" and [link.split() for link in rest] == links
+        say(f"a table from an interface document {name}", "" if same else f"it is {made[:300]!r}")
+
+
+def tagged(desk):
+    """A frame with a VLAN tag is judged as its link's, four bytes longer."""
+    frames = [frame(5, size, number) for number, size in enumerate((60, 92, 93, 60), 1)]
+    frames = [data[:12] + b"\x81\0\0\7" + data[12:] for data in frames]
+    desk.lay(
+        config=TABLE.replace("smax = 200", "smax = 100"),
+        filter=EVERY,
+        a=tap(*((i * 2 * MS, data) for i, data in enumerate(frames))),
+        b=header(),
+    )
+    ran = desk.watch()
+    found = [line.split(" ", 3)[3] for line in desk.left("ledger").decode().splitlines()[1:5]]
+    expected = [
+        "5 1 regular within first deliver 64 01",
+        "5 2 regular within next deliver 96 01",
+        "5 3 toolong - - - 97 01",
+        "5 4 regular within skip deliver 64 01",
+    ]
+    say("frames with VLAN tags", difference(ran, SUCCESS, "", b"") or ("" if found == expected else f"judged {found}"))
+
+
+def cases():
+    with tempfile.TemporaryDirectory() as directory:
+        pages(directory)
+        table_of_csv(directory)
+    with tempfile.TemporaryDirectory() as directory:
+        tagged(Desk(directory))
