@@ -19,7 +19,7 @@ def commands_of(page):
         for part in re.split(r"^\$ ", block, flags=re.M)[1:]:
             lines = part.splitlines(keepends=True)
             count = 1
-            while "".join(lines[:count]).count("'") % 2 or lines[count - 1].endswith(("\\\n", "&\n")):
+            while "".join(lines[:count]).count("'") % 2 or lines[count - 1].endswith(("\\\n", "&\n", "|\n")):
                 count += 1
             yield "".join(lines[:count]), "".join(lines[count:])
 
