@@ -1,4 +1,4 @@
-"""The commands of README and docs/RECIPES.md print what stands there, and what these pages say beside them is so."""
+"""The commands of README, docs/RECIPES.md and the man pages do what stands there, and what is said beside them is so."""
 import os
 import re
 import shutil
@@ -24,23 +24,63 @@ def commands_of(page):
             yield "".join(lines[:count]), "".join(lines[count:])
 
 
+def surroundings(directory):
+    """How a reader runs commands: in a directory, with the program on the PATH."""
+    path = f"{directory}/bin:{os.environ['PATH']}"
+    return {"cwd": directory, "env": {**os.environ, "LC_ALL": "C", "PATH": path}, "timeout": 60}
+
+
+def with_program(directory):
+    os.mkdir(os.path.join(directory, "bin"))
+    os.symlink(PROGRAM, os.path.join(directory, "bin", "afdxmon"))
+
+
 def pages(directory):
     """Runs the commands of the pages in a directory with the examples."""
-    programs = os.path.join(directory, "bin")
-    os.mkdir(programs)
-    os.symlink(PROGRAM, os.path.join(programs, "afdxmon"))
+    with_program(directory)
     os.symlink(os.path.join(TOP, "examples"), os.path.join(directory, "examples"))
-    environment = {**os.environ, "LC_ALL": "C", "PATH": f"{programs}:{os.environ['PATH']}"}
-    how = {"cwd": directory, "env": environment, "timeout": 60}
+    how = {**surroundings(directory), "stdout": subprocess.PIPE, "stderr": subprocess.STDOUT}
     for page in (os.path.join("docs", "RECIPES.md"), "README.md"):
         for command, printed in commands_of(page):
             name = f"{page}: {' '.join(command.split())[:100]}"
-            missing = [tool for tool in TOOLS if re.search(rf"\b{tool} ", command) and not shutil.which(tool)]
-            if missing:
-                skip(name, f"no {missing[0]} here")
+            tool = missing_tool(command)
+            if tool:
+                skip(name, f"no {tool} here")
                 continue
-            ran = subprocess.run(["bash", "-c", command], stdout=subprocess.PIPE, stderr=subprocess.STDOUT, **how)
+            ran = subprocess.run(["bash", "-c", command], **how)
             say(name, "" if ran.stdout == printed.encode() else f"printed {ran.stdout[:300]!r}")
+
+
+def missing_tool(command):
+    return next((tool for tool in TOOLS if re.search(rf"\b{tool} ", command) and not shutil.which(tool)), None)
+
+
+def literals(page):
+    """The examples of a man page."""
+    text = read(os.path.join(TOP, "man", page)).decode()
+    blocks = re.findall(r"^\.Bd -literal.*?\n(.*?)^\.Ed", text, re.M | re.S)
+    return [block.replace("\\e", "\\") for block in blocks]
+
+
+def manual(directory):
+    """The examples of the man pages run, without a word on standard error."""
+    (table,) = literals("afdxmon-table.5")
+    with open(os.path.join(directory, "table.toml"), "w", encoding="utf-8") as out:
+        out.write(table)
+    lines, search = literals("afdxmon-ledger.5")
+    run, *others = literals("afdxmon.1")
+    run = run.replace("/usr/share/doc/afdxmon/examples", os.path.join(TOP, "examples"))
+    with_table = run.partition("\n")[2].replace("examples/flight.toml", "table.toml").replace("flight.ledger", "table.ledger")
+    for command in (run, *others, with_table, search):
+        name = f"the manual: {' '.join(command.split())[:100]}"
+        tool = missing_tool(command)
+        if tool:
+            skip(name, f"no {tool} here")
+            continue
+        ran = subprocess.run(["bash", "-e", "-c", command], capture_output=True, **surroundings(directory))
+        say(name, "" if ran.returncode == 0 and not ran.stderr else f"status {ran.returncode}, {ran.stderr!r}")
+    same = lines in read(os.path.join(directory, "flight.ledger")).decode()
+    say("the manual: lines of a ledger", "" if same else "the flight's has others")
 
 
 def table_of_csv(directory):
@@ -83,5 +123,8 @@ def cases():
     with tempfile.TemporaryDirectory() as directory:
         pages(directory)
         table_of_csv(directory)
+    with tempfile.TemporaryDirectory() as directory:
+        with_program(directory)
+        manual(directory)
     with tempfile.TemporaryDirectory() as directory:
         tagged(Desk(directory))
