@@ -55,6 +55,44 @@ def missing_tool(command):
     return next((tool for tool in TOOLS if re.search(rf"\b{tool} ", command) and not shutil.which(tool)), None)
 
 
+def scripts():
+    """The commands of README whose output isn't shown end well, and say nothing on standard error."""
+    for block in re.findall(r"^```sh\n(.*?)^```", read(os.path.join(TOP, "README.md")).decode(), re.M | re.S):
+        with tempfile.TemporaryDirectory() as directory:
+            with_program(directory)
+            os.symlink(os.path.join(TOP, "examples"), os.path.join(directory, "examples"))
+            runs(f"README.md: {' '.join(block.split())[:100]}", block, directory)
+
+
+def anchors(page):
+    """The headings of a page, as links name them."""
+    headings = re.findall(r"^#+ (.*)", read(page).decode(), re.M)
+    return {re.sub(r"[^\w -]", "", heading.lower()).replace(" ", "-") for heading in headings}
+
+
+def links():
+    """Each link between the documents leads to a file, and to a heading there."""
+    documents = [os.path.join(TOP, "docs", name) for name in sorted(os.listdir(os.path.join(TOP, "docs")))]
+    for page in (os.path.join(TOP, "README.md"), os.path.join(TOP, "examples", "README.md"), *documents):
+        broken = []
+        for link in re.findall(r"\]\((?!https?:)(.*?)\)", read(page).decode()):
+            path, _, anchor = link.partition("#")
+            target = os.path.join(os.path.dirname(page), path) if path else page
+            if not os.path.exists(target) or anchor and anchor not in anchors(target):
+                broken.append(link)
+        say(f"the links of {os.path.relpath(page, TOP)}", " ".join(broken))
+
+
+def runs(name, command, directory):
+    """Commands that end well, without a word on standard error."""
+    tool = missing_tool(command)
+    if tool:
+        skip(name, f"no {tool} here")
+        return
+    ran = subprocess.run(["bash", "-e", "-c", command], capture_output=True, **surroundings(directory))
+    say(name, "" if ran.returncode == 0 and not ran.stderr else f"status {ran.returncode}, {ran.stderr!r}")
+
+
 def literals(page):
     """The examples of a man page."""
     text = read(os.path.join(TOP, "man", page)).decode()
@@ -72,13 +110,7 @@ def manual(directory):
     run = run.replace("/usr/share/doc/afdxmon/examples", os.path.join(TOP, "examples"))
     with_table = run.partition("\n")[2].replace("examples/flight.toml", "table.toml").replace("flight.ledger", "table.ledger")
     for command in (run, *others, with_table, search):
-        name = f"the manual: {' '.join(command.split())[:100]}"
-        tool = missing_tool(command)
-        if tool:
-            skip(name, f"no {tool} here")
-            continue
-        ran = subprocess.run(["bash", "-e", "-c", command], capture_output=True, **surroundings(directory))
-        say(name, "" if ran.returncode == 0 and not ran.stderr else f"status {ran.returncode}, {ran.stderr!r}")
+        runs(f"the manual: {' '.join(command.split())[:100]}", command, directory)
     same = lines in read(os.path.join(directory, "flight.ledger")).decode()
     say("the manual: lines of a ledger", "" if same else "the flight's has others")
 
@@ -120,6 +152,8 @@ def tagged(desk):
 
 
 def cases():
+    links()
+    scripts()
     with tempfile.TemporaryDirectory() as directory:
         pages(directory)
         table_of_csv(directory)
