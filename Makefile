@@ -4,7 +4,11 @@
 #   make test      the gate: proves every crate from nothing, tries the must-fail edits, runs the tests, and the program
 #                  as a program
 #   make build     leaves the program at bin/afdxmon
-#   make check     every check there is: test, and with it all mutants, allocations and borrows
+#   make check     every check there is: test, and with it all mutants, allocations, borrows and packages
+#   make install   installs bin/afdxmon, its man pages, completions, documents and examples below PREFIX (/usr/local), in
+#                  DESTDIR where that is given; make uninstall removes them
+#   make dist      packs them as a tarball in dist/, which is unpacked anywhere; make deb packs them for Debian. The same
+#                  bytes come of the same commit
 #   make bench     beside tcpdump, mergecap and libpcap (needs tcpdump, wireshark-common, libpcap-dev, gcc and python3; not
 #                  part of the gate)
 #
@@ -13,25 +17,39 @@
 #   make allocations  refuses each allocation of the tests in turn
 #   make borrows      shows that what a frame lends can't outlive it
 #   make mutants      tries the edits of crates/*/mutants/, which the prover must refuse as it refuses the must-fail edits
+#   make package-test   installs the program in each way into empty directories, and runs it there (needs dpkg)
 #   make mutants-of-the-program   wrong programs that the prover passes: make program refuses each (takes most of an hour)
 
 RT ?= rt
+PREFIX ?= /usr/local
 
-.PHONY: demo test build check bench program mutants mutants-of-the-program allocations borrows toolchain
+.PHONY: demo test build check bench install uninstall dist deb package-test program mutants mutants-of-the-program allocations borrows toolchain
 
 build: toolchain
 	@tools/build
 
 demo: build
-	@examples/demo
+	@examples/demo bin/afdxmon bin
 
 test: toolchain
 	@tests/gate
 
-check: test mutants allocations borrows mutants-of-the-program
+check: test mutants allocations borrows mutants-of-the-program package-test
 
 bench: build
 	@bench/run
+
+install:
+	@DESTDIR='$(DESTDIR)' PREFIX='$(PREFIX)' tools/install
+
+uninstall:
+	@DESTDIR='$(DESTDIR)' PREFIX='$(PREFIX)' tools/install --uninstall
+
+dist deb: build
+	@tools/package $@
+
+package-test: build
+	@tests/package
 
 program: build
 	@tests/program

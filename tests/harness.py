@@ -54,6 +54,11 @@ def say(name, fault):
         sys.exit(1)
 
 
+def skip(name, why):
+    """A case that this machine lacks something for: neither passed nor failed."""
+    print(f"program: {name}: skipped: {why}", flush=True)
+
+
 def difference(ran, status, line, out=None):
     """How a run differs from the status, the whole of standard error and, where it is given, standard output."""
     told = ran.stderr.decode("utf-8", "replace")

@@ -377,31 +377,8 @@ def through_pipes(desk, given):
     watched(desk, "taps through pipes", TABLE, EVERY, given, given, pipes)
 
 
-def commands_of(page):
-    """Each command of a page that stands with what it prints, and that."""
-    for block in read(os.path.join(TOP, page)).decode().split("```console\n$ ")[1:]:
-        lines = block.split("```")[0].splitlines(keepends=True)
-        count = 1
-        while "".join(lines[:count]).count("'") % 2 or lines[count - 1].endswith("\\\n"):
-            count += 1
-        yield "".join(lines[:count]), "".join(lines[count:])
-
-
-def pages(directory):
-    """The commands of the docs print what stands there."""
-    os.mkdir(os.path.join(directory, "bin"))
-    os.symlink(PROGRAM, os.path.join(directory, "bin", "afdxmon"))
-    os.symlink(os.path.join(TOP, "examples"), os.path.join(directory, "examples"))
-    for page in (os.path.join("docs", "RECIPES.md"), "README.md"):
-        for command, printed in commands_of(page):
-            how = {"cwd": directory, "env": {**os.environ, "LC_ALL": "C"}, "timeout": 60}
-            ran = subprocess.run(["bash", "-c", command], stdout=subprocess.PIPE, stderr=subprocess.STDOUT, **how)
-            same = ran.stdout == printed.encode()
-            say(f"{page}: {' '.join(command.split())[:100]}", "" if same else f"printed {ran.stdout[:300]!r}")
-
-
 def cases():
-    with tempfile.TemporaryDirectory() as directory, tempfile.TemporaryDirectory() as top:
+    with tempfile.TemporaryDirectory() as directory:
         desk = Desk(directory)
         worked_examples(desk)
         workers(desk)
@@ -411,4 +388,3 @@ def cases():
         generated(desk)
         long_pairs(desk)
         devices(desk)
-        pages(top)

@@ -1,0 +1,34 @@
+# Completions of afdxmon for fish.
+
+complete -c afdxmon -f
+complete -c afdxmon -s h -l help -d 'Print the help'
+complete -c afdxmon -n __fish_use_subcommand -s V -l version -d 'Print the version'
+
+set -l commands '__fish_use_subcommand || __fish_seen_subcommand_from help'
+complete -c afdxmon -n $commands -a watch -d 'Judge the frames of two recordings'
+complete -c afdxmon -n $commands -a capture -d 'Copy the frames that a filter accepts'
+complete -c afdxmon -n $commands -a debug -d 'Step through a filter on the frames of a recording'
+complete -c afdxmon -n $commands -a asm -d "Assemble a filter's source"
+complete -c afdxmon -n $commands -a help -d 'Print the help of a command'
+
+set -l watch '__fish_seen_subcommand_from watch'
+complete -c afdxmon -n $watch -l config -r -F -d 'The table of virtual links'
+complete -c afdxmon -n $watch -l filter -r -F -d 'The filter in the numeric form'
+complete -c afdxmon -n $watch -l a -r -F -d 'The recording of network A'
+complete -c afdxmon -n $watch -l b -r -F -d 'The recording of network B'
+complete -c afdxmon -n $watch -l capture -r -F -d 'The capture to write'
+complete -c afdxmon -n $watch -l ledger -r -F -d 'The ledger to write'
+complete -c afdxmon -n $watch -l workers -x -a '1 2 3 4 5 6 7 8' -d 'The number of workers'
+complete -c afdxmon -n $watch -l quiet -d 'Leave out the summary and the progress'
+
+set -l capture '__fish_seen_subcommand_from capture'
+complete -c afdxmon -n $capture -l code -x -d 'The filter in the numeric form, as text'
+complete -c afdxmon -n $capture -l filter -r -F -d 'The filter in the numeric form'
+complete -c afdxmon -n $capture -l source -r -F -d 'The filter as source'
+complete -c afdxmon -n $capture -s o -l output -r -F -d 'The capture to write'
+complete -c afdxmon -n $capture -F
+
+set -l debug '__fish_seen_subcommand_from debug'
+complete -c afdxmon -n $debug -l filter -r -F -d 'The filter in the numeric form'
+complete -c afdxmon -n $debug -l source -r -F -d 'The filter as source'
+complete -c afdxmon -n $debug -l tap -r -F -d 'The recording'
