@@ -5,6 +5,8 @@
 #![tactic(auto)]
 
 mod files;
+mod packets;
+mod progress;
 mod streams;
 
 use afdx_frame::{Network, TapFrame};
@@ -19,6 +21,7 @@ use bpf_debugger::DebugFault;
 use bpf_loader::Program;
 use files::{refuse_closed, refuse_shared, refuse_shared_output};
 use pcap_io::{Ending, ReadSource, WriteSink};
+use progress::{Progress, Recording};
 use std::alloc::Global;
 use std::io;
 use std::io::{BufRead, BufReader, BufWriter, ErrorKind, IsTerminal, Write};
@@ -69,22 +72,16 @@ fn asm(rt: &HostRuntime) -> Result<Exit, Refused> {
     }
 }
 
-/// What is read in blocks.
-type Source = ReadSource<Input>;
-
 /// Opens a file that is read.
-fn open(rt: &HostRuntime, path: &str, file: FileOption) -> Result<Source, Fault> {
-    match Input::open(rt, path) {
-        Ok(opened) => Ok(ReadSource::new(opened)),
-        Err(_) => Err(Fault::File(file)),
-    }
+fn open(rt: &HostRuntime, path: &str, file: FileOption) -> Result<Input, Fault> {
+    Input::open(rt, path).map_err(|_| Fault::File(file))
 }
 
 /// Opens the recording of a network. A network without one has no frames.
-fn open_tap(rt: &HostRuntime, path: Option<&str>, file: FileOption) -> Result<Source, Fault> {
+fn open_tap(rt: &HostRuntime, path: Option<&str>, file: FileOption) -> Result<Input, Fault> {
     match path {
         Some(path) => open(rt, path, file),
-        None => Ok(ReadSource::new(Input::empty_recording())),
+        None => Ok(Input::empty_recording()),
     }
 }
 
@@ -122,7 +119,7 @@ fn open_outputs(rt: &HostRuntime, given: &WatchArguments<'_>) -> Result<(Sink, S
 
 /// The text of a file.
 fn text_of(rt: &HostRuntime, path: &str, file: FileOption) -> Result<String, Fault> {
-    let mut source = open(rt, path, file)?;
+    let mut source = ReadSource::new(open(rt, path, file)?);
     read_file(rt.alloc(), file, &mut source)
 }
 
@@ -159,7 +156,7 @@ fn capture(rt: &HostRuntime, given: &CaptureArguments<'_>) -> Result<Exit, Refus
         return Ok(Exit::Terminal);
     }
     let program = filter(rt, given.filter)?;
-    let source = open(rt, given.recording, FileOption::Recording)?;
+    let source = ReadSource::new(open(rt, given.recording, FileOption::Recording)?);
     refuse_shared_output(rt, given)?;
     let output = create(rt, given.output, FileOption::Output)?;
     let CaptureRun {
@@ -204,18 +201,26 @@ fn watch<R: Threads + Wait + Sync>(
     let a = open_tap(rt, given.a, FileOption::A)?;
     let b = open_tap(rt, given.b, FileOption::B)?;
     let (capture, ledger) = open_outputs(rt, given)?;
+    let progress = if given.quiet {
+        None
+    } else {
+        Progress::begin(rt, a.length(rt), b.length(rt))
+    };
     let run = analyser::watch(
         threads,
         rt.alloc(),
         &config,
         &programs,
         u32::from(given.workers),
-        a,
-        b,
+        ReadSource::new(Recording::new(rt, a, Network::A, progress.as_ref())),
+        ReadSource::new(Recording::new(rt, b, Network::B, progress.as_ref())),
         capture,
         ledger,
         &OpenGate,
     );
+    if let Some(progress) = &progress {
+        progress.erase(rt);
+    }
     let (outcome, capture, ledger) = match run {
         Ok(done) => {
             let [a, b] = done.endings;
@@ -290,12 +295,22 @@ fn debug_terminal(rt: &HostRuntime, program: Program, frames: Vec<TapFrame>) -> 
     Ok(())
 }
 
+/// Reads a recording whole, and shows its progress.
+fn read_tap_shown(rt: &HostRuntime, tap: Input) -> Result<HeldTap, WatchFault> {
+    let progress = Progress::begin(rt, tap.length(rt), None);
+    let recording = Recording::new(rt, tap, Network::A, progress.as_ref());
+    let TapRead { outcome, source: _ } = read_tap(rt.alloc(), ReadSource::new(recording));
+    if let Some(progress) = &progress {
+        progress.erase(rt);
+    }
+    outcome
+}
+
 /// Steps through a filter on the frames of a recording. An error is a fault that was met before the session.
 fn debug(rt: &HostRuntime, given: &DebugArguments<'_>) -> Result<Exit, Refused> {
     let program = filter(rt, given.filter)?;
     let tap = open(rt, given.tap, FileOption::Tap)?;
-    let TapRead { outcome, source: _ } = read_tap(rt.alloc(), tap);
-    let tap = match outcome {
+    let tap = match read_tap_shown(rt, tap) {
         Ok(tap) => tap,
         Err(fault) => return Err(Refused::from(Fault::Watch(fault))),
     };

@@ -1,8 +1,8 @@
 //! What the program reads and writes: files, the standard streams, and what stands in the place of a file that
 //! isn't named.
 use std::fs::{File, OpenOptions};
-use std::io;
 use std::io::{Read, Stdin, Stdout, Write};
+use std::{fs, io};
 
 /// A recording without frames: the header of a nanosecond pcap file of Ethernet.
 const EMPTY_RECORDING: [u8; 24] = [
@@ -30,6 +30,20 @@ impl Input {
             return Ok(Input::Standard(rt.stdin()));
         }
         Ok(Input::File(File::open(rt, path)?))
+    }
+
+    /// How many bytes it has, if it is a regular file.
+    pub fn length(&self, rt: &HostRuntime) -> Option<u64> {
+        let metadata = match self {
+            Input::File(file) => file.metadata().ok()?,
+            Input::Standard(_) => fs::metadata(rt, "/dev/stdin").ok()?,
+            Input::Held(_) => return None,
+        };
+        if metadata.is_file() {
+            Some(metadata.len())
+        } else {
+            None
+        }
     }
 }
 
