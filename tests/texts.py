@@ -123,7 +123,7 @@ Options:
       --capture <FILE>  The capture to write, a nanosecond pcap file
       --ledger <FILE>   The ledger of verdicts to write
       --workers <N>     The number of workers, 1 to 8 [default: 2]
-      --quiet           Leave out the summary at a terminal
+      --quiet           Leave out progress and summary at a terminal
   -h, --help            Print help
 
 A network whose recording isn't given has no frames. Without --filter no frame is accepted, and

@@ -1,5 +1,6 @@
 //! What is written of inputs that pause, as pipes do: it is handed to the system before the program waits for
 //! more, and a fault is told before the program waits for its threads.
+use crate::progress::Progress;
 use crate::streams::{Input, Output};
 use crate::tell;
 use afdx_frame::Network;
@@ -99,21 +100,24 @@ pub struct Watcher<'a> {
     rt: &'a HostRuntime,
     capture: Blocks,
     ledger: Blocks,
+    progress: Option<&'a Progress>,
     told: &'a AtomicBool,
 }
 
 impl<'a> Watcher<'a> {
-    /// `told` becomes true once a fault was told.
+    /// Of the capture and the ledger. `told` becomes true once a fault was told.
     pub fn new(
         rt: &'a HostRuntime,
-        capture: Blocks,
-        ledger: Blocks,
+        outputs: (Blocks, Blocks),
+        progress: Option<&'a Progress>,
         told: &'a AtomicBool,
     ) -> Watcher<'a> {
+        let (capture, ledger) = outputs;
         Watcher {
             rt,
             capture,
             ledger,
+            progress,
             told,
         }
     }
@@ -127,6 +131,9 @@ impl RunObserver for Watcher<'_> {
 
     fn aborts(&self, fault: WatchFault) {
         self.waits();
+        if let Some(progress) = self.progress {
+            progress.erase(self.rt);
+        }
         // Where standard error can't be written, the status alone tells of it.
         let _ = tell(self.rt, &Exit::Fault(Fault::Watch(fault)), None);
         self.told.store(true, Ordering::SeqCst);

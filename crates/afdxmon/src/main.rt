@@ -6,6 +6,8 @@
 
 mod files;
 mod live;
+mod packets;
+mod progress;
 mod streams;
 
 use afdx_frame::{Network, TapFrame};
@@ -21,6 +23,7 @@ use bpf_loader::Program;
 use files::{refuse_closed, refuse_shared, refuse_shared_output};
 use live::{Blocks, LiveInput, Watcher};
 use pcap_io::{Ending, ReadSource, WriteSink};
+use progress::{Progress, Recording};
 use std::alloc::Global;
 use std::io;
 use std::io::{BufRead, BufReader, BufWriter, ErrorKind, IsTerminal, Write};
@@ -72,22 +75,16 @@ fn asm(rt: &HostRuntime) -> Result<Exit, Refused> {
     }
 }
 
-/// What is read in blocks.
-type Source = ReadSource<Input>;
-
 /// Opens a file that is read.
-fn open(rt: &HostRuntime, path: &str, file: FileOption) -> Result<Source, Fault> {
-    match Input::open(rt, path) {
-        Ok(opened) => Ok(ReadSource::new(opened)),
-        Err(_) => Err(Fault::File(file)),
-    }
+fn open(rt: &HostRuntime, path: &str, file: FileOption) -> Result<Input, Fault> {
+    Input::open(rt, path).map_err(|_| Fault::File(file))
 }
 
 /// Opens the recording of a network. A network without one has no frames.
-fn open_tap(rt: &HostRuntime, path: Option<&str>, file: FileOption) -> Result<Source, Fault> {
+fn open_tap(rt: &HostRuntime, path: Option<&str>, file: FileOption) -> Result<Input, Fault> {
     match path {
         Some(path) => open(rt, path, file),
-        None => Ok(ReadSource::new(Input::empty_recording())),
+        None => Ok(Input::empty_recording()),
     }
 }
 
@@ -127,7 +124,7 @@ fn open_outputs(rt: &HostRuntime, given: &WatchArguments<'_>) -> Result<(Blocks,
 
 /// The text of a file.
 fn text_of(rt: &HostRuntime, path: &str, file: FileOption) -> Result<String, Fault> {
-    let mut source = open(rt, path, file)?;
+    let mut source = ReadSource::new(open(rt, path, file)?);
     read_file(rt.alloc(), file, &mut source)
 }
 
@@ -164,9 +161,7 @@ fn capture(rt: &HostRuntime, given: &CaptureArguments<'_>) -> Result<Exit, Refus
         return Ok(Exit::Terminal);
     }
     let program = filter(rt, given.filter)?;
-    let Ok(recording) = Input::open(rt, given.recording) else {
-        return Err(Refused::from(Fault::File(FileOption::Recording)));
-    };
+    let recording = open(rt, given.recording, FileOption::Recording)?;
     refuse_shared_output(rt, given)?;
     let output = create(rt, given.output, FileOption::Output)?;
     // What was kept so far can be seen while a pipe gives no more.
@@ -219,19 +214,28 @@ fn watch<R: Threads + Wait + Sync>(
     let a = open_tap(rt, given.a, FileOption::A)?;
     let b = open_tap(rt, given.b, FileOption::B)?;
     let (capture, ledger) = open_outputs(rt, given)?;
-    let watcher = Watcher::new(rt, same(&capture)?, same(&ledger)?, told);
+    let progress = if given.quiet {
+        None
+    } else {
+        Progress::begin(rt, a.length(rt), b.length(rt))
+    };
+    let outputs = (same(&capture)?, same(&ledger)?);
+    let watcher = Watcher::new(rt, outputs, progress.as_ref(), told);
     let run = analyser::watch(
         threads,
         rt.alloc(),
         &config,
         &programs,
         u32::from(given.workers),
-        a,
-        b,
+        ReadSource::new(Recording::new(rt, a, Network::A, progress.as_ref())),
+        ReadSource::new(Recording::new(rt, b, Network::B, progress.as_ref())),
         WriteSink::new(capture),
         WriteSink::new(ledger),
         &watcher,
     );
+    if let Some(progress) = &progress {
+        progress.erase(rt);
+    }
     let (outcome, capture, ledger) = match run {
         Ok(done) => {
             let [a, b] = done.endings;
@@ -306,12 +310,22 @@ fn debug_terminal(rt: &HostRuntime, program: Program, frames: Vec<TapFrame>) -> 
     Ok(())
 }
 
+/// Reads a recording whole, and shows its progress.
+fn read_tap_shown(rt: &HostRuntime, tap: Input) -> Result<HeldTap, WatchFault> {
+    let progress = Progress::begin(rt, tap.length(rt), None);
+    let recording = Recording::new(rt, tap, Network::A, progress.as_ref());
+    let TapRead { outcome, source: _ } = read_tap(rt.alloc(), ReadSource::new(recording));
+    if let Some(progress) = &progress {
+        progress.erase(rt);
+    }
+    outcome
+}
+
 /// Steps through a filter on the frames of a recording. An error is a fault that was met before the session.
 fn debug(rt: &HostRuntime, given: &DebugArguments<'_>) -> Result<Exit, Refused> {
     let program = filter(rt, given.filter)?;
     let tap = open(rt, given.tap, FileOption::Tap)?;
-    let TapRead { outcome, source: _ } = read_tap(rt.alloc(), tap);
-    let tap = match outcome {
+    let tap = match read_tap_shown(rt, tap) {
         Ok(tap) => tap,
         Err(fault) => return Err(Refused::from(Fault::Watch(fault))),
     };

@@ -1,6 +1,6 @@
 //! What the program reads and writes: files, the standard streams, and what stands in the place of a file that
 //! isn't named.
-use std::fs::{File, OpenOptions};
+use std::fs::{File, Metadata, OpenOptions};
 use std::io::{Read, Stdin, Stdout, Write};
 use std::{fs, io};
 
@@ -32,16 +32,30 @@ impl Input {
         Ok(Input::File(File::open(rt, path)?))
     }
 
-    /// Whether a read may have to wait for somebody who writes: no regular file's has to.
+    /// What the system says of it, but of bytes that are held.
+    fn metadata(&self, rt: &HostRuntime) -> Option<Metadata> {
+        match self {
+            Input::File(file) => file.metadata().ok(),
+            Input::Standard(_) => fs::metadata(rt, "/dev/stdin").ok(),
+            Input::Held(_) => None,
+        }
+    }
+
+    /// How many bytes it has, if it is a regular file.
+    pub fn length(&self, rt: &HostRuntime) -> Option<u64> {
+        let metadata = self.metadata(rt)?;
+        if metadata.is_file() {
+            Some(metadata.len())
+        } else {
+            None
+        }
+    }
+
+    /// Whether a read may have to wait for somebody who writes: that of a regular file hasn't to.
     pub fn may_pause(&self, rt: &HostRuntime) -> bool {
-        let found = match self {
-            Input::File(file) => file.metadata(),
-            Input::Standard(_) => fs::metadata(rt, "/dev/stdin"),
-            Input::Held(_) => return false,
-        };
-        match found {
-            Ok(metadata) => !metadata.is_file(),
-            Err(_) => true,
+        match self {
+            Input::Held(_) => false,
+            Input::File(_) | Input::Standard(_) => self.length(rt).is_none(),
         }
     }
 }

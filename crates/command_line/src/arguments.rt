@@ -200,14 +200,14 @@ fn workers_option<'a>(alloc: Global) -> Arg<'a>
     .default_value("2")
 }
 
-/// The option that leaves out the summary.
+/// The option that leaves out progress and summary.
 fn quiet_option<'a>(alloc: Global) -> Arg<'a>
     ensures rule { rule_of result ≡ quiet_rule }
     ensures local { result.global ≡ false }
 {
     Arg::new(alloc, "quiet")
         .long("quiet")
-        .help("Leave out the summary at a terminal")
+        .help("Leave out progress and summary at a terminal")
         .action(ArgAction::SetTrue)
 }
 

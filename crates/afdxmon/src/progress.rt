@@ -1,0 +1,182 @@
+//! What a person at a terminal sees of the reading: how far it is, on one line that is written over, and gone at
+//! the end.
+use crate::packets::PacketCount;
+use crate::streams::Input;
+use afdx_frame::Network;
+use std::fmt::{Display, Formatter};
+use std::io::{IsTerminal, Read};
+use std::sync::atomic::{AtomicU64, Ordering};
+use std::time::Instant;
+use std::{fmt, io};
+
+/// How many milliseconds the line stands at least, and after how many it comes first.
+const PERIOD: u64 = 500;
+
+/// What takes the line off the terminal: more blanks than it ever has characters.
+const ERASE: &str =
+    "\r                                                                            \r";
+
+/// How much of a recording was read.
+#[derive(Drop)]
+struct Reading {
+    /// How many bytes it has, if that is known.
+    length: Option<u64>,
+    bytes: AtomicU64,
+    frames: AtomicU64,
+}
+
+impl Reading {
+    fn of(length: Option<u64>) -> Reading {
+        Reading {
+            length,
+            bytes: AtomicU64::new(0),
+            frames: AtomicU64::new(0),
+        }
+    }
+
+    /// How many percent were read, if the length is known.
+    fn percent(&self) -> Option<u64> {
+        let hundredfold = self.bytes.load(Ordering::Relaxed).saturating_mul(100);
+        let percent = hundredfold.checked_div(self.length?).unwrap_or(100);
+        Some(percent.min(100))
+    }
+}
+
+/// How far a command is with its recordings. The threads that read them share it.
+#[derive(Drop)]
+pub struct Progress {
+    started: Instant,
+    a: Reading,
+    b: Reading,
+    /// When the line was written last, in milliseconds since the start. 0: it wasn't yet.
+    written: AtomicU64,
+}
+
+impl Progress {
+    /// The progress of recordings of these lengths from now on. None where standard error is no terminal or
+    /// there is no clock.
+    pub fn begin(rt: &HostRuntime, a: Option<u64>, b: Option<u64>) -> Option<Progress> {
+        if !rt.stderr().is_terminal() {
+            return None;
+        }
+        Some(Progress {
+            started: Instant::now(rt).ok()?,
+            a: Reading::of(a),
+            b: Reading::of(b),
+            written: AtomicU64::new(0),
+        })
+    }
+
+    fn reading(&self, network: Network) -> &Reading {
+        match network {
+            Network::A => &self.a,
+            Network::B => &self.b,
+        }
+    }
+
+    /// Counts what was read of a recording, and writes the line if it is time.
+    fn count(&self, rt: &HostRuntime, network: Network, bytes: u64, frames: u64) {
+        let reading = self.reading(network);
+        reading.bytes.fetch_add(bytes, Ordering::Relaxed);
+        reading.frames.fetch_add(frames, Ordering::Relaxed);
+        let Ok(elapsed) = self.started.elapsed(rt) else {
+            return;
+        };
+        let now = u64::try_from(elapsed.as_millis()).unwrap_or(u64::MAX);
+        let written = self.written.load(Ordering::Relaxed);
+        if now < written.saturating_add(PERIOD) {
+            return;
+        }
+        // Of two threads that find it time one writes.
+        let order = Ordering::Relaxed;
+        if self
+            .written
+            .compare_exchange(written, now, order, order)
+            .is_ok()
+        {
+            let _ = rt.eprint(self.line(now));
+        }
+    }
+
+    /// What the line says so many milliseconds after the start.
+    fn line(&self, now: u64) -> ProgressLine {
+        let of_a = self.a.frames.load(Ordering::Relaxed);
+        let of_b = self.b.frames.load(Ordering::Relaxed);
+        let frames = of_a.saturating_add(of_b);
+        ProgressLine {
+            a: self.a.percent(),
+            b: self.b.percent(),
+            frames,
+            rate: frames.saturating_mul(1000).checked_div(now).unwrap_or(0),
+        }
+    }
+
+    /// Takes the line off the terminal.
+    pub fn erase(&self, rt: &HostRuntime) {
+        if self.written.swap(0, Ordering::Relaxed) > 0 {
+            let _ = rt.eprint(ERASE);
+        }
+    }
+}
+
+/// The line: how many percent of each recording were read, where that is known, how many frames, and how many a
+/// second.
+#[derive(Clone, Copy)]
+struct ProgressLine {
+    a: Option<u64>,
+    b: Option<u64>,
+    frames: u64,
+    rate: u64,
+}
+
+impl Display for ProgressLine {
+    fn fmt<W: fmt::Write>(&self, f: &mut Formatter<W>) -> fmt::Result {
+        let (frames, rate) = (self.frames, self.rate);
+        f.write_str(ERASE)?;
+        f.write_str("afdxmon: ")?;
+        if let Some(percent) = self.a {
+            write!(f, "A {percent} %, ")?;
+        }
+        if let Some(percent) = self.b {
+            write!(f, "B {percent} %, ")?;
+        }
+        write!(f, "{frames} frames, {rate} a second")
+    }
+}
+
+/// A recording whose reading is shown, or isn't.
+#[derive(Drop)]
+pub struct Recording<'p> {
+    input: Input,
+    network: Network,
+    shown: Option<(&'p HostRuntime, &'p Progress)>,
+    packets: PacketCount,
+}
+
+impl<'p> Recording<'p> {
+    /// A recording of a network, with the progress that it is part of.
+    pub fn new(
+        rt: &'p HostRuntime,
+        input: Input,
+        network: Network,
+        progress: Option<&'p Progress>,
+    ) -> Recording<'p> {
+        Recording {
+            input,
+            network,
+            shown: progress.map(|progress| (rt, progress)),
+            packets: PacketCount::new(),
+        }
+    }
+}
+
+impl Read for Recording<'_> {
+    fn read(&mut self, buf: &mut [u8]) -> io::Result<usize> {
+        let count = self.input.read(buf)?;
+        if let (Some((rt, progress)), Some(bytes)) = (self.shown, buf.get(..count)) {
+            let frames = self.packets.pass(bytes);
+            progress.count(rt, self.network, bytes.len() as u64, frames);
+        }
+        Ok(count)
+    }
+}

@@ -1,0 +1,140 @@
+"""Tests of the line that shows at a terminal how far a command has read: what it says, how often, and that it is gone."""
+import os
+import pty
+import re
+import subprocess
+import tempfile
+import threading
+import time
+
+from analyser import watch
+from harness import EVERY, PROGRAM, SUCCESS, frame, header, recording, say, shown
+from summaries import NO_COPY, summary_of
+from watching import TABLE, Desk, tap
+
+LINE = re.compile(r"afdxmon: (?:A (\d+) %, )?(?:B (\d+) %, )?(\d+) frames, (\d+) a second")
+
+
+class Screen:
+    """A terminal as standard error: all that is written to it, with the time of each piece."""
+
+    def __init__(self):
+        self.ours, self.theirs = pty.openpty()
+        self.pieces = []
+        self.reader = threading.Thread(target=self.read, daemon=True)
+
+    def read(self):
+        while True:
+            try:
+                piece = os.read(self.ours, 65536)
+            except OSError:
+                return  # nobody has it open any more
+            self.pieces.append((time.monotonic(), piece.decode("utf-8", "replace")))
+
+    def run(self, arguments, feed, **how):
+        """Runs a command while `feed` gives it what it waits for. Its status, and all that the terminal got."""
+        child = subprocess.Popen([PROGRAM, *arguments], stdout=subprocess.PIPE, stderr=self.theirs, **how)
+        os.close(self.theirs)
+        self.reader.start()
+        feed()
+        self.out = child.communicate(timeout=60)[0]
+        self.reader.join(60)
+        os.close(self.ours)
+        return child.returncode, "".join(text for _, text in self.pieces).replace("\r\n", "\n")
+
+
+def slowly(path, *pieces):
+    """What writes these pieces to a pipe, with a pause before each but the first in which the line becomes due."""
+
+    def feed():
+        with open(path, "wb", buffering=0) as out:
+            out.write(pieces[0])
+            for piece in pieces[1:]:
+                time.sleep(0.8)
+                out.write(piece)
+
+    return feed
+
+
+def judged(name, told, expected, last):
+    """The lines that came, of which the last says this, and what is left on the screen."""
+    lines = [match.groups() for match in LINE.finditer(told)]
+    if shown(told) != expected:
+        return say(name, f"the screen shows {shown(told)!r}, not {expected!r}")
+    if not lines or lines[-1][:3] != last:
+        return say(name, f"the lines are {lines}, the last not {last}")
+    frames = int(last[2])
+    # It came between 0.8 and 5 seconds after the start, for each piece that was waited for.
+    rate = int(lines[-1][3])
+    return say(name, "" if frames // 10 <= rate <= frames * 2 else f"{rate} frames a second of {frames}")
+
+
+def networks(desk):
+    """`watch` with one recording in a file and one that comes by a pipe, in both byte orders."""
+    few = tap(*((i, frame(5, 60, i % 255 + 1)) for i in range(100)))
+    pipe = os.path.join(desk.directory, "pipe")
+    os.mkfifo(pipe)
+    for layout, unit in (("<", 1), (">", 1), ("<", 1000), (">", 1000)):
+        many = recording(1001, layout, unit, sizes=(60, 300))
+        cut = len(many) - 40
+        expected = watch(TABLE, EVERY, many, few)
+        summary = summary_of(expected.lines + expected.summary, NO_COPY)
+        for quiet in (False, True):
+            desk.lay(config=TABLE, filter=EVERY, b=few)
+            arguments = desk.arguments(a=pipe) + ["--quiet"] * quiet
+            status, told = Screen().run(arguments, slowly(pipe, many[:cut], many[cut:]), stdin=subprocess.DEVNULL)
+            name = f"progress of watch{' --quiet' * quiet}, byte order {layout}, unit {unit}"
+            if quiet:
+                say(name, "" if (status, told) == (SUCCESS, "") else f"status {status}, {told!r}")
+            else:
+                judged(name, told, summary, (None, "100", "1101"))
+            ledger = expected.lines + expected.summary
+            say(f"{name}: its outputs", desk.compared("capture", expected.capture) or desk.compared("ledger", ledger))
+    os.remove(pipe)
+
+
+def seldom(desk):
+    """At most two lines a second, however often there is something to read."""
+    frames = [frame(5, 60, i % 255 + 1) for i in range(150)]
+    pieces = [tap(*((i, data) for i, data in enumerate(frames)))]
+    pipe = os.path.join(desk.directory, "often")
+    os.mkfifo(pipe)
+
+    def feed():
+        with open(pipe, "wb", buffering=0) as out:
+            whole = pieces[0]
+            out.write(whole[:24])
+            for at in range(24, len(whole), 76):
+                time.sleep(0.02)
+                out.write(whole[at : at + 76])
+
+    desk.lay(config=TABLE, filter=EVERY)
+    screen, begun = Screen(), time.monotonic()
+    status, told = screen.run(desk.arguments(a=pipe, b=None), feed, stdin=subprocess.DEVNULL)
+    most = (time.monotonic() - begun) / 0.5
+    count = len(LINE.findall(told))
+    say("progress: at most two lines a second", "" if status == SUCCESS and 2 <= count <= most else f"status {status}, {count} lines, at most {most}")
+    os.remove(pipe)
+
+
+def session(desk):
+    """`debug` shows it while it reads its recording, before it answers."""
+    pipe = os.path.join(desk.directory, "session")
+    os.mkfifo(pipe)
+    desk.lay(filter=EVERY)
+    whole = header() + tap(*((i, frame(5, 60, 1)) for i in range(300)))[24:]
+    screen = Screen()
+    arguments = ["debug", "--filter", desk.paths["filter"], "--tap", pipe]
+    status, told = screen.run(arguments, slowly(pipe, whole[:-10], whole[-10:]), stdin=subprocess.DEVNULL)
+    if (status, screen.out) != (SUCCESS, b"frames 300\n"):
+        say("progress of debug: its answer", f"status {status}, {screen.out!r}")
+    judged("progress of debug", told, "", (None, None, "300"))
+    os.remove(pipe)
+
+
+def cases():
+    with tempfile.TemporaryDirectory() as directory:
+        desk = Desk(directory)
+        networks(desk)
+        seldom(desk)
+        session(desk)
