@@ -5,18 +5,19 @@
 #![tactic(auto)]
 
 mod files;
+mod telling;
 
-use afdx_frame::{Network, TapFrame};
+use afdx_frame::TapFrame;
 use analyser::{
-    AsmRun, CaptureRun, DebugArguments, Exit, Fault, FileOption, HeldTap, Invocation, Note,
-    OpenGate, Summary, TapNote, TapRead, USAGE, WatchArguments, WatchFault, advice, answer_line,
-    begin_session, caret_at, filter_of, load_filters, read_arguments, read_config, read_file,
-    read_tap, run_asm, run_capture, run_session,
+    AsmRun, CaptureRun, DebugArguments, Exit, Fault, FileOption, HeldTap, Invocation, OpenGate,
+    Summary, TapRead, USAGE, WatchArguments, WatchFault, answer_line, begin_session, filter_of,
+    load_filters, read_arguments, read_config, read_file, read_tap, run_asm, run_capture,
+    run_session,
 };
 use bpf_debugger::DebugFault;
 use bpf_loader::Program;
 use files::{OutputFile, refuse_shared};
-use pcap_io::{Ending, ReadSource, WriteSink};
+use pcap_io::{ReadSource, WriteSink};
 use std::alloc::Global;
 use std::fs::File;
 use std::io;
@@ -24,6 +25,7 @@ use std::io::{BufRead, BufReader, BufWriter, ErrorKind, IsTerminal, Write};
 use std::process::ExitCode;
 use std::sync::Wait;
 use std::thread::Threads;
+use telling::tell;
 use vl_config::Config;
 
 /// How many bytes are handed to the system at once.
@@ -60,7 +62,7 @@ fn asm(rt: &HostRuntime) -> Exit {
     );
     let flushed = sink.into_writer().flush().is_ok();
     let exit = Exit::of_text(outcome, flushed);
-    let _ = tell(rt, &exit, text.as_deref());
+    let _ = tell(rt, Invocation::Asm, &exit, text.as_deref());
     exit
 }
 
@@ -225,39 +227,6 @@ fn debug(rt: &HostRuntime, given: &DebugArguments<'_>) -> Result<Exit, Fault> {
     Ok(debug_input(rt, program, tap))
 }
 
-/// Notes how one of two recordings ended, where that wasn't its end.
-fn note_ending(rt: &HostRuntime, network: Network, ending: Ending) -> io::Result<()> {
-    match ending {
-        Ending::Clean(_) => Ok(()),
-        Ending::Cut(_) | Ending::Bad(..) => rt.eprintln(TapNote(network, ending)),
-    }
-}
-
-/// Tells standard error how a command ended: the fault line or the notes, and to a person at a terminal
-/// where in a filter's source a fault lies, and what it means.
-fn tell(rt: &HostRuntime, exit: &Exit, source: Option<&str>) -> io::Result<()> {
-    match exit {
-        Exit::Success => Ok(()),
-        Exit::Note(ending) => rt.eprintln(Note(*ending)),
-        Exit::Watched(run) => {
-            note_ending(rt, Network::A, run.a)?;
-            note_ending(rt, Network::B, run.b)
-        }
-        Exit::Fault(fault) => {
-            rt.eprintln(*fault)?;
-            if !rt.stderr().is_terminal() {
-                return Ok(());
-            }
-            if let (Fault::Asm(fault), Some(source)) = (fault, source) {
-                if let Some(caret) = caret_at(rt.alloc(), *fault, source) {
-                    rt.eprintln(caret)?;
-                }
-            }
-            rt.eprintln(advice(fault))
-        }
-    }
-}
-
 /// Tells a person at a terminal what a run over two recordings came to.
 fn summarise(rt: &HostRuntime, exit: &Exit) -> io::Result<()> {
     match exit {
@@ -297,7 +266,7 @@ fn carry_out<R: Threads + Wait + Sync>(
         Ok(exit) => exit,
         Err(fault) => Exit::Fault(fault),
     };
-    let _ = tell(rt, &exit, None);
+    let _ = tell(rt, command, &exit, None);
     if !quiet {
         let _ = summarise(rt, &exit);
     }

@@ -16,14 +16,14 @@
 
 pub use capture_run::{capture_gives_the_accepted_frames, capture_one};
 pub use command_line::{
-    Caret, DebugArguments, Exit, Fault, FileOption, Hint, Inode, Invocation, Named, Note, Summary,
-    TapNote, USAGE, WatchArguments, WatchFiles, advice, caret_at, fault_line, hint_of,
-    read_arguments,
+    Caret, DebugArguments, EndingAdvice, Exit, Fault, FileOption, HEAD_LEN, Hint, Inode,
+    Invocation, Named, Note, Summary, TapNote, USAGE, WatchArguments, WatchFiles, advice, caret_at,
+    fault_line, file_of, header_advice, hint_of, read_arguments,
 };
 pub use commands::{
-    AsmRun, CaptureRun, DebugRun, HeldTap, Ran, TapRead, answer_line, asm_over, begin_session,
-    capture_over, debug_over, filter_of, load_filters, read_config, read_file, read_tap, run_asm,
-    run_capture, run_debug, run_session, source_means_its_program,
+    AsmRun, CaptureRun, DebugRun, HeldTap, MAX_TEXT, Ran, TapRead, answer_line, asm_over,
+    begin_session, capture_over, debug_over, filter_of, load_filters, read_config, read_file,
+    read_tap, run_asm, run_capture, run_debug, run_session, source_means_its_program,
 };
 pub use run_outcome::{Output, WatchFault, WatchRefused};
 pub use watch_run::{OpenGate, Watched, same_bytes_in_same_bytes_out, watch, watch_whole};
