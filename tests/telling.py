@@ -5,53 +5,79 @@ import struct
 import subprocess
 
 from harness import EVERY, FAULT, PROGRAM, SUCCESS, difference, frame, header, record, run, run_at_terminal, say
-from texts import ABOUT, ADVICE, CHECK_SEQUENCES, GZIP, PCAPNG, PROGRAM_HELP, VERSION, ZSTD, advice_on, advice_on_ending, help_of
+from texts import ABOUT, ADVICE, ALLOWED, CHECK_SEQUENCES, COUNTS, EXPRESSION, GZIP, LINK_KEYS, NO_DOCUMENT, NOT_NUMERIC
+from texts import PCAPNG, PROGRAM_HELP, SOURCE, TOP_KEYS, VERSION, ZSTD, advice_on, advice_on_ending, help_of
 from watching import LINK_5, TABLE
 
 MIB = 1 << 20
 FAR = b"\tjeq #0, l\n" + b"ret #0\n" * 256 + b"l: ret #0"
-# A refused source, its fault, and the line and caret that a terminal shows.
+# A refused source, its fault, and the place, line and caret that a terminal shows.
 SOURCES = (
-    (b"ld @", "asm 1 Text 1 Character at 3", "ld @\n   ^\n"),
-    (b"ret #0\nld #4294967296", "asm 1 Text 2 Number at 11", "ld #4294967296\n    ^\n"),
-    (b"ld #1\n\tjne #5 l\nret a", "asm 1 Text 3 Form at 14", "\tjne #5 l\n\t       ^\n"),
-    (b"l:", "asm 1 Text 3 Form at 2", "l:\n  ^\n"),
-    (b"ldq [1]", "asm 1 Text 3 Form at 4", "ldq [1]\n    ^\n"),
-    (b"ret #0 x: ret #0\nret #1", "asm 1 Text 4 ReservedLabel at 7", "ret #0 x: ret #0\n       ^\n"),
+    (b"ld @", "asm 1 Text 1 Character at 3", "1:4\nld @\n   ^\n"),
+    (b"ret #0\nld #4294967296", "asm 1 Text 2 Number at 11", "2:5\nld #4294967296\n    ^\n"),
+    (b"ld #1\n\tjne #5 l\nret a", "asm 1 Text 3 Form at 14", "2:9\n\tjne #5 l\n\t       ^\n"),
+    (b"l:", "asm 1 Text 3 Form at 2", "1:3\nl:\n  ^\n"),
+    (b"ldq [1]", "asm 1 Text 3 Form at 4", "1:5\nldq [1]\n    ^\n"),
+    (b"ret #0 x: ret #0\nret #1", "asm 1 Text 4 ReservedLabel at 7", "1:8\nret #0 x: ret #0\n       ^\n"),
     (b"", "asm 2 Empty", ""),
     (b"ret #0\n" * 4097, "asm 3 TooMany", ""),
-    (b"l: ret #0\n\n  l: ret #0", "asm 4 TwiceLabel at 1", "  l: ret #0\n  ^\n"),
-    (b"ld #1\n  jmp l\nret a", "asm 5 NoLabel at 1", "  jmp l\n  ^\n"),
-    (b"l: ret #0 jmp l", "asm 6 Backward at 1", "l: ret #0 jmp l\n          ^\n"),
-    (FAR, "asm 7 TooFar at 0", "\tjeq #0, l\n\t^\n"),
+    (b"l: ret #0\n\n  l: ret #0", "asm 4 TwiceLabel at 1", "3:3\n  l: ret #0\n  ^\n"),
+    (b"ld #1\n  jmp l\nret a", "asm 5 NoLabel at 1", "2:7\n  jmp l\n      ^\n"),
+    (b"jeq #0 /* no */, no\nret #0", "asm 5 NoLabel at 0", "1:18\njeq #0 /* no */, no\n                 ^\n"),
+    (b"jeq #0, l, k\nl: ret #0", "asm 5 NoLabel at 0", "1:12\njeq #0, l, k\n           ^\n"),
+    (b"jeq x,\n l,\n k\nl: ret #0", "asm 5 NoLabel at 0", "3:2\n k\n ^\n"),
+    (b"l: ret #0 jmp l", "asm 6 Backward at 1", "1:15\nl: ret #0 jmp l\n              ^\n"),
+    (b"l: jmp l", "asm 6 Backward at 0", "1:8\nl: jmp l\n       ^\n"),
+    (FAR, "asm 7 TooFar at 0", "1:10\n\tjeq #0, l\n\t        ^\n"),
     (b"\xff", "file -", ""),
+    (b"ret #0\r\nld @\r\n", "asm 1 Text 1 Character at 11", "2:4\nld @\n   ^\n"),
+    ("/* \u00e9 */ ld @".encode(), "asm 1 Text 1 Character at 12", "1:12\n/* \u00e9 */ ld @\n           ^\n"),
+    # A line of 200 bytes is shown, a longer one isn't, nor one with a control character.
+    (b"ld #1 " * 32 + b"   ld  @", "asm 1 Text 1 Character at 199", "1:200\n" + "ld #1 " * 32 + "   ld  @\n" + " " * 199 + "^\n"),
+    (b"ld #1 " * 32 + b"    ld  @", "asm 1 Text 1 Character at 200", "1:201\n"),
+    (b"ld #1\nld\t\x1b[0m", "asm 1 Text 1 Character at 9", "2:4\n"),
 )
-# A refused filter and its fault.
+# A refused filter, its fault, and the place, line and caret; nothing of them where the fault is of the whole.
 CODES = (
-    ("1,x", "numeric 1 Character at 2"),
-    ("1,6 0 256 0", "numeric 2 Number at 6"),
-    ("", "numeric 3 Form at 0"),
-    ("2,6 0 0 0,", "numeric 4 Count at 10"),
-    ("4097,", "numeric 5 TooMany at 0"),
-    ("0,", "load 1 Length"),
-    ("2,23 0 0 0,6 0 0 0,", "load 2 UnknownCode at 0"),
-    ("2,52 0 0 0,6 0 0 0,", "load 3 ZeroDivisor at 0"),
-    ("2,100 0 0 32,6 0 0 0,", "load 4 Shift at 0"),
-    ("2,2 0 0 16,6 0 0 0,", "load 5 Scratch at 0"),
-    ("2,32 0 0 2147483648,6 0 0 0,", "load 6 Offset at 0"),
-    ("2,5 0 0 1,6 0 0 0,", "load 7 Jump at 0"),
-    ("2,6 0 0 0,0 0 0 1,", "load 8 NoReturn"),
-    ("4,21 0 1 0,2 0 0 0,96 0 0 0,22 0 0 0,", "load 9 Unstored at 2 word 0"),
+    ("1,x", "numeric 1 Character at 2", "1:3\n1,x\n  ^\n"),
+    ("1,6 0 256 0", "numeric 2 Number at 6", "1:7\n1,6 0 256 0\n      ^\n"),
+    ("", "numeric 3 Form at 0", ""),
+    ("1,6 0 0", "numeric 3 Form at 2", "1:3\n1,6 0 0\n  ^\n"),
+    ("2,6 0 0 0,", "numeric 4 Count at 10", "1:1\n2,6 0 0 0,\n^\n"),
+    ("4097,", "numeric 5 TooMany at 0", "1:1\n4097,\n^\n"),
+    ("0,", "load 1 Length", ""),
+    ("2,23 0 0 0,6 0 0 0,", "load 2 UnknownCode at 0", "1:3\n2,23 0 0 0,6 0 0 0,\n  ^\n"),
+    ("2,52 0 0 0,6 0 0 0,", "load 3 ZeroDivisor at 0", "1:3\n2,52 0 0 0,6 0 0 0,\n  ^\n"),
+    ("2,100 0 0 32,6 0 0 0,", "load 4 Shift at 0", "1:3\n2,100 0 0 32,6 0 0 0,\n  ^\n"),
+    ("2,2 0 0 16,6 0 0 0,", "load 5 Scratch at 0", "1:3\n2,2 0 0 16,6 0 0 0,\n  ^\n"),
+    ("2,32 0 0 2147483648,6 0 0 0,", "load 6 Offset at 0", "1:3\n2,32 0 0 2147483648,6 0 0 0,\n  ^\n"),
+    ("2,5 0 0 1,6 0 0 0,", "load 7 Jump at 0", "1:3\n2,5 0 0 1,6 0 0 0,\n  ^\n"),
+    ("2,6 0 0 0,0 0 0 1,", "load 8 NoReturn", ""),
+    ("4,21 0 1 0,2 0 0 0,96 0 0 0,22 0 0 0,", "load 9 Unstored at 2 word 0", "1:20\n4,21 0 1 0,2 0 0 0,96 0 0 0,22 0 0 0,\n" + " " * 19 + "^\n"),
+    ("3\n0 0 0 1\n\n 52 0 0 0\n6 0 0 0\n", "load 3 ZeroDivisor at 1", "4:2\n 52 0 0 0\n ^\n"),
 )
 # Blanks around a filter are bytes of it, so that offsets count them; others than the form has are faults.
 BLANKS = (
-    ("  1,x", "numeric 1 Character at 4"),
-    ("\n\n1,6 0 256 0", "numeric 2 Number at 8"),
-    ("2,6 0 0 0, \n", "numeric 4 Count at 12"),
-    (" \t\n", "numeric 3 Form at 3"),
-    ("\v1,6 0 0 0,", "numeric 1 Character at 0"),
-    ("1,6 0 0 0,\f", "numeric 1 Character at 10"),
-    ("1,6 0 0 0,\u00a0", "numeric 1 Character at 10"),
+    ("  1,x", "numeric 1 Character at 4", "1:5\n  1,x\n    ^\n"),
+    ("2,6 0 0 0, \n", "numeric 4 Count at 12", "1:1\n2,6 0 0 0, \n^\n"),
+    ("\n , \n2,6 0 0 0", "numeric 4 Count at 14", "3:1\n2,6 0 0 0\n^\n"),
+    (" \t\n", "numeric 3 Form at 3", ""),
+    ("\v1,6 0 0 0,", "numeric 1 Character at 0", "1:1\n"),
+    ("1,6 0 0 0,\f", "numeric 1 Character at 10", "1:11\n"),
+    ("1,6 0 0 0,\u00a0", "numeric 1 Character at 10", "1:11\n1,6 0 0 0,\u00a0\n          ^\n"),
+)
+# Texts in the place of the numeric form, and what they look like. All are refused at their first byte.
+WRITTEN = (
+    ("ip and udp", EXPRESSION),
+    ("ether[4:2] = 5", EXPRESSION),
+    ("!ip", EXPRESSION),
+    ("(tcp or udp)", EXPRESSION),
+    ("Port 53", EXPRESSION),
+    ("ret #0", SOURCE),
+    ("ldh [4]\njne #5, drop\nret #-1\ndrop: ret #0\n", SOURCE),
+    ("ldh [4]\njne 5, drop\nret #-1\n", SOURCE),
+    ("{ return 1; }", NOT_NUMERIC),
+    ("\"ip\"", NOT_NUMERIC),
 )
 # What is wrong with a run: the contents of inputs, the paths in the place of the desk's, the fault, and what stands before
 # the advice at a terminal. `missing` and `directory` stand for such paths.
@@ -70,17 +96,11 @@ RUNS = (
     ({}, {"capture": "directory"}, "file --capture", "{capture}: " + DIRECTORY + "\n"),
     ({}, {"ledger": "directory"}, "file --ledger", "{ledger}: " + DIRECTORY + "\n"),
     ({}, {"ledger": "through"}, "file --ledger", "{ledger}: " + THROUGH + "\n"),
-    ({"config": "["}, {}, "config 1 Text", "{config}: "),
-    ({"config": LINK_5}, {}, "config 2 Missing top", "{config}: "),
-    ({"config": "constant = true"}, {}, "config 3 Kind top", "{config}: "),
-    ({"config": TABLE.replace("bag_ms = 1", "bag_ms = 3")}, {}, "config 4 Range link 0", "{config}: "),
-    ({"config": TABLE + "bag = 4\n"}, {}, "config 5 UnknownKey link 0", "{config}: "),
-    ({"config": TABLE + LINK_5.replace("brake", "flaps")}, {}, "config 6 TwiceId link 1", "{config}: "),
-    ({"config": TABLE + LINK_5.replace("= 5", "= 6")}, {}, "config 7 TwiceName link 1", "{config}: "),
-    ({"config": f"filters = {['1,6 0 0 0,'] * 8}\n" + TABLE}, {}, "config 8 TooMany", "{config}: "),
-    ({"config": 'filters = ["1,x"]\n' + TABLE}, {}, "numeric 1 Character at 2 filter 1", "{config}: "),
-    ({"config": f'filters = ["{EVERY}", "0,"]\n' + TABLE}, {}, "load 1 Length filter 2", "{config}: "),
-    ({"filter": "1,x"}, {}, "numeric 1 Character at 2", "{filter}: "),
+    ({"config": 'filters = ["1,x"]\n' + TABLE}, {}, "numeric 1 Character at 2 filter 1", '{config}:1:1: filter 1\nfilters = ["1,x"]\n^\n1,x\n  ^\n'),
+    ({"config": f'filters = ["{EVERY}", "0,"]\n' + TABLE}, {}, "load 1 Length filter 2", f'{{config}}:1:1: filter 2\nfilters = ["{EVERY}", "0,"]\n^\n'),
+    ({"config": "filters = [\n'1,52 0 0 0,']\n" + TABLE}, {}, "load 3 ZeroDivisor at 0 filter 1", "{config}:1:1: filter 1\nfilters = [\n^\n1,52 0 0 0,\n  ^\n"),
+    ({"filter": "1,x"}, {}, "numeric 1 Character at 2", "{filter}:1:3\n1,x\n  ^\n"),
+    ({"filter": "2,52 0 0 0\n6 0 0 0"}, {}, "load 3 ZeroDivisor at 0", "{filter}:1:3\n2,52 0 0 0\n  ^\n"),
     ({"filter": "0,"}, {}, "load 1 Length", "{filter}: "),
     ({"a": b""}, {}, "watch 2 Header A 1 Short", "{a}: "),
     ({"a": bytes(24)}, {}, "watch 2 Header A 2 Magic", "{a}: "),
@@ -90,6 +110,44 @@ RUNS = (
     ({}, {"b": "directory"}, "watch 3 Read B", "{b}: " + DIRECTORY + "\n"),
     ({}, {"capture": "/dev/full"}, "watch 4 Write capture", "{capture}: "),
     ({}, {"ledger": "/dev/full"}, "watch 4 Write ledger", "{ledger}: "),
+)
+BRAKE, FLAPS = 'link 0, id 5, name "brake"', 'link 1, id 6, name "flaps"'
+LINK_6 = LINK_5.replace("= 5", "= 6").replace("brake", "flaps")
+# A table, its fault, what a terminal shows after the table's path, and the last line. TABLE has its link in line 3.
+TABLES = (
+    ("constant = \n", "1 Text", ":1:12: invalid value, expected a string, number, boolean, date-time, array or inline table\nconstant = \n           ^\n", NO_DOCUMENT),
+    (TABLE + "[[link]\n", "1 Text", ":12:8: unclosed array table, expected `]]`\n[[link]\n       ^\n", NO_DOCUMENT),
+    (TABLE + "smax = 200\n", "1 Text", ":12:1: duplicate key\nsmax = 200\n^\n", NO_DOCUMENT),
+    (LINK_5, "2 Missing top", ": constant is missing\n", ALLOWED["constant"]),
+    (TABLE + LINK_6.replace("smax = 200\n", ""), "2 Missing link 1", f":13:1: {FLAPS}: smax is missing\n[[link]]\n^\n", ALLOWED["smax"]),
+    (TABLE + "[[link]]\n", "2 Missing link 1", ":12:1: link 1: id is missing\n[[link]]\n^\n", ALLOWED["id"]),
+    ("constant = true", "3 Kind top", ":1:1: constant = true\nconstant = true\n^\n", ALLOWED["constant"]),
+    ("constant = 50331648\nlink = [5]\n", "3 Kind top", ":2:1: link = a value of type array\nlink = [5]\n^\n", ALLOWED["link"]),
+    ("filters = [\"1,6 0 0 0,\", 5]\n" + TABLE, "3 Kind top", ":1:1: filters = a value of type array\nfilters = [\"1,6 0 0 0,\", 5]\n^\n", ALLOWED["filters"]),
+    (TABLE.replace("smax = 200", 'smax = "200"'), "3 Kind link 0", f':8:1: {BRAKE}: smax = "200"\nsmax = "200"\n^\n', ALLOWED["smax"]),
+    (TABLE.replace("true", '"on"', 1), "3 Kind link 0", f':9:1: {BRAKE}: integrity = "on"\nintegrity = "on"\n^\n', ALLOWED["integrity"]),
+    ("late_us = 1000001\n" + TABLE, "4 Range top", ":1:1: late_us = 1000001\nlate_us = 1000001\n^\n", ALLOWED["late_us"]),
+    (TABLE.replace("50331648", "1"), "4 Range top", ":1:1: constant = 1\nconstant = 1\n^\n", ALLOWED["constant"]),
+    (TABLE.replace("bag_ms = 1", "bag_ms = 3"), "4 Range link 0", f":6:1: {BRAKE}: bag_ms = 3\nbag_ms = 3\n^\n", ALLOWED["bag_ms"]),
+    (TABLE.replace("bag_ms = 1", "  \"bag_ms\"=3 # ms"), "4 Range link 0", f":6:3: {BRAKE}: bag_ms = 3\n  \"bag_ms\"=3 # ms\n  ^\n", ALLOWED["bag_ms"]),
+    (TABLE.replace("bag_ms = 1", "bag_ms = 3").replace("\n", "\r\n"), "4 Range link 0", f":6:1: {BRAKE}: bag_ms = 3\nbag_ms = 3\n^\n", ALLOWED["bag_ms"]),
+    (TABLE + LINK_6.replace("smax = 200", "smax = 63"), "4 Range link 1", f":18:1: {FLAPS}: smax = 63\nsmax = 63\n^\n", ALLOWED["smax"]),
+    (TABLE.replace("id = 5", "id = -1"), "4 Range link 0", ':4:1: link 0, id -1, name "brake": id = -1\nid = -1\n^\n', ALLOWED["id"]),
+    (TABLE.replace("brake", "b r"), "4 Range link 0", ':5:1: link 0, id 5, name "b r": name = "b r"\nname = "b r"\n^\n', ALLOWED["name"]),
+    (TABLE.replace("brake", "b" * 64), "4 Range link 0", f':5:1: link 0, id 5, name "{"b" * 64}": name = "{"b" * 64}"\nname = "{"b" * 64}"\n^\n', ALLOWED["name"]),
+    (TABLE.replace("brake", "b" * 65), "4 Range link 0", f':5:1: link 0, id 5: name = a value of type string\nname = "{"b" * 65}"\n^\n', ALLOWED["name"]),
+    (TABLE.replace("jitter_us = 0", "jitter_us = 100001"), "4 Range link 0", f":7:1: {BRAKE}: jitter_us = 100001\njitter_us = 100001\n^\n", ALLOWED["jitter_us"]),
+    (TABLE.replace("skew_us = 1000", "skew_us = 1000001"), "4 Range link 0", f":11:1: {BRAKE}: skew_us = 1000001\nskew_us = 1000001\n^\n", ALLOWED["skew_us"]),
+    ("Constant = 5\n" + TABLE, "5 UnknownKey top", ":1:1: unknown key Constant\nConstant = 5\n^\n", TOP_KEYS),
+    (TABLE + "bag = 4\n", "5 UnknownKey link 0", f":12:1: {BRAKE}: unknown key bag\nbag = 4\n^\n", LINK_KEYS),
+    (TABLE + LINK_5.replace("brake", "flaps"), "6 TwiceId link 1", ':14:1: link 1, id 5, name "flaps": id = 5\nid = 5\n^\n', BRAKE + " has it too: each link has its own id"),
+    (TABLE + LINK_5.replace("= 5", "= 6"), "7 TwiceName link 1", ':15:1: link 1, id 6, name "brake": name = "brake"\nname = "brake"\n^\n', BRAKE + " has it too: each link has its own name"),
+    (f"filters = {['1,6 0 0 0,'] * 8}\n" + TABLE, "8 TooMany", f":1:1: 1 links and 8 filters\nfilters = {['1,6 0 0 0,'] * 8}\n^\n", COUNTS),
+    ("constant = 50331648\n" + "[[link]]\n" * 4097, "8 TooMany", ":4098:1: 4097 links and 0 filters\n[[link]]\n^\n", COUNTS),
+    # What stands in strings and arrays is no header and no key; an inline table is named without its line.
+    ('filters = ["""\n[[link]]\nbag_ms = 3\n""", [\n[[1]]], "]"]\n' + TABLE, "3 Kind top", ":1:1: filters = a value of type array\n" + 'filters = ["""\n^\n', ALLOWED["filters"]),
+    ('filters = ["""\n[[link]]\nbag_ms = 3\n"""]\n' + TABLE.replace("bag_ms = 1", "bag_ms = 3"), "4 Range link 0", f":10:1: {BRAKE}: bag_ms = 3\nbag_ms = 3\n^\n", ALLOWED["bag_ms"]),
+    ("constant = 50331648\nlink = [{ id = 5, name = 'brake', bag_ms = 3, jitter_us = 0, smax = 200, integrity = true, redundancy = true, skew_us = 1 }]\n", "4 Range link 0", f": {BRAKE}: bag_ms = 3\n", ALLOWED["bag_ms"]),
 )
 # Files that are no recordings, the fault, and what its advice is where the first bytes say what they are.
 HEADS = (
@@ -120,11 +178,17 @@ def twice(name, line, lead, arguments, advice=None, **how):
 
 def faults(desk):
     """Each fault that can be had has its own advice."""
-    told = [twice("a source", line, shown, ["asm"], input=source) for source, line, shown in SOURCES]
-    told += [twice("a filter", line, "--code: ", ["capture", "--code", code], input=header()) for code, line in CODES]
-    for code, line in BLANKS:
-        twice("blanks around a filter", line, "--code: ", ["capture", "--code", code], input=header())
+    told = []
+    for source, line, shown in SOURCES:
+        told.append(twice("a source", line, shown and "standard input:" + shown, ["asm"], input=source))
+    for code, line, shown in CODES + BLANKS:
+        lead = f"--code:{shown}" if shown else "--code: "
+        told.append(twice(f"the filter {code!r}", line, lead, ["capture", "--code", code], input=header()))
+    for code, advice in WRITTEN:
+        lead = f"--code:1:1\n{code.splitlines()[0]}\n^\n"
+        twice(f"the filter {code!r}", "numeric 1 Character at 0", lead, ["capture", "--code", code], advice=advice, input=header())
     told += runs(desk)
+    tables(desk)
     desk.lay(config=TABLE, filter=EVERY, a=header(), b=header())
     told.append(twice("a run", "watch 1 Workers", "", [*desk.arguments(), "--workers", "9"], stdin=subprocess.DEVNULL))
     told += sessions(desk)
@@ -156,6 +220,13 @@ def runs(desk):
     refused_to(desk)
     piped(desk)
     return told
+
+
+def tables(desk):
+    """What is wrong with a table: the key in its line, what stands there and what is allowed."""
+    for table, line, shown, advice in TABLES:
+        desk.lay(config=table, filter=EVERY, a=header(), b=header())
+        twice("a table", f"config {line}", desk.paths["config"] + shown, desk.arguments(), advice=advice, stdin=subprocess.DEVNULL)
 
 
 def refused_to(desk):
@@ -197,7 +268,7 @@ def sessions(desk):
         ("filter", desk.directory, "watch 3 Read A", f"{desk.directory}: {DIRECTORY}\n"),
         ("filter", desk.paths["a"], "watch 2 Header A 1 Short", desk.paths["a"] + ": "),
         ("filter", desk.paths["b"], "watch 2 Header A 3 Version", desk.paths["b"] + ": "),
-        ("capture", desk.paths["a"], "numeric 1 Character at 2", desk.paths["capture"] + ": "),
+        ("capture", desk.paths["a"], "numeric 1 Character at 2", desk.paths["capture"] + ":1:3\n1,x\n  ^\n"),
     ):
         arguments = ["debug", "--filter", desk.paths[filters], "--tap", tap]
         told.append(twice("a session", line, lead, arguments, stdin=subprocess.DEVNULL))

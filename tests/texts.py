@@ -4,7 +4,9 @@ These are the texts as they are meant to be, whole. The tests compare what the p
 """
 import re
 
-NOT_NUMERIC = "not the numeric form of a filter: 'tcpdump -y EN10MB -ddd EXPRESSION' prints it"
+NOT_NUMERIC = "not the numeric form of a filter: tcpdump -y EN10MB -ddd 'ip and udp' prints one"
+EXPRESSION = "an expression, not its numeric form: tcpdump -y EN10MB -ddd 'ip and udp' prints that"
+SOURCE = "a filter's source, not its numeric form: afdxmon asm < in.asm prints that"
 NO_MEMORY = "the system has no memory left for it: end other programs, or raise its limit by ulimit -v"
 RECORDING = "--{} needs a recording that can be read: a pcap file or a pipe"
 OUTPUT = "--{} needs a file that can be written, in a directory that is there"
@@ -20,14 +22,6 @@ ADVICE = {
     "file --capture": OUTPUT.format("capture"),
     "file --ledger": OUTPUT.format("ledger"),
     "file -": "standard input or output fails, or the text is longer than 16 MiB or not UTF-8",
-    "config 1": "not a TOML document",
-    "config 2": "a key is missing",
-    "config 3": "a value has another type than its key's",
-    "config 4": "a value is out of its key's range",
-    "config 5": "a key that the table doesn't have",
-    "config 6": "an earlier link has the identifier",
-    "config 7": "an earlier link has the name",
-    "config 8": "there are at most 4096 links, and at most 7 filters in a table",
     "asm 1 Text 1": "no token begins with this byte",
     "asm 1 Text 2": "not a number, or too large: 0x1f, 0b11, 017 and 31 are numbers",
     "asm 1 Text 3": "the statement doesn't go on like this",
@@ -66,6 +60,25 @@ ADVICE = {
     "watch 5": "the system starts no more threads: raise its limits by ulimit -u and ulimit -v",
     "watch 7": NO_MEMORY,
 }
+# What a table may have at each key.
+ALLOWED = {
+    "constant": "constant is an integer, 0 to 4294967295, with bits 24 and 25 set",
+    "link": "each link is a table of its own, which begins with [[link]]",
+    "late_us": "late_us is an integer, 0 to 1000000",
+    "filters": "filters is an array of at most 7 strings",
+    "id": "id is an integer, 0 to 65535",
+    "name": "name is a string of 1 to 32 letters, digits, _ and -",
+    "bag_ms": "bag_ms is 1, 2, 4, 8, 16, 32, 64 or 128",
+    "jitter_us": "jitter_us is an integer, 0 to 100000",
+    "smax": "smax is an integer, 64 to 1518",
+    "integrity": "integrity is true or false",
+    "redundancy": "redundancy is true or false",
+    "skew_us": "skew_us is an integer, 0 to 1000000",
+}
+NO_DOCUMENT = "the table is a TOML document"
+TOP_KEYS = "the table has constant, late_us, filters and the links"
+LINK_KEYS = "a link has id, name, bag_ms, jitter_us, smax, integrity, redundancy and skew_us"
+COUNTS = "at most 4096 links and 7 filters"
 # The advice on a file that is no recording, by the first bytes that it has.
 PCAPNG = "a pcapng file: editcap -F nsecpcap in.pcapng out.pcap writes it as pcap"
 GZIP = "compressed by gzip: gunzip in.pcap.gz"

@@ -4,13 +4,18 @@ use crate::files::OutputFile;
 use afdx_frame::Network;
 use analyser::{
     EndingAdvice, Exit, Fault, FileOption, HEAD_LEN, Invocation, MAX_TEXT, Note, TapNote,
-    WatchFault, advice, caret_at, file_of, header_advice,
+    WatchFault, advice, caret_at, file_of, header_advice, load_offset, numeric_advice,
+    numeric_offset, place_at, source_offset, written_as,
 };
+use bpf_asm::AsmFault;
+use config_place::{key_offset, slip_of};
 use pcap_io::{Ending, HeaderFault};
+use std::alloc::Global;
 use std::fmt::{Display, Formatter};
 use std::fs::File;
 use std::io::{IsTerminal, Read};
 use std::{fmt, fs, io};
+use vl_config::{Config, ConfigFault};
 
 /// Why a file can't be read or written.
 #[derive(Clone, Copy)]
@@ -141,36 +146,194 @@ fn advise(rt: &HostRuntime, name: Option<&str>, advice: &str) -> io::Result<()> 
     }
 }
 
-/// Tells a person what a fault line means: the file, why it can't be had, and what to do.
-fn explain(rt: &HostRuntime, command: Invocation<'_>, fault: &Fault) -> io::Result<()> {
-    let file = file_of(fault);
-    let path = file.and_then(|file| path_of(command, file));
-    let name = file.and_then(|file| name_of(command, file));
-    match (*fault, path, file) {
-        (Fault::File(_) | Fault::Watch(WatchFault::Read { .. }), Some(path), Some(file)) => {
-            match reason_of(rt, path, file) {
-                Some(reason) => {
-                    eprintln!(rt; "{path}: {reason}")?;
-                    rt.eprintln(advice(fault))
-                }
-                None => advise(rt, name, advice(fault)),
-            }
-        }
-        (Fault::Watch(WatchFault::Header { fault, .. }), path, _) => {
-            advise(rt, name, advice_on_header(rt, path, fault))
-        }
-        _ => advise(rt, name, advice(fault)),
+/// The text of a file that was read before, if it is a regular file.
+fn text_again(rt: &HostRuntime, path: &str) -> Option<String> {
+    let found = fs::metadata(rt, path).ok()?;
+    if found.is_file() && found.len() <= MAX_TEXT as u64 {
+        fs::read_to_string(rt, path).ok()
+    } else {
+        None
     }
 }
 
-/// Shows a person where in a filter's source a fault lies.
-fn show_source(rt: &HostRuntime, fault: &Fault, source: Option<&str>) -> io::Result<()> {
-    let (Fault::Asm(fault), Some(source)) = (fault, source) else {
-        return Ok(());
-    };
-    match caret_at(rt.alloc(), *fault, source) {
+/// Shows the line of a text with a place, and what is found there, if that is known.
+fn show_place(
+    rt: &HostRuntime,
+    name: &str,
+    text: &str,
+    at: usize,
+    found: Option<&str>,
+) -> io::Result<()> {
+    match (place_at(text, at), found) {
+        (Some(place), Some(found)) => eprintln!(rt; "{name}:{place}: {found}")?,
+        (Some(place), None) => eprintln!(rt; "{name}:{place}")?,
+        (None, Some(found)) => eprintln!(rt; "{name}: {found}")?,
+        (None, None) => {}
+    }
+    show_caret(rt, text, at)
+}
+
+/// Shows the line of a text with a place, and a caret under that.
+fn show_caret(rt: &HostRuntime, text: &str, at: usize) -> io::Result<()> {
+    match caret_at(rt.alloc(), text, at) {
         Some(caret) => rt.eprintln(caret),
         None => Ok(()),
+    }
+}
+
+/// Tells why a file can't be opened, read or written, and what it needs.
+fn explain_file(
+    rt: &HostRuntime,
+    command: Invocation<'_>,
+    file: FileOption,
+    fault: &Fault,
+) -> io::Result<()> {
+    let reason = path_of(command, file).and_then(|path| reason_of(rt, path, file));
+    match (name_of(command, file), reason) {
+        (Some(name), Some(reason)) => {
+            eprintln!(rt; "{name}: {reason}")?;
+            rt.eprintln(advice(fault))
+        }
+        (name, _) => advise(rt, name, advice(fault)),
+    }
+}
+
+/// Shows what is wrong with a table: the key in its line, what stands there, and what is allowed.
+fn explain_table(rt: &HostRuntime, command: Invocation<'_>, fault: ConfigFault) -> io::Result<()> {
+    let Some(path) = path_of(command, FileOption::Config) else {
+        return rt.eprintln(advice(&Fault::Config(fault)));
+    };
+    let slip = match text_again(rt, path) {
+        Some(text) => match slip_of(rt.alloc(), &text, fault) {
+            Some(slip) => Some((text, slip)),
+            None => None,
+        },
+        None => None,
+    };
+    let Some((text, slip)) = slip else {
+        return advise(rt, Some(path), advice(&Fault::Config(fault)));
+    };
+    let found = slip.found.as_str();
+    match slip.at {
+        Some(at) => show_place(rt, path, &text, at, Some(found))?,
+        None => eprintln!(rt; "{path}: {found}")?,
+    }
+    rt.eprintln(slip.allowed.as_str())
+}
+
+/// Shows where in a filter's source a fault lies.
+fn explain_source(rt: &HostRuntime, fault: AsmFault, source: Option<&str>) -> io::Result<()> {
+    if let Some(source) = source {
+        if let Some(at) = source_offset(rt.alloc(), fault, source) {
+            show_place(rt, "standard input", source, at, None)?;
+        }
+    }
+    rt.eprintln(advice(&Fault::Asm(fault)))
+}
+
+/// Where in the numeric form of a filter a fault lies. In a blank text it is nowhere.
+fn filter_offset(fault: &Fault, text: &str) -> Option<usize> {
+    match *fault {
+        Fault::Numeric { fault, .. } if !text.trim().is_empty() => numeric_offset(fault, text),
+        Fault::Load { fault, .. } => load_offset(fault, text),
+        _ => None,
+    }
+}
+
+/// What to do with a text that is no filter, by what it looks like.
+fn filter_advice(alloc: Global, fault: &Fault, text: &str) -> &'static str {
+    match *fault {
+        Fault::Numeric { fault, .. } => numeric_advice(fault, written_as(alloc, text)),
+        _ => advice(fault),
+    }
+}
+
+/// Shows where in a filter's text a fault lies.
+fn show_filter(rt: &HostRuntime, name: &str, text: &str, fault: &Fault) -> io::Result<()> {
+    let advice = filter_advice(rt.alloc(), fault, text);
+    match filter_offset(fault, text) {
+        Some(at) => {
+            show_place(rt, name, text, at, None)?;
+            rt.eprintln(advice)
+        }
+        None => advise(rt, Some(name), advice),
+    }
+}
+
+/// Shows where in a filter of the table a fault lies: the place of the filters, and the filter's own text.
+fn show_table_filter(
+    rt: &HostRuntime,
+    path: &str,
+    table: &str,
+    number: u8,
+    fault: &Fault,
+) -> io::Result<()> {
+    let alloc = rt.alloc();
+    let found = format!(in alloc; "filter {number}")?;
+    match key_offset(alloc, table, None, "filters") {
+        Some(at) => show_place(rt, path, table, at, Some(&found))?,
+        None => eprintln!(rt; "{path}: {found}")?,
+    }
+    let Ok(config) = Config::read(alloc, table) else {
+        return rt.eprintln(advice(fault));
+    };
+    let Some(text) = config.filters().get(usize::from(number).saturating_sub(1)) else {
+        return rt.eprintln(advice(fault));
+    };
+    if let Some(at) = filter_offset(fault, text) {
+        show_caret(rt, text, at)?;
+    }
+    rt.eprintln(filter_advice(alloc, fault, text))
+}
+
+/// Shows where in a filter a fault lies: in that of the arguments or of a file, or in a numbered one of the
+/// table.
+fn explain_filter(
+    rt: &HostRuntime,
+    command: Invocation<'_>,
+    fault: &Fault,
+    number: Option<u8>,
+) -> io::Result<()> {
+    if let Invocation::Capture { code } = command {
+        return show_filter(rt, "--code", code, fault);
+    }
+    let Some(path) = file_of(fault).and_then(|file| path_of(command, file)) else {
+        return rt.eprintln(advice(fault));
+    };
+    match (text_again(rt, path), number) {
+        (Some(text), None) => show_filter(rt, path, &text, fault),
+        (Some(text), Some(number)) => show_table_filter(rt, path, &text, number, fault),
+        (None, _) => advise(rt, Some(path), advice(fault)),
+    }
+}
+
+/// Tells a person what a fault line means: the file and the place in it, why it can't be had or taken, and
+/// what to do.
+fn explain(
+    rt: &HostRuntime,
+    command: Invocation<'_>,
+    fault: &Fault,
+    source: Option<&str>,
+) -> io::Result<()> {
+    let file = file_of(fault);
+    let name = file.and_then(|file| name_of(command, file));
+    match (*fault, file) {
+        (Fault::File(_) | Fault::Watch(WatchFault::Read { .. }), Some(file)) => {
+            explain_file(rt, command, file, fault)
+        }
+        (Fault::Watch(WatchFault::Header { fault, .. }), Some(file)) => {
+            advise(
+                rt,
+                name,
+                advice_on_header(rt, path_of(command, file), fault),
+            )
+        }
+        (Fault::Config(fault), _) => explain_table(rt, command, fault),
+        (Fault::Asm(fault), _) => explain_source(rt, fault, source),
+        (Fault::Numeric { filter, .. } | Fault::Load { filter, .. }, _) => {
+            explain_filter(rt, command, fault, filter)
+        }
+        _ => advise(rt, name, advice(fault)),
     }
 }
 
@@ -209,7 +372,7 @@ fn note_ending(
 }
 
 /// Tells standard error how a command ended: the fault line or the notes, and to a person at a terminal
-/// where in a filter's source a fault lies, which file it is about, and what to do.
+/// which file it is about, where in it a fault lies, and what to do.
 pub fn tell(
     rt: &HostRuntime,
     command: Invocation<'_>,
@@ -231,8 +394,7 @@ pub fn tell(
             if !rt.stderr().is_terminal() {
                 return Ok(());
             }
-            show_source(rt, fault, source)?;
-            explain(rt, command, fault)
+            explain(rt, command, fault, source)
         }
     }
 }

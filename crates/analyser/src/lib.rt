@@ -17,8 +17,9 @@
 pub use capture_run::{capture_gives_the_accepted_frames, capture_one};
 pub use command_line::{
     Caret, DebugArguments, EndingAdvice, Exit, Fault, FileOption, HEAD_LEN, Hint, Inode,
-    Invocation, Named, Note, Summary, TapNote, USAGE, WatchArguments, WatchFiles, advice, caret_at,
-    fault_line, file_of, header_advice, hint_of, read_arguments,
+    Invocation, Named, Note, Place, Summary, TapNote, USAGE, WatchArguments, WatchFiles, Written,
+    advice, caret_at, fault_line, file_of, header_advice, hint_of, load_offset, numeric_advice,
+    numeric_offset, place_at, read_arguments, source_offset, written_as,
 };
 pub use commands::{
     AsmRun, CaptureRun, DebugRun, HeldTap, MAX_TEXT, Ran, TapRead, answer_line, asm_over,

@@ -2,6 +2,7 @@
 //! stand alone: an installed program has no documents beside it.
 
 use crate::fault::{Fault, FileOption};
+use crate::refused::Written;
 use bpf_asm::AsmFault;
 use bpf_debugger::DebugFault;
 use bpf_isa::NumericFault;
@@ -13,15 +14,23 @@ use std::fmt;
 use std::fmt::{Display, Formatter};
 use vl_config::ConfigFault;
 
-fn numeric_advice(fault: NumericFault) -> &'static str {
-    match fault {
-        NumericFault::Character { .. } | NumericFault::Number { .. } | NumericFault::Form { .. } =>
-            { "not the numeric form of a filter: 'tcpdump -y EN10MB -ddd EXPRESSION' prints it" }
-        NumericFault::Count { .. } => {
+/// What to do with a text that isn't the numeric form of a filter, by what it looks like.
+pub fn numeric_advice(fault: NumericFault, written: Written) -> &'static str {
+    match (fault, written) {
+        (NumericFault::Count { .. }, _) => {
             "the first number says how many instructions follow, and another number of them does"
         }
-        NumericFault::TooMany { .. } => "a filter has at most 4096 instructions",
-        NumericFault::Memory => OUT_OF_MEMORY,
+        (NumericFault::TooMany { .. }, _) => "a filter has at most 4096 instructions",
+        (NumericFault::Memory, _) => OUT_OF_MEMORY,
+        (_, Written::Source) => {
+            "a filter's source, not its numeric form: afdxmon asm < in.asm prints that"
+        }
+        (_, Written::Expression) => {
+            "an expression, not its numeric form: tcpdump -y EN10MB -ddd 'ip and udp' prints that"
+        }
+        (_, Written::Numeric) => {
+            "not the numeric form of a filter: tcpdump -y EN10MB -ddd 'ip and udp' prints one"
+        }
     }
 }
 
@@ -231,7 +240,7 @@ pub fn advice(fault: &Fault) -> &'static str {
         Fault::Shared { other, .. } => shared_advice(other),
         Fault::Config(fault) => config_advice(fault),
         Fault::Asm(fault) => asm_advice(fault),
-        Fault::Numeric { fault, .. } => numeric_advice(fault),
+        Fault::Numeric { fault, .. } => numeric_advice(fault, Written::Numeric),
         Fault::Load { fault, .. } => load_advice(fault),
         Fault::Watch(fault) => watch_advice(fault),
         Fault::Debug(fault) => debug_advice(fault),
