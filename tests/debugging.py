@@ -8,7 +8,7 @@ import tempfile
 
 from harness import EVERY, FAULT, HERE, PROGRAM, SUCCESS, USAGE
 from harness import frame, header, judge, record, run, say
-from texts import COMMANDS
+from texts import COMMANDS, advice_on_ending
 
 STORING = "5,0 0 0 7,2 0 0 3,97 0 0 3,135 0 0 0,22 0 0 0,"
 ZEROS = " 0" * 16
@@ -189,9 +189,10 @@ def typed(files):
         ("commands at a terminal", False, ONE_FRAME, ""),
         ("commands at a terminal, with prompts", True, ONE_FRAME, ""),
         ("commands at a terminal, of a truncated tap", False, cut, note + "\n"),
-        ("commands at a terminal, with prompts, of a truncated tap", True, cut, note + "\r\n"),
+        ("commands at a terminal, with prompts, of a truncated tap", True, cut, f"{note}\r\n{{}}: {advice_on_ending(note)}\r\n"),
     ):
-        command, shown = files.command(tap=tap), prompts * sees + told_last
+        command = files.command(tap=tap)
+        shown = prompts * sees + told_last.format(command[-1])
         ours, theirs = pty.openpty()
         child = subprocess.Popen([PROGRAM, *command], stdin=theirs, stdout=subprocess.PIPE, stderr=theirs if sees else subprocess.PIPE)
         os.close(theirs)

@@ -16,7 +16,7 @@ GIVEN = tap((0, frame(5, 60, 1)), (100, frame(5, 60, 2)))
 INPUTS = {"config": TABLE, "filter": EVERY, "a": GIVEN, "b": GIVEN}
 WRITTEN = watch(TABLE, EVERY, GIVEN, GIVEN)
 # The last line at a terminal, by the option that names the file too.
-ALSO = "it is the file of --{} too: name another file to write\n"
+ALSO = "{}: it is the file of --{} too: name another file to write\n"
 
 
 def standing(desk):
@@ -41,7 +41,7 @@ def refused(desk, name, output, other, made=(), **elsewhere):
     """An output that is another file is refused, in a pipe and at a terminal, and no file is another than before, but for
     those that are `made`, which are empty."""
     line, told = f"afdxmon: file --{output}", []
-    for runner, whole in ((run, line + "\n"), (run_at_terminal, line + "\n" + ALSO.format(other))):
+    for runner, whole in ((run, line + "\n"), (run_at_terminal, line + "\n" + ALSO.format(elsewhere.get(output, desk.paths[output]), other))):
         expected = {**standing(desk), **dict.fromkeys(made, b"")}
         how = {} if runner is run_at_terminal else {"stdout": subprocess.PIPE}
         ran = runner(desk.arguments(**elsewhere), cwd=desk.directory, stdin=subprocess.DEVNULL, **how)

@@ -1,10 +1,12 @@
 """Tests of the summary that `watch` ends with at a terminal: whole, with each hint, and nowhere else."""
 import os
+import re
 import subprocess
 import tempfile
 
 from analyser import watch
 from harness import EVERY, SUCCESS, TOP, difference, frame, run_at_terminal, say
+from texts import advice_on_ending
 from watching import LINK_5, TABLE, Desk, notes_on, read, tap
 
 DISCARDS = ("cut", "runt", "oversize", "foreign", "unconfigured", "toolong", "excess", "out")
@@ -36,11 +38,16 @@ def frames(count, start=0, size=60, first=0):
     return [(start + i * 2 * MS, frame(5, size, (first + i) % 255 + 1)) for i in range(count)]
 
 
+def tap_of(note):
+    """The option of the recording that a note is on."""
+    return re.search(r"of network ([AB])", note)[1].lower()
+
+
 def summed(desk, name, config, a, b, hint):
     """A run at a terminal, and then with --quiet: the notes alone."""
     expected = watch(config, EVERY, a, b)
     ledger = expected.lines + expected.summary
-    told = notes_on(ledger) + "\n" if notes_on(ledger) else ""
+    told = "".join(f"{note}\n{desk.paths[tap_of(note)]}: {advice_on_ending(note)}\n" for note in notes_on(ledger).splitlines())
     for more, whole in (((), told + summary_of(ledger, hint)), (("--quiet",), told)):
         desk.lay(config=config, filter=EVERY, a=a, b=b)
         ran = run_at_terminal([*desk.arguments(), *more], stdin=subprocess.DEVNULL)

@@ -1,94 +1,175 @@
 """Tests of what the program tells a person, whole: advice and carets at a terminal, none elsewhere, and the help."""
 import os
 import resource
+import struct
 import subprocess
 
-from harness import EVERY, FAULT, PROGRAM, SUCCESS, difference, header, run, run_at_terminal, say
-from texts import ABOUT, ADVICE, PROGRAM_HELP, VERSION, advice_on, help_of
+from harness import EVERY, FAULT, PROGRAM, SUCCESS, difference, frame, header, record, run, run_at_terminal, say
+from texts import ABOUT, ADVICE, ALLOWED, CHECK_SEQUENCES, COUNTS, EXPRESSION, GZIP, LINK_KEYS, NO_DOCUMENT, NOT_NUMERIC
+from texts import PCAPNG, PROGRAM_HELP, SOURCE, TOP_KEYS, VERSION, ZSTD, advice_on, advice_on_ending, help_of
 from watching import LINK_5, TABLE
 
 MIB = 1 << 20
 FAR = b"\tjeq #0, l\n" + b"ret #0\n" * 256 + b"l: ret #0"
-# A refused source, its fault, and the line and caret that a terminal shows.
+# A refused source, its fault, and the place, line and caret that a terminal shows.
 SOURCES = (
-    (b"ld @", "asm 1 Text 1 Character at 3", "ld @\n   ^\n"),
-    (b"ret #0\nld #4294967296", "asm 1 Text 2 Number at 11", "ld #4294967296\n    ^\n"),
-    (b"ld #1\n\tjne #5 l\nret a", "asm 1 Text 3 Form at 14", "\tjne #5 l\n\t       ^\n"),
-    (b"l:", "asm 1 Text 3 Form at 2", "l:\n  ^\n"),
-    (b"ldq [1]", "asm 1 Text 3 Form at 4", "ldq [1]\n    ^\n"),
-    (b"ret #0 x: ret #0\nret #1", "asm 1 Text 4 ReservedLabel at 7", "ret #0 x: ret #0\n       ^\n"),
+    (b"ld @", "asm 1 Text 1 Character at 3", "1:4\nld @\n   ^\n"),
+    (b"ret #0\nld #4294967296", "asm 1 Text 2 Number at 11", "2:5\nld #4294967296\n    ^\n"),
+    (b"ld #1\n\tjne #5 l\nret a", "asm 1 Text 3 Form at 14", "2:9\n\tjne #5 l\n\t       ^\n"),
+    (b"l:", "asm 1 Text 3 Form at 2", "1:3\nl:\n  ^\n"),
+    (b"ldq [1]", "asm 1 Text 3 Form at 4", "1:5\nldq [1]\n    ^\n"),
+    (b"ret #0 x: ret #0\nret #1", "asm 1 Text 4 ReservedLabel at 7", "1:8\nret #0 x: ret #0\n       ^\n"),
     (b"", "asm 2 Empty", ""),
     (b"ret #0\n" * 4097, "asm 3 TooMany", ""),
-    (b"l: ret #0\n\n  l: ret #0", "asm 4 TwiceLabel at 1", "  l: ret #0\n  ^\n"),
-    (b"ld #1\n  jmp l\nret a", "asm 5 NoLabel at 1", "  jmp l\n  ^\n"),
-    (b"l: ret #0 jmp l", "asm 6 Backward at 1", "l: ret #0 jmp l\n          ^\n"),
-    (FAR, "asm 7 TooFar at 0", "\tjeq #0, l\n\t^\n"),
+    (b"l: ret #0\n\n  l: ret #0", "asm 4 TwiceLabel at 1", "3:3\n  l: ret #0\n  ^\n"),
+    (b"ld #1\n  jmp l\nret a", "asm 5 NoLabel at 1", "2:7\n  jmp l\n      ^\n"),
+    (b"jeq #0 /* no */, no\nret #0", "asm 5 NoLabel at 0", "1:18\njeq #0 /* no */, no\n                 ^\n"),
+    (b"jeq #0, l, k\nl: ret #0", "asm 5 NoLabel at 0", "1:12\njeq #0, l, k\n           ^\n"),
+    (b"jeq x,\n l,\n k\nl: ret #0", "asm 5 NoLabel at 0", "3:2\n k\n ^\n"),
+    (b"l: ret #0 jmp l", "asm 6 Backward at 1", "1:15\nl: ret #0 jmp l\n              ^\n"),
+    (b"l: jmp l", "asm 6 Backward at 0", "1:8\nl: jmp l\n       ^\n"),
+    (FAR, "asm 7 TooFar at 0", "1:10\n\tjeq #0, l\n\t        ^\n"),
     (b"\xff", "file -", ""),
+    (b"ret #0\r\nld @\r\n", "asm 1 Text 1 Character at 11", "2:4\nld @\n   ^\n"),
+    ("/* \u00e9 */ ld @".encode(), "asm 1 Text 1 Character at 12", "1:12\n/* \u00e9 */ ld @\n           ^\n"),
+    # A line of 200 bytes is shown, a longer one isn't, nor one with a control character.
+    (b"ld #1 " * 32 + b"   ld  @", "asm 1 Text 1 Character at 199", "1:200\n" + "ld #1 " * 32 + "   ld  @\n" + " " * 199 + "^\n"),
+    (b"ld #1 " * 32 + b"    ld  @", "asm 1 Text 1 Character at 200", "1:201\n"),
+    (b"ld #1\nld\t\x1b[0m", "asm 1 Text 1 Character at 9", "2:4\n"),
 )
-# A refused filter and its fault.
+# A refused filter, its fault, and the place, line and caret; nothing of them where the fault is of the whole.
 CODES = (
-    ("1,x", "numeric 1 Character at 2"),
-    ("1,6 0 256 0", "numeric 2 Number at 6"),
-    ("", "numeric 3 Form at 0"),
-    ("2,6 0 0 0,", "numeric 4 Count at 10"),
-    ("4097,", "numeric 5 TooMany at 0"),
-    ("0,", "load 1 Length"),
-    ("2,23 0 0 0,6 0 0 0,", "load 2 UnknownCode at 0"),
-    ("2,52 0 0 0,6 0 0 0,", "load 3 ZeroDivisor at 0"),
-    ("2,100 0 0 32,6 0 0 0,", "load 4 Shift at 0"),
-    ("2,2 0 0 16,6 0 0 0,", "load 5 Scratch at 0"),
-    ("2,32 0 0 2147483648,6 0 0 0,", "load 6 Offset at 0"),
-    ("2,5 0 0 1,6 0 0 0,", "load 7 Jump at 0"),
-    ("2,6 0 0 0,0 0 0 1,", "load 8 NoReturn"),
-    ("4,21 0 1 0,2 0 0 0,96 0 0 0,22 0 0 0,", "load 9 Unstored at 2 word 0"),
+    ("1,x", "numeric 1 Character at 2", "1:3\n1,x\n  ^\n"),
+    ("1,6 0 256 0", "numeric 2 Number at 6", "1:7\n1,6 0 256 0\n      ^\n"),
+    ("", "numeric 3 Form at 0", ""),
+    ("1,6 0 0", "numeric 3 Form at 2", "1:3\n1,6 0 0\n  ^\n"),
+    ("2,6 0 0 0,", "numeric 4 Count at 10", "1:1\n2,6 0 0 0,\n^\n"),
+    ("4097,", "numeric 5 TooMany at 0", "1:1\n4097,\n^\n"),
+    ("0,", "load 1 Length", ""),
+    ("2,23 0 0 0,6 0 0 0,", "load 2 UnknownCode at 0", "1:3\n2,23 0 0 0,6 0 0 0,\n  ^\n"),
+    ("2,52 0 0 0,6 0 0 0,", "load 3 ZeroDivisor at 0", "1:3\n2,52 0 0 0,6 0 0 0,\n  ^\n"),
+    ("2,100 0 0 32,6 0 0 0,", "load 4 Shift at 0", "1:3\n2,100 0 0 32,6 0 0 0,\n  ^\n"),
+    ("2,2 0 0 16,6 0 0 0,", "load 5 Scratch at 0", "1:3\n2,2 0 0 16,6 0 0 0,\n  ^\n"),
+    ("2,32 0 0 2147483648,6 0 0 0,", "load 6 Offset at 0", "1:3\n2,32 0 0 2147483648,6 0 0 0,\n  ^\n"),
+    ("2,5 0 0 1,6 0 0 0,", "load 7 Jump at 0", "1:3\n2,5 0 0 1,6 0 0 0,\n  ^\n"),
+    ("2,6 0 0 0,0 0 0 1,", "load 8 NoReturn", ""),
+    ("4,21 0 1 0,2 0 0 0,96 0 0 0,22 0 0 0,", "load 9 Unstored at 2 word 0", "1:20\n4,21 0 1 0,2 0 0 0,96 0 0 0,22 0 0 0,\n" + " " * 19 + "^\n"),
+    ("3\n0 0 0 1\n\n 52 0 0 0\n6 0 0 0\n", "load 3 ZeroDivisor at 1", "4:2\n 52 0 0 0\n ^\n"),
 )
 # Blanks around a filter are bytes of it, so that offsets count them; others than the form has are faults.
 BLANKS = (
-    ("  1,x", "numeric 1 Character at 4"),
-    ("\n\n1,6 0 256 0", "numeric 2 Number at 8"),
-    ("2,6 0 0 0, \n", "numeric 4 Count at 12"),
-    (" \t\n", "numeric 3 Form at 3"),
-    ("\v1,6 0 0 0,", "numeric 1 Character at 0"),
-    ("1,6 0 0 0,\f", "numeric 1 Character at 10"),
-    ("1,6 0 0 0,\u00a0", "numeric 1 Character at 10"),
+    ("  1,x", "numeric 1 Character at 4", "1:5\n  1,x\n    ^\n"),
+    ("2,6 0 0 0, \n", "numeric 4 Count at 12", "1:1\n2,6 0 0 0, \n^\n"),
+    ("\n , \n2,6 0 0 0", "numeric 4 Count at 14", "3:1\n2,6 0 0 0\n^\n"),
+    (" \t\n", "numeric 3 Form at 3", ""),
+    ("\v1,6 0 0 0,", "numeric 1 Character at 0", "1:1\n"),
+    ("1,6 0 0 0,\f", "numeric 1 Character at 10", "1:11\n"),
+    ("1,6 0 0 0,\u00a0", "numeric 1 Character at 10", "1:11\n1,6 0 0 0,\u00a0\n          ^\n"),
 )
-# What is wrong with a run: the contents of inputs, the paths in the place of the desk's, the fault. `missing` and
-# `directory` stand for such paths.
+# Texts in the place of the numeric form, and what they look like. All are refused at their first byte.
+WRITTEN = (
+    ("ip and udp", EXPRESSION),
+    ("ether[4:2] = 5", EXPRESSION),
+    ("!ip", EXPRESSION),
+    ("(tcp or udp)", EXPRESSION),
+    ("Port 53", EXPRESSION),
+    ("ret #0", SOURCE),
+    ("ldh [4]\njne #5, drop\nret #-1\ndrop: ret #0\n", SOURCE),
+    ("ldh [4]\njne 5, drop\nret #-1\n", SOURCE),
+    ("{ return 1; }", NOT_NUMERIC),
+    ("\"ip\"", NOT_NUMERIC),
+)
+# What is wrong with a run: the contents of inputs, the paths in the place of the desk's, the fault, and what stands before
+# the advice at a terminal. `missing` and `directory` stand for such paths.
+MISSING, DIRECTORY, THROUGH = "No such file or directory (os error 2)", "Is a directory (os error 21)", "Not a directory (os error 20)"
 RUNS = (
-    ({}, {"config": "missing"}, "file --config"),
-    ({}, {"filter": "missing"}, "file --filter"),
-    ({}, {"a": "missing"}, "file --a"),
-    ({}, {"b": "missing"}, "file --b"),
-    ({}, {"capture": "directory"}, "file --capture"),
-    ({}, {"ledger": "directory"}, "file --ledger"),
-    ({"config": "["}, {}, "config 1 Text"),
-    ({"config": LINK_5}, {}, "config 2 Missing top"),
-    ({"config": "constant = true"}, {}, "config 3 Kind top"),
-    ({"config": TABLE.replace("bag_ms = 1", "bag_ms = 3")}, {}, "config 4 Range link 0"),
-    ({"config": TABLE + "bag = 4\n"}, {}, "config 5 UnknownKey link 0"),
-    ({"config": TABLE + LINK_5.replace("brake", "flaps")}, {}, "config 6 TwiceId link 1"),
-    ({"config": TABLE + LINK_5.replace("= 5", "= 6")}, {}, "config 7 TwiceName link 1"),
-    ({"config": f"filters = {['1,6 0 0 0,'] * 8}\n" + TABLE}, {}, "config 8 TooMany"),
-    ({"config": 'filters = ["1,x"]\n' + TABLE}, {}, "numeric 1 Character at 2 filter 1"),
-    ({"config": f'filters = ["{EVERY}", "0,"]\n' + TABLE}, {}, "load 1 Length filter 2"),
-    ({"a": b""}, {}, "watch 2 Header A 1 Short"),
-    ({"a": bytes(24)}, {}, "watch 2 Header A 2 Magic"),
-    ({"a": header(version=(2, 3))}, {}, "watch 2 Header A 3 Version"),
-    ({"b": header(link_type=101)}, {}, "watch 2 Header B 4 LinkType"),
-    ({}, {"a": "directory"}, "watch 3 Read A"),
-    ({}, {"b": "directory"}, "watch 3 Read B"),
-    ({}, {"capture": "/dev/full"}, "watch 4 Write capture"),
-    ({}, {"ledger": "/dev/full"}, "watch 4 Write ledger"),
+    ({}, {"config": "missing"}, "file --config", "{config}: " + MISSING + "\n"),
+    ({}, {"config": "directory"}, "file --config", "{config}: " + DIRECTORY + "\n"),
+    ({"config": b"constant = \xff"}, {}, "file --config", "{config}: not UTF-8 at byte 11\n"),
+    ({"config": b" " * 16777217}, {}, "file --config", "{config}: it has 16777217 bytes\n"),
+    ({}, {"filter": "missing"}, "file --filter", "{filter}: " + MISSING + "\n"),
+    ({}, {"filter": "through"}, "file --filter", "{filter}: " + THROUGH + "\n"),
+    ({"filter": b"\xff"}, {}, "file --filter", "{filter}: not UTF-8 at byte 0\n"),
+    ({}, {"a": "missing"}, "file --a", "{a}: " + MISSING + "\n"),
+    ({}, {"b": "missing"}, "file --b", "{b}: " + MISSING + "\n"),
+    ({}, {"b": "through"}, "file --b", "{b}: " + THROUGH + "\n"),
+    ({}, {"capture": "directory"}, "file --capture", "{capture}: " + DIRECTORY + "\n"),
+    ({}, {"ledger": "directory"}, "file --ledger", "{ledger}: " + DIRECTORY + "\n"),
+    ({}, {"ledger": "through"}, "file --ledger", "{ledger}: " + THROUGH + "\n"),
+    ({"config": 'filters = ["1,x"]\n' + TABLE}, {}, "numeric 1 Character at 2 filter 1", '{config}:1:1: filter 1\nfilters = ["1,x"]\n^\n1,x\n  ^\n'),
+    ({"config": f'filters = ["{EVERY}", "0,"]\n' + TABLE}, {}, "load 1 Length filter 2", f'{{config}}:1:1: filter 2\nfilters = ["{EVERY}", "0,"]\n^\n'),
+    ({"config": "filters = [\n'1,52 0 0 0,']\n" + TABLE}, {}, "load 3 ZeroDivisor at 0 filter 1", "{config}:1:1: filter 1\nfilters = [\n^\n1,52 0 0 0,\n  ^\n"),
+    ({"filter": "1,x"}, {}, "numeric 1 Character at 2", "{filter}:1:3\n1,x\n  ^\n"),
+    ({"filter": "2,52 0 0 0\n6 0 0 0"}, {}, "load 3 ZeroDivisor at 0", "{filter}:1:3\n2,52 0 0 0\n  ^\n"),
+    ({"filter": "0,"}, {}, "load 1 Length", "{filter}: "),
+    ({"a": b""}, {}, "watch 2 Header A 1 Short", "{a}: "),
+    ({"a": bytes(24)}, {}, "watch 2 Header A 2 Magic", "{a}: "),
+    ({"a": header(version=(2, 3))}, {}, "watch 2 Header A 3 Version", "{a}: "),
+    ({"b": header(link_type=101)}, {}, "watch 2 Header B 4 LinkType", "{b}: "),
+    ({}, {"a": "directory"}, "watch 3 Read A", "{a}: " + DIRECTORY + "\n"),
+    ({}, {"b": "directory"}, "watch 3 Read B", "{b}: " + DIRECTORY + "\n"),
+    ({}, {"capture": "/dev/full"}, "watch 4 Write capture", "{capture}: "),
+    ({}, {"ledger": "/dev/full"}, "watch 4 Write ledger", "{ledger}: "),
+)
+BRAKE, FLAPS = 'link 0, id 5, name "brake"', 'link 1, id 6, name "flaps"'
+LINK_6 = LINK_5.replace("= 5", "= 6").replace("brake", "flaps")
+# A table, its fault, what a terminal shows after the table's path, and the last line. TABLE has its link in line 3.
+TABLES = (
+    ("constant = \n", "1 Text", ":1:12: invalid value, expected a string, number, boolean, date-time, array or inline table\nconstant = \n           ^\n", NO_DOCUMENT),
+    (TABLE + "[[link]\n", "1 Text", ":12:8: unclosed array table, expected `]]`\n[[link]\n       ^\n", NO_DOCUMENT),
+    (TABLE + "smax = 200\n", "1 Text", ":12:1: duplicate key\nsmax = 200\n^\n", NO_DOCUMENT),
+    (LINK_5, "2 Missing top", ": constant is missing\n", ALLOWED["constant"]),
+    (TABLE + LINK_6.replace("smax = 200\n", ""), "2 Missing link 1", f":13:1: {FLAPS}: smax is missing\n[[link]]\n^\n", ALLOWED["smax"]),
+    (TABLE + "[[link]]\n", "2 Missing link 1", ":12:1: link 1: id is missing\n[[link]]\n^\n", ALLOWED["id"]),
+    ("constant = true", "3 Kind top", ":1:1: constant = true\nconstant = true\n^\n", ALLOWED["constant"]),
+    ("constant = 50331648\nlink = [5]\n", "3 Kind top", ":2:1: link = a value of type array\nlink = [5]\n^\n", ALLOWED["link"]),
+    ("filters = [\"1,6 0 0 0,\", 5]\n" + TABLE, "3 Kind top", ":1:1: filters = a value of type array\nfilters = [\"1,6 0 0 0,\", 5]\n^\n", ALLOWED["filters"]),
+    (TABLE.replace("smax = 200", 'smax = "200"'), "3 Kind link 0", f':8:1: {BRAKE}: smax = "200"\nsmax = "200"\n^\n', ALLOWED["smax"]),
+    (TABLE.replace("true", '"on"', 1), "3 Kind link 0", f':9:1: {BRAKE}: integrity = "on"\nintegrity = "on"\n^\n', ALLOWED["integrity"]),
+    ("late_us = 1000001\n" + TABLE, "4 Range top", ":1:1: late_us = 1000001\nlate_us = 1000001\n^\n", ALLOWED["late_us"]),
+    (TABLE.replace("50331648", "1"), "4 Range top", ":1:1: constant = 1\nconstant = 1\n^\n", ALLOWED["constant"]),
+    (TABLE.replace("bag_ms = 1", "bag_ms = 3"), "4 Range link 0", f":6:1: {BRAKE}: bag_ms = 3\nbag_ms = 3\n^\n", ALLOWED["bag_ms"]),
+    (TABLE.replace("bag_ms = 1", "  \"bag_ms\"=3 # ms"), "4 Range link 0", f":6:3: {BRAKE}: bag_ms = 3\n  \"bag_ms\"=3 # ms\n  ^\n", ALLOWED["bag_ms"]),
+    (TABLE.replace("bag_ms = 1", "bag_ms = 3").replace("\n", "\r\n"), "4 Range link 0", f":6:1: {BRAKE}: bag_ms = 3\nbag_ms = 3\n^\n", ALLOWED["bag_ms"]),
+    (TABLE + LINK_6.replace("smax = 200", "smax = 63"), "4 Range link 1", f":18:1: {FLAPS}: smax = 63\nsmax = 63\n^\n", ALLOWED["smax"]),
+    (TABLE.replace("id = 5", "id = -1"), "4 Range link 0", ':4:1: link 0, id -1, name "brake": id = -1\nid = -1\n^\n', ALLOWED["id"]),
+    (TABLE.replace("brake", "b r"), "4 Range link 0", ':5:1: link 0, id 5, name "b r": name = "b r"\nname = "b r"\n^\n', ALLOWED["name"]),
+    (TABLE.replace("brake", "b" * 64), "4 Range link 0", f':5:1: link 0, id 5, name "{"b" * 64}": name = "{"b" * 64}"\nname = "{"b" * 64}"\n^\n', ALLOWED["name"]),
+    (TABLE.replace("brake", "b" * 65), "4 Range link 0", f':5:1: link 0, id 5: name = a value of type string\nname = "{"b" * 65}"\n^\n', ALLOWED["name"]),
+    (TABLE.replace("jitter_us = 0", "jitter_us = 100001"), "4 Range link 0", f":7:1: {BRAKE}: jitter_us = 100001\njitter_us = 100001\n^\n", ALLOWED["jitter_us"]),
+    (TABLE.replace("skew_us = 1000", "skew_us = 1000001"), "4 Range link 0", f":11:1: {BRAKE}: skew_us = 1000001\nskew_us = 1000001\n^\n", ALLOWED["skew_us"]),
+    ("Constant = 5\n" + TABLE, "5 UnknownKey top", ":1:1: unknown key Constant\nConstant = 5\n^\n", TOP_KEYS),
+    (TABLE + "bag = 4\n", "5 UnknownKey link 0", f":12:1: {BRAKE}: unknown key bag\nbag = 4\n^\n", LINK_KEYS),
+    (TABLE + LINK_5.replace("brake", "flaps"), "6 TwiceId link 1", ':14:1: link 1, id 5, name "flaps": id = 5\nid = 5\n^\n', BRAKE + " has it too: each link has its own id"),
+    (TABLE + LINK_5.replace("= 5", "= 6"), "7 TwiceName link 1", ':15:1: link 1, id 6, name "brake": name = "brake"\nname = "brake"\n^\n', BRAKE + " has it too: each link has its own name"),
+    (f"filters = {['1,6 0 0 0,'] * 8}\n" + TABLE, "8 TooMany", f":1:1: 1 links and 8 filters\nfilters = {['1,6 0 0 0,'] * 8}\n^\n", COUNTS),
+    ("constant = 50331648\n" + "[[link]]\n" * 4097, "8 TooMany", ":4098:1: 4097 links and 0 filters\n[[link]]\n^\n", COUNTS),
+    # What stands in strings and arrays is no header and no key; an inline table is named without its line.
+    ('filters = ["""\n[[link]]\nbag_ms = 3\n""", [\n[[1]]], "]"]\n' + TABLE, "3 Kind top", ":1:1: filters = a value of type array\n" + 'filters = ["""\n^\n', ALLOWED["filters"]),
+    ('filters = ["""\n[[link]]\nbag_ms = 3\n"""]\n' + TABLE.replace("bag_ms = 1", "bag_ms = 3"), "4 Range link 0", f":10:1: {BRAKE}: bag_ms = 3\nbag_ms = 3\n^\n", ALLOWED["bag_ms"]),
+    ("constant = 50331648\nlink = [{ id = 5, name = 'brake', bag_ms = 3, jitter_us = 0, smax = 200, integrity = true, redundancy = true, skew_us = 1 }]\n", "4 Range link 0", f": {BRAKE}: bag_ms = 3\n", ALLOWED["bag_ms"]),
+)
+# Files that are no recordings, the fault, and what its advice is where the first bytes say what they are.
+HEADS = (
+    (b"\x0a\x0d\x0d\x0a" + bytes(40), "2 Magic", PCAPNG),
+    (b"\x1f\x8b\x08\0" + bytes(40), "2 Magic", GZIP),
+    (b"\x28\xb5\x2f\xfd" + bytes(40), "2 Magic", ZSTD),
+    (header(link_type=0x24000001), "4 LinkType", CHECK_SEQUENCES),
+    (header(layout=">", link_type=0x24000001), "4 LinkType", CHECK_SEQUENCES),
+    (header(magic=0xA1B2C3D4, link_type=0x44000001), "4 LinkType", CHECK_SEQUENCES),
+    (header(layout=">", link_type=0x24000065), "4 LinkType", ADVICE["watch 2 Header B 4"]),
+    (header(link_type=113), "4 LinkType", ADVICE["watch 2 Header B 4"]),
 )
 
 
-def twice(name, line, shown, arguments, **how):
-    """A fault at a terminal and elsewhere: the same status and fault line, what is shown and the advice at the terminal alone."""
+def twice(name, line, lead, arguments, advice=None, **how):
+    """A fault at a terminal and elsewhere: the same status and fault line, and what leads to the advice, and that, at the
+    terminal alone. Whole lines lead to it, or the file's name before it."""
     expected = f"afdxmon: {line}\n"
     ran = run(arguments, stdout=subprocess.PIPE, **how)
     fault = difference(ran, FAULT, lambda told: told == expected, b"")
     ran = run_at_terminal(arguments, **how)
-    whole = expected + shown + advice_on(line) + "\n"
+    whole = expected + lead + (advice or advice_on(line)) + "\n"
     if not fault and (ran.returncode != FAULT or ran.stderr != whole):
         fault = f"at a terminal: status {ran.returncode}, {ran.stderr!r}, not {whole!r}"
     say(f"{name}: {line}", fault)
@@ -97,30 +178,119 @@ def twice(name, line, shown, arguments, **how):
 
 def faults(desk):
     """Each fault that can be had has its own advice."""
-    told = [twice("a source", line, shown, ["asm"], input=source) for source, line, shown in SOURCES]
-    told += [twice("a filter", line, "", ["capture", "--code", code], input=header()) for code, line in CODES]
-    for code, line in BLANKS:
-        twice("blanks around a filter", line, "", ["capture", "--code", code], input=header())
-    places = {"missing": os.path.join(desk.directory, "missing"), "directory": desk.directory, "/dev/full": "/dev/full"}
-    for contents, elsewhere, line in RUNS:
-        desk.lay(**{"config": TABLE, "filter": EVERY, "a": header(), "b": header(), **contents})
-        paths = {option: places[place] for option, place in elsewhere.items()}
-        told.append(twice("a run", line, "", desk.arguments(**paths), stdin=subprocess.DEVNULL))
+    told = []
+    for source, line, shown in SOURCES:
+        told.append(twice("a source", line, shown and "standard input:" + shown, ["asm"], input=source))
+    for code, line, shown in CODES + BLANKS:
+        lead = f"--code:{shown}" if shown else "--code: "
+        told.append(twice(f"the filter {code!r}", line, lead, ["capture", "--code", code], input=header()))
+    for code, advice in WRITTEN:
+        lead = f"--code:1:1\n{code.splitlines()[0]}\n^\n"
+        twice(f"the filter {code!r}", "numeric 1 Character at 0", lead, ["capture", "--code", code], advice=advice, input=header())
+    told += runs(desk)
+    tables(desk)
+    desk.lay(config=TABLE, filter=EVERY, a=header(), b=header())
     told.append(twice("a run", "watch 1 Workers", "", [*desk.arguments(), "--workers", "9"], stdin=subprocess.DEVNULL))
-    desk.lay(filter=EVERY)
-    debug = ["debug", "--filter", desk.paths["filter"], "--tap", places["missing"]]
-    told.append(twice("a session", "file --tap", "", debug, stdin=subprocess.DEVNULL))
-    desk.lay(a=header())
-    for line, arguments in (
-        ("file RECORDING", ["--code", EVERY, places["missing"]]),
-        ("file --source", ["--source", places["missing"], desk.paths["a"]]),
-        ("file --output", ["--code", EVERY, desk.paths["a"], "-o", desk.directory]),
-    ):
-        told.append(twice("a capture", line, "", ["capture", *arguments], stdin=subprocess.DEVNULL))
+    told += sessions(desk)
+    told += captures(desk)
     told += little_memory(desk)
     for key in ADVICE:
         if not any((line + " ").startswith(key) for line in told):
             say("each advice", f"no case has the fault {key}")
+
+
+def runs(desk):
+    """What is wrong with a run over two recordings, with the path as it was given."""
+    places = {"missing": os.path.join(desk.directory, "missing"), "directory": desk.directory, "/dev/full": "/dev/full"}
+    places["through"] = os.path.join(desk.paths["a"], "in")
+    told = []
+    for contents, elsewhere, line, lead in RUNS:
+        desk.lay(**{"config": TABLE, "filter": EVERY, "a": header(), "b": header(), **contents})
+        paths = {option: places[place] for option, place in elsewhere.items()}
+        lead = lead.format(**{**desk.paths, **paths})
+        told.append(twice("a run", line, lead, desk.arguments(**paths), stdin=subprocess.DEVNULL))
+    desk.lay(config=TABLE, filter=EVERY, a=header(), b=header())
+    twice("a path that is relative", "file --a", "./x: " + MISSING + "\n", desk.arguments(a="./x"), cwd=desk.directory, stdin=subprocess.DEVNULL)
+    for given, fault, advice in HEADS:
+        desk.lay(config=TABLE, filter=EVERY, a=header(), b=given)
+        lead = desk.paths["b"] + ": "
+        twice("a file that is no recording", f"watch 2 Header B {fault}", lead, desk.arguments(), advice=advice, stdin=subprocess.DEVNULL)
+    # Standard input isn't read again, so nothing more is known of it.
+    given, lead = b"\x0a\x0d\x0d\x0a" + bytes(40), "standard input: "
+    twice("a stream that is no recording", "watch 2 Header A 2 Magic", lead, ["capture", "--code", EVERY], input=given)
+    refused_to(desk)
+    piped(desk)
+    return told
+
+
+def tables(desk):
+    """What is wrong with a table: the key in its line, what stands there and what is allowed."""
+    for table, line, shown, advice in TABLES:
+        desk.lay(config=table, filter=EVERY, a=header(), b=header())
+        twice("a table", f"config {line}", desk.paths["config"] + shown, desk.arguments(), advice=advice, stdin=subprocess.DEVNULL)
+
+
+def refused_to(desk):
+    """Files that another user may not read or write."""
+    if os.getuid() != 0:
+        return
+    desk.lay(config=TABLE, filter=EVERY, a=header(), b=header())
+    os.chmod(desk.directory, 0o755)
+    for option in ("config", "a", "capture"):
+        os.chmod(desk.paths[option], 0o600)
+        lead = desk.paths[option] + ": Permission denied (os error 13)\n"
+        twice("a file of another user", f"file --{option}", lead, desk.arguments(), stdin=subprocess.DEVNULL, user=65534)
+        os.chmod(desk.paths[option], 0o666)
+    os.chmod(desk.directory, 0o700)
+
+
+def piped(desk):
+    """A pipe isn't opened a second time: the advice alone says what may be wrong with it."""
+    desk.lay(config=TABLE, a=header(), b=header())
+    fifo = os.path.join(desk.directory, "fifo")
+    os.mkfifo(fifo)
+    for runner in (run, run_at_terminal):
+        writer = subprocess.Popen(["bash", "-c", f"printf '\\377' > '{fifo}'"])
+        ran = runner(desk.arguments(filter=fifo), stdin=subprocess.DEVNULL, **({} if runner is run_at_terminal else {"stdout": subprocess.PIPE}))
+        writer.wait()
+        said = ran.stderr if isinstance(ran.stderr, str) else ran.stderr.decode()
+        whole = "afdxmon: file --filter\n" + (f"{fifo}: {ADVICE['file --filter']}\n" if runner is run_at_terminal else "")
+        say("a pipe as a filter", "" if (ran.returncode, said) == (FAULT, whole) else f"status {ran.returncode}, {said!r}, not {whole!r}")
+    os.remove(fifo)
+
+
+def sessions(desk):
+    """What is wrong with a session: its recording is --tap, and its fault lines call that A."""
+    desk.lay(filter=EVERY, a=b"", b=header()[:4] + bytes(20), capture="1,x")
+    missing = os.path.join(desk.directory, "missing")
+    told = []
+    for filters, tap, line, lead in (
+        ("filter", missing, "file --tap", f"{missing}: {MISSING}\n"),
+        ("filter", desk.directory, "watch 3 Read A", f"{desk.directory}: {DIRECTORY}\n"),
+        ("filter", desk.paths["a"], "watch 2 Header A 1 Short", desk.paths["a"] + ": "),
+        ("filter", desk.paths["b"], "watch 2 Header A 3 Version", desk.paths["b"] + ": "),
+        ("capture", desk.paths["a"], "numeric 1 Character at 2", desk.paths["capture"] + ":1:3\n1,x\n  ^\n"),
+    ):
+        arguments = ["debug", "--filter", desk.paths[filters], "--tap", tap]
+        told.append(twice("a session", line, lead, arguments, stdin=subprocess.DEVNULL))
+    return told
+
+
+def captures(desk):
+    """What is wrong with a capture that names its files."""
+    desk.lay(filter="1,x", a=header(), b="ldh [12]\nret x\n")
+    missing = os.path.join(desk.directory, "missing")
+    filters, tap, source = (desk.paths[name] for name in ("filter", "a", "b"))
+    told = []
+    for line, lead, arguments in (
+        ("file RECORDING", f"{missing}: {MISSING}\n", ["--code", EVERY, missing]),
+        ("file --source", f"{missing}: {MISSING}\n", ["--source", missing, tap]),
+        ("file --output", f"{desk.directory}: {DIRECTORY}\n", ["--code", EVERY, tap, "-o", desk.directory]),
+        ("numeric 1 Character at 2", f"{filters}:1:3\n1,x\n  ^\n", ["--filter", filters, tap]),
+        ("asm 1 Text 3 Form at 13", f"{source}:2:5\nret x\n    ^\n", ["--source", source, tap]),
+    ):
+        told.append(twice("a capture", line, lead, ["capture", *arguments], stdin=subprocess.DEVNULL))
+    return told
 
 
 def little_memory(desk):
@@ -157,14 +327,37 @@ def helps():
         say(f"the text of {' '.join(arguments)}", fault)
 
 
-def notes():
-    """A note has no advice: at a terminal it stands alone."""
-    ran = run_at_terminal(["capture", "--code", EVERY], input=header() + b"\0")
-    note = "afdxmon: note: recording ends cut after 0 frames: truncated within a record\n"
-    say("a note at a terminal", "" if (ran.returncode, ran.stderr) == (SUCCESS, note) else f"status {ran.returncode}, {ran.stderr!r}")
+# Recordings of two frames that end early, in each way, and one that does before its first frame.
+TWO = header() + record(1, frame(5, 60, 1)) + record(2, frame(5, 60, 2))
+EARLY = (
+    (TWO + b"\0", "cut after 2 frames: truncated within a record"),
+    (TWO + record(0, frame(5, 60, 3)), "bad after 2 frames: timestamp out of order"),
+    (TWO + struct.pack("<IIII", 0, 3, 262145, 60), "bad after 2 frames: captured length over 262144 bytes"),
+    (TWO + struct.pack("<IIII", 0, 10**9, 60, 60), "bad after 2 frames: fraction of a second out of range"),
+    (header() + struct.pack("<IIII", 0, 3, 262145, 60), "bad after 0 frames: captured length over 262144 bytes"),
+)
+
+
+def notes(desk):
+    """The note on a recording that ends early, and at a terminal what to do with it. Elsewhere the note stands alone."""
+    for given, ending in EARLY:
+        note = f"afdxmon: note: recording ends {ending}\n"
+        desk.lay(filter=EVERY, a=given)
+        debug = ["debug", "--filter", desk.paths["filter"], "--tap", desk.paths["a"]]
+        for arguments, how, name in (
+            (["capture", "--code", EVERY], {"input": given}, "standard input"),
+            (debug, {"stdin": subprocess.DEVNULL}, desk.paths["a"]),
+        ):
+            ran = run(arguments, stdout=subprocess.PIPE, **how)
+            fault = difference(ran, SUCCESS, note[:-1])
+            ran = run_at_terminal(arguments, **how)
+            whole = f"{note}{name}: {advice_on_ending(note)}\n"
+            if not fault and (ran.returncode, ran.stderr) != (SUCCESS, whole):
+                fault = f"at a terminal: status {ran.returncode}, {ran.stderr!r}, not {whole!r}"
+            say(f"a note of {arguments[0]}: {ending}", fault)
 
 
 def cases(desk):
     faults(desk)
     helps()
-    notes()
+    notes(desk)

@@ -2,34 +2,29 @@
 
 These are the texts as they are meant to be, whole. The tests compare what the program prints with them.
 """
-NOT_NUMERIC = "not the numeric form of a filter: 'tcpdump -y EN10MB -ddd EXPRESSION' prints it"
-NO_MEMORY = "the system has no memory left for it"
-NO_FILE = "the file can't be opened or read, or is longer than 16 MiB or not UTF-8"
-NO_RECORDING = "the recording can't be opened"
-NO_OUTPUT = "the file can't be created"
+import re
+
+NOT_NUMERIC = "not the numeric form of a filter: tcpdump -y EN10MB -ddd 'ip and udp' prints one"
+EXPRESSION = "an expression, not its numeric form: tcpdump -y EN10MB -ddd 'ip and udp' prints that"
+SOURCE = "a filter's source, not its numeric form: afdxmon asm < in.asm prints that"
+NO_MEMORY = "the system has no memory left for it: end other programs, or raise its limit by ulimit -v"
+RECORDING = "--{} needs a recording that can be read: a pcap file or a pipe"
+OUTPUT = "--{} needs a file that can be written, in a directory that is there"
 UNREADABLE = "the recording can't be read: is it a file or a pipe?"
 FEW_INSTRUCTIONS = "a filter has at most 4096 instructions"
 # The first words of a fault line after `afdxmon: `, and the line that a terminal shows last.
 ADVICE = {
-    "file --config": NO_FILE,
-    "file --filter": NO_FILE,
-    "file --a": NO_RECORDING,
-    "file --b": NO_RECORDING,
-    "file --tap": NO_RECORDING,
-    "file RECORDING": NO_RECORDING,
-    "file --source": NO_FILE,
-    "file --output": NO_OUTPUT,
-    "file --capture": NO_OUTPUT,
-    "file --ledger": NO_OUTPUT,
+    "file --config": "--config needs a table of virtual links: a TOML document, at most 16 MiB of UTF-8",
+    "file --filter": "--filter needs a filter in the numeric form, at most 16 MiB of UTF-8",
+    "file --a": RECORDING.format("a"),
+    "file --b": RECORDING.format("b"),
+    "file --tap": RECORDING.format("tap"),
+    "file RECORDING": "RECORDING needs a recording that can be read: a pcap file or a pipe",
+    "file --source": "--source needs a filter's source, at most 16 MiB of UTF-8",
+    "file --output": OUTPUT.format("output"),
+    "file --capture": OUTPUT.format("capture"),
+    "file --ledger": OUTPUT.format("ledger"),
     "file -": "standard input or output fails, or the text is longer than 16 MiB or not UTF-8",
-    "config 1": "not a TOML document",
-    "config 2": "a key is missing: docs/TABLE.md lists them",
-    "config 3": "a value has another type than its key's",
-    "config 4": "a value is out of its key's range: docs/TABLE.md has the ranges",
-    "config 5": "a key that the table doesn't have",
-    "config 6": "an earlier link has the identifier",
-    "config 7": "an earlier link has the name",
-    "config 8": "there are at most 4096 links, and at most 7 filters in a table",
     "asm 1 Text 1": "no token begins with this byte",
     "asm 1 Text 2": "not a number, or too large: 0x1f, 0b11, 017 and 31 are numbers",
     "asm 1 Text 3": "the statement doesn't go on like this",
@@ -56,18 +51,58 @@ ADVICE = {
     "load 7": "a jump leads past the last instruction",
     "load 8": "the last instruction must be a return",
     "load 9": "a scratch memory slot is read that some path to the instruction hasn't stored",
-    "watch 1": "there are 1 to 8 workers",
+    "watch 1": "--workers is 1 to 8",
     "watch 2 Header A 1": "not a pcap file: it has fewer than the 24 bytes of a file header",
     "watch 2 Header A 2": "not a pcap file; if pcapng: editcap -F nsecpcap in.pcapng out.pcap; if compressed: gunzip",
-    "watch 2 Header A 3": "a pcap file of another version than 2.4",
-    "watch 2 Header B 4": "a pcap file of another link type than 1, Ethernet",
+    "watch 2 Header A 3": "a pcap file of another version than 2.4: editcap -F nsecpcap in.pcap out.pcap writes 2.4",
+    "watch 2 Header B 4": "a pcap file of another link type than 1, Ethernet: record on an Ethernet interface",
     "watch 3 Read A": UNREADABLE,
     "watch 3 Read B": UNREADABLE,
     "watch 4 Write capture": "the capture can't be written: is the disk full, or the pipe closed?",
     "watch 4 Write ledger": "the ledger can't be written: is the disk full, or the pipe closed?",
-    "watch 5": "the system starts no more threads",
+    "watch 5": "the system starts no more threads: raise its limits by ulimit -u and ulimit -v",
     "watch 7": NO_MEMORY,
 }
+# What a table may have at each key.
+ALLOWED = {
+    "constant": "constant is an integer, 0 to 4294967295, with bits 24 and 25 set",
+    "link": "each link is a table of its own, which begins with [[link]]",
+    "late_us": "late_us is an integer, 0 to 1000000",
+    "filters": "filters is an array of at most 7 strings",
+    "id": "id is an integer, 0 to 65535",
+    "name": "name is a string of 1 to 32 letters, digits, _ and -",
+    "bag_ms": "bag_ms is 1, 2, 4, 8, 16, 32, 64 or 128",
+    "jitter_us": "jitter_us is an integer, 0 to 100000",
+    "smax": "smax is an integer, 64 to 1518",
+    "integrity": "integrity is true or false",
+    "redundancy": "redundancy is true or false",
+    "skew_us": "skew_us is an integer, 0 to 1000000",
+}
+NO_DOCUMENT = "the table is a TOML document"
+TOP_KEYS = "the table has constant, late_us, filters and the links"
+LINK_KEYS = "a link has id, name, bag_ms, jitter_us, smax, integrity, redundancy and skew_us"
+COUNTS = "at most 4096 links and 7 filters"
+# The advice on a file that is no recording, by the first bytes that it has.
+PCAPNG = "a pcapng file: editcap -F nsecpcap in.pcapng out.pcap writes it as pcap"
+GZIP = "compressed by gzip: gunzip in.pcap.gz"
+ZSTD = "compressed by zstd: unzstd in.pcap.zst"
+CHECK_SEQUENCES = "its frames have their check sequence: editcap -F nsecpcap -L -C -4 in.pcap out.pcap takes it off"
+# The advice on a recording that ends early, by the words of its note.
+ENDINGS = {
+    "truncated within a record": "record again, or go on with the frames before it",
+    "timestamp out of order": "the frames from there on are left out: reordercap in.pcap out.pcap sorts them",
+    "captured length over 262144 bytes": "damaged there: editcap -F nsecpcap -r in.pcap out.pcap 1-{} keeps what is before",
+    "fraction of a second out of range": "damaged there: editcap -F nsecpcap -r in.pcap out.pcap 1-{} keeps what is before",
+    "too many frames": "the rest is left out: editcap -F nsecpcap -c 1000000000 in.pcap out.pcap splits it",
+}
+DAMAGED_AT_ONCE = "the file is damaged at its first packet: record again"
+
+
+def advice_on_ending(note):
+    """The advice on the recording of a note, a line of standard error."""
+    count, why = re.search(r"after (\d+) frames?: (.*)", note).groups()
+    advice = ENDINGS[why]
+    return DAMAGED_AT_ONCE if "{}" in advice and count == "0" else advice.format(count)
 
 
 def advice_on(line):

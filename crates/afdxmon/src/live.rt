@@ -2,9 +2,9 @@
 //! more, and a fault is told before the program waits for its threads.
 use crate::progress::Progress;
 use crate::streams::{Input, Output};
-use crate::tell;
+use crate::telling::tell;
 use afdx_frame::Network;
-use analyser::{Exit, Fault, RunObserver, WatchFault};
+use analyser::{Exit, Fault, Invocation, RunObserver, WatchArguments, WatchFault};
 use filter_workers::RunGate;
 use std::alloc::{AllocError, Global};
 use std::io;
@@ -98,6 +98,7 @@ impl Read for LiveInput {
 #[derive(Drop)]
 pub struct Watcher<'a> {
     rt: &'a HostRuntime,
+    given: WatchArguments<'a>,
     capture: Blocks,
     ledger: Blocks,
     progress: Option<&'a Progress>,
@@ -108,6 +109,7 @@ impl<'a> Watcher<'a> {
     /// Of the capture and the ledger. `told` becomes true once a fault was told.
     pub fn new(
         rt: &'a HostRuntime,
+        given: WatchArguments<'a>,
         outputs: (Blocks, Blocks),
         progress: Option<&'a Progress>,
         told: &'a AtomicBool,
@@ -115,6 +117,7 @@ impl<'a> Watcher<'a> {
         let (capture, ledger) = outputs;
         Watcher {
             rt,
+            given,
             capture,
             ledger,
             progress,
@@ -135,7 +138,8 @@ impl RunObserver for Watcher<'_> {
             progress.erase(self.rt);
         }
         // Where standard error can't be written, the status alone tells of it.
-        let _ = tell(self.rt, &Exit::Fault(Fault::Watch(fault)), None);
+        let command = Invocation::Watch(self.given);
+        let _ = tell(self.rt, command, &Exit::Fault(Fault::Watch(fault)), None);
         self.told.store(true, Ordering::SeqCst);
     }
 }

@@ -9,20 +9,20 @@ mod live;
 mod packets;
 mod progress;
 mod streams;
+mod telling;
 
 use afdx_frame::{Network, TapFrame};
 use analyser::{
     AsmRun, CaptureArguments, CaptureRun, DebugArguments, Exit, Fault, FileOption, FilterArgument,
-    HeldTap, Invocation, Note, Summary, TO_A_TERMINAL, TapNote, TapRead, USAGE, WatchArguments,
-    WatchFault, advice, answer_line, begin_session, capture_by, caret_at, filter_of,
-    filter_of_source, is_standard, load_filters, read_arguments, read_config, read_file, read_tap,
-    run_asm, run_session,
+    HeldTap, Invocation, Summary, TapRead, USAGE, WatchArguments, WatchFault, answer_line,
+    begin_session, capture_by, filter_of, filter_of_source, is_standard, load_filters,
+    read_arguments, read_config, read_file, read_tap, run_asm, run_session,
 };
 use bpf_debugger::DebugFault;
 use bpf_loader::Program;
 use files::{refuse_closed, refuse_shared, refuse_shared_output};
 use live::{Blocks, LiveInput, Watcher};
-use pcap_io::{Ending, ReadSource, WriteSink};
+use pcap_io::{ReadSource, WriteSink};
 use progress::{Progress, Recording};
 use std::alloc::Global;
 use std::io;
@@ -32,6 +32,7 @@ use std::sync::Wait;
 use std::sync::atomic::{AtomicBool, Ordering};
 use std::thread::Threads;
 use streams::{Input, Output};
+use telling::tell;
 use vl_config::Config;
 
 /// How many bytes are handed to the system at once.
@@ -220,7 +221,7 @@ fn watch<R: Threads + Wait + Sync>(
         Progress::begin(rt, a.length(rt), b.length(rt))
     };
     let outputs = (same(&capture)?, same(&ledger)?);
-    let watcher = Watcher::new(rt, outputs, progress.as_ref(), told);
+    let watcher = Watcher::new(rt, *given, outputs, progress.as_ref(), told);
     let run = analyser::watch(
         threads,
         rt.alloc(),
@@ -336,40 +337,6 @@ fn debug(rt: &HostRuntime, given: &DebugArguments<'_>) -> Result<Exit, Refused> 
     Ok(debug_input(rt, program, tap))
 }
 
-/// Notes how one of two recordings ended, where that wasn't its end.
-fn note_ending(rt: &HostRuntime, network: Network, ending: Ending) -> io::Result<()> {
-    match ending {
-        Ending::Clean(_) => Ok(()),
-        Ending::Cut(_) | Ending::Bad(..) => rt.eprintln(TapNote(network, ending)),
-    }
-}
-
-/// Tells standard error how a command ended: the fault line or the notes, and to a person at a terminal
-/// where in a filter's source a fault lies, and what it means.
-fn tell(rt: &HostRuntime, exit: &Exit, source: Option<&str>) -> io::Result<()> {
-    match exit {
-        Exit::Success => Ok(()),
-        Exit::Terminal => rt.eprintln(TO_A_TERMINAL),
-        Exit::Note(ending) => rt.eprintln(Note(*ending)),
-        Exit::Watched(run) => {
-            note_ending(rt, Network::A, run.a)?;
-            note_ending(rt, Network::B, run.b)
-        }
-        Exit::Fault(fault) => {
-            rt.eprintln(*fault)?;
-            if !rt.stderr().is_terminal() {
-                return Ok(());
-            }
-            if let (Fault::Asm(fault), Some(source)) = (fault, source) {
-                if let Some(caret) = caret_at(rt.alloc(), *fault, source) {
-                    rt.eprintln(caret)?;
-                }
-            }
-            rt.eprintln(advice(fault))
-        }
-    }
-}
-
 /// Tells a person at a terminal what a run over two recordings came to.
 fn summarise(rt: &HostRuntime, exit: &Exit) -> io::Result<()> {
     match exit {
@@ -420,12 +387,12 @@ fn carry_out<R: Threads + Wait + Sync>(
     let exit = match run(rt, threads, command, &told) {
         Ok(exit) if told.load(Ordering::SeqCst) => exit,
         Ok(exit) => {
-            let _ = tell(rt, &exit, None);
+            let _ = tell(rt, command, &exit, None);
             exit
         }
         Err(Refused { fault, source }) => {
             let exit = Exit::Fault(fault);
-            let _ = tell(rt, &exit, source.as_deref());
+            let _ = tell(rt, command, &exit, source.as_deref());
             exit
         }
     };

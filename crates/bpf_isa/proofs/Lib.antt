@@ -10,3 +10,4 @@ pub mod NumericValues
 pub mod NumericInsns
 pub mod NumericProgram
 pub mod NumericLaw
+mod NumericPlace

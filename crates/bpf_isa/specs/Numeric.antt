@@ -66,6 +66,11 @@ item_of (first ∷ others) = Some (first, others)
 unfoldable pub items_in : ℕ → List ℕ → List Item
 items_in at text = filter_map (λ p. item_of (numbers_in p.0 p.1)) (parts is_separator at text)
 
+-- where the item at an index begins
+abbrev pub offset_in : ℕ → List Item → Option ℕ
+offset_in i [] = None
+offset_in i (item ∷ items) = if i == 0 then Some item.0.0 else offset_in (i - 1) items
+
 -- ---- Checking, from left to right.
 
 infixl 10 ◌>>=◌

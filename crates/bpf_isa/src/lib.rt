@@ -43,7 +43,7 @@ pub use laws::{canonical_steps_alike, families_are_disjoint, families_cover_thei
 pub use load::{Load, Size};
 pub use load_x::LoadX;
 pub use moves::Move;
-pub use numeric::{NumericFault, read_numeric, write_numeric};
+pub use numeric::{NumericFault, item_offset, read_numeric, write_numeric};
 pub use packed::Packed;
 pub use returns::Return;
 pub use source::Source;

@@ -6,9 +6,11 @@
 
 mod fault;
 mod part;
+mod place;
 mod reading;
 mod writing;
 
 pub use fault::NumericFault;
+pub use place::item_offset;
 pub use reading::read_numeric;
 pub use writing::write_numeric;

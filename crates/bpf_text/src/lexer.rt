@@ -120,6 +120,15 @@ impl<'a> Lexer<'a> {
         Lexer { text, at: 0 }
     }
 
+    /// The text from a byte on.
+    pub(crate) fn new_at(text: &'a str, at: usize) -> Option<Lexer<'a>> {
+        if at <= text.len() {
+            Some(Lexer { text, at })
+        } else {
+            None
+        }
+    }
+
     /// Whether only blanks and comments are left. Skips the blanks and comments at the front.
     pub(crate) fn is_at_end(&mut self) -> bool
         ensures items { items self.new ≡ items self.old }

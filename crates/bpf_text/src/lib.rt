@@ -22,6 +22,7 @@ mod laws;
 mod lexer;
 mod number;
 mod parser;
+mod place;
 mod statement;
 mod word;
 
@@ -29,4 +30,5 @@ pub use fault::TextFault;
 pub use keyword::Mnemonic;
 pub use laws::{form_leaves_what_may_follow, text_has_one_reading};
 pub use parser::statements;
+pub use place::name_offset;
 pub use statement::{Operand, Source, Statement};

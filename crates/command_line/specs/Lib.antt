@@ -1,6 +1,9 @@
 pub mod Arguments
+pub mod Caret
 pub mod Exit
 pub mod Line
+pub mod Place
+pub mod Refused
 pub mod Shared
 pub mod Standard
 pub mod Summary

@@ -6,8 +6,11 @@ mod arguments;
 mod caret;
 mod exit;
 mod fault;
+mod meaning;
 mod message;
 mod misuse;
+mod place;
+mod refused;
 mod shared;
 mod standard;
 mod summary;
@@ -15,11 +18,14 @@ mod summary;
 pub use arguments::{
     CaptureArguments, DebugArguments, FilterArgument, Invocation, WatchArguments, read_arguments,
 };
-pub use caret::{Caret, caret_at};
+pub use caret::{Caret, Place, caret_at, place_at};
 pub use exit::{Exit, TO_A_TERMINAL, USAGE};
 pub use fault::{Fault, FileOption, fault_line};
-pub use message::{Note, TapNote, advice};
+pub use meaning::{EndingAdvice, HEAD_LEN, advice, header_advice, numeric_advice};
+pub use message::{Note, TapNote};
 pub use misuse::Misuse;
+pub use place::file_of;
+pub use refused::{Written, load_offset, numeric_offset, source_offset, written_as};
 pub use shared::{CaptureFiles, Inode, Named, WatchFiles};
 pub use standard::is_standard;
 pub use summary::{Hint, Summary, hint_of};

@@ -16,3 +16,4 @@ pub use debug::{DebugRun, answer_line, begin_session, debug_over, run_debug, run
 pub use inputs::{filter_of, filter_of_source, load_filters, read_config, read_file};
 pub use laws::source_means_its_program;
 pub use tap::{HeldTap, TapRead, read_tap};
+pub use text::MAX_TEXT;

@@ -62,6 +62,24 @@ impl Key {
         }
     }
 
+    /// What the key's value may be, in words.
+    pub fn allowed(self) -> &'static str {
+        match self {
+            Key::Constant => "constant is an integer, 0 to 4294967295, with bits 24 and 25 set",
+            Key::Link => "each link is a table of its own, which begins with [[link]]",
+            Key::LateUs => "late_us is an integer, 0 to 1000000",
+            Key::Filters => "filters is an array of at most 7 strings",
+            Key::Id => "id is an integer, 0 to 65535",
+            Key::Name => "name is a string of 1 to 32 letters, digits, _ and -",
+            Key::BagMs => "bag_ms is 1, 2, 4, 8, 16, 32, 64 or 128",
+            Key::JitterUs => "jitter_us is an integer, 0 to 100000",
+            Key::Smax => "smax is an integer, 64 to 1518",
+            Key::Integrity => "integrity is true or false",
+            Key::Redundancy => "redundancy is true or false",
+            Key::SkewUs => "skew_us is an integer, 0 to 1000000",
+        }
+    }
+
     /// Must the table have the key?
     pub fn is_required(self) -> bool
         ensures { result ≡ is_required self }

@@ -24,6 +24,7 @@
 mod class;
 mod config;
 mod fault;
+mod faulty;
 mod key;
 mod link;
 mod read;
@@ -32,4 +33,6 @@ mod tables;
 pub use class::{CHECK_LENGTH, Class, class_by};
 pub use config::{Config, MAX_LINKS, MAX_TABLE_FILTERS};
 pub use fault::ConfigFault;
+pub use faulty::{FaultyKey, faulty_key};
+pub use key::Key;
 pub use link::Link;

@@ -54,13 +54,13 @@ fn is_any_out_of_range(keys: &[Key], table: &Table) -> bool
     keys.iter().any(|key| is_out_of_range(table, *key))
 }
 
-fn is_missing(table: &Table, key: Key) -> bool
+pub fn is_missing(table: &Table, key: Key) -> bool
     ensures { result ≡ is_missing (table_view table.now) key }
 {
     key.is_required() && value_at(table, key).is_none()
 }
 
-fn is_other_kind(table: &Table, key: Key) -> bool
+pub fn is_other_kind(table: &Table, key: Key) -> bool
     ensures { result ≡ is_other_kind (table_view table.now) key }
 {
     match value_at(table, key) {
@@ -69,7 +69,7 @@ fn is_other_kind(table: &Table, key: Key) -> bool
     }
 }
 
-fn is_out_of_range(table: &Table, key: Key) -> bool
+pub fn is_out_of_range(table: &Table, key: Key) -> bool
     ensures { result ≡ is_out_of_range (table_view table.now) key }
 {
     match value_at(table, key) {
@@ -92,7 +92,7 @@ fn is_any_unknown(keys: &[Key], table: &Table) -> bool
     table.keys().any(|name| is_unknown(keys, name.as_str()))
 }
 
-fn is_unknown(keys: &[Key], name: &str) -> bool
+pub fn is_unknown(keys: &[Key], name: &str) -> bool
     ensures { result ≡ is_unknown keys.now name.now }
 {
     !is_known(keys, name)

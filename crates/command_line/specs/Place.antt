@@ -1,0 +1,47 @@
+-- Which file a fault is of (this project's profile).
+use Rattle.std.specs.Prelude.{ℕ, Option, Some, None}
+use Rattle.afdx_frame.specs.declared.key.Network.{Network}
+use Rattle.afdx_frame.specs.declared.key.Network.TheVariants as networks
+use Rattle.run_outcome.specs.declared.fault.WatchFault.{WatchFault}
+use Rattle.run_outcome.specs.declared.fault.WatchFault.TheVariants as watch
+use Rattle.run_outcome.specs.declared.fault.Output.{Output}
+use Rattle.run_outcome.specs.declared.fault.Output.TheVariants as output
+use Rattle.command_line.specs.declared.fault.FileOption.{FileOption}
+use Rattle.command_line.specs.declared.fault.FileOption.TheVariants as file
+use Rattle.command_line.specs.declared.fault.Fault.{Fault}
+use Rattle.command_line.specs.declared.fault.Fault.TheVariants as fault
+
+abbrev pub input_of : Network → FileOption
+input_of networks.A = file.A
+input_of networks.B = file.B
+
+abbrev pub output_of : Output → FileOption
+output_of output.Capture = file.Capture
+output_of output.Ledger = file.Ledger
+
+-- the table has the filters with a number
+abbrev pub refused_filter : Option ℕ → FileOption
+refused_filter (Some number) = file.Config
+refused_filter None = file.Filter
+
+-- the recording that can't be read, or the output that can't be written
+abbrev pub file_of_run : WatchFault → Option FileOption
+file_of_run (watch.Header network f) = Some (input_of network)
+file_of_run (watch.Read network) = Some (input_of network)
+file_of_run (watch.Write output) = Some (output_of output)
+file_of_run watch.Workers = None
+file_of_run watch.Spawn = None
+file_of_run watch.RingLost = None
+file_of_run watch.Memory = None
+file_of_run watch.Filters = None
+
+abbrev pub file_of : Fault → Option FileOption
+file_of (fault.File f) = Some f
+file_of (fault.Shared output other) = Some output
+file_of (fault.Taken f by) = Some f
+file_of (fault.Config f) = Some file.Config
+file_of (fault.Asm f) = Some file.Standard
+file_of (fault.Numeric f filter) = Some (refused_filter filter)
+file_of (fault.Load f filter) = Some (refused_filter filter)
+file_of (fault.Watch f) = file_of_run f
+file_of (fault.Debug f) = None

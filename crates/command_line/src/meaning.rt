@@ -1,0 +1,275 @@
+//! What a fault line or a note means and what to do, in plain words, for a person at a terminal. The texts
+//! stand alone: an installed program has no documents beside it.
+
+use crate::fault::{Fault, FileOption};
+use crate::refused::Written;
+use bpf_asm::AsmFault;
+use bpf_debugger::DebugFault;
+use bpf_isa::NumericFault;
+use bpf_loader::LoadFault;
+use bpf_text::TextFault;
+use pcap_io::{BadReason, Ending, HeaderFault};
+use run_outcome::{Output, WatchFault};
+use std::fmt;
+use std::fmt::{Display, Formatter};
+use vl_config::ConfigFault;
+
+/// What to do with a text that isn't the numeric form of a filter, by what it looks like.
+pub fn numeric_advice(fault: NumericFault, written: Written) -> &'static str {
+    match (fault, written) {
+        (NumericFault::Count { .. }, _) => {
+            "the first number says how many instructions follow, and another number of them does"
+        }
+        (NumericFault::TooMany { .. }, _) => "a filter has at most 4096 instructions",
+        (NumericFault::Memory, _) => OUT_OF_MEMORY,
+        (_, Written::Source) => {
+            "a filter's source, not its numeric form: afdxmon asm < in.asm prints that"
+        }
+        (_, Written::Expression) => {
+            "an expression, not its numeric form: tcpdump -y EN10MB -ddd 'ip and udp' prints that"
+        }
+        (_, Written::Numeric) => {
+            "not the numeric form of a filter: tcpdump -y EN10MB -ddd 'ip and udp' prints one"
+        }
+    }
+}
+
+fn load_advice(fault: LoadFault) -> &'static str {
+    match fault {
+        LoadFault::Length => "a filter has 1 to 4096 instructions",
+        LoadFault::UnknownCode { .. } => {
+            "not one of the 49 instructions of classic BPF, of Linux's extensions only 'len'"
+        }
+        LoadFault::ZeroDivisor { .. } => "a division by the constant 0",
+        LoadFault::Shift { .. } => "a shift by 32 bits or more",
+        LoadFault::Scratch { .. } => "scratch memory has the slots M[0] to M[15]",
+        LoadFault::Offset { .. } =>
+            "an offset is at most 2147483647: there are no negative offsets",
+        LoadFault::Jump { .. } => "a jump leads past the last instruction",
+        LoadFault::NoReturn => "the last instruction must be a return",
+        LoadFault::Unstored { .. } => {
+            "a scratch memory slot is read that some path to the instruction hasn't stored"
+        }
+    }
+}
+
+/// How many bytes of a file say what it is, if it is no recording: those of a pcap file's header.
+pub const HEAD_LEN: usize = 24;
+
+/// What to do with a file that has the magic number of no pcap file, by its first bytes.
+fn magic_advice(head: &[u8]) -> &'static str {
+    match head {
+        [0x0a, 0x0d, 0x0d, 0x0a, ..] => {
+            "a pcapng file: editcap -F nsecpcap in.pcapng out.pcap writes it as pcap"
+        }
+        [0x1f, 0x8b, ..] => "compressed by gzip: gunzip in.pcap.gz",
+        [0x28, 0xb5, 0x2f, 0xfd, ..] => "compressed by zstd: unzstd in.pcap.zst",
+        _ => {
+            "not a pcap file; if pcapng: editcap -F nsecpcap in.pcapng out.pcap; if compressed: gunzip"
+        }
+    }
+}
+
+/// Does a file header name Ethernet, with bits that say how long the check sequences are?
+fn has_check_sequences(head: &[u8]) -> bool {
+    match head {
+        [0x4d | 0xd4, .., 1, 0, _, _] | [0xa1, .., 0, 1] => true,
+        _ => false,
+    }
+}
+
+fn link_type_advice(head: &[u8]) -> &'static str {
+    if has_check_sequences(head) {
+        "its frames have their check sequence: editcap -F nsecpcap -L -C -4 in.pcap out.pcap takes it off"
+    } else {
+        "a pcap file of another link type than 1, Ethernet: record on an Ethernet interface"
+    }
+}
+
+/// What to do with a file that is no recording, by its first [`HEAD_LEN`] bytes. Without them
+/// nothing is known of it.
+pub fn header_advice(fault: HeaderFault, head: &[u8]) -> &'static str {
+    match fault {
+        HeaderFault::Short => "not a pcap file: it has fewer than the 24 bytes of a file header",
+        HeaderFault::Magic => magic_advice(head),
+        HeaderFault::Version => {
+            "a pcap file of another version than 2.4: editcap -F nsecpcap in.pcap out.pcap writes 2.4"
+        }
+        HeaderFault::LinkType => link_type_advice(head),
+    }
+}
+
+/// What to do with a recording that ends early.
+#[derive(Clone, Copy, Debug)]
+pub struct EndingAdvice(pub Ending);
+
+impl Display for EndingAdvice {
+    fn fmt<W: fmt::Write>(&self, f: &mut Formatter<W>) -> fmt::Result {
+        match self.0 {
+            Ending::Clean(_) => Ok(()),
+            Ending::Cut(_) => f.write_str("record again, or go on with the frames before it"),
+            Ending::Bad(_, BadReason::StampBack) => f.write_str(
+                "the frames from there on are left out: reordercap in.pcap out.pcap sorts them",
+            ),
+            Ending::Bad(_, BadReason::TooMany) => f.write_str(
+                "the rest is left out: editcap -F nsecpcap -c 1000000000 in.pcap out.pcap splits it",
+            ),
+            Ending::Bad(0, BadReason::Length | BadReason::Fraction) => {
+                f.write_str("the file is damaged at its first packet: record again")
+            }
+            Ending::Bad(count, BadReason::Length | BadReason::Fraction) => write!(
+                f,
+                "damaged there: editcap -F nsecpcap -r in.pcap out.pcap 1-{count} keeps what is before"
+            ),
+        }
+    }
+}
+
+const OUT_OF_MEMORY: &str =
+    "the system has no memory left for it: end other programs, or raise its limit by ulimit -v";
+
+fn watch_advice(fault: WatchFault) -> &'static str {
+    match fault {
+        WatchFault::Workers => "--workers is 1 to 8",
+        WatchFault::Header { fault, .. } => header_advice(fault, &[]),
+        WatchFault::Read { .. } => "the recording can't be read: is it a file or a pipe?",
+        WatchFault::Write {
+            output: Output::Capture,
+        } => "the capture can't be written: is the disk full, or the pipe closed?",
+        WatchFault::Write {
+            output: Output::Ledger,
+        } => "the ledger can't be written: is the disk full, or the pipe closed?",
+        WatchFault::Spawn => {
+            "the system starts no more threads: raise its limits by ulimit -u and ulimit -v"
+        }
+        WatchFault::RingLost =>
+            "what a tap's thread read did not come as it was read: the program is wrong, report it",
+        WatchFault::Memory => OUT_OF_MEMORY,
+        WatchFault::Filters => "there are 1 to 8 filters",
+    }
+}
+
+fn file_advice(file: FileOption) -> &'static str {
+    match file {
+        FileOption::Standard => {
+            "standard input or output fails, or the text is longer than 16 MiB or not UTF-8"
+        }
+        FileOption::Config => {
+            "--config needs a table of virtual links: a TOML document, at most 16 MiB of UTF-8"
+        }
+        FileOption::Filter => {
+            "--filter needs a filter in the numeric form, at most 16 MiB of UTF-8"
+        }
+        FileOption::Source => "--source needs a filter's source, at most 16 MiB of UTF-8",
+        FileOption::Recording => "RECORDING needs a recording that can be read: a pcap file or a pipe",
+        FileOption::Tap => "--tap needs a recording that can be read: a pcap file or a pipe",
+        FileOption::A => "--a needs a recording that can be read: a pcap file or a pipe",
+        FileOption::B => "--b needs a recording that can be read: a pcap file or a pipe",
+        FileOption::Capture => {
+            "--capture needs a file that can be written, in a directory that is there"
+        }
+        FileOption::Ledger => {
+            "--ledger needs a file that can be written, in a directory that is there"
+        }
+        FileOption::Output => {
+            "--output needs a file that can be written, in a directory that is there"
+        }
+    }
+}
+
+/// Which file an output also is.
+fn shared_advice(other: FileOption) -> &'static str {
+    match other {
+        FileOption::Config => "it is the file of --config too: name another file to write",
+        FileOption::Filter => "it is the file of --filter too: name another file to write",
+        FileOption::A => "it is the file of --a too: name another file to write",
+        FileOption::B => "it is the file of --b too: name another file to write",
+        FileOption::Capture => "it is the file of --capture too: name another file to write",
+        FileOption::Ledger => "it is the file of --ledger too: name another file to write",
+        FileOption::Source => "it is the file of --source too: name another file to write",
+        FileOption::Recording => "it is the recording too: name another file to write",
+        FileOption::Standard | FileOption::Tap | FileOption::Output => {
+            "it is another file too: name another to write"
+        }
+    }
+}
+
+/// What is standard input or output already.
+fn taken_advice(by: FileOption) -> &'static str {
+    match by {
+        FileOption::Standard => "the commands are read from standard input: name a file",
+        FileOption::Config => "'-' stands for --config already: name a file",
+        FileOption::Filter => "'-' stands for --filter already: name a file",
+        FileOption::Source => "'-' stands for --source already: name a file",
+        FileOption::A => "'-' stands for --a already: name a file",
+        FileOption::Capture => "'-' stands for --capture already: name a file",
+        FileOption::Tap
+        | FileOption::B
+        | FileOption::Ledger
+        | FileOption::Recording
+        | FileOption::Output => "'-' stands for another file already: name a file",
+    }
+}
+
+fn config_advice(fault: ConfigFault) -> &'static str {
+    match fault {
+        ConfigFault::Text => "not a TOML document",
+        ConfigFault::Missing { .. } => "a key is missing",
+        ConfigFault::Kind { .. } => "a value has another type than its key's",
+        ConfigFault::Range { .. } => "a value is out of its key's range",
+        ConfigFault::UnknownKey { .. } => "a key that the table doesn't have",
+        ConfigFault::TwiceId { .. } => "an earlier link has the identifier",
+        ConfigFault::TwiceName { .. } => "an earlier link has the name",
+        ConfigFault::TooMany => "there are at most 4096 links, and at most 7 filters in a table",
+        ConfigFault::Memory => OUT_OF_MEMORY,
+    }
+}
+
+fn text_advice(fault: TextFault) -> &'static str {
+    match fault {
+        TextFault::Character { .. } => "no token begins with this byte",
+        TextFault::Number { .. } =>
+            "not a number, or too large: 0x1f, 0b11, 017 and 31 are numbers",
+        TextFault::Form { .. } => "the statement doesn't go on like this",
+        TextFault::ReservedLabel { .. } => "a word of the language can't be a label",
+        TextFault::Memory => OUT_OF_MEMORY,
+    }
+}
+
+fn asm_advice(fault: AsmFault) -> &'static str {
+    match fault {
+        AsmFault::Text(fault) => text_advice(fault),
+        AsmFault::Empty => "there is no statement",
+        AsmFault::TooMany => "a filter has at most 4096 instructions",
+        AsmFault::TwiceLabel { .. } => "an earlier statement has the same label",
+        AsmFault::NoLabel { .. } => "no statement has the label that the jump names",
+        AsmFault::Backward { .. } => "a jump only goes forward, to a later statement",
+        AsmFault::TooFar { .. } =>
+            "a conditional jump skips at most 255 statements: use ja on the way",
+        AsmFault::Memory => OUT_OF_MEMORY,
+    }
+}
+
+fn debug_advice(fault: DebugFault) -> &'static str {
+    match fault {
+        DebugFault::NoFrame => "no frame is selected",
+        DebugFault::NoSuchFrame => "no frame has this number",
+        DebugFault::NoSuchInsn => "no instruction has this index",
+        DebugFault::Memory => OUT_OF_MEMORY,
+    }
+}
+
+/// What a fault line means and what to do, in plain words, for a person at a terminal.
+pub fn advice(fault: &Fault) -> &'static str {
+    match *fault {
+        Fault::File(file) => file_advice(file),
+        Fault::Shared { other, .. } => shared_advice(other),
+        Fault::Taken { by, .. } => taken_advice(by),
+        Fault::Config(fault) => config_advice(fault),
+        Fault::Asm(fault) => asm_advice(fault),
+        Fault::Numeric { fault, .. } => numeric_advice(fault, Written::Numeric),
+        Fault::Load { fault, .. } => load_advice(fault),
+        Fault::Watch(fault) => watch_advice(fault),
+        Fault::Debug(fault) => debug_advice(fault),
+    }
+}

@@ -1,0 +1,60 @@
+//! Which file a fault is of, for a person who is told its path.
+ghost use Rattle.std.specs.Prelude.{◌≡◌};
+ghost use Rattle.command_line.specs.Place.{file_of, input_of, output_of, refused_filter};
+
+use crate::fault::{Fault, FileOption};
+use afdx_frame::Network;
+use run_outcome::{Output, WatchFault};
+
+fn input_of(network: Network) -> FileOption
+    ensures { result ≡ input_of network }
+{
+    match network {
+        Network::A => FileOption::A,
+        Network::B => FileOption::B,
+    }
+}
+
+fn output_of(output: Output) -> FileOption
+    ensures { result ≡ output_of output }
+{
+    match output {
+        Output::Capture => FileOption::Capture,
+        Output::Ledger => FileOption::Ledger,
+    }
+}
+
+/// The file that a filter stands in: the table has those with a number.
+fn filter_file(filter: Option<u8>) -> FileOption
+    ensures { result ≡ refused_filter filter }
+{
+    match filter {
+        Some(_) => FileOption::Config,
+        None => FileOption::Filter,
+    }
+}
+
+/// The file that a fault is of. `A` is the one recording of `capture` and `debug` too. None: the fault is
+/// of no file.
+pub fn file_of(fault: &Fault) -> Option<FileOption>
+    ensures { result ≡ file_of fault.now }
+{
+    match *fault {
+        Fault::File(file) | Fault::Shared { output: file, .. } | Fault::Taken { file, .. } => Some(file),
+        Fault::Config(_) => Some(FileOption::Config),
+        Fault::Asm(_) => Some(FileOption::Standard),
+        Fault::Numeric { filter, .. } | Fault::Load { filter, .. } => Some(filter_file(filter)),
+        Fault::Watch(WatchFault::Header { network, .. } | WatchFault::Read { network }) => {
+            Some(input_of(network))
+        }
+        Fault::Watch(WatchFault::Write { output }) => Some(output_of(output)),
+        Fault::Watch(
+            WatchFault::Workers
+            | WatchFault::Spawn
+            | WatchFault::RingLost
+            | WatchFault::Memory
+            | WatchFault::Filters,
+        )
+        | Fault::Debug(_) => None,
+    }
+}

@@ -1,0 +1,12 @@
+//! Where a fault lies in the text of a table of virtual links, and what stands there, for a person who has to
+//! mend it.
+//!
+//! `vl_config` reads a table and names its first fault. Here the text is read a second time, which only a
+//! stands, and the words that say what is wrong and what is allowed.
+#![tactic(auto)]
+
+mod scan;
+mod slip;
+
+pub use scan::{key_offset, link_offset};
+pub use slip::{Slip, slip_of};
