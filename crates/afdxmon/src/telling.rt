@@ -83,10 +83,7 @@ fn path_of<'a>(command: Invocation<'a>, file: FileOption) -> Option<&'a str> {
 fn name_of<'a>(command: Invocation<'a>, file: FileOption) -> Option<&'a str> {
     match (given(command, file), file) {
         (Some(path), FileOption::Capture | FileOption::Ledger | FileOption::Output)
-            if is_standard(path) =>
-        {
-            Some("standard output")
-        }
+            if is_standard(path) => { Some("standard output") }
         (Some(path), _) if is_standard(path) => Some("standard input"),
         (Some(path), _) => Some(path),
         (None, FileOption::Filter) => code_of(command).map(|_| "--code"),
@@ -158,7 +155,11 @@ fn reason_of_input(rt: &HostRuntime, path: &str, file: FileOption) -> Option<Rea
         return None;
     }
     match file {
-        FileOption::Config | FileOption::Filter | FileOption::Source => reason_of_text(rt, path, found.len()),
+        FileOption::Config | FileOption::Filter | FileOption::Source => reason_of_text(
+            rt,
+            path,
+            found.len(),
+        ),
         _ => reason_of_recording(rt, path),
     }
 }

@@ -161,7 +161,8 @@ fn file_advice(file: FileOption) -> &'static str {
             "--filter needs a filter in the numeric form, at most 16 MiB of UTF-8"
         }
         FileOption::Source => "--source needs a filter's source, at most 16 MiB of UTF-8",
-        FileOption::Recording => "RECORDING needs a recording that can be read: a pcap file or a pipe",
+        FileOption::Recording =>
+            "RECORDING needs a recording that can be read: a pcap file or a pipe",
         FileOption::Tap => "--tap needs a recording that can be read: a pcap file or a pipe",
         FileOption::A => "--a needs a recording that can be read: a pcap file or a pipe",
         FileOption::B => "--b needs a recording that can be read: a pcap file or a pipe",

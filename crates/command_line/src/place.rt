@@ -40,7 +40,9 @@ pub fn file_of(fault: &Fault) -> Option<FileOption>
     ensures { result ≡ file_of fault.now }
 {
     match *fault {
-        Fault::File(file) | Fault::Shared { output: file, .. } | Fault::Taken { file, .. } => Some(file),
+        Fault::File(file) | Fault::Shared { output: file, .. } | Fault::Taken { file, .. } => Some(
+            file,
+        ),
         Fault::Config(_) => Some(FileOption::Config),
         Fault::Asm(_) => Some(FileOption::Standard),
         Fault::Numeric { filter, .. } | Fault::Load { filter, .. } => Some(filter_file(filter)),
