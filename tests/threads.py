@@ -39,7 +39,8 @@ def most_threads(command):
 def counted(desk):
     """More workers show more threads at once. A run of one worker has the calling thread and those of the taps."""
     table = f"filters = {[LONGEST] * 7}\n" + TABLE
-    given = header() + long.packets(0, 2500)
+    # More than both rings hold, so that the taps are read as long as the filters run.
+    given = header() + long.packets(0, 12000)
     desk.lay(config=table, filter=LONGEST, a=given, b=given)
     found, statuses = [], set()
     for workers in (1, 2, 4, 8):
