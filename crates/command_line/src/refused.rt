@@ -1,7 +1,8 @@
 //! Where in a filter's text a fault lies: in its source, or in the numeric form.
 ghost use Rattle.std.specs.Prelude.{◌≡◌, IfSome, Some, map};
 ghost use Rattle.bpf_text.specs.Meaning.{operand_of, statement_of};
-ghost use Rattle.command_line.specs.Refused.{IsSourceOffset, IsStatementOffset, IsTarget, IsTargetOffset, NamesTargetAt, load_place, numeric_place};
+ghost use Rattle.command_line.specs.Refused.{IsSourceOffset, IsStatementOffset, IsTarget, IsTargetOffset};
+ghost use Rattle.command_line.specs.Refused.{NamesTargetAt, load_place, numeric_place};
 
 use bpf_asm::AsmFault;
 use bpf_isa::{NumericFault, item_offset};
