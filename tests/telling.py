@@ -59,6 +59,7 @@ CODES = (
 # Blanks around a filter are bytes of it, so that offsets count them; others than the form has are faults.
 BLANKS = (
     ("  1,x", "numeric 1 Character at 4", "1:5\n  1,x\n    ^\n"),
+    ("\n\n1,6 0 256 0", "numeric 2 Number at 8", "3:7\n1,6 0 256 0\n      ^\n"),
     ("2,6 0 0 0, \n", "numeric 4 Count at 12", "1:1\n2,6 0 0 0, \n^\n"),
     ("\n , \n2,6 0 0 0", "numeric 4 Count at 14", "3:1\n2,6 0 0 0\n^\n"),
     (" \t\n", "numeric 3 Form at 3", ""),
@@ -76,6 +77,7 @@ WRITTEN = (
     ("ret #0", SOURCE),
     ("ldh [4]\njne #5, drop\nret #-1\ndrop: ret #0\n", SOURCE),
     ("ldh [4]\njne 5, drop\nret #-1\n", SOURCE),
+    ("ldh [4]\n\njne 5, drop", SOURCE),
     ("{ return 1; }", NOT_NUMERIC),
     ("\"ip\"", NOT_NUMERIC),
 )

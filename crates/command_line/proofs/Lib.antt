@@ -1,3 +1,4 @@
 pub mod Building
+mod Found
 pub mod Given
 pub mod Refusing

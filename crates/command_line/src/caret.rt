@@ -2,7 +2,8 @@
 //! the place.
 ghost use Rattle.std.specs.Prelude.{◌≡◌, IfOk, IfSome, string_bytes};
 ghost use Rattle.std.specs.List.{prefix_len};
-ghost use Rattle.command_line.specs.Caret.{IsCaretAt, begins_character, blank_for, blanks_for, count_of, is_in_line, is_line_feed, line_before, place_of};
+ghost use Rattle.command_line.specs.Caret.{IsCaretAt, count_of, is_in_line, is_line_feed, line_before, place_of};
+ghost use Rattle.command_line.specs.Caret.{begins_character, blank_for, blanks_for};
 
 use std::alloc::{AllocError, Global};
 use std::fmt;

@@ -1,6 +1,8 @@
 //! Where in a filter's text a fault lies: in its source, or in the numeric form.
-ghost use Rattle.std.specs.Prelude.{◌≡◌, IfSome, Some};
-ghost use Rattle.command_line.specs.Refused.{load_place, numeric_place};
+ghost use Rattle.std.specs.Prelude.{◌≡◌, IfSome, Some, map};
+ghost use Rattle.bpf_text.specs.Meaning.{operand_of, statement_of};
+ghost use Rattle.command_line.specs.Refused.{IsSourceOffset, IsStatementOffset, IsTarget, IsTargetOffset};
+ghost use Rattle.command_line.specs.Refused.{NamesTargetAt, load_place, numeric_place};
 
 use bpf_asm::AsmFault;
 use bpf_isa::{NumericFault, item_offset};
@@ -11,16 +13,7 @@ use std::alloc::Global;
 /// The farthest that a conditional jump leads: over 255 statements.
 const FARTHEST: usize = 256;
 
-/// The labels that an operand names.
-fn targets_of<'a>(operand: Operand<'a>) -> [Option<&'a str>; 2] {
-    match operand {
-        Operand::Target(target) => [Some(target), None],
-        Operand::Branch(_, target, other) => [Some(target), other],
-        _ => [None, None],
-    }
-}
-
-/// Can the statement at an index not jump to a label, if it is a conditional jump?
+/// Can the conditional jump at an index not lead to a label?
 fn is_refused(statements: &[Statement<'_>], at: usize, target: &str) -> bool {
     let label = Some(target);
     match statements
@@ -32,28 +25,61 @@ fn is_refused(statements: &[Statement<'_>], at: usize, target: &str) -> bool {
     }
 }
 
-/// The first label that the statement at an index names and can't jump to.
-fn refused_target<'a>(statements: &[Statement<'a>], at: usize) -> Option<&'a str> {
-    for target in targets_of(statements.get(at)?.operand) {
-        if is_refused(statements, at, target?) {
-            return target;
+/// The label that the statement at an index names and can't jump to, if it is one of these statements that has
+/// such a label: of two the first that is refused.
+fn refused_target<'a>(
+    statements: &[Statement<'_>],
+    at: usize,
+    operand: Operand<'a>,
+) -> Option<&'a str>
+    ensures { IfSome result (λ name. IsTarget (operand_of operand.entry) name.now) }
+{
+    match operand {
+        Operand::Target(target) => Some(target),
+        Operand::Branch(_, target, other) => {
+            if is_refused(statements, at, target) {
+                Some(target)
+            } else {
+                other
+            }
         }
+        _ => None,
     }
-    None
 }
 
 /// Where the statement at an index names the label that it can't jump to.
-fn target_offset(text: &str, statements: &[Statement<'_>], at: usize) -> Option<usize> {
+fn target_offset(text: &str, statements: &[Statement<'_>], at: usize) -> Option<usize>
+    ensures { IfSome result (λ offset.
+        NamesTargetAt text.now (map statement_of statements.now) at offset) }
+{
     let statement = statements.get(at)?;
-    let target = refused_target(statements, at)?;
+    let target = refused_target(statements, at, statement.operand)?;
     // Its own label stands first, and may be the target.
     let label = statement.label.map_or(0, |label| label.len());
     name_offset(text, statement.at.checked_add(label)?, target)
 }
 
+/// Where a source names the label that the statement at an index can't jump to.
+fn label_offset(alloc: Global, text: &str, at: usize) -> Option<usize>
+    ensures { IfSome result (λ offset. IsTargetOffset text.now at offset) }
+{
+    let statements = statements(alloc, text).ok()?;
+    target_offset(text, &statements, at)
+}
+
+/// Where the statement at an index begins.
+fn statement_offset(alloc: Global, text: &str, at: usize) -> Option<usize>
+    ensures { IfSome result (λ offset. IsStatementOffset text.now at offset) }
+{
+    let statements = statements(alloc, text).ok()?;
+    Some(statements.get(at)?.at)
+}
+
 /// The byte offset in a source where a fault lies: that of the token, of the label that is refused, or of
 /// the statement. None: the fault has no place, or there is no memory to find it.
-pub fn source_offset(alloc: Global, fault: AsmFault, text: &str) -> Option<usize> {
+pub fn source_offset(alloc: Global, fault: AsmFault, text: &str) -> Option<usize>
+    ensures { IfSome result (λ at. IsSourceOffset text.now fault at) }
+{
     match fault {
         AsmFault::Text(
             TextFault::Character { at }
@@ -61,13 +87,9 @@ pub fn source_offset(alloc: Global, fault: AsmFault, text: &str) -> Option<usize
             | TextFault::Form { at }
             | TextFault::ReservedLabel { at },
         ) => Some(at),
-        AsmFault::TwiceLabel { at } => {
-            let statements = statements(alloc, text).ok()?;
-            Some(statements.get(at)?.at)
-        }
+        AsmFault::TwiceLabel { at } => statement_offset(alloc, text, at),
         AsmFault::NoLabel { at } | AsmFault::Backward { at } | AsmFault::TooFar { at } => {
-            let statements = statements(alloc, text).ok()?;
-            target_offset(text, &statements, at)
+            label_offset(alloc, text, at)
         }
         AsmFault::Text(TextFault::Memory)
         | AsmFault::Empty
@@ -130,6 +152,13 @@ pub fn written_as(alloc: Global, text: &str) -> Written {
     }
 }
 
+/// Where the first line ends that isn't blank.
+fn first_line_end(text: &str) -> usize {
+    let rest = text.trim_start();
+    let blank = text.len().saturating_sub(rest.len());
+    blank.saturating_add(rest.find('\n').unwrap_or(rest.len()))
+}
+
 fn is_source(alloc: Global, text: &str) -> bool {
     match statements(alloc, text) {
         Ok(statements) => !statements.is_empty(),
@@ -138,7 +167,7 @@ fn is_source(alloc: Global, text: &str) -> bool {
             | TextFault::Number { at }
             | TextFault::Form { at }
             | TextFault::ReservedLabel { at },
-        ) => text.find('\n').is_some_and(|line| line < at),
+        ) => first_line_end(text) < at,
         Err(TextFault::Memory) => false,
     }
 }

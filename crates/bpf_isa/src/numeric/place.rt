@@ -6,7 +6,7 @@ ghost use Rattle.bpf_isa.specs.Numeric.{items_in, offset_in};
 use crate::numeric::part::Part;
 
 /// The byte offset of the item at an index of those in a part.
-#[tactic(auto, using(crate::proofs::NumericPlace::further, crate::proofs::NumericPlace::here, crate::proofs::NumericPlace::nowhere))]
+#[tactic(auto, using(crate::proofs::NumericPlace::further))]
 fn offset_in(part: Part<'_>, index: usize) -> Option<usize>
     ensures { result ≡ offset_in index (items_in part.entry.at part.entry.bytes.now) }
 {
