@@ -26,4 +26,6 @@ pub use commands::{
     run_capture, run_debug, run_session, source_means_its_program,
 };
 pub use run_outcome::{Output, WatchFault, WatchRefused};
-pub use watch_run::{OpenGate, Watched, same_bytes_in_same_bytes_out, watch, watch_whole};
+pub use watch_run::{
+    OpenGate, RunObserver, Watched, same_bytes_in_same_bytes_out, watch, watch_whole,
+};
