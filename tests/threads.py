@@ -1,5 +1,4 @@
-"""The threads of `afdxmon watch`: how many there are, runs on one processor, and taps and outputs that fail in mid-run."""
-import fcntl
+"""The threads of `afdxmon watch`: how many there are, runs on one processor, taps that pause, and taps and outputs that fail in mid-run."""
 import os
 import pty
 import select
@@ -12,7 +11,7 @@ from analyser import watch
 from harness import EVERY, FAULT, ODD, PROGRAM, SUCCESS, TOP, ended, header, say
 from watching import TABLE, read
 
-# What a fault in mid-run may leave out of the safe frames, once all that came was taken: a round.
+# The frames of a round at most.
 ROUND = 1024
 # 4096 steps on each frame: a round of 256 frames takes a worker some milliseconds.
 LONGEST = "4096," + "0 0 0 7," * 4095 + "6 0 0 60,"
@@ -76,6 +75,19 @@ def on_one_processor(desk):
             say(f"watch on one processor: {name}, {workers} workers", desk.agrees(ran, *out))
 
 
+def pour(into, other, data):
+    """Gives all bytes to a terminal or a pipe, and waits until they were read from its other end. Returns whether they were taken."""
+    left = memoryview(data)
+    while left:
+        if not select.select([], [into], [], 30)[1]:
+            return False
+        left = left[os.write(into, left[:4096]):]
+    until = time.monotonic() + 30
+    while long.unread(other) and time.monotonic() < until:
+        time.sleep(0.001)
+    return not long.unread(other)
+
+
 class FailingTap:
     """A terminal as a tap: it gives bytes as a pipe does, and a read that waits when the other end closes fails."""
 
@@ -86,22 +98,29 @@ class FailingTap:
         self.path = os.ttyname(self.theirs)
 
     def pour(self, data):
-        """Gives all bytes. Returns whether they were taken."""
-        left = memoryview(data)
-        while left:
-            if not select.select([], [self.ours], [], 30)[1]:
-                return False
-            left = left[os.write(self.ours, left[:4096]):]
-        until = time.monotonic() + 30
-        while long.unread(self.theirs) and time.monotonic() < until:
-            time.sleep(0.001)
-        return True
+        return pour(self.ours, self.theirs, data)
 
     def fail(self):
         os.close(self.ours)
 
     def close(self):
         os.close(self.theirs)
+
+
+class OpenTap:
+    """A pipe as a tap, which stays open until it is closed."""
+
+    def __init__(self, desk):
+        self.path = os.path.join(desk.directory, "pipe")
+        os.mkfifo(self.path)
+        self.end = os.open(self.path, os.O_RDWR | os.O_NONBLOCK)
+
+    def pour(self, data):
+        return pour(self.end, self.end, data)
+
+    def close(self):
+        os.close(self.end)
+        os.remove(self.path)
 
 
 def state_of(child, task):
@@ -122,26 +141,31 @@ def rest(child):
         time.sleep(0.005)
 
 
-def lost(desk, frames, least):
-    """How the outputs of a run that has ended early differ from a prefix of at least so many frames."""
-    texts = {"capture": b"".join(long.pieces_twice(frames)), "ledger": b"afdx-ledger 2\n" + long.lines(0, frames)}
-    counts = {"capture": (len(desk.left("capture")) - 24) // 76, "ledger": desk.left("ledger").count(b"\n") - 1}
-    for option, text in texts.items():
-        if not text.startswith(desk.left(option)):
-            return f"the {option} is no prefix"
-        if counts[option] < least:
-            return f"the {option} has {counts[option]} frames, not {least}"
-    return ""
+def unlike(desk, frames, safe):
+    """How the outputs of a run that has ended early differ from what belongs to the first so many frames of both taps."""
+    packets, lines = b"".join(long.pieces_twice(frames)), long.lines(0, frames).splitlines(keepends=True)
+    return desk.compared("capture", packets[: 24 + 76 * safe]) or desk.compared("ledger", b"".join([b"afdx-ledger 2\n", *lines[:safe]]))
+
+
+def safe_of(network, given):
+    """How many frames are safe where one tap has given so many and the other one has more: all of that tap, and of the other those before
+    its last one. A's frame at one stamp comes before B's."""
+    return max(0, 2 * given - 1) if network == "a" else 2 * given
+
+
+def started(desk, network, tap, workers, **elsewhere):
+    """A run in which one tap is this one."""
+    command = [PROGRAM, *desk.arguments(**{network: tap.path}, **elsewhere), "--workers", workers]
+    return subprocess.Popen(command, stdin=subprocess.DEVNULL, stdout=subprocess.PIPE, stderr=subprocess.PIPE)
 
 
 def failing_tap(desk, network, given, workers):
-    """One tap fails after so many frames, of which the other one has more."""
+    """One tap fails after so many frames, of which the other one has more: what is written belongs to all safe frames, and to no other."""
     frames = 3000
     whole = header() + long.packets(0, frames)
     desk.lay(config=TABLE, filter=EVERY, a=whole, b=whole)
     tap = FailingTap()
-    command = [PROGRAM, *desk.arguments(**{network: tap.path}), "--workers", workers]
-    child = subprocess.Popen(command, stdin=subprocess.DEVNULL, stdout=subprocess.PIPE, stderr=subprocess.PIPE)
+    child = started(desk, network, tap, workers)
     taken = tap.pour(header() + long.packets(0, given) + long.packet(given)[:30])
     rest(child)
     tap.fail()
@@ -149,15 +173,58 @@ def failing_tap(desk, network, given, workers):
     tap.close()
     good = taken and (child.returncode, told, out) == (FAULT, f"afdxmon: watch 3 Read {network.upper()}\n".encode(), b"")
     fault = "" if good else f"status {child.returncode}, {told!r}"
-    # Of the frames up to the last that came, the last one of each tap isn't safe.
-    say(f"watch: tap {network.upper()} fails after {given} frames, {workers} workers", fault or lost(desk, frames, 2 * given - 2 - ROUND))
+    fault = fault or unlike(desk, frames, safe_of(network, given))
+    say(f"watch: tap {network.upper()} fails after {given} of {frames} frames, {workers} workers", fault)
 
 
 def failing_taps(desk):
-    """A tap fails in mid-run: the outputs have all that was safe but a round."""
+    """A tap fails in mid-run: the outputs have all that was safe."""
     for network in ("a", "b"):
-        for given, workers in ((600, "1"), (600, "2"), (2000, "2"), (2000, "8")):
+        for given, workers in ((0, "2"), (1, "3"), (512, "1"), (513, "2"), (1024, "8"), (2000, "2"), (2000, "8")):
             failing_tap(desk, network, given, workers)
+
+
+def pausing_tap(desk, network, given, workers):
+    """One tap pauses after so many frames: what is safe is written meanwhile, and all once it goes on."""
+    frames, name = 3000, f"watch: tap {network.upper()} pauses after {given} of {frames} frames, {workers} workers"
+    whole = header() + long.packets(0, frames)
+    desk.lay(config=TABLE, filter=EVERY, a=whole, b=whole)
+    tap = OpenTap(desk)
+    child = started(desk, network, tap, workers)
+    fault = "" if tap.pour(header() + long.packets(0, given)) else "the tap isn't read"
+    until = time.monotonic() + 30
+    while unlike(desk, frames, safe_of(network, given)) and time.monotonic() < until:
+        time.sleep(0.005)
+    say(name, fault or unlike(desk, frames, safe_of(network, given)))
+    tap.pour(long.packets(given, frames))
+    tap.close()
+    out, told = child.communicate(timeout=60)
+    fault = "" if (child.returncode, told, out) == (SUCCESS, b"", b"") else f"status {child.returncode}, {told!r}"
+    fault = fault or desk.compared("capture", b"".join(long.pieces_twice(frames)))
+    ledger = b"afdx-ledger 2\n" + long.lines(0, frames) + long.totals(frames, 2 * frames)
+    say(f"{name}, and goes on", fault or desk.compared("ledger", ledger))
+
+
+def pausing_taps(desk):
+    for network in ("a", "b"):
+        for given, workers in ((1, "2"), (513, "1"), (2000, "8")):
+            pausing_tap(desk, network, given, workers)
+
+
+def told_at_once(desk):
+    """The fault of an output is told while a tap stays open."""
+    whole = header() + long.packets(0, 3000)
+    for network in ("a", "b"):
+        desk.lay(config=TABLE, filter=EVERY, a=whole, b=whole)
+        tap = OpenTap(desk)
+        child = started(desk, network, tap, "2", capture="/dev/full")
+        tap.pour(header() + long.packets(0, 2000))
+        line = b"afdxmon: watch 4 Write capture\n"
+        told = child.stderr.readline() if select.select([child.stderr], [], [], 30)[0] else b""
+        tap.close()
+        rest_of = child.communicate(timeout=60)
+        good = (told, child.returncode, rest_of) == (line, FAULT, (b"", b""))
+        say(f"watch: the capture fails while tap {network.upper()} stays open", "" if good else f"{told!r}, status {child.returncode}, {rest_of!r}")
 
 
 def failing_outputs(desk):
@@ -178,4 +245,6 @@ def cases(desk):
     counted(desk)
     on_one_processor(desk)
     failing_taps(desk)
+    pausing_taps(desk)
+    told_at_once(desk)
     failing_outputs(desk)
