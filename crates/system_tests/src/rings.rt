@@ -20,6 +20,7 @@ mod blocks;
 mod gate;
 mod losses;
 mod passages;
+mod stops;
 
 /// A gate that holds nobody.
 pub(crate) struct Open;

@@ -1,6 +1,7 @@
 //! Two recordings analysed whole, on one thread and on several: worked examples, devices that fail,
 //! gates, generated recordings, refused allocations, and real size.
 
+mod aborts;
 mod allocation;
 mod counted;
 mod devices;
@@ -8,11 +9,14 @@ mod gates;
 mod generated;
 mod long;
 mod many;
+mod pauses;
+mod safe;
+mod stopping;
 mod worked;
 
 use crate::support::{HEADER, SOUND, loaded};
 use crate::watch::counted::Counted;
-use analyser::{OpenGate, WatchFault, WatchRefused, Watched, watch, watch_whole};
+use analyser::{OpenGate, RunObserver, WatchFault, WatchRefused, Watched, watch, watch_whole};
 use bpf_loader::Program;
 use filter_workers::RunGate;
 use pcap_io::{Ending, MemSink, MemSource, Script};
@@ -163,7 +167,7 @@ pub fn devices_by(
 }
 
 /// The run over these devices. On threads it is told to the gate.
-pub fn run_over<R: Threads + Wait + Sync + AllocGlobal, G: RunGate + TapGate + Sync>(
+pub fn run_over<R: Threads + Wait + Sync + AllocGlobal, G: RunGate + TapGate + RunObserver + Sync>(
     rt: &R,
     way: Way,
     config: &Config,
@@ -190,7 +194,7 @@ pub fn run_over<R: Threads + Wait + Sync + AllocGlobal, G: RunGate + TapGate + S
 
 /// The run of what is given, over devices that follow the scripts. On threads it is told to the
 /// gate.
-pub fn run_past<R: Threads + Wait + Sync + AllocGlobal, G: RunGate + TapGate + Sync>(
+pub fn run_past<R: Threads + Wait + Sync + AllocGlobal, G: RunGate + TapGate + RunObserver + Sync>(
     rt: &R,
     way: Way,
     given: Given<'_>,

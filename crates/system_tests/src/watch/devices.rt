@@ -228,8 +228,8 @@ fn lines_with_b(given: usize) -> &'static str {
     }
 }
 
-/// The outputs of a run that a failing source ended: whole lines and packets, a prefix of those of
-/// the frames that were given.
+/// The outputs of a run on one thread that a failing source ended: whole lines and packets, a prefix of those
+/// of the frames that were given.
 fn has_wholes(
     rt: &(impl Abort + AllocGlobal),
     ran: &Ran,
@@ -247,6 +247,69 @@ fn has_wholes(
     let packets = recording(rt.alloc(), stamps)?;
     assert!(rt; packets.starts_with(taken));
     assert!(rt; taken.len() == 24 || taken.len() == 100 || taken.len() == 176);
+    Ok(())
+}
+
+/// The lines of the frames that are safe once a source has failed, after the ledger's first one, and what is
+/// accepted of them.
+#[derive(Clone, Copy)]
+struct Safe {
+    lines: &'static str,
+    accepted: &'static [(u32, u8)],
+}
+
+const NONE_SAFE: Safe = Safe {
+    lines: "",
+    accepted: &[],
+};
+
+const FIRST_SAFE: Safe = Safe {
+    lines: "0 A 0 5 1 regular within first deliver - 00\n",
+    accepted: &[],
+};
+
+const A_SAFE: Safe = Safe {
+    lines: "0 A 0 5 1 regular within first deliver - 00\n100 A 1 5 2 regular within next deliver 60 01\n",
+    accepted: &[(100, 2)],
+};
+
+const ALL_SAFE: Safe = Safe {
+    lines: "0 A 0 5 1 regular within first deliver - 00\n100 A 1 5 2 regular within next deliver 60 01\n\
+            200 B 0 5 2 regular within first copy 60 01\n",
+    accepted: &[(100, 2), (200, 2)],
+};
+
+/// What is safe where A's source has failed after so many bytes: the frame of B comes after all of A's.
+/// None: it wasn't opened.
+fn safe_with_a(given: usize) -> Option<Safe> {
+    match given {
+        0..24 => None,
+        24..100 => Some(NONE_SAFE),
+        100..LEN_A => Some(FIRST_SAFE),
+        _ => Some(A_SAFE),
+    }
+}
+
+/// The same of B's source: without its frame no frame of A is safe.
+fn safe_with_b(given: usize) -> Option<Safe> {
+    match given {
+        0..24 => None,
+        24..LEN_B => Some(NONE_SAFE),
+        _ => Some(ALL_SAFE),
+    }
+}
+
+/// The outputs of a run on threads that a failing source ended have what is safe, and no more.
+fn has_safe(rt: &(impl Abort + AllocGlobal), ran: &Ran, safe: Option<Safe>) -> Result<(), Fail> {
+    let Some(Safe { lines, accepted }) = safe else {
+        assert!(rt; ran.ledger.taken().is_empty());
+        assert!(rt; ran.capture.taken().is_empty());
+        return Ok(());
+    };
+    let ledger = format!(in rt.alloc(); "afdx-ledger 2\n{lines}")?;
+    assert_eq!(rt; ran.ledger.taken(), ledger.as_bytes());
+    let capture = recording(rt.alloc(), accepted)?;
+    assert_eq!(rt; ran.capture.taken(), capture.as_slice());
     Ok(())
 }
 
@@ -274,10 +337,11 @@ fn fails_on_a<R: Threads + Wait + Sync + Abort + AllocGlobal>(
     // The read after the last byte, which finds the end, fails too.
     let refused = failed(rt, &ran, READ_A)?;
     assert_eq!(rt; refused, given <= LEN_A, "after {given} bytes");
-    if refused {
-        has_wholes(rt, &ran, lines_with_a(given), accepted_with_a(given))?;
+    match way {
+        _ if !refused => Ok(()),
+        Way::OneThread => has_wholes(rt, &ran, lines_with_a(given), accepted_with_a(given)),
+        Way::Workers(_) => has_safe(rt, &ran, safe_with_a(given)),
     }
-    Ok(())
 }
 
 /// The same of B.
@@ -294,10 +358,11 @@ fn fails_on_b<R: Threads + Wait + Sync + Abort + AllocGlobal>(
     let ran = ran(rt, way, scripts)?;
     let refused = failed(rt, &ran, READ_B)?;
     assert_eq!(rt; refused, given <= LEN_B, "after {given} bytes");
-    if refused {
-        has_wholes(rt, &ran, lines_with_b(given), &[(100, 2), (200, 2)])?;
+    match way {
+        _ if !refused => Ok(()),
+        Way::OneThread => has_wholes(rt, &ran, lines_with_b(given), &[(100, 2), (200, 2)]),
+        Way::Workers(_) => has_safe(rt, &ran, safe_with_b(given)),
     }
-    Ok(())
 }
 
 /// Sources that stop after each number of bytes.
@@ -387,59 +452,43 @@ fn a_ledger_sink_that_misses(rt: HostRuntime) -> Result<(), Fail> {
     misses_listing(&rt, Way::Workers(2))
 }
 
-/// The ledger's first line, and the lines of the frames of which these many bytes of both
-/// recordings were given.
-fn lines_with(given_a: usize, given_b: usize) -> &'static str {
-    if given_b >= LEN_B {
-        return lines_with_a(given_a);
-    }
-    match given_a {
-        0..100 => "afdx-ledger 2\n",
-        100..LEN_A => "afdx-ledger 2\n0 A 0 5 1 regular within first deliver - 00\n",
-        _ => lines_with_b(given_b),
-    }
-}
-
-/// The accepted frames of which these many bytes of both recordings were given.
-fn accepted_with(given_a: usize, given_b: usize) -> &'static [(u32, u8)] {
-    if given_b >= LEN_B {
-        return accepted_with_a(given_a);
-    }
-    if given_a < LEN_A { &[] } else { &[(100, 2)] }
-}
-
-/// One of both sources' faults is told, and each source has failed once.
+/// The fault of the source that the merger comes to first is told. It has failed once, and the other one may
+/// have failed too.
 fn fails_on_both<R: Threads + Wait + Sync + Abort + AllocGlobal>(
     rt: &R,
-    given_a: usize,
-    given_b: usize,
+    given: (usize, usize),
+    fault: WatchFault,
+    safe: Safe,
 ) -> Result<(), Fail> {
     let scripts = Scripts {
-        a: stops(usize::MAX, given_a),
-        b: stops(7, given_b),
+        a: stops(usize::MAX, given.0),
+        b: stops(7, given.1),
         ..NO_FAILURE
     };
     let ran = ran(rt, Way::Workers(2), scripts)?;
-    assert!(rt; ran.outcome == Err(READ_A) || ran.outcome == Err(READ_B));
-    assert_eq!(rt; ran.failures(), Some([1, 1, 0, 0]));
-    let lines = lines_with(given_a, given_b);
-    has_wholes(rt, &ran, lines, accepted_with(given_a, given_b))
+    assert_eq!(rt; ran.outcome, Err(fault));
+    let failures = ran.failures();
+    assert!(rt;
+        failures == Some(failures_by(fault)) || failures == Some([1, 1, 0, 0]),
+        "{failures:?}"
+    );
+    has_safe(rt, &ran, Some(safe))
 }
 
 #[test]
 fn both_sources_stop(rt: HostRuntime) -> Result<(), Fail> {
     // after the headers, within frames and after them, and at the ends
-    for (given_a, given_b) in [
-        (24, 24),
-        (24, 70),
-        (70, 24),
-        (100, 99),
-        (150, 60),
-        (150, 100),
-        (176, 24),
-        (176, 100),
+    for (given, fault, safe) in [
+        ((24, 24), READ_A, NONE_SAFE),
+        ((24, 70), READ_A, NONE_SAFE),
+        ((70, 24), READ_A, NONE_SAFE),
+        ((100, 99), READ_B, NONE_SAFE),
+        ((150, 60), READ_B, NONE_SAFE),
+        ((150, 100), READ_A, FIRST_SAFE),
+        ((176, 24), READ_B, NONE_SAFE),
+        ((176, 100), READ_A, A_SAFE),
     ] {
-        fails_on_both(&rt, given_a, given_b)?;
+        fails_on_both(&rt, given, fault, safe)?;
     }
     Ok(())
 }

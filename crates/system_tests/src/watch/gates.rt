@@ -6,12 +6,15 @@ use crate::support::EVERY;
 use crate::watch::long::tap_of;
 use crate::watch::{Given, Way, leaves_the_same, left_by_one, recording, roomy, run_past};
 use afdx_frame::Network;
+use analyser::RunObserver;
 use filter_workers::RunGate;
 use std::alloc::{AllocError, Global};
+use std::process::Abort;
+use std::sync::Wait;
 use std::sync::atomic::AtomicU64;
 use std::sync::atomic::Ordering::SeqCst;
 use std::test::Fail;
-use std::thread::yield_now;
+use std::thread::{Threads, yield_now};
 use tap_queue::TapGate;
 
 /// For how many turns a call waits for another.
@@ -70,6 +73,8 @@ impl TapGate for Meeting {
         self.wait_for(other, 1);
     }
 }
+
+impl RunObserver for Meeting {}
 
 /// A recording of four frames.
 fn four(alloc: Global) -> Result<Vec<u8>, AllocError> {
@@ -138,46 +143,19 @@ impl TapGate for Notes {
     fn tap(&self, _network: Network) {}
 }
 
-#[test]
-fn each_frame_of_a_round_is_told_once(rt: HostRuntime) -> Result<(), Fail> {
-    let tap = four(rt.alloc())?;
-    let given = Given {
-        table: TABLE,
-        filters: &[EVERY, EVERY],
-        a: &tap,
-        b: &tap,
-    };
-    for workers in [1, 2, 8] {
-        let gate = Notes::new(rt.alloc())?;
-        let ran = run_past(&rt, Way::Workers(workers), given, roomy(ROOM), &gate)?;
-        assert!(rt; ran.outcome.is_ok());
-        for place in 0..1024 {
-            assert_eq!(rt;
-                gate.calls(place),
-                Some(u64::from(place < 8)),
-                "place {place}"
-            );
-        }
-        assert_eq!(rt; gate.beyond.load(SeqCst), 0);
-        assert_eq!(rt; gate.workers.load(SeqCst) >> workers % 64, 0);
-    }
-    Ok(())
-}
+impl RunObserver for Notes {}
 
-#[test]
-fn each_frame_of_all_rounds_is_told_once(rt: HostRuntime) -> Result<(), Fail> {
-    let tap = tap_of(rt.alloc(), 0, 300)?;
-    let given = Given {
-        table: TABLE,
-        filters: &[EVERY],
-        a: &tap,
-        b: &tap,
-    };
+/// Each of so many frames is told once, whatever rounds they come in: each round has its frames at the places
+/// from 0 on.
+fn tells_each_once<R: Threads + Wait + Sync + Abort + AllocGlobal>(
+    rt: &R,
+    given: Given<'_>,
+    frames: u64,
+) -> Result<(), Fail> {
     for workers in [1, 2, 8] {
         let gate = Notes::new(rt.alloc())?;
-        let ran = run_past(&rt, Way::Workers(workers), given, roomy(1 << 18), &gate)?;
+        let ran = run_past(rt, Way::Workers(workers), given, roomy(1 << 18), &gate)?;
         assert!(rt; ran.outcome.is_ok());
-        // Each round has its frames at the places from 0 on.
         let (mut told, mut before) = (0u64, u64::MAX);
         for place in 0..1024 {
             let calls = gate.calls(place).unwrap_or(0);
@@ -185,8 +163,28 @@ fn each_frame_of_all_rounds_is_told_once(rt: HostRuntime) -> Result<(), Fail> {
             told = told.saturating_add(calls);
             before = calls;
         }
-        assert_eq!(rt; told, 600);
+        assert_eq!(rt; told, frames);
         assert_eq!(rt; gate.beyond.load(SeqCst), 0);
+        assert_eq!(rt; gate.workers.load(SeqCst) >> workers % 64, 0);
+    }
+    Ok(())
+}
+
+#[test]
+fn each_frame_is_told_once(rt: HostRuntime) -> Result<(), Fail> {
+    for (count, filters) in [
+        (4, [EVERY].as_slice()),
+        (4, &[EVERY, EVERY]),
+        (300, &[EVERY]),
+    ] {
+        let tap = tap_of(rt.alloc(), 0, count)?;
+        let given = Given {
+            table: TABLE,
+            filters,
+            a: &tap,
+            b: &tap,
+        };
+        tells_each_once(&rt, given, 2 * u64::from(count))?;
     }
     Ok(())
 }

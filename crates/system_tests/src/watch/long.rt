@@ -99,31 +99,26 @@ fn stops(most: usize) -> Script {
     Script { most, ..SOUND }
 }
 
-/// The outputs have prefixes of what the frames that were given belong to: whole packets and lines.
-fn has_wholes_of(rt: &impl Abort, ran: &Ran, whole: &Left) {
-    let (capture, ledger) = (ran.capture.taken(), ran.ledger.taken());
-    assert!(rt;
-        whole.capture.taken().starts_with(capture),
-        "another capture"
-    );
+/// The outputs have what belongs to the first so many frames, and no more.
+fn has_first_of(rt: &impl Abort, ran: &Ran, whole: &Left, frames: usize) {
+    assert!(rt; frames <= 10_000);
+    let packets = whole.capture.taken().get(..24 + 76 * frames);
+    assert!(rt; packets == Some(ran.capture.taken()), "another capture");
+    let ledger = ran.ledger.taken();
     assert!(rt; whole.ledger.taken().starts_with(ledger), "another ledger");
-    assert_eq!(rt; capture.len() % 76, 24);
     assert!(rt; ledger.ends_with(b"\n"));
-    let lines = ledger.iter().filter(|byte| **byte == b'\n').count() as u64;
-    assert!(rt; lines <= whole.counts.totals.frames.saturating_add(1));
+    let lines = ledger.iter().filter(|byte| **byte == b'\n').count();
+    assert_eq!(rt; lines, frames + 1);
 }
 
-/// How many bytes were read of both sources.
-fn read_of(ran: &Ran) -> Option<[u64; 2]> {
-    Some([ran.a.as_ref()?.passed, ran.b.as_ref()?.passed])
-}
-
-/// A source that fails after so many bytes, while the other one has many frames.
+/// A source that fails after so many bytes, while the other one has many frames. So many frames are safe
+/// where it is that of A, and where it is that of B.
 fn fails_early<R: Threads + Wait + Sync + Abort + AllocGlobal>(
     rt: &R,
     long: &[u8],
     short: &[u8],
     most: usize,
+    safe: (usize, usize),
 ) -> Result<(), Fail> {
     let cut = &short[..most.min(short.len())];
     let on_a = Scripts {
@@ -134,8 +129,12 @@ fn fails_early<R: Threads + Wait + Sync + Abort + AllocGlobal>(
     let network = Network::A;
     assert_eq!(rt; ran.outcome, Err(WatchFault::Read { network }));
     assert_eq!(rt; ran.failures(), Some([1, 0, 0, 0]));
-    assert_eq!(rt; read_of(&ran), Some([most as u64, long.len() as u64]));
-    has_wholes_of(rt, &ran, &left_by_one(rt, given_by(cut, long), ROOM)?);
+    has_first_of(
+        rt,
+        &ran,
+        &left_by_one(rt, given_by(cut, long), ROOM)?,
+        safe.0,
+    );
     let on_b = Scripts {
         b: stops(most),
         ..roomy(ROOM)
@@ -144,8 +143,12 @@ fn fails_early<R: Threads + Wait + Sync + Abort + AllocGlobal>(
     let network = Network::B;
     assert_eq!(rt; ran.outcome, Err(WatchFault::Read { network }));
     assert_eq!(rt; ran.failures(), Some([0, 1, 0, 0]));
-    assert_eq!(rt; read_of(&ran), Some([long.len() as u64, most as u64]));
-    has_wholes_of(rt, &ran, &left_by_one(rt, given_by(long, cut), ROOM)?);
+    has_first_of(
+        rt,
+        &ran,
+        &left_by_one(rt, given_by(long, cut), ROOM)?,
+        safe.1,
+    );
     Ok(())
 }
 
@@ -153,13 +156,22 @@ fn fails_early<R: Threads + Wait + Sync + Abort + AllocGlobal>(
 fn a_source_that_fails_early(rt: HostRuntime) -> Result<(), Fail> {
     let many = tap_of(rt.alloc(), 0, 5000)?;
     let short = recording(rt.alloc(), &[(10, 1), (2500, 2), (2500, 3)])?;
-    for most in [24, 25, 100, 140, 176, 252] {
-        fails_early(&rt, &many, &short, most)?;
+    // Its own frames are safe, and of the others those before its last one. One of A with the stamp of that
+    // is safe too.
+    for (most, safe) in [
+        (24, (0, 0)),
+        (25, (0, 0)),
+        (100, (11, 12)),
+        (140, (11, 12)),
+        (176, (2502, 2503)),
+        (252, (2503, 2504)),
+    ] {
+        fails_early(&rt, &many, &short, most, safe)?;
     }
     Ok(())
 }
 
-/// A sink that fails while both rings are full: both sources are read to their ends.
+/// A sink that fails while both rings are full: both sources come back.
 fn fails_while_full<R: Threads + Wait + Sync + Abort + AllocGlobal>(
     rt: &R,
     tap: &[u8],
@@ -168,8 +180,6 @@ fn fails_while_full<R: Threads + Wait + Sync + Abort + AllocGlobal>(
 ) -> Result<(), Fail> {
     let ran = run(rt, Way::Workers(2), given_by(tap, tap), scripts)?;
     assert_eq!(rt; ran.outcome, Err(WatchFault::Write { output }));
-    let all = tap.len() as u64;
-    assert_eq!(rt; read_of(&ran), Some([all, all]));
     let failures = match output {
         Output::Capture => [0, 0, 1, 0],
         Output::Ledger => [0, 0, 0, 1],
