@@ -158,18 +158,21 @@ fn write_flight<'a, R: Wait, W: OutSink, L: OutSink, G: RunGate + Sync>(
     ensures written { OnOk result ((vl_table : VlTable)
         (capture_view ledger_view : SinkView) (frames : List Frame) (before after : LanesState)
         → HasWritten W.OutSink L.OutSink
-        flight.entry.task.programs.now vl_table capture_view ledger_view frames (outputs_of before capture.old ledger.old)
+        flight.entry.task.programs.now vl_table capture_view ledger_view frames
+        (outputs_of before capture.old ledger.old)
         → AreVerdicts vl_table frames flight.entry.round.frames.items flight.entry.round.verdicts.items
         → StandsAfter after vl_table (frames ++ flight.entry.round.frames.items)
         → HasWritten W.OutSink L.OutSink
-        flight.entry.task.programs.now vl_table capture_view ledger_view (frames ++ flight.entry.round.frames.items)
+        flight.entry.task.programs.now vl_table capture_view ledger_view
+        (frames ++ flight.entry.round.frames.items)
         (outputs_of after capture.new ledger.new)) }
     ensures capture_going { OnOk result (has_failed capture.new ≡ false) }
     ensures ledger_going { OnOk result (ledger_has_failed ledger.new ≡ false) }
     ensures stopped { IfErr result (λ fault. (vl_table : VlTable)
         (capture_view ledger_view : SinkView) (frames : List Frame) (before : LanesState)
         → HasWritten W.OutSink L.OutSink
-        flight.entry.task.programs.now vl_table capture_view ledger_view frames (outputs_of before capture.old ledger.old)
+        flight.entry.task.programs.now vl_table capture_view ledger_view frames
+        (outputs_of before capture.old ledger.old)
         → AreVerdicts vl_table frames flight.entry.round.frames.items flight.entry.round.verdicts.items
         → StopsWriting (effect_of fault) flight.entry.task.programs.now vl_table capture_view ledger_view
         (sink_at W.OutSink (sink_of capture.new))

@@ -75,7 +75,8 @@ impl Rings {
         ensures a { SameEnd self.old.a self.new.a }
         ensures b { SameEnd self.old.b self.new.b }
         ensures fault { self.new.fault ≡ self.old.fault }
-        ensures same { (late : ℕ) (cut : List Frame) → HasTaken late cut self.old → HasTaken late cut self.new }
+        ensures same { (late : ℕ) (cut : List Frame)
+            → HasTaken late cut self.old → HasTaken late cut self.new }
     {
         match self.merger.wants() {
             None => true,
@@ -89,7 +90,8 @@ impl Rings {
     pub fn is_soon_ready<R: Wait>(&mut self, rt: &R) -> bool
         ensures a { SameEnd self.old.a self.new.a }
         ensures b { SameEnd self.old.b self.new.b }
-        ensures same { (late : ℕ) (cut : List Frame) → HasTaken late cut self.old → HasTaken late cut self.new }
+        ensures same { (late : ℕ) (cut : List Frame)
+            → HasTaken late cut self.old → HasTaken late cut self.new }
     {
         if self.fault.is_some() {
             return true;

@@ -68,8 +68,8 @@ pub fn settle_tap<R: Threads, S: TapSource + Drop>(
     }
 }
 
-/// Waits for a tap's thread, which [`TapEnd::stop`] has come to its end, and gives the source back, whatever is
-/// left in its ring. None: items were lost, and the source with them.
+/// Waits for a tap's thread, which [`TapEnd::stop`] has come to its end, and gives the source back, whatever
+/// is left in its ring. None: items were lost, and the source with them.
 pub fn leave_tap<R: Threads, S: TapSource + Drop>(
     rt: &R,
     end: TapEnd,

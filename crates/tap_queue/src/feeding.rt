@@ -21,7 +21,7 @@ pub struct Fed<S> {
 }
 
 /// Reads a recording into a ring, up to its ending or the first fault. It waits where the ring is
-/// full, and stops where the taker is gone or wants no more. Out of memory, it puts the item `Failed`. The gate is
+/// full, and stops where the taker is gone or has it stop. Out of memory, it puts the item `Failed`. The gate is
 /// called once, before the first frame is read. Items are put together that were read ahead together, so
 /// that none waits for the source to give more.
 pub fn feed<R: Wait, S: TapSource, G: TapGate>(

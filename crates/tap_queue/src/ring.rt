@@ -66,7 +66,7 @@ impl TapPut {
         self.bells.putter.awake();
     }
 
-    /// Puts a batch, and waits where the ring is full. False: the taker is gone or wants no more, and the
+    /// Puts a batch, and waits where the ring is full. False: the taker is gone or has it stop, and the
     /// batch is dropped.
     pub(crate) fn put<R: Wait>(&mut self, rt: &R, batch: Batch) -> bool
         ensures ring { SamePut self.old self.new }
