@@ -83,9 +83,12 @@ def pour(into, other, data):
             return False
         left = left[os.write(into, left[:4096]):]
     until = time.monotonic() + 30
-    while long.unread(other) and time.monotonic() < until:
+    while long.unread(other):
+        if time.monotonic() > until:
+            return False
         time.sleep(0.001)
-    return not long.unread(other)
+    # A terminal may still hold bytes back; the caller waits for the reader to rest.
+    return True
 
 
 class FailingTap:
@@ -186,7 +189,8 @@ def failing_taps(desk):
 
 def pausing_tap(desk, network, given, workers):
     """One tap pauses after so many frames: what is safe is written meanwhile, and all once it goes on."""
-    frames, name = 3000, f"watch: tap {network.upper()} pauses after {given} of {frames} frames, {workers} workers"
+    frames = 3000
+    name = f"watch: tap {network.upper()} pauses after {given} of {frames} frames, {workers} workers"
     whole = header() + long.packets(0, frames)
     desk.lay(config=TABLE, filter=EVERY, a=whole, b=whole)
     tap = OpenTap(desk)
