@@ -88,11 +88,11 @@ def standard_output(desk):
     judge("watch: --ledger - on a full disk", ran, FAULT, "afdxmon: watch 4 Write ledger")
 
 
-def refused_twice(name, line, advice, arguments, **how):
-    """A fault at a terminal, with its advice, and elsewhere."""
+def refused_twice(name, line, advice, arguments, place="standard input", **how):
+    """A fault at a terminal, with what it is about and its advice, and elsewhere."""
     judge(name, run(arguments, stdout=subprocess.PIPE, **how), FAULT, f"afdxmon: {line}", b"")
     ran = run_at_terminal(arguments, **how)
-    whole = f"afdxmon: {line}\n{advice}\n"
+    whole = f"afdxmon: {line}\n{place}: {advice}\n"
     fault = "" if (ran.returncode, ran.stderr, ran.stdout) == (FAULT, whole, b"") else f"status {ran.returncode}, {ran.stderr!r}, not {whole!r}"
     say(f"{name}, at a terminal", fault)
 
@@ -102,7 +102,8 @@ def taken(desk):
     for first, second in [*itertools.combinations(INPUTS, 2), OUTPUTS]:
         desk.lay(**GIVEN)
         arguments = desk.arguments(**{first: "-", second: "-"})
-        refused_twice(f"watch: --{first} - and --{second} -", f"file --{second}", TAKEN[first], arguments, input=b"")
+        place = "standard output" if second in OUTPUTS else "standard input"
+        refused_twice(f"watch: --{first} - and --{second} -", f"file --{second}", TAKEN[first], arguments, place, input=b"")
         say("watch: the outputs stand", desk.compared("capture", OLDER) or desk.compared("ledger", OLDER))
     every = desk.arguments(**dict.fromkeys((*INPUTS, *OUTPUTS), "-"))
     refused_twice("watch: - everywhere", "file --filter", TAKEN["config"], every, input=b"")
@@ -190,7 +191,7 @@ def capture_faults(files):
         judge(f"capture: {name}", ran, FAULT, f"afdxmon: {line}", b"")
     for name, expected in (("in.pcap", RECORDING), ("code", LINK5.encode()), ("out.pcap", OLDER), ("absent", None)):
         say(f"capture: {name} stands after its faults", "" if files.left(name) == expected else "it has changed")
-    shown = "ld @\n   ^\nno token begins with this byte\n"
+    shown = f"{files.path('bad')}:1:4\nld @\n   ^\nno token begins with this byte\n"
     ran = run_at_terminal(["capture", "--source", files.path("bad"), given], stdin=subprocess.DEVNULL)
     whole = "afdxmon: asm 1 Text 1 Character at 3\n" + shown
     say("capture: a source's fault is shown at a terminal", "" if (ran.returncode, ran.stderr) == (FAULT, whole) else f"{ran.returncode}, {ran.stderr!r}")
@@ -208,7 +209,7 @@ def same_files(files):
         also = "it is the recording too" if kind == "recording" else f"it is the file of --{kind} too"
         for name in names:
             command = ["capture", *flt, paths["recording"], "-o", name]
-            refused_twice(f"capture: the output is the {kind}", "file --output", f"{also}: name another file to write", command, stdin=subprocess.DEVNULL)
+            refused_twice(f"capture: the output is the {kind}", "file --output", f"{also}: name another file to write", command, name, stdin=subprocess.DEVNULL)
     command = [PROGRAM, "capture", "--code", EVERY]
     with open(paths["recording"], "rb") as given:
         ran = ended([*command, "-o", paths["recording"]], stdin=given, stdout=subprocess.PIPE, stderr=subprocess.PIPE)
@@ -271,7 +272,7 @@ def misuse(files):
     by_code = run(["debug", "--filter", files.write("code", LINK5), "--tap", given], input=b"disassemble\ntally\n", stdout=subprocess.PIPE)
     accepted = (len(capture(RECORDING, LINK5)) > 24) and by_code.stdout
     judge("debug --source is as --filter with its numeric form", ran, SUCCESS, "", accepted)
-    shown = "ld @\n   ^\nno token begins with this byte\n"
+    shown = f"{files.path('bad')}:1:4\nld @\n   ^\nno token begins with this byte\n"
     ran = run_at_terminal(["debug", "--source", files.write("bad", "ld @"), "--tap", given], stdin=subprocess.DEVNULL)
     whole = "afdxmon: asm 1 Text 1 Character at 3\n" + shown
     say("debug: a source's fault is shown at a terminal", "" if (ran.returncode, ran.stderr) == (FAULT, whole) else f"{ran.returncode}, {ran.stderr!r}")
