@@ -14,9 +14,9 @@ mod telling;
 use afdx_frame::{Network, TapFrame};
 use analyser::{
     AsmRun, CaptureArguments, CaptureRun, DebugArguments, Exit, Fault, FileOption, FilterArgument,
-    HeldTap, Invocation, Summary, TapRead, USAGE, WatchArguments, WatchFault, answer_line,
-    begin_session, capture_by, filter_of, filter_of_source, is_standard, load_filters,
-    read_arguments, read_config, read_file, read_tap, run_asm, run_session,
+    HeldTap, Invocation, Summary, TapRead, USAGE, WatchArguments, WatchFault, WatchRefused,
+    Watched, answer_line, begin_session, capture_by, filter_of, filter_of_source, is_standard,
+    load_filters, read_arguments, read_config, read_file, read_tap, run_asm, run_session,
 };
 use bpf_debugger::DebugFault;
 use bpf_loader::Program;
@@ -199,6 +199,30 @@ fn set_up(rt: &HostRuntime, given: &WatchArguments<'_>) -> Result<(Config, Vec<P
     Ok((config, programs))
 }
 
+/// An output of `watch`.
+type Sink = WriteSink<Blocks>;
+
+/// How a run over two recordings ended, whose outputs are handed to the system.
+fn exit_of<S: Drop>(
+    run: Result<Watched<S, S, Sink, Sink>, WatchRefused<S, S, Sink, Sink>>,
+) -> Exit {
+    let (outcome, capture, ledger) = match run {
+        Ok(done) => {
+            let [a, b] = done.endings;
+            let totals = done.totals;
+            (Ok(Summary { a, b, totals }), done.capture, done.ledger)
+        }
+        Err(refused) => (
+            Err(Fault::Watch(refused.fault)),
+            refused.capture,
+            refused.ledger,
+        ),
+    };
+    let capture_flushed = capture.into_writer().flush().is_ok();
+    let ledger_flushed = ledger.into_writer().flush().is_ok();
+    Exit::of_watch(outcome, capture_flushed, ledger_flushed)
+}
+
 /// Judges and filters the frames of two recordings, on threads. What was written before a fault is
 /// handed to the system too. An error is a fault that was met before the run.
 fn watch<R: Threads + Wait + Sync>(
@@ -237,21 +261,7 @@ fn watch<R: Threads + Wait + Sync>(
     if let Some(progress) = &progress {
         progress.erase(rt);
     }
-    let (outcome, capture, ledger) = match run {
-        Ok(done) => {
-            let [a, b] = done.endings;
-            let totals = done.totals;
-            (Ok(Summary { a, b, totals }), done.capture, done.ledger)
-        }
-        Err(refused) => (
-            Err(Fault::Watch(refused.fault)),
-            refused.capture,
-            refused.ledger,
-        ),
-    };
-    let capture_flushed = capture.into_writer().flush().is_ok();
-    let ledger_flushed = ledger.into_writer().flush().is_ok();
-    Ok(Exit::of_watch(outcome, capture_flushed, ledger_flushed))
+    Ok(exit_of(run))
 }
 
 /// There is no memory for a session.

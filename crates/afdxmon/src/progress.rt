@@ -1,5 +1,5 @@
-//! What a person at a terminal sees of the reading: how far it is, on one line that is written over, and gone at
-//! the end.
+//! What a person at a terminal sees of the reading: how far it is, on one line that is written over, and
+//! gone at the end.
 use crate::packets::PacketCount;
 use crate::streams::Input;
 use afdx_frame::Network;
@@ -119,8 +119,8 @@ impl Progress {
     }
 }
 
-/// The line: how many percent of each recording were read, where that is known, how many frames, and how many a
-/// second.
+/// The line: how many percent of each recording were read, where that is known, how many frames, and how
+/// many a second.
 #[derive(Clone, Copy)]
 struct ProgressLine {
     a: Option<u64>,

@@ -1,5 +1,5 @@
-//! What the program reads and writes: files, the standard streams, and what stands in the place of a file that
-//! isn't named.
+//! What the program reads and writes: files, the standard streams, and what stands in the place of a file
+//! that isn't named.
 use std::fs::{File, Metadata, OpenOptions};
 use std::io::{Read, Stdin, Stdout, Write};
 use std::{fs, io};
@@ -110,7 +110,7 @@ impl Write for OutputFile {
 pub enum Output {
     File(OutputFile),
     Standard(Stdout),
-    /// Nobody wants it.
+    /// It is written nowhere.
     Nowhere,
 }
 

@@ -46,8 +46,8 @@ fn filter_file(filter: FilterArgument<'_>) -> Option<&str> {
     }
 }
 
-/// What an option was given. `A` is the one recording of `capture` and `debug` too, and `Capture` what `capture`
-/// writes.
+/// What an option was given. `A` is the one recording of `capture` and `debug` too, and `Capture` what
+/// `capture` writes.
 fn given<'a>(command: Invocation<'a>, file: FileOption) -> Option<&'a str> {
     match (command, file) {
         (Invocation::Watch(given), FileOption::Config) => Some(given.config),
@@ -196,7 +196,7 @@ fn advice_on_header(rt: &HostRuntime, path: Option<&str>, fault: HeaderFault) ->
     }
 }
 
-/// Tells what to do, behind the name of the file that it is about.
+/// Tells what to do, after the name of the file that it is about.
 fn advise(rt: &HostRuntime, name: Option<&str>, advice: &str) -> io::Result<()> {
     match name {
         Some(name) => eprintln!(rt; "{name}: {advice}"),
