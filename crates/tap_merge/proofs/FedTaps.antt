@@ -9,7 +9,7 @@ use Rattle.pcap_io.specs.declared.position.Position.{Position}
 use Rattle.pcap_io.specs.declared.item.ReadFault.TheVariants as faults
 use Rattle.pcap_io.specs.declared.recording.Ending.{Ending}
 use Rattle.pcap_io.specs.declared.recording.Stage.TheVariants.{Going}
-use Rattle.tap_queue.specs.Items.{Gives, IsFed, frames_in, is_last, is_over}
+use Rattle.tap_queue.specs.Items.{Gives, frames_in, is_last, is_over}
 use Rattle.tap_queue.specs.declared.item.TapItem.{TapItem}
 use Rattle.tap_queue.specs.declared.item.TapItem.TheVariants as items
 use Rattle.tap_merge.specs.Rings.{EndsWith}
@@ -110,15 +110,15 @@ nothing_left old new (items.Failed fault ∷ []) [] over gives = gives
 nothing_left old new (items.Failed fault ∷ []) (x ∷ more) over (mid, one, last, gives) = (let wrong : ⊥ = cc (last refl) in absurd wrong)
 nothing_left old new (items.Failed fault ∷ y ∷ given) more over (mid, one, last, gives) = (let wrong : ⊥ = cc (last refl) in absurd wrong)
 
-pub settled_gives : (old new : Reading) (put taken : List TapItem) → taken ≡ put → is_over taken ≡ true → IsFed old put new → Gives old taken new
-settled_gives old new put taken same over (more, gives, none) =
+pub settled_gives : (old new : Reading) (put taken : List TapItem) → taken ≡ put → is_over taken ≡ true → (more : List TapItem) × Gives old (put ++ more) new → Gives old taken new
+settled_gives old new put taken same over (more, gives) =
     nothing_left old new taken more over (subst (λ (l : List TapItem). Gives old (l ++ more) new) (sym same) gives)
 
 -- ---- some items are left over
 
-pub left_gives : (old new : Reading) (put taken : List TapItem) → (more : List TapItem) × (put ≡ taken ++ more) → IsFed old put new →
+pub left_gives : (old new : Reading) (put taken : List TapItem) → (more : List TapItem) × (put ≡ taken ++ more) → (more : List TapItem) × Gives old (put ++ more) new →
     (more : List TapItem) × Gives old (taken ++ more) new
-left_gives old new put taken (more, all) (unput, gives, none) =
+left_gives old new put taken (more, all) (unput, gives) =
     (more ++ unput, subst (λ (l : List TapItem). Gives old l new) (ap (λ (l : List TapItem). l ++ unput) all ∙ append_assoc taken more unput) gives)
 
 -- nothing follows an ending or a fault

@@ -1,3 +1,5 @@
+pub mod Reads
 pub mod Rings
+pub mod Parcels
 pub mod Taps
 pub mod Threads

@@ -1,18 +1,20 @@
 -- A tap that is read by a thread of its own.
-use Rattle.std.specs.Prelude.{◌++◌, ◌≡◌, ℕ, true, false, List, [], None}
+use Rattle.std.specs.Prelude.{◌++◌, ◌≡◌, ℕ, true, false, List, [], None, ⊤}
 use Rattle.afdx_frame.specs.declared.key.Network.{Network}
 use Rattle.pcap_io.specs.Position.{Reading}
 use Rattle.pcap_io.specs.Reader.{reading_of}
 use Rattle.pcap_io.specs.declared.reader.TapReader.{TapReader}
 use Rattle.pcap_io.specs.declared.recording.Stage.TheVariants.{Going}
-use Rattle.tap_queue.specs.Items.{Gives, IsFed, is_over}
-use Rattle.tap_queue.specs.Ring.{SamePut, has_lost, put_items, put_of, reader_of, taken_items}
+use Rattle.tap_queue.specs.Items.{Gives, is_over}
+use Rattle.tap_queue.specs.Ring.{has_lost, taken_items}
 use Rattle.tap_queue.specs.declared.end.TapEnd.{TapEnd}
-use Rattle.tap_queue.specs.declared.feeding.Fed.{Fed}
 use Rattle.tap_queue.specs.declared.item.TapItem.{TapItem}
-use Rattle.tap_queue.specs.declared.ring.TapPut.{TapPut}
 use Rattle.run_outcome.specs.Recording.{LeavesUnread}
+use Rattle.tap_merge.specs.Reads.{HasPut}
 use Rattle.tap_merge.specs.Taps.{HasRead}
+use Rattle.tap_merge.specs.declared.feeding.Feeding.{Feeding}
+use Rattle.tap_merge.specs.declared.tap_thread.TapFeed.{TapFeed}
+use Rattle.tap_merge.specs.declared.tap_thread.TapFeed.TheVariants.{Thread, Local}
 use Rattle.run_outcome.specs.Device.{SourceMembers, SourceView}
 use Rattle.run_outcome.specs.Recording.{most_frames}
 
@@ -22,10 +24,20 @@ pub record IsStarted (network : Network) (late : ℕ) (before : SourceView) (rea
   pub going : reading.position.stage ≡ Going
   pub most : reading.position.most ≡ most_frames
 
--- what the thread of a tap hands back: the reader's items were put into the ring
-abbrev pub IsReadInto : {S : Type 0} → SourceMembers S → TapReader S → TapPut → Fed S → Type 0
-IsReadInto s reader put fed =
-    SamePut put (put_of fed) × IsFed (reading_of s.remaining s.failures reader) (put_items (put_of fed)) (reading_of s.remaining s.failures (reader_of fed))
+-- what is promised of a tap, however it is read
+abbrev pub promise_of : {S : Type 0} → TapFeed S → Feeding S
+promise_of (Thread thread) = thread.promise
+promise_of (Local tap) = tap.promise
+
+-- the promise was kept so far, where the thread that takes the items reads the tap
+abbrev pub IsFeeding : {S : Type 0} → SourceMembers S → TapFeed S → Type 0
+IsFeeding s (Thread thread) = ⊤
+IsFeeding s (Local tap) = HasPut s tap.promise.reader.value tap.promise.put.value tap.fed
+
+-- what was promised of a tap is kept still
+pub record KeepsFeeding {S : Type 0} (s : SourceMembers S) (old new : TapFeed S) : Type 0 where
+  pub promise : promise_of new ≡ promise_of old
+  pub feeding : IsFeeding s new
 
 -- All items of a reader, up to an ending or a fault, were taken from the ring, and its source came back.
 pub record IsSettled {S : Type 0} (s : SourceMembers S) (reader : TapReader S) (end : TapEnd) (source : S) : Type 0 where

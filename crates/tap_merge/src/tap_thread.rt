@@ -1,30 +1,35 @@
-//! The thread that reads a tap into its ring.
+//! How a tap is read into its ring: by a thread of its own, or, where none can be had, by the thread that
+//! takes from the ring.
 ghost use Rattle.std.specs.Prelude.{◌≡◌, [], IfSome, IsSome};
+ghost use Rattle.rtrb.specs.Ring.{received};
 ghost use Rattle.tap_queue.specs.Ring.{IsRing, put_items};
-ghost use Rattle.tap_merge.specs.Threads.{IsLeft, IsReadInto, IsSettled};
+ghost use Rattle.tap_merge.specs.Parcels.{KeepsPromise, Promises};
+ghost use Rattle.tap_merge.specs.Reads.{IsReadInto};
+ghost use Rattle.tap_merge.specs.Threads.{IsFeeding, IsLeft, IsSettled, KeepsFeeding, promise_of};
 
+use crate::feeding::Feeding;
+use crate::local_tap::LocalTap;
+use crate::parcel::{Parcel, Receiver, parcel_ring, receive};
 use pcap_io::{TapReader, TapSource};
 use std::alloc::Global;
-use std::snapshot::Snapshot;
 use std::sync::Wait;
-use std::thread::{Promise, PromisedHandle, Scope, Threads};
+use std::thread::{PromisedHandle, Scope, Threads};
 use tap_queue::{Fed, RingLost, TapEnd, TapGate, TapPut, feed};
 
-/// What a tap's thread promises: it hands back what the reader was read into the ring.
+/// A tap's thread. None: the reader didn't get to it.
+pub type TapThread<S> = PromisedHandle<Option<Fed<S>>, Feeding<S>>;
+
+/// How a tap is read.
 #[derive(Drop)]
-pub struct Feeding<S> {
-    pub reader: Snapshot<TapReader<S>>,
-    pub put: Snapshot<TapPut>,
+pub enum TapFeed<S: TapSource> {
+    /// By a thread of its own.
+    Thread(TapThread<S>),
+    /// By the thread that takes its items, as no thread could be had.
+    Local(LocalTap<S>),
 }
 
-impl<S: TapSource> Promise<Fed<S>> for Feeding<S> {
-    ghost kept_by = { λ p fed. IsReadInto S.TapSource p.reader.value p.put.value fed };
-}
-
-/// A tap's thread.
-pub type TapThread<S> = PromisedHandle<Fed<S>, Feeding<S>>;
-
-/// Starts the thread that reads a tap into its ring. None: it couldn't be started, and the reader is lost.
+/// Starts the thread that reads a tap into its ring. Where it can't be started the thread that takes from the
+/// ring reads the tap.
 pub fn start_tap<'s, E, R: Wait + Sync, S: TapSource + Drop + Send + 's, G: TapGate + Sync>(
     scope: &Scope<'s, E>,
     rt: &'s R,
@@ -32,37 +37,96 @@ pub fn start_tap<'s, E, R: Wait + Sync, S: TapSource + Drop + Send + 's, G: TapG
     gate: &'s G,
     reader: TapReader<S>,
     put: TapPut,
-) -> Option<TapThread<S>>
+) -> TapFeed<S>
     requires { put_items put ≡ [] }
-    ensures reader { IfSome result (λ thread. thread.promise.reader.value ≡ reader) }
-    ensures put { IfSome result (λ thread. thread.promise.put.value ≡ put) }
+    ensures reader { (promise_of result).reader.value ≡ reader }
+    ensures put { (promise_of result).put.value ≡ put }
+    ensures feeding { IsFeeding S.TapSource result }
 {
-    let promise = Feeding {
-        reader: Snapshot::of(&reader),
-        put: Snapshot::of(&put),
+    let Ok((mut sender, receiver)) = parcel_ring(alloc, &reader, &put) else {
+        return TapFeed::Local(LocalTap::begin(reader, put, gate));
     };
-    // The closure takes both out of an option, as what it ensures names what it began with.
-    let mut slot = Some((reader, put));
-    let read = move || -> Fed<S>
-        requires { IsSome slot × IfSome slot (λ ends. put_items ends.1 ≡ []) }
-        ensures { IfSome slot.entry (λ ends. IsReadInto S.TapSource ends.0 ends.1 result) }
-    {
-        let (reader, put) = slot.take().unwrap();
-        feed(rt, alloc, reader, put, gate)
-    };
+    let promise = Feeding::of(&reader, &put);
+    match start_thread(scope, rt, alloc, gate, promise, receiver) {
+        Some(thread) => {
+            sender.push_reserved(Parcel::Delivered(reader, put));
+            TapFeed::Thread(thread)
+        }
+        None => TapFeed::Local(LocalTap::begin(reader, put, gate)),
+    }
+}
+
+/// Waits for a tap's reader, and reads it into its ring. None: nothing was delivered.
+fn read_delivered<R: Wait, S: TapSource + Drop, G: TapGate>(
+    rt: &R,
+    alloc: Global,
+    gate: &G,
+    receiver: Receiver<S>,
+) -> Option<Fed<S>>
+    ensures { IfSome result (KeepsPromise S.TapSource (received receiver)) }
+{
+    let (reader, put) = receive(rt, receiver)?;
+    Some(feed(rt, alloc, reader, put, gate))
+}
+
+/// Starts a thread that waits for a tap's reader. None: it couldn't be started.
+fn start_thread<'s, E, R: Wait + Sync, S: TapSource + Drop + Send + 's, G: TapGate + Sync>(
+    scope: &Scope<'s, E>,
+    rt: &'s R,
+    alloc: Global,
+    gate: &'s G,
+    promise: Feeding<S>,
+    receiver: Receiver<S>,
+) -> Option<TapThread<S>>
+    requires { Promises (received receiver) promise.reader.value promise.put.value }
+    ensures { IfSome result (λ thread. thread.promise ≡ promise) }
+{
+    // The closure takes its end out of an option, as what it ensures names what it began with.
+    let mut slot = Some(receiver);
+    let read = move || -> Option<Fed<S>>
+        requires { IsSome slot }
+        ensures { IfSome slot.entry (λ receiver.
+            IfSome result (KeepsPromise S.TapSource (received receiver))) }
+    { read_delivered(rt, alloc, gate, slot.take().unwrap()) };
     scope.spawn_with(promise, read).ok()
+}
+
+impl<S: TapSource + Drop> TapFeed<S> {
+    /// Reads on until the ring is full, where no thread does.
+    pub fn fill(&mut self, alloc: Global)
+        requires { IsFeeding S.TapSource self.old }
+        ensures { KeepsFeeding S.TapSource self.old self.new }
+    {
+        match self {
+            TapFeed::Thread(_thread) => {}
+            TapFeed::Local(tap) => tap.fill(alloc),
+        }
+    }
+
+    /// Waits for the thread, where there is one. None: its reader was lost.
+    fn join<R: Threads>(self, rt: &R) -> Option<Fed<S>>
+        requires { IsFeeding S.TapSource self }
+        ensures { IfSome result
+            (IsReadInto S.TapSource (promise_of self).reader.value (promise_of self).put.value) }
+    {
+        match self {
+            TapFeed::Thread(thread) => thread.join(rt),
+            TapFeed::Local(tap) => Some(tap.fed),
+        }
+    }
 }
 
 /// Waits for a tap's thread, and settles its ring. None: items were lost, and the source with them.
 pub fn settle_tap<R: Threads, S: TapSource + Drop>(
     rt: &R,
     end: TapEnd,
-    thread: TapThread<S>,
+    feed: TapFeed<S>,
 ) -> Option<S>
-    requires { IsRing thread.promise.put.value end }
-    ensures { IfSome result (IsSettled S.TapSource thread.promise.reader.value end) }
+    requires feeding { IsFeeding S.TapSource feed }
+    requires ring { IsRing (promise_of feed).put.value end }
+    ensures { IfSome result (IsSettled S.TapSource (promise_of feed).reader.value end) }
 {
-    match end.settle(thread.join(rt)) {
+    match end.settle(feed.join(rt)?) {
         Ok(source) => Some(source),
         Err(RingLost) => None,
     }
@@ -73,12 +137,13 @@ pub fn settle_tap<R: Threads, S: TapSource + Drop>(
 pub fn leave_tap<R: Threads, S: TapSource + Drop>(
     rt: &R,
     end: TapEnd,
-    thread: TapThread<S>,
+    feed: TapFeed<S>,
 ) -> Option<S>
-    requires { IsRing thread.promise.put.value end }
-    ensures { IfSome result (IsLeft S.TapSource thread.promise.reader.value end) }
+    requires feeding { IsFeeding S.TapSource feed }
+    requires ring { IsRing (promise_of feed).put.value end }
+    ensures { IfSome result (IsLeft S.TapSource (promise_of feed).reader.value end) }
 {
-    match end.leave(thread.join(rt)) {
+    match end.leave(feed.join(rt)?) {
         Ok(source) => Some(source),
         Err(RingLost) => None,
     }

@@ -1,9 +1,11 @@
 -- Items that a reader gives one after another.
-use Rattle.std.proofs.Common.{◌≡◌, true, false, List, [], ◌∷◌, ◌++◌, refl, sym, ap, ◌∙◌, subst}
+use Rattle.std.proofs.Common.{rules, ◌≡◌, true, false, List, [], ◌∷◌, ◌++◌, refl, sym, ap, ◌∙◌, subst, append_assoc}
 use Rattle.std.proofs.lemmas.List.{append-nil}
 use Rattle.pcap_io.specs.Position.{Reading}
 use Rattle.tap_queue.specs.Items.{Gives, GivesOne, IsFed, is_last, is_over}
+use Rattle.tap_queue.specs.Ring.{PutsMore, SamePut, put_items}
 use Rattle.tap_queue.specs.declared.item.TapItem.{TapItem}
+use Rattle.tap_queue.specs.declared.ring.TapPut.{TapPut}
 use Rattle.tap_queue.specs.declared.item.TapItem.TheVariants.{Frame, End, Failed}
 
 -- one more item after those that a reader gave, none of which is the last
@@ -67,3 +69,22 @@ fed_but_some before after items put more item given same = (
   subst (λ (all : List TapItem). Gives before (all ++ item ∷ more) after) (sym same) given,
   (λ none. cc),
 )
+
+-- more items were put after those that a reader gave before
+pub puts_on : (first mid after : Reading) (items : List TapItem) (old now new : TapPut) → is_over (put_items old) ≡ false
+    → is_over (put_items now) ≡ false → PutsMore first mid old now → SamePut now new → put_items new ≡ put_items now ++ items → Gives mid items after
+    → PutsMore first after old new
+puts_on first mid after items old now new fresh going before ring put gives =
+    let more = before.more in
+    let going_more = sym (over_append (put_items old) more fresh) ∙ (sym (ap is_over before.put) ∙ going) in
+    record {
+      ring = search rules;
+      more = more ++ items;
+      put = put ∙ (ap (λ (l : List TapItem). l ++ items) before.put ∙ append_assoc (put_items old) more items);
+      gives = gives_append first mid after more items before.gives going_more gives;
+    }
+
+-- the ring's end was looked at
+pub puts_same : (first mid : Reading) (old now new : TapPut) → PutsMore first mid old now → SamePut now new → put_items new ≡ put_items now
+    → PutsMore first mid old new
+puts_same first mid old now new before ring put = record { ring = search rules; more = before.more; put = put ∙ before.put; gives = before.gives }

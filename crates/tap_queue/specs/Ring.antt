@@ -1,9 +1,11 @@
 -- What contracts see of a ring's two ends.
-use Rattle.std.specs.Prelude.{◌≡◌, ℕ, Bool, List}
+use Rattle.std.specs.Prelude.{◌≡◌, ◌++◌, ℕ, Bool, List}
 use Rattle.rtrb.specs.Ring.{IsPair, SameConsumer, SameProducer, received, sent}
 use Rattle.afdx_frame.specs.declared.key.Network.{Network}
 use Rattle.pcap_io.specs.declared.reader.TapReader.{TapReader}
+use Rattle.pcap_io.specs.Position.{Reading}
 use Rattle.tap_queue.specs.Batches.{items_in, taken_of}
+use Rattle.tap_queue.specs.Items.{Gives}
 use Rattle.tap_queue.specs.declared.item.TapItem.{TapItem}
 use Rattle.tap_queue.specs.declared.ring.TapPut.{TapPut}
 use Rattle.tap_queue.specs.declared.end.TapEnd.{TapEnd}
@@ -50,7 +52,14 @@ pub record Looks (old new : TapEnd) : Type 0 where
   pub taken : taken_items new ≡ taken_items old
   pub lost : has_lost new ≡ has_lost old
 
--- ---- a thread that has come to its end
+-- More items were put, which a reader gave, that stood so before the first and so after the last of them.
+pub record PutsMore (before after : Reading) (old new : TapPut) : Type 0 where
+  pub ring : SamePut old new
+  pub more : List TapItem
+  pub put : put_items new ≡ put_items old ++ more
+  pub gives : Gives before more after
+
+-- ---- a reader and its ring's end
 
 abbrev pub reader_of : {S : Type 0} → Fed S → TapReader S
 reader_of fed = fed.reader

@@ -1,23 +1,54 @@
 //! The thread that reads a recording into a ring.
-ghost use Rattle.std.specs.Prelude.{◌≡◌, []};
+ghost use Rattle.std.specs.Prelude.{◌≡◌, [], false};
 ghost use Rattle.pcap_io.specs.Reader.{reading_of};
 ghost use Rattle.tap_queue.specs.Items.{Gives, GivesOne, IsFed, is_over};
 ghost use Rattle.tap_queue.specs.Batches.{batch_items};
-ghost use Rattle.tap_queue.specs.Ring.{SamePut, put_items, put_of, reader_of};
+ghost use Rattle.tap_queue.specs.Ring.{PutsMore, SamePut, put_items, put_of, reader_of};
 
 use crate::gate::TapGate;
 use crate::item::{Batch, TapItem};
-use crate::ring::{BATCH_LEN, TapPut};
+use crate::ring::{BATCH_LEN, RING_LEN, TapPut};
 use pcap_io::{Item, TapReader, TapSource};
 use std::alloc::Global;
 use std::collections::VecDeque;
 use std::sync::Wait;
 
-/// A reader that was read into a ring, and the end of that ring that it was put into.
+/// A reader that is read into a ring, and the end of that ring that its items are put into.
 #[derive(Drop)]
 pub struct Fed<S> {
     pub(crate) reader: TapReader<S>,
     pub(crate) put: TapPut,
+}
+
+impl<S> Fed<S> {
+    /// A reader, and the end of a ring into which nothing was read yet. The gate is called.
+    pub fn begin<G: TapGate>(reader: TapReader<S>, put: TapPut, gate: &G) -> Fed<S>
+        ensures reader { reader_of result ≡ reader }
+        ensures put { put_of result ≡ put }
+    {
+        gate.tap(put.network);
+        Fed { reader, put }
+    }
+}
+
+/// Reads a recording on into a ring until that is full, on the thread that takes from it. It never waits for
+/// room. Whether the recording's ending or a fault was put.
+pub fn fill<S: TapSource>(alloc: Global, fed: &mut Fed<S>) -> bool
+    requires { is_over (put_items (put_of fed.old)) ≡ false }
+    ensures put { PutsMore (reading_of S.remaining S.failures (reader_of fed.old))
+        (reading_of S.remaining S.failures (reader_of fed.new)) (put_of fed.old) (put_of fed.new) }
+    ensures over { result ≡ is_over (put_items (put_of fed.new)) }
+{
+    let mut over = false;
+    for _ in 0..RING_LEN {
+        if over || !fed.put.has_room() {
+            break;
+        }
+        let (batch, last) = next_batch(alloc, &mut fed.reader);
+        fed.put.put_reserved(batch);
+        over = last;
+    }
+    over
 }
 
 /// Reads a recording into a ring, up to its ending or the first fault. It waits where the ring is

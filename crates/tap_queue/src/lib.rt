@@ -29,7 +29,7 @@ mod next_frame;
 mod ring;
 
 pub use end::TapEnd;
-pub use feeding::{Fed, feed};
+pub use feeding::{Fed, feed, fill};
 pub use gate::TapGate;
 pub use item::{RingLost, TapItem};
 pub use ring::{BATCH_LEN, RING_LEN, TapPut, tap_ring};

@@ -1,5 +1,6 @@
 //! A ring and its two ends.
-ghost use Rattle.std.specs.Prelude.{◌≡◌, ◌++◌, [], false, IfOk, IsFalse, IsTrue};
+ghost use Rattle.std.specs.Prelude.{◌≡◌, ◌<◌, ◌++◌, [], false, IfOk, IsFalse, IsTrue};
+ghost use Rattle.rtrb.specs.Ring.{known_free};
 ghost use Rattle.tap_queue.specs.Ring.{IsRing, SamePut, has_lost, late_of, network_of};
 ghost use Rattle.tap_queue.specs.Batches.{batch_items};
 ghost use Rattle.tap_queue.specs.Ring.{put_items, tap_of, taken_items};
@@ -64,6 +65,24 @@ impl TapPut {
             self.bells.putter.sleep(rt);
         }
         self.bells.putter.awake();
+    }
+
+    /// Whether there is room for a batch at once.
+    pub(crate) fn has_room(&mut self) -> bool
+        ensures ring { SamePut self.old self.new }
+        ensures put { put_items self.new ≡ put_items self.old }
+        ensures room { IsTrue result → 0 < known_free self.new.producer }
+    {
+        !self.producer.is_full()
+    }
+
+    /// Puts a batch where there is room.
+    pub(crate) fn put_reserved(&mut self, batch: Batch)
+        requires room { 0 < known_free self.old.producer }
+        ensures ring { SamePut self.old self.new }
+        ensures put { put_items self.new ≡ put_items self.old ++ batch_items batch }
+    {
+        self.producer.push_reserved(batch);
     }
 
     /// Puts a batch, and waits where the ring is full. False: the taker is gone or has it stop, and the

@@ -413,7 +413,7 @@ pub begun_aborts : (fault : WatchFault) (ps : List (List Packed)) (vl_table : Vl
     (more_a more_b : List TapItem) → IsTapBack A vl_table.late before.a (taken_items a ++ more_a) after_a → IsTapBack B vl_table.late before.b (taken_items b ++ more_b) after_b →
     has_lost a ≡ false → has_lost b ≡ false → StopsRunning fault ps vl_table before.capture before.ledger a b capture ledger → AbortsBegun fault ps vl_table before (Some after_a) (Some after_b) capture ledger
 begun_aborts watch.RingLost ps vl_table before a b after_a after_b capture ledger more_a more_b settled_a settled_b sound_a sound_b s =
-    inr (inr (refl, loses_ring watch.RingLost ps vl_table before a b capture ledger s))
+    inr (refl, loses_ring watch.RingLost ps vl_table before a b capture ledger s)
 begun_aborts (watch.Read n) ps vl_table before a b after_a after_b capture ledger more_a more_b settled_a settled_b sound_a sound_b s =
     inl (running_aborts (watch.Read n) ps vl_table before a b after_a after_b capture ledger more_a more_b settled_a settled_b sound_a sound_b s (λ is. (let wrong : ⊥ = cc is in absurd wrong)))
 begun_aborts (watch.Write out) ps vl_table before a b after_a after_b capture ledger more_a more_b settled_a settled_b sound_a sound_b s =
@@ -431,4 +431,4 @@ begun_aborts watch.Filters ps vl_table before a b after_a after_b capture ledger
 
 pub begun_loses : (fault : WatchFault) (ps : List (List Packed)) (vl_table : VlTable) (before : WatchDevices) (a b : TapEnd) (back_a back_b : Option SourceView) (capture ledger : SinkView) →
     StopsRunning fault ps vl_table before.capture before.ledger a b capture ledger → AbortsBegun watch.RingLost ps vl_table before back_a back_b capture ledger
-begun_loses fault ps vl_table before a b back_a back_b capture ledger s = inr (inr (refl, loses_ring fault ps vl_table before a b capture ledger s))
+begun_loses fault ps vl_table before a b back_a back_b capture ledger s = inr (refl, loses_ring fault ps vl_table before a b capture ledger s)

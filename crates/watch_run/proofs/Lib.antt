@@ -1,4 +1,5 @@
 pub mod Aborting
+pub mod Feeding
 pub mod Finishing
 pub mod Returned
 pub mod RoundsTaken

@@ -49,28 +49,6 @@ still_opened network late before after end reading ahead has none empty left =
     let here : read.read.opened ≡ reading.remaining = read.read.reads.1 ∙ sym read.stands.1 in
     (read.read.layout, subst (λ (l : Option (List ℕ)). Opens before.remaining l read.read.layout) (here ∙ left ∙ nothing_ahead ahead after.remaining empty) read.read.opens)
 
--- a reader that was opened, and has read nothing ahead, gives its source back
-pub opened_back : {S : Type 0} (s : SourceMembers S) (network : Network) (late : ℕ) (before : SourceView) (reader : TapReader S) (source : S) →
-    IsStarted network late before (reading_of s.remaining s.failures reader) → unread_of reader ≡ [] → source ≡ source_of reader →
-    WasOpened before (source_at s source) × (s.failures source ≡ before.failures)
-opened_back s network late before reader source started none is = (
-  still_opened network late before (source_at s source) None (reading_of s.remaining s.failures reader) (unread_of reader) started.read refl none
-      (ap (λ left. prepend_known (unread_of reader) left) (ap s.remaining (sym is))),
-  ap s.failures is ∙ started.read.failures,
-)
-
--- the outputs have what they begin with
-pub beginnings : {W L : Type 0} (w : SinkMembers W) (l : SinkMembers L)
-    (ps : List (List Packed)) (vl_table : VlTable) (capture ledger : SinkView) (outputs : Outputs W L) →
-    HasWritten w l ps vl_table capture ledger [] outputs →
-    HasWholeRounds ps vl_table [] capture ledger (sink_at w (sink_of outputs.capture)) (sink_at l (ledger_sink outputs.ledger))
-beginnings w l ps vl_table capture ledger outputs h = record {
-  packets = h.packets;
-  lines = h.lines;
-  capture_failures = h.capture_failures;
-  ledger_failures = h.ledger_failures;
-}
-
 pub ready_runs : {S T W L : Type 0} (s : SourceMembers S) (t : SourceMembers T)
     (w : SinkMembers W) (l : SinkMembers L)
     (ps : List (List Packed)) (vl_table : VlTable) (before : WatchDevices) (ready : Ready S T W L) → IsReady s t w l ps vl_table before ready →
@@ -82,27 +60,6 @@ ready_runs s t w l ps vl_table before ready h = record {
   capture_going = h.capture_going;
   ledger_going = h.ledger_going;
 }
-
--- the thread of B couldn't be started
-pub without_b : {S : Type 0} (s : SourceMembers S) (ps : List (List Packed)) (vl_table : VlTable) (before : WatchDevices) (reader : TapReader S)
-    (a b end : TapEnd) (back : Option S) (capture ledger : SinkView) → IsStarted A vl_table.late before.a (reading_of s.remaining s.failures reader) →
-    IfSome back (IsLeft s reader end) → HasWholeRounds ps vl_table [] before.capture before.ledger capture ledger →
-    StopsRunning watch.RingLost ps vl_table before.capture before.ledger a b capture ledger →
-    AbortsBegun (if is_some back then watch.Spawn else watch.RingLost) ps vl_table before (option_map (source_at s) back) None capture ledger
-without_b s ps vl_table before reader a b end None capture ledger started settled whole stops =
-    begun_loses watch.RingLost ps vl_table before a b None None capture ledger stops
-without_b s ps vl_table before reader a b end (Some source) capture ledger started settled whole stops =
-    let back = left_of s A vl_table.late before.a reader end source started settled in
-    let given : List TapItem = taken_items end ++ settled.more in
-    inr (inl (
-      refl,
-      (
-        frames_in given,
-        part_back A vl_table.late before.a (source_at s source) given back,
-        may_fail_back A vl_table.late before.a (source_at s source) given back,
-      ),
-      whole,
-    ))
 
 pub both_ways : {X E : Type 0} {P : X → Type 0} {Q : E → Type 0} {P' : X → Type 0} {Q' : E → Type 0} (r : Result X E) → IfOk r P → IfErr r Q →
     ((x : X) → P x → P' x) → ((e : E) → Q e → Q' e) → MatchResult r P' Q'
@@ -158,7 +115,6 @@ ready_made s t w l ps vl_table before ends taps outputs late is merged agree mer
         going = stage_b;
         most = fits_b.most;
       };
-      fresh = fresh.1;
       taken = record {
         late_is = merger_late ∙ is;
         network_a = rings.network_a;

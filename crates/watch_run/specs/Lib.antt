@@ -1,3 +1,4 @@
+pub mod Feeds
 pub mod Laws
 pub mod Ready
 pub mod Run

@@ -3,7 +3,7 @@ use Rattle.std.specs.Prelude.{◌≡◌, ℕ, false, List, [], length, None, Res
 use Rattle.std.specs.Option.{option_map}
 use Rattle.afdx_frame.specs.declared.key.Network.TheVariants.{A, B}
 use Rattle.bpf_isa.specs.declared.packed.Packed.{Packed}
-use Rattle.pcap_io.specs.Reader.{reading_of, unread_of}
+use Rattle.pcap_io.specs.Reader.{reading_of}
 use Rattle.pcap_io.specs.Writer.{has_failed}
 use Rattle.tap_queue.specs.Ring.{IsRing, late_of, network_of, put_items, taken_items}
 use Rattle.tap_queue.specs.declared.end.TapEnd.{TapEnd}
@@ -13,7 +13,8 @@ use Rattle.vl_config.specs.Document.{VlTable}
 use Rattle.round_output.specs.Outputs.{HasWritten}
 use Rattle.tap_merge.specs.Rings.{HasTaken}
 use Rattle.watch_run.specs.Running.{AbortsBegun}
-use Rattle.tap_merge.specs.Threads.{IsStarted}
+use Rattle.tap_merge.specs.Threads.{IsStarted, promise_of}
+use Rattle.watch_run.specs.declared.running.Running.{Running}
 use Rattle.run_outcome.specs.Device.{SourceMembers, SinkMembers, sink_at, source_at}
 use Rattle.round_output.specs.Round.{IsFilterCount}
 use Rattle.watch_run.specs.Watch.{IsWatched}
@@ -37,11 +38,18 @@ pub record IsReady {S T W L : Type 0} (s : SourceMembers S) (t : SourceMembers T
     (ps : List (List Packed)) (vl_table : VlTable) (before : WatchDevices) (ready : Ready S T W L) : Type 0 where
   pub a : IsStarted A vl_table.late before.a (reading_of s.remaining s.failures ready.a)
   pub b : IsStarted B vl_table.late before.b (reading_of t.remaining t.failures ready.b)
-  pub fresh : unread_of ready.b ≡ []
   pub taken : HasTaken vl_table.late [] ready.rings
   pub written : HasWritten w l ps vl_table before.capture before.ledger [] ready.outputs
   pub capture_going : has_failed ready.outputs.capture ≡ false
   pub ledger_going : ledger_has_failed ready.outputs.ledger ≡ false
+
+-- a run that was started from this: its taps' readers are read into its rings
+pub record IsStartedOf {S T W L : Type 0} (ready : Ready S T W L) (running : Running S T) : Type 0 where
+  pub rings : running.rings ≡ ready.rings
+  pub a : (promise_of running.feeds.a).reader.value ≡ ready.a
+  pub b : (promise_of running.feeds.b).reader.value ≡ ready.b
+  pub put_a : (promise_of running.feeds.a).put.value ≡ ready.put_a
+  pub put_b : (promise_of running.feeds.b).put.value ≡ ready.put_b
 
 -- what a run that was ready comes to
 abbrev pub Runs : {S T W L : Type 0} → SourceMembers S → SourceMembers T

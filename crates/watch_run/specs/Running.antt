@@ -158,13 +158,6 @@ pub record AbortsRunning (fault : WatchFault) (ps : List (List Packed)) (vl_tabl
   pub stops : StopsRun fault ps vl_table before after
   pub safe : WhereFailed fault (WroteSafe fault ps vl_table stops.frames_a stops.frames_b before after)
 
--- A tap's thread couldn't be started, and its source is gone with it. The other one came back: B as it was opened, or A read by its
--- thread.
-abbrev pub LosesTap : ℕ → WatchDevices → Option SourceView → Option SourceView → Type 0
-LosesTap late before None (Some b) = WasOpened before.b b × (b.failures ≡ before.b.failures)
-LosesTap late before (Some a) None = (frames : List Frame) × IsReadPart A late before.a a frames × MayFail before.a.failures a.failures
-LosesTap late before _ _ = ⊥
-
 -- The items of a ring were lost, and perhaps sources. The outputs have prefixes of what belongs to two recordings' frames in order, which
 -- nothing ties to the sources.
 pub record LosesRing (ps : List (List Packed)) (vl_table : VlTable) (before : WatchDevices) (capture ledger : SinkView) : Type 0 where
@@ -179,11 +172,10 @@ pub record LosesRing (ps : List (List Packed)) (vl_table : VlTable) (before : Wa
   pub capture_failures : MayFail before.capture.failures capture.failures
   pub ledger_failures : MayFail before.ledger.failures ledger.failures
 
--- why a run was aborted once its threads were started, or the first of them
+-- why a run was aborted once its taps were read
 abbrev pub AbortsBegun : WatchFault → List (List Packed) → VlTable → WatchDevices → Option SourceView → Option SourceView → SinkView → SinkView → Type 0
 AbortsBegun fault ps vl_table before a b capture ledger =
     BothBack a b (λ x y. AbortsRunning fault ps vl_table before (watch_devices x y capture ledger))
-    ⊎ ((fault ≡ watch.Spawn) × LosesTap vl_table.late before a b × HasWholeRounds ps vl_table [] before.capture before.ledger capture ledger)
     ⊎ ((fault ≡ watch.RingLost) × LosesRing ps vl_table before capture ledger)
 
 -- why no thread was started: a recording wasn't opened, or one of the outputs wasn't begun or there was no memory for the rings, and then both

@@ -1,4 +1,4 @@
-//! A run whose taps are read by threads of their own.
+//! A run whose taps are read into rings, by threads of their own where they can be had.
 ghost use Rattle.std.specs.Prelude.{◌≡◌, ◌∷◌, List, Some, false, length, true, [], is_some, IfErr, IfOk, IfSome, OnOk};
 ghost use Rattle.std.specs.Option.{option_map};
 ghost use Rattle.bpf_isa.specs.declared.packed.Packed.{Packed};
@@ -6,8 +6,9 @@ ghost use Rattle.pcap_io.specs.Reader.{reading_of};
 ghost use Rattle.pcap_io.specs.Writer.{sink_of};
 ghost use Rattle.tap_queue.specs.Ring.{SameEnd};
 ghost use Rattle.vl_config.specs.Document.{VlTable};
+ghost use Rattle.watch_run.specs.Feeds.{AreFeeding, KeepFeeding};
 ghost use Rattle.watch_run.specs.Running.{AbortsBegun, GoesOn, IsRunning, IsSharing, Steps, StopsRunning};
-ghost use Rattle.tap_merge.specs.Threads.{IsStarted};
+ghost use Rattle.tap_merge.specs.Threads.{IsStarted, promise_of};
 ghost use Rattle.round_output.specs.Outputs.{HasWritten, IsFinished, StopsFinishing};
 ghost use Rattle.run_outcome.specs.Device.{SinkView};
 ghost use Rattle.round_output.specs.Round.{IsFilterCount};
@@ -28,7 +29,7 @@ use run_outcome::{WatchFault, WatchRefused};
 use std::alloc::{AllocError, Global};
 use std::sync::Wait;
 use std::thread::{Scope, Threads};
-use tap_merge::{Rings, TapThread, leave_tap, settle_tap};
+use tap_merge::{Rings, TapFeed, leave_tap, settle_tap};
 use worker_pool::{InFlight, Pool};
 
 /// Writes the round that workers are at where nothing more comes for some milliseconds, and tells of it.
@@ -106,18 +107,24 @@ fn write_next<'a, R: Wait, W: OutSink, L: OutSink, G: RunGate + Sync>(
 
 /// Takes and merges all frames, and shares each round of them among the workers of a pool, until both
 /// recordings have ended.
-fn write_rounds<'a, R: Wait, W: OutSink, L: OutSink, G: RunGate + RunObserver + Sync>(
+fn write_rounds<'a, R: Wait, S, T, W: OutSink, L: OutSink, G: RunGate + RunObserver + Sync>(
     rt: &R,
     alloc: Global,
     gate: &G,
     pool: &mut Pool<Formatting<'a, G>>,
+    feeds: &mut Feeds<S, T>,
     rings: &mut Rings,
     outputs: Outputs<W, L>,
 ) -> Result<Outputs<W, L>, Unwritten<W, L>>
+where
+    S: TapSource + Drop,
+    T: TapSource + Drop,
+    requires feeding { AreFeeding S.TapSource T.TapSource feeds.old }
     requires begun { (vl_table : VlTable) × (capture : SinkView) × (ledger : SinkView)
         × IsRunning W.OutSink L.OutSink
         pool.old.task.programs.now vl_table capture ledger rings.old outputs }
     ensures pool { pool.new ≡ pool.old }
+    ensures feeding { KeepFeeding S.TapSource T.TapSource feeds.old feeds.new }
     ensures written { GoesOn W.OutSink L.OutSink
         pool.old.task.programs.now rings.old outputs rings.new result }
 {
@@ -137,6 +144,7 @@ fn write_rounds<'a, R: Wait, W: OutSink, L: OutSink, G: RunGate + RunObserver + 
         if let Err(fault) = idle {
             return Err(outputs.unwritten(fault));
         }
+        feeds.fill(alloc);
         match write_next(rt, pool, rings, &mut outputs, &mut flight, &mut entries) {
             Ok(true) => {}
             Ok(false) => return Ok(outputs),
@@ -148,28 +156,34 @@ fn write_rounds<'a, R: Wait, W: OutSink, L: OutSink, G: RunGate + RunObserver + 
 
 /// Starts the workers of a run, and takes, merges and writes all frames with them. A worker that can't be
 /// started is no fault: the others do its share.
-pub fn write_all<'s, E, R, W: OutSink, L: OutSink, G: RunGate + RunObserver + Sync>(
+pub fn write_all<'s, E, R, S, T, W: OutSink, L: OutSink, G: RunGate + RunObserver + Sync>(
     scope: &Scope<'s, E>,
     rt: &'s R,
     alloc: Global,
     task: Formatting<'s, G>,
     workers: u32,
+    feeds: &mut Feeds<S, T>,
     rings: &mut Rings,
     outputs: Outputs<W, L>,
 ) -> Result<Outputs<W, L>, Unwritten<W, L>>
 where
     R: Threads + Wait + Sync,
+    S: TapSource + Drop,
+    T: TapSource + Drop,
+    requires feeding { AreFeeding S.TapSource T.TapSource feeds.old }
     requires begun { (vl_table : VlTable) × (capture : SinkView) × (ledger : SinkView)
         × IsRunning W.OutSink L.OutSink
         task.programs.now vl_table capture ledger rings.old outputs }
-    ensures { GoesOn W.OutSink L.OutSink task.entry.programs.now rings.old outputs rings.new result }
+    ensures feeding { KeepFeeding S.TapSource T.TapSource feeds.old feeds.new }
+    ensures written { GoesOn W.OutSink L.OutSink
+        task.entry.programs.now rings.old outputs rings.new result }
 {
     let gate = task.gate;
     let mut pool = match Pool::start(scope, rt, alloc, task, workers) {
         Ok(pool) => pool,
         Err(AllocError) => return Err(outputs.unwritten(WatchFault::Memory)),
     };
-    let written = write_rounds(rt, alloc, gate, &mut pool, rings, outputs);
+    let written = write_rounds(rt, alloc, gate, &mut pool, feeds, rings, outputs);
     pool.close();
     written
 }
@@ -219,12 +233,29 @@ fn finish_outputs<S, T, W: OutSink, L: OutSink>(
     }
 }
 
-/// A run whose taps are read by threads.
+/// How both taps are read.
+#[derive(Drop)]
+pub struct Feeds<S: TapSource, T: TapSource> {
+    pub a: TapFeed<S>,
+    pub b: TapFeed<T>,
+}
+
+impl<S: TapSource + Drop, T: TapSource + Drop> Feeds<S, T> {
+    /// Reads on until the rings are full, where no thread does.
+    fn fill(&mut self, alloc: Global)
+        requires { AreFeeding S.TapSource T.TapSource self.old }
+        ensures { KeepFeeding S.TapSource T.TapSource self.old self.new }
+    {
+        self.a.fill(alloc);
+        self.b.fill(alloc);
+    }
+}
+
+/// A run that has begun.
 #[derive(Drop)]
 pub struct Running<S: TapSource, T: TapSource> {
     pub rings: Rings,
-    pub a: TapThread<S>,
-    pub b: TapThread<T>,
+    pub feeds: Feeds<S, T>,
 }
 
 impl<S: TapSource + Drop, T: TapSource + Drop> Running<S, T> {
@@ -237,17 +268,18 @@ impl<S: TapSource + Drop, T: TapSource + Drop> Running<S, T> {
         rt: &R,
         outputs: Outputs<W, L>,
     ) -> Result<Watched<S, T, W, L>, WatchRefused<S, T, W, L>>
-        requires ring_a { IsRing self.a.promise.put.value self.rings.a }
-        requires ring_b { IsRing self.b.promise.put.value self.rings.b }
+        requires feeding { AreFeeding S.TapSource T.TapSource self.feeds }
+        requires ring_a { IsRing (promise_of self.feeds.a).put.value self.rings.a }
+        requires ring_b { IsRing (promise_of self.feeds.b).put.value self.rings.b }
         requires ended { (is_some self.rings.end_a ≡ true) × (is_some self.rings.end_b ≡ true) }
         requires all { self.rings.merger.pending ≡ [] }
         requires going { ledger_has_failed outputs.ledger ≡ false }
         ensures watched { IfOk result (λ done.
             (ps : List (List Packed)) (vl_table : VlTable) (before : WatchDevices)
             → IsStarted Network.A vl_table.late before.a
-            (reading_of S.remaining S.failures self.a.promise.reader.value)
+            (reading_of S.remaining S.failures (promise_of self.feeds.a).reader.value)
             → IsStarted Network.B vl_table.late before.b
-            (reading_of T.remaining T.failures self.b.promise.reader.value)
+            (reading_of T.remaining T.failures (promise_of self.feeds.b).reader.value)
             → IsRunning W.OutSink L.OutSink
             ps vl_table before.capture before.ledger self.rings outputs
             → IsFilterCount (length ps) → IsWatched ps vl_table done.endings done.totals before
@@ -256,9 +288,9 @@ impl<S: TapSource + Drop, T: TapSource + Drop> Running<S, T> {
         ensures aborted { IfErr result (λ refused.
             (ps : List (List Packed)) (vl_table : VlTable) (before : WatchDevices)
             → IsStarted Network.A vl_table.late before.a
-            (reading_of S.remaining S.failures self.a.promise.reader.value)
+            (reading_of S.remaining S.failures (promise_of self.feeds.a).reader.value)
             → IsStarted Network.B vl_table.late before.b
-            (reading_of T.remaining T.failures self.b.promise.reader.value)
+            (reading_of T.remaining T.failures (promise_of self.feeds.b).reader.value)
             → IsRunning W.OutSink L.OutSink
             ps vl_table before.capture before.ledger self.rings outputs
             → AbortsBegun refused.fault ps vl_table before
@@ -267,7 +299,8 @@ impl<S: TapSource + Drop, T: TapSource + Drop> Running<S, T> {
             (sink_at W.OutSink refused.capture)
             (sink_at L.OutSink refused.ledger)) }
     {
-        let Running { rings, a, b } = self;
+        let Running { rings, feeds } = self;
+        let Feeds { a, b } = feeds;
         let (Some(end_a), Some(end_b)) = (rings.end_a, rings.end_b) else {
             unreachable!()
         };
@@ -300,13 +333,14 @@ impl<S: TapSource + Drop, T: TapSource + Drop> Running<S, T> {
         rt: &R,
         unwritten: Unwritten<W, L>,
     ) -> WatchRefused<S, T, W, L>
-        requires ring_a { IsRing self.a.promise.put.value self.rings.a }
-        requires ring_b { IsRing self.b.promise.put.value self.rings.b }
+        requires feeding { AreFeeding S.TapSource T.TapSource self.feeds }
+        requires ring_a { IsRing (promise_of self.feeds.a).put.value self.rings.a }
+        requires ring_b { IsRing (promise_of self.feeds.b).put.value self.rings.b }
         ensures { (ps : List (List Packed)) (vl_table : VlTable) (before : WatchDevices)
             → IsStarted Network.A vl_table.late before.a
-            (reading_of S.remaining S.failures self.a.promise.reader.value)
+            (reading_of S.remaining S.failures (promise_of self.feeds.a).reader.value)
             → IsStarted Network.B vl_table.late before.b
-            (reading_of T.remaining T.failures self.b.promise.reader.value)
+            (reading_of T.remaining T.failures (promise_of self.feeds.b).reader.value)
             → StopsRunning unwritten.fault ps vl_table before.capture before.ledger
             self.rings.a self.rings.b
             (sink_at W.OutSink unwritten.capture)
@@ -317,7 +351,8 @@ impl<S: TapSource + Drop, T: TapSource + Drop> Running<S, T> {
             (sink_at W.OutSink result.capture)
             (sink_at L.OutSink result.ledger) }
     {
-        let Running { rings, a, b } = self;
+        let Running { rings, feeds } = self;
+        let Feeds { a, b } = feeds;
         let Rings {
             a: ring_a,
             b: ring_b,

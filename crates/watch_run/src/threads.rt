@@ -6,8 +6,9 @@ ghost use Rattle.bpf_isa.specs.declared.packed.Packed.{Packed};
 ghost use Rattle.pcap_io.specs.Writer.{sink_of};
 ghost use Rattle.verdict_ledger.specs.Ledger.{sink_of as ledger_sink};
 ghost use Rattle.vl_config.specs.Document.{VlTable};
-ghost use Rattle.watch_run.specs.Ready.{AreNew, AreTwoRings, IsReady, Runs, ready_of};
-ghost use Rattle.watch_run.specs.Running.{AbortsBegun, IsNotBegun, IsRunningAborted};
+ghost use Rattle.watch_run.specs.Feeds.{AreFeeding};
+ghost use Rattle.watch_run.specs.Ready.{AreNew, AreTwoRings, IsReady, IsStartedOf, Runs, ready_of};
+ghost use Rattle.watch_run.specs.Running.{IsNotBegun, IsRunningAborted};
 ghost use Rattle.filter_workers.specs.declared.decision.TheConstants.{MAX_FILTERS};
 ghost use Rattle.round_output.specs.Round.{IsFilterCount, IsWorkerCount};
 ghost use Rattle.watch_run.specs.Watch.{IsWatched};
@@ -17,7 +18,7 @@ ghost use Rattle.run_outcome.specs.Opening.{watch_devices};
 
 use crate::gate::RunObserver;
 use crate::one_thread::Watched;
-use crate::running::{Running, write_all};
+use crate::running::{Feeds, Running, write_all};
 use afdx_frame::Network;
 use bpf_loader::Program;
 use filter_workers::{MAX_FILTERS, MAX_WORKERS, RunGate};
@@ -28,7 +29,7 @@ use std::alloc::{AllocError, Global};
 use std::sync::Wait;
 use std::thread;
 use std::thread::{Scope, Threads};
-use tap_merge::{Rings, Taps, Unopened, leave_tap, start_tap};
+use tap_merge::{Rings, Taps, Unopened, start_tap};
 use tap_queue::{TapEnd, TapGate, TapPut, tap_ring};
 use vl_config::Config;
 
@@ -44,65 +45,27 @@ pub struct Ready<S, T, W, L> {
     pub outputs: Outputs<W, L>,
 }
 
-/// A run that was aborted, as one tap's thread couldn't be started. The other tap's source is back, but for
-/// its ring being lost.
-fn not_started<S, T, W: OutSink, L: OutSink>(
-    a: Option<S>,
-    outputs: Outputs<W, L>,
-) -> WatchRefused<S, T, W, L>
-    ensures a { result.a ≡ a }
-    ensures b { result.b ≡ None }
-    ensures fault { result.fault ≡ (if is_some a then WatchFault.Spawn else WatchFault.RingLost) }
-    ensures capture { result.capture ≡ sink_of outputs.capture }
-    ensures ledger { result.ledger ≡ ledger_sink outputs.ledger }
-{
-    let fault = match &a {
-        Some(_) => WatchFault::Spawn,
-        None => WatchFault::RingLost,
-    };
-    let (capture, ledger) = outputs.into_sinks();
-    WatchRefused {
-        fault,
-        a,
-        b: None,
-        capture,
-        ledger,
-    }
-}
-
 impl<S: TapSource + Drop + Send, T: TapSource + Drop + Send, W: OutSink, L: OutSink> Ready<
     S,
     T,
     W,
     L,
 > {
-    /// Starts the threads that read the taps. The source of a tap whose thread can't be started is lost;
-    /// the other one comes back.
+    /// Starts the threads that read the taps. Where one can't be started the calling thread reads that tap.
     fn start<'s, E, R: Threads + Wait + Sync, G: TapGate + Sync>(
         self,
         scope: &Scope<'s, E>,
         rt: &'s R,
         alloc: Global,
         gate: &'s G,
-    ) -> Result<(Running<S, T>, Outputs<W, L>), WatchRefused<S, T, W, L>>
+    ) -> (Running<S, T>, Outputs<W, L>)
     where
         S: 's,
         T: 's,
         requires new { AreNew self }
-        ensures rings { IfOk result (λ started. started.0.rings ≡ self.rings) }
-        ensures outputs { IfOk result (λ started. started.1 ≡ self.outputs) }
-        ensures a { IfOk result (λ started. started.0.a.promise.reader.value ≡ self.a) }
-        ensures b { IfOk result (λ started. started.0.b.promise.reader.value ≡ self.b) }
-        ensures put_a { IfOk result (λ started. started.0.a.promise.put.value ≡ self.put_a) }
-        ensures put_b { IfOk result (λ started. started.0.b.promise.put.value ≡ self.put_b) }
-        ensures lost { IfErr result (λ refused.
-            (ps : List (List Packed)) (vl_table : VlTable) (before : WatchDevices)
-            → IsReady S.TapSource T.TapSource W.OutSink L.OutSink ps vl_table before self
-            → AbortsBegun refused.fault ps vl_table before
-            (option_map (source_at S.TapSource) refused.a)
-            (option_map (source_at T.TapSource) refused.b)
-            (sink_at W.OutSink refused.capture)
-            (sink_at L.OutSink refused.ledger)) }
+        ensures started { IsStartedOf self result.0 }
+        ensures feeding { AreFeeding S.TapSource T.TapSource result.0.feeds }
+        ensures outputs { result.1 ≡ self.outputs }
     {
         let Ready {
             a,
@@ -112,21 +75,11 @@ impl<S: TapSource + Drop + Send, T: TapSource + Drop + Send, W: OutSink, L: OutS
             rings,
             outputs,
         } = self;
-        let Some(a) = start_tap(scope, rt, alloc, gate, a, put_a) else {
-            let (capture, ledger) = outputs.into_sinks();
-            return Err(WatchRefused {
-                fault: WatchFault::Spawn,
-                a: None,
-                b: Some(b.into_source()),
-                capture,
-                ledger,
-            });
+        let feeds = Feeds {
+            a: start_tap(scope, rt, alloc, gate, a, put_a),
+            b: start_tap(scope, rt, alloc, gate, b, put_b),
         };
-        let Some(b) = start_tap(scope, rt, alloc, gate, b, put_b) else {
-            rings.a.stop();
-            return Err(not_started(leave_tap(rt, rings.a, a), outputs));
-        };
-        Ok((Running { rings, a, b }, outputs))
+        (Running { rings, feeds }, outputs)
     }
 }
 
@@ -152,12 +105,10 @@ where
         task.programs.now vl_table before ready }
     ensures { Runs S.TapSource T.TapSource W.OutSink L.OutSink task.entry.programs.now ready result }
 {
-    let (mut running, outputs) = match ready.start(scope, rt, alloc, task.gate) {
-        Ok(started) => started,
-        Err(refused) => return Err(refused),
-    };
     let gate = task.gate;
-    match write_all(scope, rt, alloc, task, workers, &mut running.rings, outputs) {
+    let (mut running, outputs) = ready.start(scope, rt, alloc, gate);
+    let Running { feeds, rings } = &mut running;
+    match write_all(scope, rt, alloc, task, workers, feeds, rings, outputs) {
         Ok(outputs) => running.finish(rt, outputs),
         Err(unwritten) => {
             gate.aborts(unwritten.fault);
@@ -264,8 +215,9 @@ impl<S, T, W, L> Ready<S, T, W, L> {
 /// Analyses two recordings on threads, with the outputs of [`watch_whole`](crate::watch_whole), byte for
 /// byte: each tap is read by a thread of its own into a ring of batches; the calling thread merges the
 /// frames, cuts them into rounds of at most 1024 and judges them; `workers` workers, of which it is one,
-/// filter each round and make its packets and lines, which it then writes. A worker whose thread can't be
-/// started is no fault: the others do its share.
+/// filter each round and make its packets and lines, which it then writes. A thread that can't be started is
+/// no fault: the other workers do a worker's share, and the calling thread reads a tap, so that a run needs
+/// no thread but that one.
 ///
 /// Stamps may go back within the table's window. Each recording is read up to 2^32 frames. The gate is told
 /// of each tap before its first frame is read, and of each frame before the filters run on it.
@@ -285,8 +237,7 @@ impl<S, T, W, L> Ready<S, T, W, L> {
 /// failed; of several faults one is told. All devices come back. A source may have been read ahead by no more
 /// than 262144 bytes, and after a fault by a packet more.
 ///
-/// `Spawn` if a tap's thread can't be started: its source is lost, and the outputs have what they begin
-/// with. `RingLost` if the items of a ring aren't what its reader put into it, or what a worker made was
+/// `RingLost` if the items of a ring aren't what its reader put into it, or what a worker made was
 /// lost: sources may be lost.
 pub fn watch<R, S, T, W, L, G>(
     rt: &R,

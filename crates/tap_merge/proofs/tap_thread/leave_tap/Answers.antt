@@ -6,8 +6,9 @@ use Rattle.tap_merge.proofs.tap_thread.leave_tap.Goals as goal
 
 pub returns-in-Ok : goal.returns-in-Ok
 returns-in-Ok g c =
-    let reader = reader_of c.join.result in
-    let left = left_gives _ _ (put_items (put_of c.join.result)) (taken_items c.args.end) c.leave.ensures.first c.join.ensures.1 in
+    let fed = c.in_ok-join.field-0 in
+    let reader = reader_of fed in
+    let left = left_gives _ _ (put_items (put_of fed)) (taken_items c.args.end) c.in-Ok.ensures.first (c.in_ok-join.ensures.1, c.in_ok-join.ensures.2) in
     record {
       reading = reading_of g.S.TapSource.remaining g.S.TapSource.failures reader;
       ahead = unread_of reader;

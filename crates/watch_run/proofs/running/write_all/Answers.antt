@@ -3,8 +3,8 @@ use Rattle.afdx_frame.specs.declared.key.Network.TheVariants.{A}
 use Rattle.tap_merge.proofs.RingItems.{stops_with, takes_none}
 use Rattle.watch_run.proofs.running.write_all.Goals as goal
 
-pub returns-in-Err : goal.returns-in-Err
-returns-in-Err g c =
+pub returns-in-Err-clause-written : goal.returns-in-Err-clause-written
+returns-in-Err-clause-written g c =
     let rings = c.args.rings.now in
     record {
       same_a = (takes_none rings.a).same;

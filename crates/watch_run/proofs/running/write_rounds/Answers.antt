@@ -1,6 +1,7 @@
 use Rattle.std.proofs.Common.{◌≡◌, ◌∙◌, ap, Ok}
 use Rattle.round_output.proofs.Sharing.{all_written}
 use Rattle.tap_merge.proofs.RingItems.{same_trans}
+use Rattle.watch_run.proofs.Feeding.{begins_feeding, feeding_now, still_feeding}
 use Rattle.watch_run.proofs.running.write_rounds.Goals as goal
 
 pub settle_idle-idle-requires-clause-begun : goal.settle_idle-idle-requires-clause-begun
@@ -40,6 +41,7 @@ loop-preserved g c =
     record {
       pool = c.write_next.ensures.pool ∙ pool;
       task = rw pool at c.write_next.ensures.task;
+      feeding = still_feeding g.S.TapSource g.T.TapSource c.args.feeds.now c.loop.feeds c.fill.new.self c.loop.invariant.feeding c.fill.ensures;
       a = same_trans before.a idle.a rings.a (same_trans before.a c.loop.rings.a idle.a c.loop.invariant.a c.settle_idle-idle.ensures.a) c.write_next.ensures.stepped.same_a;
       b = same_trans before.b idle.b rings.b (same_trans before.b c.loop.rings.b idle.b c.loop.invariant.b c.settle_idle-idle.ensures.b) c.write_next.ensures.stepped.same_b;
       running = λ vl_table capture ledger h.
@@ -89,3 +91,6 @@ returns-in-Err-write_next-clause-written g c =
           stepped.stopped vl_table capture ledger
           ((rw c.loop.invariant.pool at c.in_default.ensures.sharing) vl_table capture ledger (c.loop.invariant.running vl_table capture ledger h)));
     }
+
+pub fill-requires : goal.fill-requires
+fill-requires g c κs within = feeding_now g.S.TapSource g.T.TapSource c.args.feeds.now c.loop.feeds c.loop.invariant.feeding

@@ -1,0 +1,77 @@
+//! How a tap's reader gets to its thread: through a ring, so that it isn't lost where no thread can be
+//! started. Both ends of the ring know from the beginning which reader it will be.
+ghost use Rattle.std.specs.Prelude.{◌≡◌, ◌<◌, [], IfOk, IfSome};
+ghost use Rattle.rtrb.specs.Ring.{known_free, received, sent};
+ghost use Rattle.tap_queue.specs.Ring.{put_items};
+ghost use Rattle.tap_merge.specs.Parcels.{Brings, Promises};
+
+use crate::feeding::Feeding;
+use pcap_io::TapReader;
+use rtrb::{Consumer, Producer, Protocol, RingBuffer};
+use std::alloc::{AllocError, Global};
+use std::sync::Wait;
+use std::thread::yield_now;
+use tap_queue::TapPut;
+
+/// What goes through the ring: what is promised, and then the reader and the end of the ring that it is read
+/// into.
+#[derive(Drop)]
+pub enum Parcel<S> {
+    Promised(Feeding<S>),
+    Delivered(TapReader<S>, TapPut),
+}
+
+/// What is delivered is what was promised first.
+#[derive(Clone, Copy)]
+pub struct AsPromised;
+
+impl<S> Protocol<Parcel<S>> for AsPromised {
+    ghost allows = { Brings };
+}
+
+/// The end that delivers.
+pub(crate) type Sender<S> = Producer<Parcel<S>, Global, AsPromised>;
+
+/// The end that a thread waits at.
+pub(crate) type Receiver<S> = Consumer<Parcel<S>, Global, AsPromised>;
+
+/// A ring, both of whose ends know that this reader will be delivered, with this end.
+pub(crate) fn parcel_ring<S: Drop>(
+    alloc: Global,
+    reader: &TapReader<S>,
+    put: &TapPut,
+) -> Result<(Sender<S>, Receiver<S>), AllocError>
+    ensures sender { IfOk result (λ ends. Promises (sent ends.0) reader.now put.now) }
+    ensures receiver { IfOk result (λ ends. Promises (received ends.1) reader.now put.now) }
+    ensures room { IfOk result (λ ends. 0 < known_free ends.0) }
+{
+    let (mut sender, mut receiver) = RingBuffer::with_protocol::<Global, AsPromised>(alloc, 2)?;
+    sender.push_reserved(Parcel::Promised(Feeding::of(reader, put)));
+    receiver.slots_beside(&mut sender);
+    let _promised = receiver.pop_known();
+    Ok((sender, receiver))
+}
+
+/// Waits for what is delivered. None: nothing is, and the other end is gone.
+pub(crate) fn receive<R: Wait, S: Drop>(
+    rt: &R,
+    receiver: Receiver<S>,
+) -> Option<(TapReader<S>, TapPut)>
+    ensures new { IfSome result (λ ends. put_items ends.1 ≡ []) }
+    ensures kept { IfSome result (λ ends. Promises (received receiver) ends.0 ends.1) }
+{
+    let mut receiver = receiver;
+    for _ in rt.forever() {
+        if let Ok(parcel) = receiver.pop() {
+            return match parcel {
+                Parcel::Delivered(reader, put) => Some((reader, put)),
+                Parcel::Promised(_promise) => None,
+            };
+        }
+        if receiver.is_abandoned() && receiver.is_empty() {
+            return None;
+        }
+        yield_now();
+    }
+    unreachable!()
+}
