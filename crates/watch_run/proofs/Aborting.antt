@@ -1,5 +1,5 @@
 -- What is left of a run whose taps were read by threads, once both rings are settled.
-use Rattle.std.proofs.Common.{◌≡◌, inl, inr, ◌⊎◌, ◌++◌, ◌∷◌, [], ℕ, ◌+◌, ◌≤◌, List, Option, Some, None, true, false, length, take, refl, sym, subst, ap, ◌∙◌, append-nil, append_assoc}
+use Rattle.std.proofs.Common.{◌≡◌, inl, inr, ◌⊎◌, ◌++◌, ◌∷◌, [], ℕ, ◌+◌, ◌≤◌, List, Option, Some, None, false, length, take, refl, sym, subst, ap, ◌∙◌, append-nil, append_assoc}
 use Rattle.std.specs.Prelude.{unwrap_or}
 use Rattle.std.specs.Io.KnownBytes.{Appends}
 use Rattle.afdx_frame.specs.Frame.{Frame}
@@ -18,7 +18,7 @@ use Rattle.pcap_io.specs.declared.reader.TapReader.{TapReader}
 use Rattle.pcap_io.specs.declared.item.ReadFault.TheVariants as faults
 use Rattle.pcap_io.specs.declared.position.Position.{Position}
 use Rattle.pcap_io.specs.declared.recording.Ending.{Ending}
-use Rattle.tap_queue.specs.Items.{Gives, frames_in, is_over}
+use Rattle.tap_queue.specs.Items.{Gives, frames_in}
 use Rattle.tap_queue.specs.Ring.{has_lost, taken_items}
 use Rattle.tap_queue.specs.declared.end.TapEnd.{TapEnd}
 use Rattle.tap_queue.specs.declared.item.TapItem.TheVariants as items

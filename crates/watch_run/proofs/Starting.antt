@@ -1,15 +1,14 @@
 -- A run starts its threads.
-use Rattle.std.proofs.Common.{◌≡◌, inl, inr, ◌++◌, [], ℕ, ◌≤◌, List, Option, Some, None, length, false, arith, refl, sym, subst, ap, ◌∙◌, Result, Ok, Err}
-use Rattle.std.specs.Prelude.{IfErr, IfOk, IfSome, MatchResult, if◌then◌else◌, is_some}
+use Rattle.std.proofs.Common.{◌≡◌, ◌++◌, [], ℕ, ◌≤◌, List, Option, Some, None, length, false, arith, refl, sym, subst, ap, ◌∙◌, Result, Ok, Err}
+use Rattle.std.specs.Prelude.{IfErr, IfOk, MatchResult}
 use Rattle.std.specs.Io.KnownBytes.{prepend_known}
-use Rattle.std.specs.Option.{option_map}
 use Rattle.afdx_frame.specs.declared.key.Network.{Network}
 use Rattle.afdx_frame.specs.declared.key.Network.TheVariants.{A, B}
 use Rattle.ordered_merge.specs.Merge.{Follows, MergerState, new_state}
 use Rattle.bpf_isa.specs.declared.packed.Packed.{Packed}
 use Rattle.pcap_io.specs.Position.{Opens, Reading}
-use Rattle.pcap_io.specs.Reader.{position_of, reading_of, source_of, unread_of}
-use Rattle.pcap_io.specs.Writer.{has_failed, sink_of}
+use Rattle.pcap_io.specs.Reader.{position_of, reading_of, unread_of}
+use Rattle.pcap_io.specs.Writer.{has_failed}
 use Rattle.pcap_io.specs.declared.position.Position.{Position}
 use Rattle.pcap_io.specs.declared.recording.Ending.{Ending}
 use Rattle.pcap_io.specs.declared.recording.Stage.TheVariants.{Going}
@@ -19,23 +18,21 @@ use Rattle.tap_queue.specs.Ring.{taken_items}
 use Rattle.tap_queue.specs.declared.end.TapEnd.{TapEnd}
 use Rattle.tap_queue.specs.declared.item.TapItem.{TapItem}
 use Rattle.tap_queue.specs.declared.ring.TapPut.{TapPut}
-use Rattle.verdict_ledger.specs.Ledger.{has_failed as ledger_has_failed, sink_of as ledger_sink}
+use Rattle.verdict_ledger.specs.Ledger.{has_failed as ledger_has_failed}
 use Rattle.vl_config.specs.Document.{VlTable}
 use Rattle.round_output.specs.Outputs.{HasWritten}
 use Rattle.watch_run.specs.Ready.{AreTwoRings, IsReady, ready_of}
 use Rattle.tap_merge.specs.Rings.{HasEnding}
 use Rattle.tap_merge.specs.Taps.{Agree, Agrees, Fits, HasMerged, HasRead}
 use Rattle.tap_merge.specs.declared.taps.Taps.{Taps}
-use Rattle.watch_run.specs.Running.{AbortsBegun, HasWholeRounds, IsRunning, StopsRunning}
-use Rattle.tap_merge.specs.Threads.{IsLeft, IsStarted}
-use Rattle.run_outcome.specs.Device.{SourceMembers, SinkMembers, SinkView, SourceView, sink_at, source_at}
+use Rattle.watch_run.specs.Running.{IsRunning}
+use Rattle.tap_merge.specs.Threads.{IsStarted}
+use Rattle.run_outcome.specs.Device.{SourceMembers, SinkMembers, SinkView, SourceView}
 use Rattle.run_outcome.specs.Recording.{WasOpened, most_frames}
 use Rattle.run_outcome.specs.Opening.{WatchDevices}
-use Rattle.run_outcome.specs.declared.fault.WatchFault.TheVariants as watch
 use Rattle.round_output.specs.declared.outputs.Outputs.{Outputs}
 use Rattle.tap_merge.specs.declared.rings.Rings.{Rings}
 use Rattle.watch_run.specs.declared.threads.Ready.{Ready}
-use Rattle.watch_run.proofs.Aborting.{begun_loses, left_of, may_fail_back, part_back}
 
 nothing_ahead : (ahead : List ℕ) (left : Option (List ℕ)) → ahead ≡ [] → prepend_known ahead left ≡ left
 nothing_ahead ahead None none = refl

@@ -2,7 +2,6 @@
 use Rattle.std.specs.Prelude.{◌≡◌, ◌⊎◌, ℕ, Bool, true, false, List, [], ◌++◌, length, is_some, Option, Some, None, Result, Ok, IfOk, IfErr, ⊤}
 use Rattle.std.specs.Io.KnownBytes.{Appends}
 use Rattle.afdx_frame.specs.Frame.{Frame}
-use Rattle.afdx_frame.specs.declared.key.Network.{Network}
 use Rattle.afdx_frame.specs.declared.key.Network.TheVariants.{A, B}
 use Rattle.bpf_isa.specs.declared.packed.Packed.{Packed}
 use Rattle.ordered_merge.specs.Merge.{Follows, MergerState, safe_frames}
@@ -22,7 +21,7 @@ use Rattle.round_output.specs.declared.shared.JudgedRound.{JudgedRound}
 use Rattle.worker_pool.specs.Chunks.{Posted}
 use Rattle.tap_merge.specs.Rings.{HasTaken, RingsFault, StopsTaking, WhereFailed}
 use Rattle.run_outcome.specs.Device.{SinkMembers, AppendsSome, SinkView, SourceView, sink_at}
-use Rattle.run_outcome.specs.Recording.{IsReadPart, WasOpened}
+use Rattle.run_outcome.specs.Recording.{WasOpened}
 use Rattle.run_outcome.specs.Fault.{MayFail, CaptureSink, Fails, LedgerSink, SourceA, SourceB, names}
 use Rattle.run_outcome.specs.Opening.{AbortsAtOpening, WatchDevices, watch_devices}
 use Rattle.watch_run.specs.Watch.{AbortsRun, StopsRun}

@@ -1,8 +1,24 @@
-use Rattle.std.proofs.Common.{◌≡◌, ◌∙◌, ap, Ok}
-use Rattle.round_output.proofs.Sharing.{all_written}
-use Rattle.tap_merge.proofs.RingItems.{same_trans}
+use Rattle.std.proofs.Common.{◌≡◌, ◌∙◌, ap, refl, Ok}
+use Rattle.round_output.proofs.Sharing.{all_written, none_shared}
+use Rattle.tap_merge.proofs.RingItems.{same_trans, takes_none}
 use Rattle.watch_run.proofs.Feeding.{begins_feeding, feeding_now, still_feeding}
 use Rattle.watch_run.proofs.running.write_rounds.Goals as goal
+
+pub loop-init : goal.loop-init
+loop-init g c = record {
+  pool = refl;
+  task = tt;
+  feeding = begins_feeding g.S.TapSource g.T.TapSource c.args.feeds.now c.requires.feeding;
+  a = (takes_none c.args.rings.now.a).same;
+  b = (takes_none c.args.rings.now.b).same;
+  running = λ vl_table capture ledger h. record {
+    cut = h.cut;
+    taken = h.taken;
+    shared = none_shared g.W.OutSink g.L.OutSink c.args.pool.now.task.programs.now vl_table capture ledger h.cut c.args.outputs h.written;
+    capture_going = h.capture_going;
+    ledger_going = h.ledger_going;
+  };
+}
 
 pub settle_idle-idle-requires-clause-begun : goal.settle_idle-idle-requires-clause-begun
 settle_idle-idle-requires-clause-begun g c κs within =
@@ -93,4 +109,4 @@ returns-in-Err-write_next-clause-written g c =
     }
 
 pub fill-requires : goal.fill-requires
-fill-requires g c κs within = feeding_now g.S.TapSource g.T.TapSource c.args.feeds.now c.loop.feeds c.loop.invariant.feeding
+fill-requires g c = feeding_now g.S.TapSource g.T.TapSource c.args.feeds.now c.loop.feeds c.loop.invariant.feeding
