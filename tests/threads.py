@@ -1,6 +1,7 @@
 """The threads of `afdxmon watch`: how many there are, runs on one processor, taps that pause, and taps and outputs that fail in mid-run."""
 import os
 import pty
+import resource
 import select
 import subprocess
 import time
@@ -8,11 +9,13 @@ import tty
 
 import long
 from analyser import watch
-from harness import EVERY, FAULT, ODD, PROGRAM, SUCCESS, TOP, ended, header, say
+from harness import EVERY, FAULT, ODD, PROGRAM, SUCCESS, TOP, ended, header, say, skip
 from watching import TABLE, read
 
 # The frames of a round at most.
 ROUND = 1024
+# A user who has no other process.
+NOBODY = 65534
 # 4096 steps on each frame: a round of 256 frames takes a worker some milliseconds.
 LONGEST = "4096," + "0 0 0 7," * 4095 + "6 0 0 60,"
 
@@ -73,6 +76,41 @@ def on_one_processor(desk):
             pipes = {"stdin": subprocess.DEVNULL, "stdout": subprocess.PIPE, "stderr": subprocess.PIPE}
             ran = ended(command, preexec_fn=lambda: os.sched_setaffinity(0, {only}), **pipes)
             say(f"watch on one processor: {name}, {workers} workers", desk.agrees(ran, *out))
+
+
+def without_threads(most):
+    """Has the process be one of a user who may have so many threads."""
+    os.setgid(NOBODY)
+    os.setuid(NOBODY)
+    resource.setrlimit(resource.RLIMIT_NPROC, (most, most))
+
+
+def few_threads(desk):
+    """Where the system lets no thread be started, or a few, the run is the same: the calling thread reads the taps that have none, and does
+    what no worker does."""
+    if os.getuid():
+        skip("watch: no thread to be had", "only root can become a user who may have no threads")
+        return
+    steady, short = header() + long.packets(0, 3000), header() + long.packets(0, 300)
+    pipes = {"stdin": subprocess.DEVNULL, "stdout": subprocess.PIPE, "stderr": subprocess.PIPE}
+    os.chmod(desk.directory, 0o755)
+    for name, a, b in (
+        ("both taps", steady, steady),
+        ("A ends first", short, steady),
+        ("B ends first", steady, short),
+        ("no frame on A", header(), short),
+        ("A is truncated in a packet", steady[:-7], steady),
+    ):
+        made = watch(TABLE, EVERY, a, b)
+        for most in (1, 2, 3, 4):
+            for workers in ("1", "2", "8"):
+                desk.lay(config=TABLE, filter=EVERY, a=a, b=b)
+                for path in desk.paths.values():
+                    os.chmod(path, 0o666)
+                command = [PROGRAM, *desk.arguments(), "--workers", workers]
+                ran = ended(command, preexec_fn=lambda: without_threads(most), **pipes)
+                fault = desk.agrees(ran, made.capture, made.lines + made.summary)
+                say(f"watch: {most - 1} threads to be had, {name}, {workers} workers", fault)
 
 
 def pour(into, other, data):
@@ -247,6 +285,7 @@ def failing_outputs(desk):
 
 def cases(desk):
     counted(desk)
+    few_threads(desk)
     on_one_processor(desk)
     failing_taps(desk)
     pausing_taps(desk)
