@@ -5,8 +5,9 @@ import struct
 import subprocess
 
 from harness import EVERY, FAULT, PROGRAM, SUCCESS, difference, frame, header, record, run, run_at_terminal, say
+from stamps import version_of_the_program
 from texts import ABOUT, ADVICE, ALLOWED, CHECK_SEQUENCES, COUNTS, EXPRESSION, GZIP, LINK_KEYS, NO_DOCUMENT, NOT_NUMERIC
-from texts import PCAPNG, PROGRAM_HELP, SOURCE, TOP_KEYS, VERSION, ZSTD, advice_on, advice_on_ending, help_of
+from texts import PCAPNG, PROGRAM_HELP, SOURCE, TOP_KEYS, ZSTD, advice_on, advice_on_ending, help_of
 from watching import LINK_5, TABLE
 
 MIB = 1 << 20
@@ -315,7 +316,8 @@ def little_memory(desk):
 
 def helps():
     """Help and version, whole, on standard output, at a terminal and elsewhere, by each way to ask for them."""
-    asked = [(["--help"], PROGRAM_HELP), (["-h"], PROGRAM_HELP), (["help"], PROGRAM_HELP), (["--version"], VERSION), (["-V"], VERSION)]
+    version = version_of_the_program()
+    asked = [(["--help"], PROGRAM_HELP), (["-h"], PROGRAM_HELP), (["help"], PROGRAM_HELP), (["--version"], version), (["-V"], version)]
     for command in ABOUT:
         asked += [([command, "--help"], help_of(command)), ([command, "-h"], help_of(command)), (["help", command], help_of(command))]
     for arguments, text in asked:
