@@ -7,6 +7,7 @@
 mod files;
 mod live;
 mod packets;
+mod pauses;
 mod progress;
 mod streams;
 mod telling;
@@ -22,15 +23,16 @@ use bpf_debugger::DebugFault;
 use bpf_loader::Program;
 use files::{refuse_closed, refuse_shared, refuse_shared_output};
 use live::{Blocks, LiveInput, Watcher};
+use pauses::Pauses;
 use pcap_io::{ReadSource, WriteSink};
 use progress::{Progress, Recording};
 use std::alloc::Global;
-use std::io;
 use std::io::{BufRead, BufReader, BufWriter, ErrorKind, IsTerminal, Write};
 use std::process::ExitCode;
 use std::sync::Wait;
 use std::sync::atomic::{AtomicBool, Ordering};
 use std::thread::Threads;
+use std::{io, thread};
 use streams::{Input, Output};
 use telling::tell;
 use vl_config::Config;
@@ -81,12 +83,29 @@ fn open(rt: &HostRuntime, path: &str, file: FileOption) -> Result<Input, Fault> 
     Input::open(rt, path).map_err(|_| Fault::File(file))
 }
 
-/// Opens the recording of a network. A network without one has no frames.
-fn open_tap(rt: &HostRuntime, path: Option<&str>, file: FileOption) -> Result<Input, Fault> {
-    match path {
-        Some(path) => open(rt, path, file),
-        None => Ok(Input::empty_recording()),
+/// Opens the recording of a network. A network without one has no frames. A pipe is open once somebody writes
+/// to it.
+fn open_tap(
+    rt: &HostRuntime,
+    path: Option<&str>,
+    network: Network,
+    pauses: Option<&Pauses>,
+) -> Result<Input, Fault> {
+    let Some(path) = path else {
+        return Ok(Input::empty_recording());
+    };
+    if let Some(pauses) = pauses {
+        pauses.begin_read(rt, network);
     }
+    let file = match network {
+        Network::A => FileOption::A,
+        Network::B => FileOption::B,
+    };
+    let opened = open(rt, path, file);
+    if let Some(pauses) = pauses {
+        pauses.end_read(rt, network, opened.is_err());
+    }
+    opened
 }
 
 /// There is no memory for a run.
@@ -223,8 +242,71 @@ fn exit_of<S: Drop>(
     Exit::of_watch(outcome, capture_flushed, ledger_flushed)
 }
 
+/// What a run over two recordings is given: the arguments, the table, and the filters.
+#[derive(Clone, Copy)]
+struct Analysis<'a> {
+    given: &'a WatchArguments<'a>,
+    config: &'a Config,
+    programs: &'a [Program],
+    /// Becomes true once a fault was told.
+    told: &'a AtomicBool,
+}
+
 /// Judges and filters the frames of two recordings, on threads. What was written before a fault is
 /// handed to the system too. An error is a fault that was met before the run.
+fn watch_networks<R: Threads + Wait + Sync>(
+    rt: &HostRuntime,
+    threads: &R,
+    analysis: &Analysis<'_>,
+    pauses: Option<&Pauses>,
+) -> Result<Exit, Fault> {
+    let given = analysis.given;
+    let a = open_tap(rt, given.a, Network::A, pauses)?;
+    let b = open_tap(rt, given.b, Network::B, pauses)?;
+    let (capture, ledger) = open_outputs(rt, given)?;
+    let progress = if given.quiet {
+        None
+    } else {
+        Progress::begin(rt, a.length(rt), b.length(rt))
+    };
+    let shown = progress.as_ref();
+    let outputs = (same(&capture)?, same(&ledger)?);
+    let watcher = Watcher::new(rt, *given, outputs, shown, pauses, analysis.told);
+    let run = analyser::watch(
+        threads,
+        rt.alloc(),
+        analysis.config,
+        analysis.programs,
+        u32::from(given.workers),
+        ReadSource::new(Recording::with_pauses(rt, a, Network::A, shown, pauses)),
+        ReadSource::new(Recording::with_pauses(rt, b, Network::B, shown, pauses)),
+        WriteSink::new(capture),
+        WriteSink::new(ledger),
+        &watcher,
+    );
+    if let Some(progress) = &progress {
+        progress.erase(rt);
+    }
+    Ok(exit_of(run))
+}
+
+/// Judges and filters the frames of two recordings that may pause, while another thread tells of pauses.
+fn watch_pauses<R: Threads + Wait + Sync>(
+    rt: &HostRuntime,
+    threads: &R,
+    analysis: &Analysis<'_>,
+    pauses: &Pauses,
+) -> Result<Exit, Fault> {
+    thread::scope(thread::scope_env(), threads, |scope| {
+        // Without that thread nothing is told of them.
+        let _ = scope.spawn(|| pauses.tell(rt, threads));
+        let exit = watch_networks(rt, threads, analysis, Some(pauses));
+        pauses.end();
+        exit
+    })
+}
+
+/// Reads what a run over two recordings is given, and carries it out.
 fn watch<R: Threads + Wait + Sync>(
     rt: &HostRuntime,
     threads: &R,
@@ -236,32 +318,17 @@ fn watch<R: Threads + Wait + Sync>(
     }
     refuse_closed(rt, given)?;
     let (config, programs) = set_up(rt, given)?;
-    let a = open_tap(rt, given.a, FileOption::A)?;
-    let b = open_tap(rt, given.b, FileOption::B)?;
-    let (capture, ledger) = open_outputs(rt, given)?;
-    let progress = if given.quiet {
-        None
-    } else {
-        Progress::begin(rt, a.length(rt), b.length(rt))
+    let analysis = Analysis {
+        given,
+        config: &config,
+        programs: &programs,
+        told,
     };
-    let outputs = (same(&capture)?, same(&ledger)?);
-    let watcher = Watcher::new(rt, *given, outputs, progress.as_ref(), told);
-    let run = analyser::watch(
-        threads,
-        rt.alloc(),
-        &config,
-        &programs,
-        u32::from(given.workers),
-        ReadSource::new(Recording::new(rt, a, Network::A, progress.as_ref())),
-        ReadSource::new(Recording::new(rt, b, Network::B, progress.as_ref())),
-        WriteSink::new(capture),
-        WriteSink::new(ledger),
-        &watcher,
-    );
-    if let Some(progress) = &progress {
-        progress.erase(rt);
-    }
-    Ok(exit_of(run))
+    let exit = match Pauses::begin(rt, given) {
+        Some(pauses) => watch_pauses(rt, threads, &analysis, &pauses)?,
+        None => watch_networks(rt, threads, &analysis, None)?,
+    };
+    Ok(exit)
 }
 
 /// There is no memory for a session.
