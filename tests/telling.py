@@ -151,10 +151,10 @@ TABLES = (
     (TABLE + LINK_5.replace("= 5", "= 6"), "7 TwiceName link 1", ':15:1: link 1, id 6, name "brake": name = "brake"\nname = "brake"\n^\n', BRAKE + " has it too: each link has its own name"),
     (f"filters = {['1,6 0 0 0,'] * 8}\n" + TABLE, "8 TooMany", f":1:1: 1 link and 8 filters\nfilters = {['1,6 0 0 0,'] * 8}\n^\n", COUNTS),
     ("constant = 50331648\n" + "[[link]]\n" * 4097, "8 TooMany", ":4098:1: 4097 links and 0 filters\n[[link]]\n^\n", COUNTS),
-    # What stands in strings and arrays is no header and no key. Inline tables have their place.
+    # What stands in strings and arrays is no header and no key. Inline tables have their place; a long line isn't shown.
     ('filters = ["""\n[[link]]\nbag_ms = 3\n""", [\n[[1]]], "]"]\n' + TABLE, "3 Kind top", ":1:1: filters = a value of type array\n" + 'filters = ["""\n^\n', ALLOWED["filters"]),
     ('filters = ["""\n[[link]]\nbag_ms = 3\n"""]\n' + TABLE.replace("bag_ms = 1", "bag_ms = 3"), "4 Range link 0", f":10:1: {BRAKE}: bag_ms = 3\nbag_ms = 3\n^\n", ALLOWED["bag_ms"]),
-    (f"{INLINE}, {AT_BAG}bag_ms = 3{AFTER_BAG}]\n", "4 Range link 1", f":2:{len(OF_INLINE + AT_BAG) + 3}: {FLAPS}: bag_ms = 3\n{OF_INLINE}, {AT_BAG}bag_ms = 3{AFTER_BAG}]\n{' ' * (len(OF_INLINE + AT_BAG) + 2)}^\n", ALLOWED["bag_ms"]),
+    (f"{INLINE}, {AT_BAG}bag_ms = 3{AFTER_BAG}]\n", "4 Range link 1", f":2:{len(OF_INLINE + AT_BAG) + 3}: {FLAPS}: bag_ms = 3\n", ALLOWED["bag_ms"]),
     (f"{INLINE},\n  {AT_BAG}bag_ms = 3{AFTER_BAG} # [\n]\n", "4 Range link 1", f":3:{len(AT_BAG) + 3}: {FLAPS}: bag_ms = 3\n  {AT_BAG}bag_ms = 3{AFTER_BAG} # [\n{' ' * (len(AT_BAG) + 2)}^\n", ALLOWED["bag_ms"]),
     (f"{INLINE},\n  {{ id = 6 }}]\n", "2 Missing link 1", ":3:3: link 1, id 6: name is missing\n  { id = 6 }]\n  ^\n", ALLOWED["name"]),
     (f"{INLINE}, {{ }}]\n", "2 Missing link 1", f":2:{len(OF_INLINE) + 3}: link 1: id is missing\n{OF_INLINE}, {{ }}]\n{' ' * (len(OF_INLINE) + 2)}^\n", ALLOWED["id"]),

@@ -11,6 +11,7 @@ mod pauses;
 mod progress;
 mod streams;
 mod telling;
+mod worst;
 
 use afdx_frame::{Network, TapFrame};
 use analyser::{
@@ -36,6 +37,7 @@ use std::{io, thread};
 use streams::{Input, Output};
 use telling::tell;
 use vl_config::Config;
+use worst::{LedgerWriter, WorstLinks};
 
 /// How many bytes are handed to the system at once.
 const BLOCK: usize = 65536;
@@ -218,13 +220,32 @@ fn set_up(rt: &HostRuntime, given: &WatchArguments<'_>) -> Result<(Config, Vec<P
     Ok((config, programs))
 }
 
-/// An output of `watch`.
-type Sink = WriteSink<Blocks>;
+/// How a command ended, and of `watch` the worst links, if they are to be told.
+#[derive(Drop)]
+struct Ended {
+    exit: Exit,
+    worst: Option<WorstLinks>,
+}
+
+impl From<Exit> for Ended {
+    fn from(exit: Exit) -> Ended {
+        Ended { exit, worst: None }
+    }
+}
+
+/// The capture of `watch`.
+type CaptureSink = WriteSink<Blocks>;
+
+/// The ledger of `watch`.
+type LedgerSink = WriteSink<LedgerWriter>;
 
 /// How a run over two recordings ended, whose outputs are handed to the system.
-fn exit_of<S: Drop>(
-    run: Result<Watched<S, S, Sink, Sink>, WatchRefused<S, S, Sink, Sink>>,
-) -> Exit {
+fn settle<S: Drop>(
+    run: Result<
+        Watched<S, S, CaptureSink, LedgerSink>,
+        WatchRefused<S, S, CaptureSink, LedgerSink>,
+    >,
+) -> Ended {
     let (outcome, capture, ledger) = match run {
         Ok(done) => {
             let [a, b] = done.endings;
@@ -237,9 +258,22 @@ fn exit_of<S: Drop>(
             refused.ledger,
         ),
     };
+    let mut ledger = ledger.into_writer();
     let capture_flushed = capture.into_writer().flush().is_ok();
-    let ledger_flushed = ledger.into_writer().flush().is_ok();
-    Exit::of_watch(outcome, capture_flushed, ledger_flushed)
+    let ledger_flushed = ledger.flush().is_ok();
+    Ended {
+        exit: Exit::of_watch(outcome, capture_flushed, ledger_flushed),
+        worst: ledger.into_worst(),
+    }
+}
+
+/// The worst links of a ledger that is to be written, if a person is to be told.
+fn worst_links(rt: &HostRuntime, given: &WatchArguments<'_>) -> Option<WorstLinks> {
+    if given.quiet || !rt.stderr().is_terminal() {
+        None
+    } else {
+        Some(WorstLinks::new(rt.alloc()))
+    }
 }
 
 /// What a run over two recordings is given: the arguments, the table, and the filters.
@@ -259,7 +293,7 @@ fn watch_networks<R: Threads + Wait + Sync>(
     threads: &R,
     analysis: &Analysis<'_>,
     pauses: Option<&Pauses>,
-) -> Result<Exit, Fault> {
+) -> Result<Ended, Fault> {
     let given = analysis.given;
     let a = open_tap(rt, given.a, Network::A, pauses)?;
     let b = open_tap(rt, given.b, Network::B, pauses)?;
@@ -281,13 +315,13 @@ fn watch_networks<R: Threads + Wait + Sync>(
         ReadSource::new(Recording::with_pauses(rt, a, Network::A, shown, pauses)),
         ReadSource::new(Recording::with_pauses(rt, b, Network::B, shown, pauses)),
         WriteSink::new(capture),
-        WriteSink::new(ledger),
+        WriteSink::new(LedgerWriter::new(ledger, worst_links(rt, given))),
         &watcher,
     );
     if let Some(progress) = &progress {
         progress.erase(rt);
     }
-    Ok(exit_of(run))
+    Ok(settle(run))
 }
 
 /// Judges and filters the frames of two recordings that may pause, while another thread tells of pauses.
@@ -296,13 +330,13 @@ fn watch_pauses<R: Threads + Wait + Sync>(
     threads: &R,
     analysis: &Analysis<'_>,
     pauses: &Pauses,
-) -> Result<Exit, Fault> {
+) -> Result<Ended, Fault> {
     thread::scope(thread::scope_env(), threads, |scope| {
         // Without that thread nothing is told of them.
         let _ = scope.spawn(|| pauses.tell(rt, threads));
-        let exit = watch_networks(rt, threads, analysis, Some(pauses));
+        let ended = watch_networks(rt, threads, analysis, Some(pauses));
         pauses.end();
-        exit
+        ended
     })
 }
 
@@ -312,9 +346,9 @@ fn watch<R: Threads + Wait + Sync>(
     threads: &R,
     given: &WatchArguments<'_>,
     told: &AtomicBool,
-) -> Result<Exit, Refused> {
+) -> Result<Ended, Refused> {
     if given.capture.is_some_and(|path| is_at_terminal(rt, path)) {
-        return Ok(Exit::Terminal);
+        return Ok(Ended::from(Exit::Terminal));
     }
     refuse_closed(rt, given)?;
     let (config, programs) = set_up(rt, given)?;
@@ -324,11 +358,11 @@ fn watch<R: Threads + Wait + Sync>(
         programs: &programs,
         told,
     };
-    let exit = match Pauses::begin(rt, given) {
+    let ended = match Pauses::begin(rt, given) {
         Some(pauses) => watch_pauses(rt, threads, &analysis, &pauses)?,
         None => watch_networks(rt, threads, &analysis, None)?,
     };
-    Ok(exit)
+    Ok(ended)
 }
 
 /// There is no memory for a session.
@@ -415,12 +449,17 @@ fn debug(rt: &HostRuntime, given: &DebugArguments<'_>) -> Result<Exit, Refused> 
 }
 
 /// Tells a person at a terminal what a run over two recordings came to.
-fn summarise(rt: &HostRuntime, exit: &Exit) -> io::Result<()> {
-    match exit {
-        Exit::Watched(summary) if rt.stderr().is_terminal() => rt.eprintln(*summary),
-        Exit::Watched(_) | Exit::Success | Exit::Note(_) | Exit::Fault(_) | Exit::Terminal => Ok(
-            (),
-        ),
+fn summarise(rt: &HostRuntime, ended: &Ended) -> io::Result<()> {
+    let Exit::Watched(summary) = &ended.exit else {
+        return Ok(());
+    };
+    if !rt.stderr().is_terminal() {
+        return Ok(());
+    }
+    rt.eprintln(*summary)?;
+    match &ended.worst {
+        Some(worst) if !worst.is_empty() => eprintln!(rt; "{worst}"),
+        Some(_) | None => Ok(()),
     }
 }
 
@@ -443,14 +482,15 @@ fn run<R: Threads + Wait + Sync>(
     threads: &R,
     command: Invocation<'_>,
     told: &AtomicBool,
-) -> Result<Exit, Refused> {
+) -> Result<Ended, Refused> {
     command.refuse_taken()?;
-    match command {
-        Invocation::Asm => asm(rt),
-        Invocation::Capture(given) => capture(rt, &given),
-        Invocation::Watch(given) => watch(rt, threads, &given, told),
-        Invocation::Debug(given) => debug(rt, &given),
-    }
+    let exit = match command {
+        Invocation::Watch(given) => return watch(rt, threads, &given, told),
+        Invocation::Asm => asm(rt)?,
+        Invocation::Capture(given) => capture(rt, &given)?,
+        Invocation::Debug(given) => debug(rt, &given)?,
+    };
+    Ok(Ended::from(exit))
 }
 
 /// Carries out a command, and tells standard error how it ended.
@@ -461,22 +501,22 @@ fn carry_out<R: Threads + Wait + Sync>(
 ) -> Exit {
     let quiet = matches!(command, Invocation::Watch(given) if given.quiet);
     let told = AtomicBool::new(false);
-    let exit = match run(rt, threads, command, &told) {
-        Ok(exit) if told.load(Ordering::SeqCst) => exit,
-        Ok(exit) => {
-            let _ = tell(rt, command, &exit, None);
-            exit
+    let ended = match run(rt, threads, command, &told) {
+        Ok(ended) if told.load(Ordering::SeqCst) => ended,
+        Ok(ended) => {
+            let _ = tell(rt, command, &ended.exit, None);
+            ended
         }
         Err(Refused { fault, source }) => {
             let exit = Exit::Fault(fault);
             let _ = tell(rt, command, &exit, source.as_deref());
-            exit
+            Ended::from(exit)
         }
     };
     if !quiet {
-        let _ = summarise(rt, &exit);
+        let _ = summarise(rt, &ended);
     }
-    exit
+    ended.exit
 }
 
 fn main(rt: HostRuntime) -> ExitCode {
