@@ -1,4 +1,4 @@
-"""The commands of README, docs/RECIPES.md and the man pages do what stands there, and what is said beside them is so."""
+"""The commands of README, docs/GUIDE.md and the man pages do what stands there, and what is said beside them is so."""
 import os
 import re
 import shutil
@@ -40,7 +40,7 @@ def pages(directory):
     with_program(directory)
     os.symlink(os.path.join(TOP, "examples"), os.path.join(directory, "examples"))
     how = {**surroundings(directory), "stdout": subprocess.PIPE, "stderr": subprocess.STDOUT}
-    for page in (os.path.join("docs", "RECIPES.md"), "README.md"):
+    for page in (os.path.join("docs", "GUIDE.md"), "README.md"):
         for command, printed in commands_of(page):
             name = f"{page}: {' '.join(command.split())[:100]}"
             tool = missing_tool(command)

@@ -13,6 +13,19 @@ DISCARDS = ("cut", "runt", "oversize", "foreign", "unconfigured", "toolong", "ex
 MS = 10**6
 
 
+def worst_of(rows):
+    """The line on the links with the most discards, at most five of those that have any."""
+    found = []
+    for row in rows:
+        if row[0] == "link":
+            count = dict(zip(row[3::2], map(int, row[4::2])))
+            reasons = [f"{count[word]} {word}" for word in ("toolong", "excess", "out") if count[word]]
+            discards = sum(count[word] for word in ("toolong", "excess", "out"))
+            found.append((-discards, int(row[1]), f"{row[1]} {row[2]} ({', '.join(reasons)})"))
+    worst = [link for discards, _, link in sorted(found)[:5] if discards]
+    return f"afdxmon: summary: worst links: {', '.join(worst)}\n" if worst else ""
+
+
 def summary_of(ledger, hint):
     """The summary of a run that wrote this ledger."""
     rows = [line.split() for line in ledger.decode().splitlines()]
@@ -23,7 +36,7 @@ def summary_of(ledger, hint):
     return (
         f"afdxmon: summary: frames {count['frames']}, delivered {count['delivered']}, copies {count['copy']}, "
         f"accepted {count['accepted']}; of network A {taps['A']}, of network B {taps['B']}\n"
-        f"afdxmon: summary: discarded {discards}\n" + (f"afdxmon: hint: {hint}\n" if hint else "")
+        f"afdxmon: summary: discarded {discards}\n" + (f"afdxmon: hint: {hint}\n" if hint else "") + worst_of(rows)
     )
 
 
@@ -58,6 +71,30 @@ def summed(desk, name, config, a, b, hint):
     say(f"watch: --quiet in a pipe, of {name}", difference(desk.watch("--quiet"), SUCCESS, notes_on(ledger), b""))
 
 
+def worst(desk):
+    """Links with discards of each kind: fewer than are told, more of them, as many of several, the last of many links."""
+
+    def table(names):
+        return TABLE.partition("\n")[0] + "\n" + "".join(LINK_5.replace("= 5", f"= {link}").replace("brake", name) for link, name in names.items())
+
+    def late(link, excess, out=0, toolong=0):
+        """Frames of a link, so many of which exceed its account, come out of sequence and are too long."""
+        whole = [(link * 10**9 + i * 2 * MS, frame(link, 60, i + 1)) for i in range(3)]
+        whole += [(link * 10**9 + 4 * MS + 1 + i, frame(link, 60, 4)) for i in range(excess)]
+        whole += [(link * 10**9 + (10 + i) * MS, frame(link, 60, 100 if i % 2 else 200)) for i in range(out)]
+        return whole + [(link * 10**9 + (50 + i) * MS, frame(link, 300, 4)) for i in range(toolong)]
+
+    few = {7: "x" * 32, 9: "flap_2", 10: "fuel"}
+    desks = late(7, 3) + late(9, 0, 2, 1) + late(10, 0)
+    summed(desk, "three links", table(few), tap(*desks), tap(), None)
+    seven = {link: f"link_{link}" for link in range(1, 8)}
+    more = sum((late(link, excess, 0, toolong) for link, excess, toolong in zip(seven, (1, 4, 2, 2, 0, 3, 1), (1, 0, 0, 0, 2, 1, 0))), [])
+    summed(desk, "seven links", table(seven), tap(*more), tap(), None)
+    many = {link: f"link_{link:027}" for link in range(1, 4097)}
+    last = sum((late(link, link % 7) for link in (1, 500, 700, 1301, 2000, 2901, 4000, 4096)), [])
+    summed(desk, "4096 links", table(many), tap(*last), tap(), None)
+
+
 def cases():
     foreign = "constant = 117440512\n" + LINK_5
     other = TABLE + LINK_5.replace("= 5", "= 6").replace("brake", "flaps")
@@ -79,4 +116,5 @@ def cases():
         summed(desk, "taps a day apart", TABLE, tap(*sound), tap(*day), NO_COPY)
         summed(desk, "one recording twice", TABLE, tap(*sound), tap(*sound), ONE_RECORDING)
         example = [read(os.path.join(TOP, "examples", "flight" + end)) for end in (".toml", "_a.pcap", "_b.pcap")]
+        worst(desk)
         summed(desk, "the flight of examples", example[0].decode(), *example[1:], None)

@@ -5,8 +5,9 @@ import struct
 import subprocess
 
 from harness import EVERY, FAULT, PROGRAM, SUCCESS, difference, frame, header, record, run, run_at_terminal, say
+from stamps import version_of_the_program
 from texts import ABOUT, ADVICE, ALLOWED, CHECK_SEQUENCES, COUNTS, EXPRESSION, GZIP, LINK_KEYS, NO_DOCUMENT, NOT_NUMERIC
-from texts import PCAPNG, PROGRAM_HELP, SOURCE, TOP_KEYS, VERSION, ZSTD, advice_on, advice_on_ending, help_of
+from texts import PCAPNG, PROGRAM_HELP, SOURCE, TOP_KEYS, ZSTD, advice_on, advice_on_ending, help_of
 from watching import LINK_5, TABLE
 
 MIB = 1 << 20
@@ -115,6 +116,10 @@ RUNS = (
 )
 BRAKE, FLAPS = 'link 0, id 5, name "brake"', 'link 1, id 6, name "flaps"'
 LINK_6 = LINK_5.replace("= 5", "= 6").replace("brake", "flaps")
+# Links as inline tables: a whole one, and one around its BAG.
+OF_INLINE = "link = [{ id = 5, name = 'brake', bag_ms = 1, jitter_us = 0, smax = 200, integrity = true, redundancy = true, skew_us = 1 }"
+INLINE = "constant = 50331648\n" + OF_INLINE
+AT_BAG, AFTER_BAG = '{ id = 6, name = "flaps", ', ", jitter_us = 0, smax = 200, integrity = true, redundancy = true, skew_us = 1 }"
 # A table, its fault, what a terminal shows after the table's path, and the last line. TABLE has its link in line 3.
 TABLES = (
     ("constant = \n", "1 Text", ":1:12: invalid value, expected a string, number, boolean, date-time, array or inline table\nconstant = \n           ^\n", NO_DOCUMENT),
@@ -144,12 +149,15 @@ TABLES = (
     (TABLE + "bag = 4\n", "5 UnknownKey link 0", f":12:1: {BRAKE}: unknown key bag\nbag = 4\n^\n", LINK_KEYS),
     (TABLE + LINK_5.replace("brake", "flaps"), "6 TwiceId link 1", ':14:1: link 1, id 5, name "flaps": id = 5\nid = 5\n^\n', BRAKE + " has it too: each link has its own id"),
     (TABLE + LINK_5.replace("= 5", "= 6"), "7 TwiceName link 1", ':15:1: link 1, id 6, name "brake": name = "brake"\nname = "brake"\n^\n', BRAKE + " has it too: each link has its own name"),
-    (f"filters = {['1,6 0 0 0,'] * 8}\n" + TABLE, "8 TooMany", f":1:1: 1 links and 8 filters\nfilters = {['1,6 0 0 0,'] * 8}\n^\n", COUNTS),
+    (f"filters = {['1,6 0 0 0,'] * 8}\n" + TABLE, "8 TooMany", f":1:1: 1 link and 8 filters\nfilters = {['1,6 0 0 0,'] * 8}\n^\n", COUNTS),
     ("constant = 50331648\n" + "[[link]]\n" * 4097, "8 TooMany", ":4098:1: 4097 links and 0 filters\n[[link]]\n^\n", COUNTS),
-    # What stands in strings and arrays is no header and no key; an inline table is named without its line.
+    # What stands in strings and arrays is no header and no key. Inline tables have their place; a long line isn't shown.
     ('filters = ["""\n[[link]]\nbag_ms = 3\n""", [\n[[1]]], "]"]\n' + TABLE, "3 Kind top", ":1:1: filters = a value of type array\n" + 'filters = ["""\n^\n', ALLOWED["filters"]),
     ('filters = ["""\n[[link]]\nbag_ms = 3\n"""]\n' + TABLE.replace("bag_ms = 1", "bag_ms = 3"), "4 Range link 0", f":10:1: {BRAKE}: bag_ms = 3\nbag_ms = 3\n^\n", ALLOWED["bag_ms"]),
-    ("constant = 50331648\nlink = [{ id = 5, name = 'brake', bag_ms = 3, jitter_us = 0, smax = 200, integrity = true, redundancy = true, skew_us = 1 }]\n", "4 Range link 0", f": {BRAKE}: bag_ms = 3\n", ALLOWED["bag_ms"]),
+    (f"{INLINE}, {AT_BAG}bag_ms = 3{AFTER_BAG}]\n", "4 Range link 1", f":2:{len(OF_INLINE + AT_BAG) + 3}: {FLAPS}: bag_ms = 3\n", ALLOWED["bag_ms"]),
+    (f"{INLINE},\n  {AT_BAG}bag_ms = 3{AFTER_BAG} # [\n]\n", "4 Range link 1", f":3:{len(AT_BAG) + 3}: {FLAPS}: bag_ms = 3\n  {AT_BAG}bag_ms = 3{AFTER_BAG} # [\n{' ' * (len(AT_BAG) + 2)}^\n", ALLOWED["bag_ms"]),
+    (f"{INLINE},\n  {{ id = 6 }}]\n", "2 Missing link 1", ":3:3: link 1, id 6: name is missing\n  { id = 6 }]\n  ^\n", ALLOWED["name"]),
+    (f"{INLINE}, {{ }}]\n", "2 Missing link 1", f":2:{len(OF_INLINE) + 3}: link 1: id is missing\n{OF_INLINE}, {{ }}]\n{' ' * (len(OF_INLINE) + 2)}^\n", ALLOWED["id"]),
 )
 # Files that are no recordings, the fault, and what its advice is where the first bytes say what they are.
 HEADS = (
@@ -315,7 +323,8 @@ def little_memory(desk):
 
 def helps():
     """Help and version, whole, on standard output, at a terminal and elsewhere, by each way to ask for them."""
-    asked = [(["--help"], PROGRAM_HELP), (["-h"], PROGRAM_HELP), (["help"], PROGRAM_HELP), (["--version"], VERSION), (["-V"], VERSION)]
+    version = version_of_the_program()
+    asked = [(["--help"], PROGRAM_HELP), (["-h"], PROGRAM_HELP), (["help"], PROGRAM_HELP), (["--version"], version), (["-V"], version)]
     for command in ABOUT:
         asked += [([command, "--help"], help_of(command)), ([command, "-h"], help_of(command)), (["help", command], help_of(command))]
     for arguments, text in asked:

@@ -189,7 +189,8 @@ PROGRAM_HELP = (
     + "  help     Print this message or the help of the given subcommand(s)\n\n"
     + "Options:\n  -h, --help     Print help\n  -V, --version  Print version\n"
 )
-VERSION = "afdxmon 0.1.0\n"
+# The commit is in the place of the letters, of which the program has as many.
+VERSION = "afdxmon 0.1.0 (commit unknown-tree)\n"
 # What a session at a terminal begins with.
 COMMANDS = "commands: select N, step [+|-]N, cont, breakpoint N, disassemble, tally, quit"
 

@@ -1,5 +1,6 @@
 //! What is written of inputs that pause, as pipes do: it is handed to the system before the program waits for
 //! more, and a fault is told before the program waits for its threads.
+use crate::pauses::Pauses;
 use crate::progress::Progress;
 use crate::streams::{Input, Output};
 use crate::telling::tell;
@@ -102,6 +103,7 @@ pub struct Watcher<'a> {
     capture: Blocks,
     ledger: Blocks,
     progress: Option<&'a Progress>,
+    pauses: Option<&'a Pauses>,
     told: &'a AtomicBool,
 }
 
@@ -112,6 +114,7 @@ impl<'a> Watcher<'a> {
         given: WatchArguments<'a>,
         outputs: (Blocks, Blocks),
         progress: Option<&'a Progress>,
+        pauses: Option<&'a Pauses>,
         told: &'a AtomicBool,
     ) -> Watcher<'a> {
         let (capture, ledger) = outputs;
@@ -121,6 +124,7 @@ impl<'a> Watcher<'a> {
             capture,
             ledger,
             progress,
+            pauses,
             told,
         }
     }
@@ -134,6 +138,9 @@ impl RunObserver for Watcher<'_> {
 
     fn aborts(&self, fault: WatchFault) {
         self.waits();
+        if let Some(pauses) = self.pauses {
+            pauses.end();
+        }
         if let Some(progress) = self.progress {
             progress.erase(self.rt);
         }

@@ -7,9 +7,11 @@
 mod files;
 mod live;
 mod packets;
+mod pauses;
 mod progress;
 mod streams;
 mod telling;
+mod worst;
 
 use afdx_frame::{Network, TapFrame};
 use analyser::{
@@ -22,18 +24,20 @@ use bpf_debugger::DebugFault;
 use bpf_loader::Program;
 use files::{refuse_closed, refuse_shared, refuse_shared_output};
 use live::{Blocks, LiveInput, Watcher};
+use pauses::Pauses;
 use pcap_io::{ReadSource, WriteSink};
 use progress::{Progress, Recording};
 use std::alloc::Global;
-use std::io;
 use std::io::{BufRead, BufReader, BufWriter, ErrorKind, IsTerminal, Write};
 use std::process::ExitCode;
 use std::sync::Wait;
 use std::sync::atomic::{AtomicBool, Ordering};
 use std::thread::Threads;
+use std::{io, thread};
 use streams::{Input, Output};
 use telling::tell;
 use vl_config::Config;
+use worst::{LedgerWriter, WorstLinks};
 
 /// How many bytes are handed to the system at once.
 const BLOCK: usize = 65536;
@@ -81,12 +85,29 @@ fn open(rt: &HostRuntime, path: &str, file: FileOption) -> Result<Input, Fault> 
     Input::open(rt, path).map_err(|_| Fault::File(file))
 }
 
-/// Opens the recording of a network. A network without one has no frames.
-fn open_tap(rt: &HostRuntime, path: Option<&str>, file: FileOption) -> Result<Input, Fault> {
-    match path {
-        Some(path) => open(rt, path, file),
-        None => Ok(Input::empty_recording()),
+/// Opens the recording of a network. A network without one has no frames. A pipe is open once somebody writes
+/// to it.
+fn open_tap(
+    rt: &HostRuntime,
+    path: Option<&str>,
+    network: Network,
+    pauses: Option<&Pauses>,
+) -> Result<Input, Fault> {
+    let Some(path) = path else {
+        return Ok(Input::empty_recording());
+    };
+    if let Some(pauses) = pauses {
+        pauses.begin_read(rt, network);
     }
+    let file = match network {
+        Network::A => FileOption::A,
+        Network::B => FileOption::B,
+    };
+    let opened = open(rt, path, file);
+    if let Some(pauses) = pauses {
+        pauses.end_read(rt, network, opened.is_err());
+    }
+    opened
 }
 
 /// There is no memory for a run.
@@ -199,13 +220,32 @@ fn set_up(rt: &HostRuntime, given: &WatchArguments<'_>) -> Result<(Config, Vec<P
     Ok((config, programs))
 }
 
-/// An output of `watch`.
-type Sink = WriteSink<Blocks>;
+/// How a command ended, and of `watch` the worst links, if they are to be told.
+#[derive(Drop)]
+struct Ended {
+    exit: Exit,
+    worst: Option<WorstLinks>,
+}
+
+impl From<Exit> for Ended {
+    fn from(exit: Exit) -> Ended {
+        Ended { exit, worst: None }
+    }
+}
+
+/// The capture of `watch`.
+type CaptureSink = WriteSink<Blocks>;
+
+/// The ledger of `watch`.
+type LedgerSink = WriteSink<LedgerWriter>;
 
 /// How a run over two recordings ended, whose outputs are handed to the system.
-fn exit_of<S: Drop>(
-    run: Result<Watched<S, S, Sink, Sink>, WatchRefused<S, S, Sink, Sink>>,
-) -> Exit {
+fn settle<S: Drop>(
+    run: Result<
+        Watched<S, S, CaptureSink, LedgerSink>,
+        WatchRefused<S, S, CaptureSink, LedgerSink>,
+    >,
+) -> Ended {
     let (outcome, capture, ledger) = match run {
         Ok(done) => {
             let [a, b] = done.endings;
@@ -218,50 +258,111 @@ fn exit_of<S: Drop>(
             refused.ledger,
         ),
     };
+    let mut ledger = ledger.into_writer();
     let capture_flushed = capture.into_writer().flush().is_ok();
-    let ledger_flushed = ledger.into_writer().flush().is_ok();
-    Exit::of_watch(outcome, capture_flushed, ledger_flushed)
+    let ledger_flushed = ledger.flush().is_ok();
+    Ended {
+        exit: Exit::of_watch(outcome, capture_flushed, ledger_flushed),
+        worst: ledger.into_worst(),
+    }
+}
+
+/// The worst links of a ledger that is to be written, if a person is to be told.
+fn worst_links(rt: &HostRuntime, given: &WatchArguments<'_>) -> Option<WorstLinks> {
+    if given.quiet || !rt.stderr().is_terminal() {
+        None
+    } else {
+        Some(WorstLinks::new(rt.alloc()))
+    }
+}
+
+/// What a run over two recordings is given: the arguments, the table, and the filters.
+#[derive(Clone, Copy)]
+struct Analysis<'a> {
+    given: &'a WatchArguments<'a>,
+    config: &'a Config,
+    programs: &'a [Program],
+    /// Becomes true once a fault was told.
+    told: &'a AtomicBool,
 }
 
 /// Judges and filters the frames of two recordings, on threads. What was written before a fault is
 /// handed to the system too. An error is a fault that was met before the run.
-fn watch<R: Threads + Wait + Sync>(
+fn watch_networks<R: Threads + Wait + Sync>(
     rt: &HostRuntime,
     threads: &R,
-    given: &WatchArguments<'_>,
-    told: &AtomicBool,
-) -> Result<Exit, Refused> {
-    if given.capture.is_some_and(|path| is_at_terminal(rt, path)) {
-        return Ok(Exit::Terminal);
-    }
-    refuse_closed(rt, given)?;
-    let (config, programs) = set_up(rt, given)?;
-    let a = open_tap(rt, given.a, FileOption::A)?;
-    let b = open_tap(rt, given.b, FileOption::B)?;
+    analysis: &Analysis<'_>,
+    pauses: Option<&Pauses>,
+) -> Result<Ended, Fault> {
+    let given = analysis.given;
+    let a = open_tap(rt, given.a, Network::A, pauses)?;
+    let b = open_tap(rt, given.b, Network::B, pauses)?;
     let (capture, ledger) = open_outputs(rt, given)?;
     let progress = if given.quiet {
         None
     } else {
         Progress::begin(rt, a.length(rt), b.length(rt))
     };
+    let shown = progress.as_ref();
     let outputs = (same(&capture)?, same(&ledger)?);
-    let watcher = Watcher::new(rt, *given, outputs, progress.as_ref(), told);
+    let watcher = Watcher::new(rt, *given, outputs, shown, pauses, analysis.told);
     let run = analyser::watch(
         threads,
         rt.alloc(),
-        &config,
-        &programs,
+        analysis.config,
+        analysis.programs,
         u32::from(given.workers),
-        ReadSource::new(Recording::new(rt, a, Network::A, progress.as_ref())),
-        ReadSource::new(Recording::new(rt, b, Network::B, progress.as_ref())),
+        ReadSource::new(Recording::with_pauses(rt, a, Network::A, shown, pauses)),
+        ReadSource::new(Recording::with_pauses(rt, b, Network::B, shown, pauses)),
         WriteSink::new(capture),
-        WriteSink::new(ledger),
+        WriteSink::new(LedgerWriter::new(ledger, worst_links(rt, given))),
         &watcher,
     );
     if let Some(progress) = &progress {
         progress.erase(rt);
     }
-    Ok(exit_of(run))
+    Ok(settle(run))
+}
+
+/// Judges and filters the frames of two recordings that may pause, while another thread tells of pauses.
+fn watch_pauses<R: Threads + Wait + Sync>(
+    rt: &HostRuntime,
+    threads: &R,
+    analysis: &Analysis<'_>,
+    pauses: &Pauses,
+) -> Result<Ended, Fault> {
+    thread::scope(thread::scope_env(), threads, |scope| {
+        // Without that thread nothing is told of them.
+        let _ = scope.spawn(|| pauses.tell(rt, threads));
+        let ended = watch_networks(rt, threads, analysis, Some(pauses));
+        pauses.end();
+        ended
+    })
+}
+
+/// Reads what a run over two recordings is given, and carries it out.
+fn watch<R: Threads + Wait + Sync>(
+    rt: &HostRuntime,
+    threads: &R,
+    given: &WatchArguments<'_>,
+    told: &AtomicBool,
+) -> Result<Ended, Refused> {
+    if given.capture.is_some_and(|path| is_at_terminal(rt, path)) {
+        return Ok(Ended::from(Exit::Terminal));
+    }
+    refuse_closed(rt, given)?;
+    let (config, programs) = set_up(rt, given)?;
+    let analysis = Analysis {
+        given,
+        config: &config,
+        programs: &programs,
+        told,
+    };
+    let ended = match Pauses::begin(rt, given) {
+        Some(pauses) => watch_pauses(rt, threads, &analysis, &pauses)?,
+        None => watch_networks(rt, threads, &analysis, None)?,
+    };
+    Ok(ended)
 }
 
 /// There is no memory for a session.
@@ -348,12 +449,17 @@ fn debug(rt: &HostRuntime, given: &DebugArguments<'_>) -> Result<Exit, Refused> 
 }
 
 /// Tells a person at a terminal what a run over two recordings came to.
-fn summarise(rt: &HostRuntime, exit: &Exit) -> io::Result<()> {
-    match exit {
-        Exit::Watched(summary) if rt.stderr().is_terminal() => rt.eprintln(*summary),
-        Exit::Watched(_) | Exit::Success | Exit::Note(_) | Exit::Fault(_) | Exit::Terminal => Ok(
-            (),
-        ),
+fn summarise(rt: &HostRuntime, ended: &Ended) -> io::Result<()> {
+    let Exit::Watched(summary) = &ended.exit else {
+        return Ok(());
+    };
+    if !rt.stderr().is_terminal() {
+        return Ok(());
+    }
+    rt.eprintln(*summary)?;
+    match &ended.worst {
+        Some(worst) if !worst.is_empty() => eprintln!(rt; "{worst}"),
+        Some(_) | None => Ok(()),
     }
 }
 
@@ -376,14 +482,15 @@ fn run<R: Threads + Wait + Sync>(
     threads: &R,
     command: Invocation<'_>,
     told: &AtomicBool,
-) -> Result<Exit, Refused> {
+) -> Result<Ended, Refused> {
     command.refuse_taken()?;
-    match command {
-        Invocation::Asm => asm(rt),
-        Invocation::Capture(given) => capture(rt, &given),
-        Invocation::Watch(given) => watch(rt, threads, &given, told),
-        Invocation::Debug(given) => debug(rt, &given),
-    }
+    let exit = match command {
+        Invocation::Watch(given) => return watch(rt, threads, &given, told),
+        Invocation::Asm => asm(rt)?,
+        Invocation::Capture(given) => capture(rt, &given)?,
+        Invocation::Debug(given) => debug(rt, &given)?,
+    };
+    Ok(Ended::from(exit))
 }
 
 /// Carries out a command, and tells standard error how it ended.
@@ -394,22 +501,22 @@ fn carry_out<R: Threads + Wait + Sync>(
 ) -> Exit {
     let quiet = matches!(command, Invocation::Watch(given) if given.quiet);
     let told = AtomicBool::new(false);
-    let exit = match run(rt, threads, command, &told) {
-        Ok(exit) if told.load(Ordering::SeqCst) => exit,
-        Ok(exit) => {
-            let _ = tell(rt, command, &exit, None);
-            exit
+    let ended = match run(rt, threads, command, &told) {
+        Ok(ended) if told.load(Ordering::SeqCst) => ended,
+        Ok(ended) => {
+            let _ = tell(rt, command, &ended.exit, None);
+            ended
         }
         Err(Refused { fault, source }) => {
             let exit = Exit::Fault(fault);
             let _ = tell(rt, command, &exit, source.as_deref());
-            exit
+            Ended::from(exit)
         }
     };
     if !quiet {
-        let _ = summarise(rt, &exit);
+        let _ = summarise(rt, &ended);
     }
-    exit
+    ended.exit
 }
 
 fn main(rt: HostRuntime) -> ExitCode {

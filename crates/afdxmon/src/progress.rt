@@ -1,6 +1,7 @@
 //! What a person at a terminal sees of the reading: how far it is, on one line that is written over, and
 //! gone at the end.
 use crate::packets::PacketCount;
+use crate::pauses::Pauses;
 use crate::streams::Input;
 use afdx_frame::Network;
 use std::fmt::{Display, Formatter};
@@ -13,7 +14,7 @@ use std::{fmt, io};
 const PERIOD: u64 = 500;
 
 /// What takes the line off the terminal: more blanks than it ever has characters.
-const ERASE: &str =
+pub const ERASE: &str =
     "\r                                                                            \r";
 
 /// How much of a recording was read.
@@ -150,6 +151,7 @@ pub struct Recording<'p> {
     input: Input,
     network: Network,
     shown: Option<(&'p HostRuntime, &'p Progress)>,
+    noted: Option<(&'p HostRuntime, &'p Pauses)>,
     packets: PacketCount,
 }
 
@@ -161,18 +163,47 @@ impl<'p> Recording<'p> {
         network: Network,
         progress: Option<&'p Progress>,
     ) -> Recording<'p> {
+        Recording::with_pauses(rt, input, network, progress, None)
+    }
+
+    /// A recording whose pauses are noted too.
+    pub fn with_pauses(
+        rt: &'p HostRuntime,
+        input: Input,
+        network: Network,
+        progress: Option<&'p Progress>,
+        pauses: Option<&'p Pauses>,
+    ) -> Recording<'p> {
         Recording {
             input,
             network,
             shown: progress.map(|progress| (rt, progress)),
+            noted: pauses.map(|pauses| (rt, pauses)),
             packets: PacketCount::new(),
+        }
+    }
+
+    /// A read is about to begin.
+    fn note_begin(&self) {
+        if let Some((rt, pauses)) = self.noted {
+            pauses.begin_read(rt, self.network);
+        }
+    }
+
+    /// A read has ended, and maybe the recording with it.
+    fn note_end(&self, has_ended: bool) {
+        if let Some((rt, pauses)) = self.noted {
+            pauses.end_read(rt, self.network, has_ended);
         }
     }
 }
 
 impl Read for Recording<'_> {
     fn read(&mut self, buf: &mut [u8]) -> io::Result<usize> {
-        let count = self.input.read(buf)?;
+        self.note_begin();
+        let read = self.input.read(buf);
+        self.note_end(!matches!(read, Ok(1..)));
+        let count = read?;
         if let (Some((rt, progress)), Some(bytes)) = (self.shown, buf.get(..count)) {
             let frames = self.packets.pass(bytes);
             progress.count(rt, self.network, bytes.len() as u64, frames);

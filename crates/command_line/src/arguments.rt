@@ -73,8 +73,9 @@ pub struct DebugArguments<'a> {
     pub tap: &'a str,
 }
 
-/// The version that `--version` prints.
-const VERSION: &str = "0.1.0";
+/// The version that `--version` prints. In a copy of the linked program `tools/stamp` puts the commit in the
+/// place of the 12 letters.
+const VERSION: &str = "0.1.0 (commit unknown-tree)";
 
 const NUMERIC_HELP: &str = "The filter in the numeric form, as `afdxmon asm` prints it";
 

@@ -2,7 +2,8 @@
 //! mend it.
 //!
 //! `vl_config` reads a table and names its first fault. Here the text is read a second time, which only a
-//! stands, and the words that say what is wrong and what is allowed.
+//! person waits for: for the place where the key stands, and the words that say what is wrong and what is
+//! allowed.
 #![tactic(auto)]
 
 mod scan;

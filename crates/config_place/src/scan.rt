@@ -150,12 +150,62 @@ fn begins_with_key(alloc: Global, text: &str, name: &str) -> bool
     }
 }
 
+/// From the element at an index on, of the array that the text begins with.
+fn element_at(alloc: Global, text: &str, index: u32) -> Option<&str> {
+    let mut rest = skip_blank(text.strip_prefix("[")?, true);
+    for _ in 0..index {
+        let after = skip_blank(skip_value(alloc, rest)?, true);
+        rest = skip_blank(after.strip_prefix(",")?, true);
+    }
+    Some(rest)
+}
+
+/// From the link at an index on, where the links are inline tables in one array.
+fn inline_link<'a>(alloc: Global, text: &'a str, index: u32) -> Option<&'a str> {
+    let at = entry_offset(alloc, text, Inside::Top, Some("link"))?;
+    let (_, rest) = dotted_key(alloc, text.get(at..)?).ok()?;
+    element_at(alloc, skip_ws(rest.strip_prefix("=")?), index)
+}
+
+/// From the key of this name on, in the inline table that the text begins with.
+fn inline_key<'a>(alloc: Global, table: &'a str, name: &str) -> Option<&'a str> {
+    let mut rest = skip_blank(table.strip_prefix("{")?, true);
+    for _ in 0..table.len() {
+        let (key, after) = dotted_key(alloc, rest).ok()?;
+        if first_part(key).as_str() == name {
+            return Some(rest);
+        }
+        let after = skip_value(alloc, skip_ws(after.strip_prefix("=")?))?;
+        rest = skip_blank(skip_blank(after, true).strip_prefix(",")?, true);
+    }
+    None
+}
+
+/// The byte offset of a key of the link at an index, where the links are inline tables, or without a name of
+/// that link.
+fn inline_offset(alloc: Global, text: &str, link: u32, name: Option<&str>) -> Option<usize> {
+    let table = inline_link(alloc, text, link)?;
+    let found = match name {
+        Some(name) => inline_key(alloc, table, name)?,
+        None => table,
+    };
+    text.len().checked_sub(found.len())
+}
+
+/// The byte offset of the key of this name, in whatever form the links are written.
+fn offset_in_either(alloc: Global, text: &str, link: Option<u32>, name: &str) -> Option<usize> {
+    match entry_offset(alloc, text, table_of(link), Some(name)) {
+        Some(at) => Some(at),
+        None => inline_offset(alloc, text, link?, Some(name)),
+    }
+}
+
 /// The byte offset of a key of the network's table, or of the link at an index. None: the document has no
-/// such key, or writes it in a form that isn't looked for, as in an inline table; or there is no memory.
+/// such key, or writes it in a form that isn't looked for, as in the header of a table; or there is no memory.
 pub fn key_offset(alloc: Global, text: &str, link: Option<u32>, name: &str) -> Option<usize>
     ensures { IfSome result (λ at. BeginsWithKey (drop at text.now) name.now) }
 {
-    let at = entry_offset(alloc, text, table_of(link), Some(name))?;
+    let at = offset_in_either(alloc, text, link, name)?;
     // The walk may be wrong of a form that it doesn't know: the key is read at its place again.
     if begins_with_key(alloc, text.get(at..)?, name) {
         Some(at)
@@ -164,7 +214,10 @@ pub fn key_offset(alloc: Global, text: &str, link: Option<u32>, name: &str) -> O
     }
 }
 
-/// The byte offset of the header of the link at an index.
+/// The byte offset of the header of the link at an index, or of its inline table.
 pub fn link_offset(alloc: Global, text: &str, link: u32) -> Option<usize> {
-    entry_offset(alloc, text, Inside::Link(link), None)
+    match entry_offset(alloc, text, Inside::Link(link), None) {
+        Some(at) => Some(at),
+        None => inline_offset(alloc, text, link, None),
+    }
 }

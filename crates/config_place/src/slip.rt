@@ -217,11 +217,24 @@ fn count_at(document: &Table, key: Key) -> usize {
     }
 }
 
+/// So many things of a kind, which has its plural by an s.
+#[derive(Clone, Copy)]
+struct Counted(usize, &'static str);
+
+impl Display for Counted {
+    fn fmt<W: fmt::Write>(&self, f: &mut Formatter<W>) -> fmt::Result {
+        let (count, kind) = (self.0, self.1);
+        let ending = if count == 1 { "" } else { "s" };
+        write!(f, "{count} {kind}{ending}")
+    }
+}
+
 /// More links or filters than a table may have.
 fn slip_of_count(alloc: Global, text: &str, document: &Table) -> Option<Slip> {
     let links = count_at(document, Key::Link);
     let filters = count_at(document, Key::Filters);
-    let found = format!(in alloc; "{links} links and {filters} filters").ok()?;
+    let (of_links, of_filters) = (Counted(links, "link"), Counted(filters, "filter"));
+    let found = format!(in alloc; "{of_links} and {of_filters}").ok()?;
     let allowed = format!(in alloc;
         "at most {MAX_LINKS} links and {MAX_TABLE_FILTERS} filters"
     ).ok()?;

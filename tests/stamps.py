@@ -1,0 +1,116 @@
+"""The commit that `--version` names: that of the sources, which `tools/stamp` puts into the linked program."""
+import os
+import re
+import shutil
+import subprocess
+import tempfile
+
+from harness import PROGRAM, TOP, say, skip
+from texts import VERSION
+
+UNKNOWN = "unknown-tree"
+PLACE = re.compile(rb"\(commit (unknown-tree|[0-9a-f]{12})\)")
+
+
+def git(directory, *arguments):
+    who = {"GIT_AUTHOR_NAME": "a", "GIT_AUTHOR_EMAIL": "a@b", "GIT_COMMITTER_NAME": "a", "GIT_COMMITTER_EMAIL": "a@b"}
+    environment = {**os.environ, **who, "GIT_CONFIG_GLOBAL": os.devnull, "GIT_CONFIG_SYSTEM": os.devnull}
+    return subprocess.run(["git", *arguments], cwd=directory, capture_output=True, text=True, env=environment, timeout=60)
+
+
+def commits_of_the_program():
+    """The commits that it has, of which there is to be one."""
+    with open(PROGRAM, "rb") as program:
+        return [commit.decode() for commit in PLACE.findall(program.read())]
+
+
+def version_of_the_program():
+    """What `--version` prints."""
+    return VERSION.replace(UNKNOWN, " ".join(commits_of_the_program()))
+
+
+def of_the_program():
+    """The program names a commit in one place, and that has the sources of the crates that are here."""
+    commits = commits_of_the_program()
+    say("the program has one commit", "" if len(commits) == 1 else f"it has {commits}")
+    commit = (commits or [UNKNOWN])[0]
+    if commit == UNKNOWN or not shutil.which("git") or git(TOP, "rev-parse", "--git-dir").returncode:
+        skip("the commit has the sources that are here", f"it says {commit}, or there is no git here")
+        return
+    differs = git(TOP, "diff", "--stat", commit, "--", "crates", "crates.txt", "HANDLES")
+    say("the commit has the sources that are here", differs.stdout + differs.stderr)
+
+
+class Tree:
+    """A repository with a crate and a linked program, and tools/stamp."""
+
+    LINKED = b"\x7fELF and more\0afdxmon 0.1.0 (commit unknown-tree)\0unknown-tree\0"
+
+    def __init__(self, directory):
+        self.directory = directory
+        for path in ("tools", "crates/one/src", "bin"):
+            os.makedirs(os.path.join(directory, path))
+        shutil.copy(os.path.join(TOP, "tools", "stamp"), os.path.join(directory, "tools"))
+        self.write(".gitignore", b"/bin/\nout/\n")
+        self.write("crates/one/src/lib.rt", b"//! One.\n")
+        self.write("bin/linked", self.LINKED)
+
+    def write(self, path, data):
+        with open(os.path.join(self.directory, path), "wb") as out:
+            out.write(data)
+
+    def stamp(self, linked="linked"):
+        """Stamps a program. What it is then, if it is one, and what was said."""
+        target = os.path.join(self.directory, "bin", "program")
+        if os.path.exists(target):
+            os.remove(target)
+        command = [os.path.join(self.directory, "tools", "stamp"), os.path.join("bin", linked), os.path.join("bin", "program")]
+        ran = subprocess.run(command, cwd=self.directory, capture_output=True, timeout=60)
+        made = None
+        if os.path.exists(target):
+            with open(target, "rb") as program:
+                made = program.read()
+            if not os.access(target, os.X_OK):
+                made = b"it can't be run"
+        return ran.returncode, made, ran.stderr.decode()
+
+    def has(self, name, commit):
+        ran, expected = self.stamp(), self.LINKED.replace(b"(commit unknown-tree)", b"(commit %s)" % commit.encode())
+        say(f"stamp: {name}", "" if ran == (0, expected, "") else f"it leaves {ran}")
+
+    def commit(self):
+        git(self.directory, "add", "-A")
+        git(self.directory, "commit", "-q", "-m", "one")
+        return git(self.directory, "rev-parse", "HEAD").stdout[:12]
+
+
+def of_a_tree(tree):
+    tree.has("without git", UNKNOWN)
+    git(tree.directory, "init", "-q")
+    tree.has("without a commit", UNKNOWN)
+    first = tree.commit()
+    tree.has("a commit", first)
+    tree.write("README.md", b"more\n")
+    tree.has("a document that isn't committed", first)
+    tree.write("crates/one/src/lib.rt", b"//! Another.\n")
+    tree.has("a source that differs", UNKNOWN)
+    second = tree.commit()
+    tree.has("the next commit", second)
+    say("stamp: two commits differ", "" if first != second else f"both are {first}")
+    tree.write("crates/one/src/more.rt", b"//! More.\n")
+    tree.has("a source that is new", UNKNOWN)
+    os.remove(os.path.join(tree.directory, "crates/one/src/more.rt"))
+    tree.has("the sources as they were", second)
+    for name, times, program in (("no place", 0, b"afdxmon"), ("two places", 2, tree.LINKED * 2)):
+        tree.write("bin/wrong", program)
+        ran, told = tree.stamp("wrong"), f"stamp: the program has '(commit unknown-tree)' {times} times, not once\n"
+        say(f"stamp: a program with {name}", "" if ran == (1, None, told) else f"it leaves {ran}")
+
+
+def cases():
+    of_the_program()
+    if not shutil.which("git"):
+        skip("stamp", "no git here")
+        return
+    with tempfile.TemporaryDirectory() as directory:
+        of_a_tree(Tree(os.path.realpath(directory)))
