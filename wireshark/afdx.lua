@@ -229,7 +229,7 @@ end
 -- How well a line of about the same timestamp fits a frame. A link counts most, then the network, then the index, which
 -- tells in a whole recording which of two equal frames this is; then how close the timestamps are.
 local function fitness(line, frame)
-  local close = 1 - nanoseconds_between(line.stamp, frame.stamp) / 1e4
+  local close = 1 - nanoseconds_between(line.stamp, timestamp_of(frame.time, 0)) / 1e4
   return ((line.vl ~= "-") == frame.is_afdx and 8 or 0) + (line.tap == frame.network and 4 or 0)
     + (tonumber(line.number) == frame.number and 2 or 0) + close
 end
@@ -243,10 +243,9 @@ end
 
 -- The line that fits a frame of any recording best, by its timestamp.
 local function line_by_timestamp(ledger, frame)
-  local best, most = nil, -1
+  local best
   for line in ledger:between(timestamp_of(frame.time, -INEXACT), timestamp_of(frame.time, INEXACT + LOST)) do
-    local fits = agrees(line, frame) and fitness(line, frame) or -1
-    if fits > most then best, most = line, fits end
+    if agrees(line, frame) and (not best or fitness(line, frame) > fitness(best, frame)) then best = line end
   end
   return best
 end
@@ -286,7 +285,6 @@ local function look_at(buffer, packet)
   if #head >= 6 then frame.vl = head:byte(5) * 256 + head:byte(6) end
   if #head >= 12 then frame.network = NETWORKS[math.floor(head:byte(12) / 32)] end
   if held >= 1 and held == frame.length then frame.sn = buffer:raw(held - 1, 1):byte() end
-  frame.stamp = timestamp_of(frame.time, 0)
   return frame
 end
 
