@@ -72,7 +72,7 @@ def anchors(page):
 
 def links():
     """Each link between the documents leads to a file, and to a heading there."""
-    documents = [os.path.join(TOP, "docs", name) for name in sorted(os.listdir(os.path.join(TOP, "docs")))]
+    documents = [os.path.join(TOP, "docs", name) for name in sorted(os.listdir(os.path.join(TOP, "docs"))) if name.endswith(".md")]
     for page in (os.path.join(TOP, "README.md"), os.path.join(TOP, "examples", "README.md"), *documents):
         broken = []
         for link in re.findall(r"\]\((?!https?:)(.*?)\)", read(page).decode()):

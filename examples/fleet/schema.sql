@@ -1,0 +1,34 @@
+-- What `load` puts into a database, in SQLite and in PostgreSQL: the words of a ledger (docs/LEDGER.md), and `flight`, the
+-- name of the ledger's folder. A word that is `-` in the ledger is NULL.
+
+-- The lines `link`: one for each flight and virtual link.
+CREATE TABLE IF NOT EXISTS links (
+    flight TEXT NOT NULL, id INTEGER NOT NULL, name TEXT NOT NULL, frames BIGINT NOT NULL, toolong BIGINT NOT NULL,
+    excess BIGINT NOT NULL, out BIGINT NOT NULL, copy BIGINT NOT NULL, delivered BIGINT NOT NULL,
+    PRIMARY KEY (flight, id)
+);
+
+-- The lines `filter`.
+CREATE TABLE IF NOT EXISTS filters (
+    flight TEXT NOT NULL, number INTEGER NOT NULL, accepted BIGINT NOT NULL,
+    PRIMARY KEY (flight, number)
+);
+
+-- The lines `tap`.
+CREATE TABLE IF NOT EXISTS taps (
+    flight TEXT NOT NULL, network TEXT NOT NULL, ending TEXT NOT NULL, frames BIGINT NOT NULL, reason TEXT,
+    PRIMARY KEY (flight, network)
+);
+
+-- The line `total`: one row for each of its words.
+CREATE TABLE IF NOT EXISTS totals (
+    flight TEXT NOT NULL, word TEXT NOT NULL, frames BIGINT NOT NULL,
+    PRIMARY KEY (flight, word)
+);
+
+-- The lines of frames, of flights that were loaded with --frames.
+CREATE TABLE IF NOT EXISTS frames (
+    flight TEXT NOT NULL, nanoseconds BIGINT NOT NULL, network TEXT NOT NULL, number BIGINT NOT NULL, link INTEGER,
+    sequence INTEGER, class TEXT NOT NULL, policing TEXT, integrity TEXT, redundancy TEXT, kept BIGINT, mask TEXT NOT NULL,
+    PRIMARY KEY (flight, network, number)
+);
