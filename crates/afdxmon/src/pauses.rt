@@ -1,5 +1,5 @@
-//! Tells a person at a terminal where one recording gives nothing while the other isn't read. Two pipes that one
-//! program fills, one after the other, would wait for ever.
+//! Tells a person at a terminal where one recording gives nothing while the other isn't read. Two pipes that
+//! one program fills, one after the other, would wait for ever.
 use crate::progress::ERASE;
 use afdx_frame::Network;
 use analyser::{WatchArguments, is_standard};

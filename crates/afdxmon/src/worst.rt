@@ -1,5 +1,5 @@
-//! The virtual links with the most discards, for a person at a terminal: read off the lines of the links as they are
-//! written to the ledger, so that the counts are the ledger's.
+//! The virtual links with the most discards, for a person at a terminal: read off the lines of the links as
+//! they are written to the ledger, so that the counts are the ledger's.
 use crate::live::Blocks;
 use std::alloc::{AllocError, Global};
 use std::fmt::{Display, Formatter};

@@ -201,7 +201,7 @@ fn offset_in_either(alloc: Global, text: &str, link: Option<u32>, name: &str) ->
 }
 
 /// The byte offset of a key of the network's table, or of the link at an index. None: the document has no
-/// such key, or writes it in a form that isn't looked for, as in the header of a table; or there is no memory.
+/// such key, or writes it in a form that isn't looked for, as in a table's header; or there is no memory.
 pub fn key_offset(alloc: Global, text: &str, link: Option<u32>, name: &str) -> Option<usize>
     ensures { IfSome result (λ at. BeginsWithKey (drop at text.now) name.now) }
 {
