@@ -1,0 +1,4 @@
+pub mod Decimals
+pub mod Splitting
+pub mod Spelling
+pub mod Faults

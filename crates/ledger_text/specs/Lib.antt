@@ -1,0 +1,5 @@
+pub mod Reads
+pub mod Numbers
+pub mod FrameText
+pub mod Fields
+pub mod Laws

@@ -1,0 +1,44 @@
+//! What is wrong with a line.
+
+use thiserror::Error;
+
+/// The first field at which a line departs from every frame's line. A field that is missing departs too.
+#[derive(Clone, Copy, Debug, PartialEq, Eq, Error)]
+pub enum FrameFault {
+    /// Field 1 is no timestamp: a decimal number below 2^32 seconds, in nanoseconds.
+    #[error("the timestamp")]
+    Timestamp,
+    /// Field 2 is neither `A` nor `B`.
+    #[error("the network")]
+    Network,
+    /// Field 3 is no index: a decimal number below 2^32.
+    #[error("the index")]
+    Index,
+    /// Field 4 is no link: a decimal number below 2^16, or a dash.
+    #[error("the virtual link")]
+    Link,
+    /// Field 5 is no sequence number: a decimal number below 2^8 after a link, or a dash after a dash.
+    #[error("the sequence number")]
+    Sequence,
+    /// Field 6 is no class, or not one that has a link or none as field 4 says.
+    #[error("the class")]
+    Class,
+    /// Field 7 is not what policing says, or no dash where the class is not `regular`.
+    #[error("policing")]
+    Policing,
+    /// Field 8 is not what integrity checking says, or no dash where policing doesn't say `within`.
+    #[error("integrity checking")]
+    Integrity,
+    /// Field 9 is not what redundancy management says, or no dash where integrity checking says `out` or nothing.
+    #[error("redundancy management")]
+    Redundancy,
+    /// Field 10 is no count of bytes: a decimal number below 2^32, or a dash.
+    #[error("the bytes kept")]
+    Kept,
+    /// Field 11 is no mask: two hexadecimal digits, in lower case.
+    #[error("the mask")]
+    Mask,
+    /// More stands after field 11.
+    #[error("more than eleven fields")]
+    Fields,
+}

@@ -1,0 +1,7 @@
+//! Laws of a ledger's text, which hold of the definitions alone.
+ghost use Rattle.ledger_text.specs.Laws.{LineReadsOneWay};
+
+/// A line is the text of the values of one frame's line at most.
+pub fn line_reads_one_way()
+    ensures { LineReadsOneWay }
+{}
