@@ -1,5 +1,5 @@
 -- Each word has one value.
-use Rattle.std.proofs.Common.{◌≡◌, ◌∙◌, ℕ, zero, suc, ◌+◌, ◌-◌, ◌*◌, ◌^◌, ◌/◌, ◌%◌, ◌<◌, ◌≤◌, Bool, true, false, List, [], ◌∷◌, Option, None, Some, IfSome, is_some, subst, length, get_or, refl, sym, ap, arith, lit<}
+use Rattle.std.proofs.Common.{◌≡◌, ◌∙◌, ℕ, zero, suc, ◌+◌, ◌-◌, ◌*◌, ◌^◌, ◌/◌, ◌%◌, ◌<◌, ◌≤◌, Bool, true, false, cond, nat_lt, List, [], ◌∷◌, Option, None, Some, IfSome, is_some, subst, length, get_or, refl, sym, ap, arith, lit<}
 use Rattle.std.specs.Fmt.{decimal}
 use Rattle.std.proofs.lemmas.Fmt.{decimal_injective}
 use Rattle.afdx_frame.specs.declared.key.Network.{Network}
@@ -17,6 +17,7 @@ use Rattle.std.specs.Str.Parse.{AllDigits}
 use Rattle.std.proofs.lemmas.Fmt.{digits_decimal}
 use Rattle.afdx_frame.specs.declared.key.VlId.{VlId}
 use Rattle.ledger_text.specs.Reads.{dash_or, Below}
+use Rattle.ledger_text.specs.Fields.{first_field, next_fields}
 use Rattle.ledger_text.proofs.Decimals.{own}
 use Rattle.ledger_text.specs.FrameText.{IsFrameLine, frame_fields, link_fits, link_text}
 use Rattle.ledger_text.specs.declared.frame.FrameLine.{FrameLine}
@@ -111,5 +112,99 @@ one_link (Some x) (Some y) a b e =
     let same : x.0 ≡ y.0 = decimal_injective x.0 y.0 (omega arith) (omega arith) e in
     ap (λ (n : ℕ). Some (record { 0 = n })) same
 
+abbrev pub make : ℕ → Network → ℕ → Option VlId → Option ℕ → Class → Option Policing → Option Integrity → Option Redundancy → Option ℕ → ℕ → FrameLine
+make s n i l q c p t r k m = record {
+  stamp = record { 0 = s };
+  network = n;
+  number = i;
+  link = l;
+  sequence = q;
+  class = c;
+  policing = p;
+  integrity = t;
+  redundancy = r;
+  kept = k;
+  mask = m;
+}
+
+wider : (o : Option ℕ) (k : ℕ) → k ≤ 2 ^ 64 → IfSome o (Below k) → IfSome o (Below (2 ^ 64))
+wider None k le h = tt
+wider (Some n) k le h = omega arith
+
+-- the value of a digit
+abbrev unhex : ℕ → ℕ
+unhex digit = cond (nat_lt digit 58) (digit - 48) (digit - 87)
+
+hex_back : (n : ℕ) → n < 16 → unhex (hex_digit n) ≡ n
+hex_back zero h = refl
+hex_back (suc zero) h = refl
+hex_back (suc (suc zero)) h = refl
+hex_back (suc (suc (suc zero))) h = refl
+hex_back (suc (suc (suc (suc zero)))) h = refl
+hex_back (suc (suc (suc (suc (suc zero))))) h = refl
+hex_back (suc (suc (suc (suc (suc (suc zero)))))) h = refl
+hex_back (suc (suc (suc (suc (suc (suc (suc zero))))))) h = refl
+hex_back (suc (suc (suc (suc (suc (suc (suc (suc zero)))))))) h = refl
+hex_back (suc (suc (suc (suc (suc (suc (suc (suc (suc zero))))))))) h = refl
+hex_back (suc (suc (suc (suc (suc (suc (suc (suc (suc (suc zero)))))))))) h = refl
+hex_back (suc (suc (suc (suc (suc (suc (suc (suc (suc (suc (suc zero))))))))))) h = refl
+hex_back (suc (suc (suc (suc (suc (suc (suc (suc (suc (suc (suc (suc zero)))))))))))) h = refl
+hex_back (suc (suc (suc (suc (suc (suc (suc (suc (suc (suc (suc (suc (suc zero))))))))))))) h = refl
+hex_back (suc (suc (suc (suc (suc (suc (suc (suc (suc (suc (suc (suc (suc (suc zero)))))))))))))) h = refl
+hex_back (suc (suc (suc (suc (suc (suc (suc (suc (suc (suc (suc (suc (suc (suc (suc zero))))))))))))))) h = refl
+hex_back (suc (suc (suc (suc (suc (suc (suc (suc (suc (suc (suc (suc (suc (suc (suc (suc n)))))))))))))))) h = absurd (omega arith)
+
+one_hex : (m n : ℕ) → m < 16 → n < 16 → hex_digit m ≡ hex_digit n → m ≡ n
+one_hex m n a b e = sym (hex_back m a) ∙ (ap unhex e ∙ hex_back n b)
+
+one_mask : (m n : ℕ) → m < 2 ^ 8 → n < 2 ^ 8 → mask_text m ≡ mask_text n → m ≡ n
+one_mask m n a b e =
+    let high : m / 16 ≡ n / 16 = one_hex (m / 16) (n / 16) (omega arith) (omega arith) (ap (λ (l : List ℕ). get_or l 0 0) e) in
+    let low : m % 16 ≡ n % 16 = one_hex (m % 16) (n % 16) (omega arith) (omega arith) (ap (λ (l : List ℕ). get_or l 1 0) e) in
+    omega arith
+
 pub one_line : (v w : FrameLine) → IsFrameLine v → IsFrameLine w → frame_fields v ≡ frame_fields w → v ≡ w
-one_line v w p q e = ?
+one_line v w p q e =
+    let e0 = ap first_field e in
+    let e1 = ap (λ (l : List (List ℕ)). first_field (next_fields l)) e in
+    let e2 = ap (λ (l : List (List ℕ)). first_field (next_fields (next_fields l))) e in
+    let e3 = ap (λ (l : List (List ℕ)). first_field (next_fields (next_fields (next_fields l)))) e in
+    let e4 = ap (λ (l : List (List ℕ)). first_field (next_fields (next_fields (next_fields (next_fields l))))) e in
+    let e5 = ap (λ (l : List (List ℕ)). first_field (next_fields (next_fields (next_fields (next_fields (next_fields l)))))) e in
+    let e6 = ap (λ (l : List (List ℕ)). first_field (next_fields (next_fields (next_fields (next_fields (next_fields (next_fields l))))))) e in
+    let e7 = ap (λ (l : List (List ℕ)). first_field (next_fields (next_fields (next_fields (next_fields (next_fields (next_fields (next_fields l)))))))) e in
+    let e8 = ap (λ (l : List (List ℕ)). first_field (next_fields (next_fields (next_fields (next_fields (next_fields (next_fields (next_fields (next_fields l))))))))) e in
+    let e9 = ap (λ (l : List (List ℕ)). first_field (next_fields (next_fields (next_fields (next_fields (next_fields (next_fields (next_fields (next_fields (next_fields l)))))))))) e in
+    let e10 = ap (λ (l : List (List ℕ)). first_field (next_fields (next_fields (next_fields (next_fields (next_fields (next_fields (next_fields (next_fields (next_fields (next_fields l))))))))))) e in
+    let s = decimal_injective v.stamp.0 w.stamp.0 (omega (arith, p.stamp)) (omega (arith, q.stamp)) e0 in
+    let n = one_network v.network w.network e1 in
+    let i = decimal_injective v.number w.number (omega (arith, p.number)) (omega (arith, q.number)) e2 in
+    let l = one_link v.link w.link p.link.fits q.link.fits e3 in
+    let x = one_number v.sequence w.sequence (wider v.sequence (2 ^ 8) (omega arith) p.sequence.fits) (wider w.sequence (2 ^ 8) (omega arith) q.sequence.fits) e4 in
+    let c = one_class v.class w.class e5 in
+    let g = one_policing v.policing w.policing e6 in
+    let t = one_integrity v.integrity w.integrity e7 in
+    let r = one_redundancy v.redundancy w.redundancy e8 in
+    let k = one_number v.kept w.kept (wider v.kept (2 ^ 32) (omega arith) p.kept) (wider w.kept (2 ^ 32) (omega arith) q.kept) e9 in
+    let m = one_mask v.mask w.mask p.mask q.mask e10 in
+    let same : make v.stamp.0 v.network v.number v.link v.sequence v.class v.policing v.integrity v.redundancy v.kept v.mask
+    ≡ make w.stamp.0 w.network w.number w.link w.sequence w.class w.policing w.integrity w.redundancy w.kept w.mask = cc in
+    same
+
+-- a list of twelve, by its items
+pub twelve : (a0 a1 a2 a3 a4 a5 a6 a7 a8 a9 a10 a11 : ℕ) (l : List ℕ) → length l ≡ 12 → get_or l 0 0 ≡ a0 → get_or l 1 0 ≡ a1 → get_or l 2 0 ≡ a2 → get_or l 3 0 ≡ a3 → get_or l 4 0 ≡ a4 → get_or l 5 0 ≡ a5 → get_or l 6 0 ≡ a6 → get_or l 7 0 ≡ a7 → get_or l 8 0 ≡ a8 → get_or l 9 0 ≡ a9 → get_or l 10 0 ≡ a10 → get_or l 11 0 ≡ a11
+    → (a0 ∷ a1 ∷ a2 ∷ a3 ∷ a4 ∷ a5 ∷ a6 ∷ a7 ∷ a8 ∷ a9 ∷ a10 ∷ a11 ∷ []) ≡ l
+twelve a0 a1 a2 a3 a4 a5 a6 a7 a8 a9 a10 a11 [] e h0 h1 h2 h3 h4 h5 h6 h7 h8 h9 h10 h11 = absurd (omega (arith, e))
+twelve a0 a1 a2 a3 a4 a5 a6 a7 a8 a9 a10 a11 (x0 ∷ []) e h0 h1 h2 h3 h4 h5 h6 h7 h8 h9 h10 h11 = absurd (omega (arith, e))
+twelve a0 a1 a2 a3 a4 a5 a6 a7 a8 a9 a10 a11 (x0 ∷ x1 ∷ []) e h0 h1 h2 h3 h4 h5 h6 h7 h8 h9 h10 h11 = absurd (omega (arith, e))
+twelve a0 a1 a2 a3 a4 a5 a6 a7 a8 a9 a10 a11 (x0 ∷ x1 ∷ x2 ∷ []) e h0 h1 h2 h3 h4 h5 h6 h7 h8 h9 h10 h11 = absurd (omega (arith, e))
+twelve a0 a1 a2 a3 a4 a5 a6 a7 a8 a9 a10 a11 (x0 ∷ x1 ∷ x2 ∷ x3 ∷ []) e h0 h1 h2 h3 h4 h5 h6 h7 h8 h9 h10 h11 = absurd (omega (arith, e))
+twelve a0 a1 a2 a3 a4 a5 a6 a7 a8 a9 a10 a11 (x0 ∷ x1 ∷ x2 ∷ x3 ∷ x4 ∷ []) e h0 h1 h2 h3 h4 h5 h6 h7 h8 h9 h10 h11 = absurd (omega (arith, e))
+twelve a0 a1 a2 a3 a4 a5 a6 a7 a8 a9 a10 a11 (x0 ∷ x1 ∷ x2 ∷ x3 ∷ x4 ∷ x5 ∷ []) e h0 h1 h2 h3 h4 h5 h6 h7 h8 h9 h10 h11 = absurd (omega (arith, e))
+twelve a0 a1 a2 a3 a4 a5 a6 a7 a8 a9 a10 a11 (x0 ∷ x1 ∷ x2 ∷ x3 ∷ x4 ∷ x5 ∷ x6 ∷ []) e h0 h1 h2 h3 h4 h5 h6 h7 h8 h9 h10 h11 = absurd (omega (arith, e))
+twelve a0 a1 a2 a3 a4 a5 a6 a7 a8 a9 a10 a11 (x0 ∷ x1 ∷ x2 ∷ x3 ∷ x4 ∷ x5 ∷ x6 ∷ x7 ∷ []) e h0 h1 h2 h3 h4 h5 h6 h7 h8 h9 h10 h11 = absurd (omega (arith, e))
+twelve a0 a1 a2 a3 a4 a5 a6 a7 a8 a9 a10 a11 (x0 ∷ x1 ∷ x2 ∷ x3 ∷ x4 ∷ x5 ∷ x6 ∷ x7 ∷ x8 ∷ []) e h0 h1 h2 h3 h4 h5 h6 h7 h8 h9 h10 h11 = absurd (omega (arith, e))
+twelve a0 a1 a2 a3 a4 a5 a6 a7 a8 a9 a10 a11 (x0 ∷ x1 ∷ x2 ∷ x3 ∷ x4 ∷ x5 ∷ x6 ∷ x7 ∷ x8 ∷ x9 ∷ []) e h0 h1 h2 h3 h4 h5 h6 h7 h8 h9 h10 h11 = absurd (omega (arith, e))
+twelve a0 a1 a2 a3 a4 a5 a6 a7 a8 a9 a10 a11 (x0 ∷ x1 ∷ x2 ∷ x3 ∷ x4 ∷ x5 ∷ x6 ∷ x7 ∷ x8 ∷ x9 ∷ x10 ∷ []) e h0 h1 h2 h3 h4 h5 h6 h7 h8 h9 h10 h11 = absurd (omega (arith, e))
+twelve a0 a1 a2 a3 a4 a5 a6 a7 a8 a9 a10 a11 (x0 ∷ x1 ∷ x2 ∷ x3 ∷ x4 ∷ x5 ∷ x6 ∷ x7 ∷ x8 ∷ x9 ∷ x10 ∷ x11 ∷ []) e h0 h1 h2 h3 h4 h5 h6 h7 h8 h9 h10 h11 = cc
+twelve a0 a1 a2 a3 a4 a5 a6 a7 a8 a9 a10 a11 (x0 ∷ x1 ∷ x2 ∷ x3 ∷ x4 ∷ x5 ∷ x6 ∷ x7 ∷ x8 ∷ x9 ∷ x10 ∷ x11 ∷ y ∷ l) e h0 h1 h2 h3 h4 h5 h6 h7 h8 h9 h10 h11 = absurd (omega (arith, e))

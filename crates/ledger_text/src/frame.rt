@@ -116,9 +116,7 @@ pub fn read_frame(line: &[u8]) -> Result<FrameLine, FrameFault>
     let class = class_with(fields.next(), link).ok_or(FrameFault::Class)?;
     let policing = policing_of(fields.next(), class).ok_or(FrameFault::Policing)?;
     let integrity = integrity_of(fields.next(), policing).ok_or(FrameFault::Integrity)?;
-    let redundancy = redundancy_of(fields.next(), integrity).ok_or(
-        FrameFault::Redundancy,
-    )?;
+    let redundancy = redundancy_of(fields.next(), integrity).ok_or(FrameFault::Redundancy)?;
     let kept = kept_of(fields.next()).ok_or(FrameFault::Kept)?;
     let mask = mask_of(fields.next()).ok_or(FrameFault::Mask)?;
     if !fields.is_at_end() {
