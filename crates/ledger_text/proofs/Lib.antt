@@ -2,3 +2,4 @@ pub mod Decimals
 pub mod Splitting
 pub mod Spelling
 pub mod Faults
+pub mod Texts

@@ -1,5 +1,5 @@
 -- The line of a frame as its fields, and what is wrong with a line that is none.
-use Rattle.std.specs.Prelude.{◌≡◌, ℕ, suc, ◌*◌, ◌^◌, ◌<◌, List, [], ◌∷◌, Option, Some, None, codes, decimal, is_some, IfSome, Result, Ok, Err}
+use Rattle.std.specs.Prelude.{◌≡◌, ℕ, suc, ◌*◌, ◌^◌, ◌<◌, List, [], ◌∷◌, Option, Some, None, codes, decimal, is_some, IfSome, Result, Ok, Err, if◌then◌else◌}
 use Rattle.std.specs.Option.{option_map_or}
 use Rattle.afdx_frame.specs.View.{link_of, sequence_of}
 use Rattle.afdx_frame.specs.declared.key.VlId.{VlId}
@@ -72,3 +72,19 @@ pub record IsFrameText (line : List ℕ) (v : FrameLine) : Type 0 where
 abbrev pub IsReadOf : List ℕ → Result FrameLine FrameFault → Type 0
 IsReadOf line (Ok v) = IsFrameText line v
 IsReadOf line (Err fault) = IsFrameFault (fields_of line) fault
+
+-- what the line of an entry shows of it
+abbrev pub shown : Entry → FrameLine
+shown e = record {
+  stamp = record { 0 = e.frame.stamp };
+  network = e.frame.network;
+  number = e.frame.number;
+  link = if is_addressed e.verdict.class then link_of e.frame.bytes else None;
+  sequence = if is_addressed e.verdict.class then sequence_of e.frame.bytes else None;
+  class = e.verdict.class;
+  policing = e.verdict.policing;
+  integrity = e.verdict.integrity;
+  redundancy = e.verdict.redundancy;
+  kept = e.keep;
+  mask = e.mask;
+}

@@ -10,4 +10,4 @@ mod words;
 
 pub use fault::FrameFault;
 pub use frame::{FrameLine, read_frame};
-pub use laws::line_reads_one_way;
+pub use laws::{entries_read_back, line_reads_one_way};
