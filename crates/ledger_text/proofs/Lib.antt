@@ -3,3 +3,4 @@ pub mod Splitting
 pub mod Spelling
 pub mod Faults
 pub mod Texts
+pub mod Blocks

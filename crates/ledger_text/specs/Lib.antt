@@ -3,3 +3,5 @@ pub mod Numbers
 pub mod FrameText
 pub mod Fields
 pub mod Laws
+pub mod Newlines
+pub mod Lines
