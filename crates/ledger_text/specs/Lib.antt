@@ -5,3 +5,4 @@ pub mod Fields
 pub mod Laws
 pub mod Newlines
 pub mod Lines
+pub mod Order

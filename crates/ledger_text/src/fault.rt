@@ -42,3 +42,23 @@ pub enum FrameFault {
     #[error("more than eleven fields")]
     Fields,
 }
+
+/// What is wrong with a line at its place in a ledger.
+#[derive(Clone, Copy, Debug, PartialEq, Eq, Error)]
+pub enum LineFault {
+    /// The first line is not `afdx-ledger 2`.
+    #[error("no ledger of version 2")]
+    Head,
+    /// The line of a frame departs at this field.
+    #[error("{0}")]
+    Frame(FrameFault),
+    /// After a line of counts another line stands than one that may follow it.
+    #[error("the order of lines")]
+    Order,
+    /// The last line ends without a newline.
+    #[error("no newline at the end")]
+    Newline,
+    /// The line and its newline have no room in a block of [`BLOCK_LEN`](crate::BLOCK_LEN) bytes.
+    #[error("too long")]
+    Long,
+}
