@@ -6,3 +6,5 @@ pub mod Laws
 pub mod Newlines
 pub mod Lines
 pub mod Order
+pub mod Places
+pub mod Reader

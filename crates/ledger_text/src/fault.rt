@@ -1,5 +1,8 @@
 //! What is wrong with a line.
 
+ghost use Rattle.std.specs.Prelude.{◌≡◌};
+
+use pcap_io::DeviceFault;
 use thiserror::Error;
 
 /// The first field at which a line departs from every frame's line. A field that is missing departs too.
@@ -61,4 +64,33 @@ pub enum LineFault {
     /// The line and its newline have no room in a block of [`BLOCK_LEN`](crate::BLOCK_LEN) bytes.
     #[error("too long")]
     Long,
+}
+
+/// Why a reader of a ledger doesn't go on. After a fault each later call returns `Failed`.
+#[derive(Clone, Copy, Debug, PartialEq, Eq, Error)]
+pub enum ReadFault {
+    /// The source failed.
+    #[error("the device failed")]
+    Device,
+    /// A line is not what has to stand at its place.
+    #[error("line {number}: {fault}")]
+    Line {
+        /// The line, counted from 1: that of the head.
+        number: u64,
+        /// What is wrong with it.
+        fault: LineFault,
+    },
+    /// The reader had failed before.
+    #[error("the reader has failed before")]
+    Failed,
+}
+
+impl From<DeviceFault> for ReadFault {
+    ghost use Rattle.ledger_text.specs.declared.fault.ReadFault.TheVariants.{Device};
+
+    ghost from_gives = { λ _ e. e ≡ Device };
+
+    fn from(_fault: DeviceFault) -> ReadFault {
+        ReadFault::Device
+    }
 }

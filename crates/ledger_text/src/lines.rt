@@ -21,6 +21,13 @@ pub enum LineFound {
     Long,
 }
 
+/// A source whose lines can't be read, since the system is out of memory.
+#[derive(Debug, Drop)]
+pub struct LinesRefused<S> {
+    /// The source. Nothing was read from it.
+    pub source: S,
+}
+
 /// The lines of a source, which is read ahead a block at a time. Each is lent out of the block.
 #[derive(Debug, Drop)]
 pub struct LineSource<S> {
@@ -58,27 +65,30 @@ fn new_block(alloc: Global) -> Result<Vec<u8>, AllocError>
 }
 
 impl<S: TapSource> LineSource<S> {
-    ghost use Rattle.std.specs.Prelude.{◌≡◌, ◌<◌, ◌++◌, ◌∷◌, [], length, true, false, IfOk, OnOk, OnErr};
+    ghost use Rattle.std.specs.Prelude.{◌≡◌, ◌<◌, ◌++◌, ◌∷◌, [], length, true, false, IfOk, IfErr, OnOk, OnErr};
     ghost use Rattle.std.specs.Io.KnownBytes.{IsAtEnd, Keeps};
     ghost use Rattle.pcap_io.specs.Device.{CountsFailure};
     ghost use Rattle.ledger_text.specs.Newlines.{NoNewline};
     ghost use Rattle.ledger_text.specs.Lines.{IsNextLine, lent_line, line_source, lines_left, unread_of};
 
-    /// The lines of a source of which nothing is read yet. Allocates the block.
-    pub fn new(alloc: Global, source: S) -> Result<LineSource<S>, AllocError>
-    where
-        S: Drop,
+    /// The lines of a source of which nothing is read yet. Allocates the block; where there is no memory
+    /// for it the source comes back.
+    pub fn new(alloc: Global, source: S) -> Result<LineSource<S>, LinesRefused<S>>
         ensures source { IfOk result (λ lines. line_source lines ≡ source) }
         ensures unread { IfOk result (λ lines. unread_of lines ≡ []) }
+        ensures refused { IfErr result (λ refused. refused.source ≡ source) }
     {
-        Ok(LineSource {
-            source,
-            block: new_block(alloc)?,
-            from: 0,
-            to: 0,
-            start: 0,
-            end: 0,
-        })
+        match new_block(alloc) {
+            Ok(block) => Ok(LineSource {
+                source,
+                block,
+                from: 0,
+                to: 0,
+                start: 0,
+                end: 0,
+            }),
+            Err(AllocError) => Err(LinesRefused { source }),
+        }
     }
 
     /// Goes on to the next line, which `line` lends. Allocates nothing.
