@@ -10,7 +10,7 @@ use std::test::Fail;
 use vl_config::Class;
 
 /// The letter of what is read.
-fn letter(read: &Result<FrameLine, FrameFault>) -> u8 {
+pub fn letter(read: &Result<FrameLine, FrameFault>) -> u8 {
     match read {
         Ok(_) => b'.',
         Err(FrameFault::Timestamp) => b'a',
