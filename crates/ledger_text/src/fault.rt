@@ -32,7 +32,8 @@ pub enum FrameFault {
     /// Field 8 is not what integrity checking says, or no dash where policing doesn't say `within`.
     #[error("integrity checking")]
     Integrity,
-    /// Field 9 is not what redundancy management says, or no dash where integrity checking says `out` or nothing.
+    /// Field 9 is not what redundancy management says, or no dash where integrity checking says `out` or
+    /// nothing.
     #[error("redundancy management")]
     Redundancy,
     /// Field 10 is no count of bytes: a decimal number below 2^32, or a dash.

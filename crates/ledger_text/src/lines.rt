@@ -65,7 +65,8 @@ fn new_block(alloc: Global) -> Result<Vec<u8>, AllocError>
 }
 
 impl<S: TapSource> LineSource<S> {
-    ghost use Rattle.std.specs.Prelude.{◌≡◌, ◌<◌, ◌++◌, ◌∷◌, [], length, true, false, IfOk, IfErr, OnOk, OnErr};
+    ghost use Rattle.std.specs.Prelude.{◌≡◌, ◌<◌, ◌++◌, ◌∷◌, [], length, true, false};
+    ghost use Rattle.std.specs.Prelude.{IfOk, IfErr, OnOk, OnErr};
     ghost use Rattle.std.specs.Io.KnownBytes.{IsAtEnd, Keeps};
     ghost use Rattle.pcap_io.specs.Device.{CountsFailure};
     ghost use Rattle.ledger_text.specs.Newlines.{NoNewline};

@@ -54,7 +54,8 @@ impl<S: TapSource> LedgerReader<S> {
     pub fn new(alloc: Global, source: S) -> Result<LedgerReader<S>, LinesRefused<S>>
         ensures source { IfOk result (λ reader. source_of reader ≡ source) }
         ensures unread { IfOk result (λ reader. unread_of reader.lines ≡ []) }
-        ensures start { IfOk result (λ reader. (reader.stage ≡ stages.Head) × (reader.number ≡ 0) × (reader.failed ≡ false)) }
+        ensures start { IfOk result (λ reader. (reader.stage ≡ stages.Head)
+            × (reader.number ≡ 0) × (reader.failed ≡ false)) }
         ensures refused { IfErr result (λ refused. refused.source ≡ source) }
     {
         Ok(LedgerReader {
@@ -108,8 +109,10 @@ impl<S: TapSource> LedgerReader<S> {
     fn read(&mut self) -> Result<Found, ReadFault>
         ensures found { IfOk result (IsRead self.old.stage self.old.number (lent_line self.old.lines)
             self.new.stage self.new.number) }
-        ensures fault { IfErr result (IsReadRefused self.old.stage self.old.number (lent_line self.old.lines)) }
-        ensures same { OnErr result ((self.new.stage ≡ self.old.stage) × (self.new.number ≡ self.old.number)) }
+        ensures fault { IfErr result (IsReadRefused self.old.stage self.old.number
+            (lent_line self.old.lines)) }
+        ensures same { OnErr result ((self.new.stage ≡ self.old.stage)
+            × (self.new.number ≡ self.old.number)) }
         ensures lines { self.new.lines ≡ self.old.lines }
     {
         match read_line(self.stage, self.lines.line()) {

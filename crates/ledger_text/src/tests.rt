@@ -1,5 +1,5 @@
-//! Lines that a reader by the written rules has judged, one letter for each: a dot where the line is a frame's, or the
-//! letter of the first wrong field, `a` for field 1.
+//! Lines that a reader by the written rules has judged, one letter for each: a dot where the line is a
+//! frame's, or the letter of the first wrong field, `a` for field 1.
 use crate::{FrameFault, FrameLine, read_frame};
 use afdx_frame::{Network, Stamp, VlId};
 use integrity::Integrity;

@@ -81,7 +81,8 @@ pub fn policing_of(field: &[u8], class: Class) -> Option<Option<Policing>>
 /// What integrity checking says by the bytes; a dash where policing doesn't say `within`.
 #[inline]
 pub fn integrity_of(field: &[u8], policing: Option<Policing>) -> Option<Option<Integrity>>
-    ensures { Reads (Optional Any (option_map_or is_within policing false)) (dash_or integrity_word) field.now result }
+    ensures { Reads (Optional Any (option_map_or is_within policing false))
+        (dash_or integrity_word) field.now result }
 {
     match (field, is_within(policing)) {
         (b"next", true) => Some(Some(Integrity::Next)),
@@ -98,7 +99,8 @@ pub fn integrity_of(field: &[u8], policing: Option<Policing>) -> Option<Option<I
 /// What redundancy management says by the bytes; a dash where integrity checking finds the frame invalid.
 #[inline]
 pub fn redundancy_of(field: &[u8], integrity: Option<Integrity>) -> Option<Option<Redundancy>>
-    ensures { Reads (Optional Any (option_map_or is_valid integrity false)) (dash_or redundancy_word) field.now result }
+    ensures { Reads (Optional Any (option_map_or is_valid integrity false))
+        (dash_or redundancy_word) field.now result }
 {
     match (field, is_valid(integrity)) {
         (b"deliver", true) => Some(Some(Redundancy::Deliver)),
