@@ -1,0 +1,6 @@
+pub mod Decimals
+pub mod Splitting
+pub mod Spelling
+pub mod Faults
+pub mod Texts
+pub mod Blocks

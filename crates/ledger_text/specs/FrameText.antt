@@ -1,0 +1,90 @@
+-- The line of a frame as its fields, and what is wrong with a line that is none.
+use Rattle.std.specs.Prelude.{◌≡◌, ℕ, suc, ◌*◌, ◌^◌, ◌<◌, List, [], ◌∷◌, Option, Some, None, codes, decimal, is_some, IfSome, Result, Ok, Err, if◌then◌else◌}
+use Rattle.std.specs.Option.{option_map_or}
+use Rattle.afdx_frame.specs.View.{link_of, sequence_of}
+use Rattle.afdx_frame.specs.declared.key.VlId.{VlId}
+use Rattle.vl_judge.specs.Judgement.{Judgement, IsReached}
+use Rattle.verdict_ledger.specs.Entry.{Entry}
+use Rattle.verdict_ledger.specs.Text.{network_word, class_word, policing_word, integrity_word, redundancy_word, mask_text, is_addressed}
+use Rattle.ledger_text.specs.Reads.{dash_or, Optional, Below}
+use Rattle.ledger_text.specs.Fields.{fields_of, Agrees}
+use Rattle.ledger_text.specs.declared.frame.FrameLine.{FrameLine}
+use Rattle.ledger_text.specs.declared.fault.FrameFault.{FrameFault}
+use Rattle.ledger_text.specs.declared.fault.FrameFault.TheVariants as faults
+
+abbrev pub link_text : VlId → List ℕ
+link_text id = decimal id.0
+
+-- the fields of a frame's line
+abbrev pub frame_fields : FrameLine → List (List ℕ)
+frame_fields v =
+    decimal v.stamp.0 ∷ network_word v.network ∷ decimal v.number
+    ∷ dash_or link_text v.link ∷ dash_or decimal v.sequence
+    ∷ class_word v.class ∷ dash_or policing_word v.policing ∷ dash_or integrity_word v.integrity ∷ dash_or redundancy_word v.redundancy
+    ∷ dash_or decimal v.kept ∷ mask_text v.mask ∷ []
+
+abbrev pub judgement_of : FrameLine → Judgement
+judgement_of v = record { class = v.class; policing = v.policing; integrity = v.integrity; redundancy = v.redundancy }
+
+-- timestamps are below 2^32 seconds, in nanoseconds
+abbrev pub stamp_bound : ℕ
+stamp_bound = 4294967296000000000
+
+abbrev pub link_fits : VlId → Type 0
+link_fits id = id.0 < 2 ^ 16
+
+-- The values of a line go together: it has a link and a sequence number where its class says so, and each verdict that was reached.
+pub record IsFrameLine (v : FrameLine) : Type 0 where
+  pub stamp : v.stamp.0 < stamp_bound
+  pub number : v.number < 2 ^ 32
+  pub link : Optional link_fits (is_addressed v.class) v.link
+  pub sequence : Optional (Below (2 ^ 8)) (is_addressed v.class) v.sequence
+  pub reached : IsReached (judgement_of v)
+  pub kept : IfSome v.kept (Below (2 ^ 32))
+  pub mask : v.mask < 2 ^ 8
+
+-- how many fields stand before that of the fault
+abbrev pub fields_before : FrameFault → ℕ
+fields_before faults.Timestamp = 0
+fields_before faults.Network = 1
+fields_before faults.Index = 2
+fields_before faults.Link = 3
+fields_before faults.Sequence = 4
+fields_before faults.Class = 5
+fields_before faults.Policing = 6
+fields_before faults.Integrity = 7
+fields_before faults.Redundancy = 8
+fields_before faults.Kept = 9
+fields_before faults.Mask = 10
+fields_before faults.Fields = 11
+
+-- The fields before that of the fault stand in some frame's line, and with it they stand in none.
+pub record IsFrameFault (fields : List (List ℕ)) (fault : FrameFault) : Type 0 where
+  pub before : (v : FrameLine) × IsFrameLine v × Agrees (fields_before fault) (frame_fields v) fields
+  pub departs : (v : FrameLine) → IsFrameLine v → Agrees (suc (fields_before fault)) (frame_fields v) fields → ⊥
+
+-- the line, without its newline, is the text of these values
+pub record IsFrameText (line : List ℕ) (v : FrameLine) : Type 0 where
+  pub values : IsFrameLine v
+  pub fields : fields_of line ≡ frame_fields v
+
+-- what a line reads as
+abbrev pub IsReadOf : List ℕ → Result FrameLine FrameFault → Type 0
+IsReadOf line (Ok v) = IsFrameText line v
+IsReadOf line (Err fault) = IsFrameFault (fields_of line) fault
+
+-- what the line of an entry shows of it
+abbrev pub shown : Entry → FrameLine
+shown e = record {
+  stamp = record { 0 = e.frame.stamp };
+  network = e.frame.network;
+  number = e.frame.number;
+  link = if is_addressed e.verdict.class then link_of e.frame.bytes else None;
+  sequence = if is_addressed e.verdict.class then sequence_of e.frame.bytes else None;
+  class = e.verdict.class;
+  policing = e.verdict.policing;
+  integrity = e.verdict.integrity;
+  redundancy = e.verdict.redundancy;
+  kept = e.keep;
+  mask = e.mask;
+}

@@ -1,0 +1,57 @@
+-- The lines of a ledger, by their places: the head, the lines of frames, and those of counts (this project's format).
+use Rattle.std.specs.Prelude.{◌≡◌, ◌≢◌, ℕ, Bool, true, false, List, codes, Result, Ok, Err}
+use Rattle.ledger_text.specs.Fields.{fields_of, first_field}
+use Rattle.ledger_text.specs.FrameText.{IsFrameText, IsFrameFault}
+use Rattle.ledger_text.specs.declared.order.Counts.{Counts}
+use Rattle.ledger_text.specs.declared.order.Counts.TheVariants as counts
+use Rattle.ledger_text.specs.declared.order.Stage.{Stage}
+use Rattle.ledger_text.specs.declared.order.Stage.TheVariants as stages
+use Rattle.ledger_text.specs.declared.order.LedgerLine.{LedgerLine}
+use Rattle.ledger_text.specs.declared.order.LedgerLine.TheVariants as lines
+use Rattle.ledger_text.specs.declared.fault.LineFault.{LineFault}
+use Rattle.ledger_text.specs.declared.fault.LineFault.TheVariants as faults
+
+-- the head, without its newline
+abbrev pub head_line : List ℕ
+head_line = codes "afdx-ledger 2"
+
+-- the word that a line of counts begins with
+abbrev pub counts_word : Counts → List ℕ
+counts_word counts.Link = codes "link"
+counts_word counts.Filter = codes "filter"
+counts_word counts.Tap = codes "tap"
+counts_word counts.Total = codes "total"
+
+-- a line of counts may stand after another: links, then filters, then taps, then the total, and nothing after that
+abbrev pub may_follow : Counts → Counts → Bool
+may_follow counts.Link next = true
+may_follow counts.Filter counts.Link = false
+may_follow counts.Filter _ = true
+may_follow counts.Tap counts.Link = false
+may_follow counts.Tap counts.Filter = false
+may_follow counts.Tap _ = true
+may_follow counts.Total next = false
+
+-- the line begins with the word of these counts
+abbrev pub IsCounts : List ℕ → Counts → Type 0
+IsCounts line kind = counts_word kind ≡ first_field (fields_of line)
+
+-- what a line at this place is
+abbrev pub IsLineAt : Stage → List ℕ → LedgerLine → Type 0
+IsLineAt stages.Head line lines.Head = line ≡ head_line
+IsLineAt stages.Frames line (lines.Frame v) = IsFrameText line v
+IsLineAt stages.Frames line (lines.Counts kind) = IsCounts line kind
+IsLineAt (stages.Counts last) line (lines.Counts kind) = IsCounts line kind × (may_follow last kind ≡ true)
+IsLineAt _ line _ = ⊥
+
+-- what is wrong with a line at this place, at which none is that stands there
+abbrev pub IsLineFaultAt : Stage → List ℕ → LineFault → Type 0
+IsLineFaultAt stages.Head line faults.Head = line ≢ head_line
+IsLineFaultAt stages.Frames line (faults.Frame fault) = IsFrameFault (fields_of line) fault × ((kind : Counts) → IsCounts line kind → ⊥)
+IsLineFaultAt (stages.Counts last) line faults.Order = (kind : Counts) → IsCounts line kind → may_follow last kind ≡ true → ⊥
+IsLineFaultAt _ line _ = ⊥
+
+-- what a line at this place reads as
+abbrev pub IsLineRead : Stage → List ℕ → Result LedgerLine LineFault → Type 0
+IsLineRead stage line (Ok read) = IsLineAt stage line read
+IsLineRead stage line (Err fault) = IsLineFaultAt stage line fault

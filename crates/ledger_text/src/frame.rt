@@ -1,0 +1,138 @@
+//! The line of a frame.
+ghost use Rattle.std.specs.Prelude.{◌≡◌, ◌^◌, IfSome, decimal, is_some};
+ghost use Rattle.verdict_ledger.specs.Text.{class_word, is_addressed};
+ghost use Rattle.ledger_text.specs.FrameText.{IsReadOf, link_fits, link_text};
+ghost use Rattle.ledger_text.specs.Reads.{Below, Optional, Reads, dash_or};
+
+use crate::fault::FrameFault;
+use crate::fields::Fields;
+use crate::number::number_of;
+use crate::words::{class_of, integrity_of, mask_of, network_of, policing_of, redundancy_of};
+
+/// Timestamps are below 2^32 seconds, in nanoseconds.
+const STAMP_BOUND: u64 = 1_000_000_000 << 32;
+
+use afdx_frame::{Network, Stamp, VlId};
+use integrity::Integrity;
+use policing::Policing;
+use redundancy::Redundancy;
+use vl_config::Class;
+
+/// What the line of a frame says.
+#[derive(Clone, Copy, Debug, PartialEq, Eq)]
+pub struct FrameLine {
+    /// The timestamp.
+    pub stamp: Stamp,
+    /// The network.
+    pub network: Network,
+    /// The index of the frame in its network's recording, from 0.
+    pub number: u32,
+    /// The virtual link, where the class has one.
+    pub link: Option<VlId>,
+    /// The sequence number, where the class has a link.
+    pub sequence: Option<u8>,
+    /// The class.
+    pub class: Class,
+    /// What policing says, of a regular frame.
+    pub policing: Option<Policing>,
+    /// What integrity checking says, of a frame within its account.
+    pub integrity: Option<Integrity>,
+    /// What redundancy management says, of a valid frame.
+    pub redundancy: Option<Redundancy>,
+    /// How many bytes the capture holds, where a filter accepts the frame.
+    pub kept: Option<u32>,
+    /// The mask of the filters that accept the frame: bit i is that of filter i.
+    pub mask: u8,
+}
+
+/// Is there a link where the class has one, and none elsewhere?
+#[inline]
+fn is_addressed(class: Class) -> bool
+    ensures { result ≡ is_addressed class }
+{
+    match class {
+        Class::Unconfigured | Class::TooLong | Class::Regular => true,
+        Class::Cut | Class::Runt | Class::Oversize | Class::Foreign => false,
+    }
+}
+
+/// A link, or a dash.
+#[inline]
+fn link_of(field: &[u8]) -> Option<Option<VlId>>
+    ensures { Reads (λ link. IfSome link link_fits) (dash_or link_text) field.now result }
+{
+    match field {
+        b"-" => Some(None),
+        _ => Some(Some(VlId(number_of(field, 1 << 16)? as u16))),
+    }
+}
+
+/// A sequence number where there is a link, and a dash elsewhere.
+#[inline]
+fn sequence_of(field: &[u8], link: Option<VlId>) -> Option<Option<u8>>
+    ensures { Reads (Optional (Below (2 ^ 8)) (is_some link)) (dash_or decimal) field.now result }
+{
+    match field {
+        _ if link.is_some() => Some(Some(number_of(field, 1 << 8)? as u8)),
+        b"-" => Some(None),
+        _ => None,
+    }
+}
+
+/// A class that has a link, or one that has none, as the line does.
+#[inline]
+fn class_with(field: &[u8], link: Option<VlId>) -> Option<Class>
+    ensures { Reads (λ class. is_addressed class ≡ is_some link) class_word field.now result }
+{
+    let class = class_of(field)?;
+    if is_addressed(class) == link.is_some() {
+        Some(class)
+    } else {
+        None
+    }
+}
+
+/// A count of bytes, or a dash.
+#[inline]
+fn kept_of(field: &[u8]) -> Option<Option<u32>>
+    ensures { Reads (λ kept. IfSome kept (Below (2 ^ 32))) (dash_or decimal) field.now result }
+{
+    match field {
+        b"-" => Some(None),
+        _ => Some(Some(number_of(field, 1 << 32)? as u32)),
+    }
+}
+
+/// Reads the line of a frame, without its newline.
+pub fn read_frame(line: &[u8]) -> Result<FrameLine, FrameFault>
+    ensures { IsReadOf line.now result }
+{
+    let mut fields = Fields::new(line);
+    let stamp = number_of(fields.next(), STAMP_BOUND).ok_or(FrameFault::Timestamp)?;
+    let network = network_of(fields.next()).ok_or(FrameFault::Network)?;
+    let number = number_of(fields.next(), 1 << 32).ok_or(FrameFault::Index)?;
+    let link = link_of(fields.next()).ok_or(FrameFault::Link)?;
+    let sequence = sequence_of(fields.next(), link).ok_or(FrameFault::Sequence)?;
+    let class = class_with(fields.next(), link).ok_or(FrameFault::Class)?;
+    let policing = policing_of(fields.next(), class).ok_or(FrameFault::Policing)?;
+    let integrity = integrity_of(fields.next(), policing).ok_or(FrameFault::Integrity)?;
+    let redundancy = redundancy_of(fields.next(), integrity).ok_or(FrameFault::Redundancy)?;
+    let kept = kept_of(fields.next()).ok_or(FrameFault::Kept)?;
+    let mask = mask_of(fields.next()).ok_or(FrameFault::Mask)?;
+    if !fields.is_at_end() {
+        return Err(FrameFault::Fields);
+    }
+    Ok(FrameLine {
+        stamp: Stamp(stamp),
+        network,
+        number: number as u32,
+        link,
+        sequence,
+        class,
+        policing,
+        integrity,
+        redundancy,
+        kept,
+        mask,
+    })
+}

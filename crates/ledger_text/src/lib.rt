@@ -1,0 +1,45 @@
+//! Reads a ledger of version 2 line by line, as a stream.
+//!
+//! A [`LedgerReader`] reads from a [`TapSource`](pcap_io::TapSource) a block of 64 KiB at a time, and
+//! allocates that block alone. Each call finds the next line, and lends its bytes until the next call.
+//!
+//! ```text
+//! let mut reader = LedgerReader::new(alloc, source)?;
+//! while let Found::Line(line) = reader.advance()? {
+//!     if let LedgerLine::Frame(frame) = line {
+//!         // frame.stamp, frame.link, .., and reader.line() as it stands
+//!     }
+//! }
+//! ```
+//!
+//! - [`LedgerReader`], with [`Found`], [`LedgerLine`] and [`Counts`], and its faults [`ReadFault`] and
+//!   [`LineFault`]. The first wrong line is named by its number, counted from 1.
+//! - [`read_frame`], the values of a frame's line ([`FrameLine`]), or its first wrong field
+//!   ([`FrameFault`]); [`read_line`], a line at its place ([`Stage`]).
+//! - [`LineSource`], the lines of any source, with [`LineFound`].
+//! - Laws: a line has one reading ([`line_reads_one_way`]), and what `verdict_ledger` writes of an entry
+//!   reads back as what its line shows ([`entries_read_back`]).
+#![tactic(auto)]
+
+mod bounds;
+mod fault;
+mod fields;
+mod frame;
+mod laws;
+mod lines;
+mod number;
+mod order;
+mod reader;
+#[cfg(test)]
+mod reader_tests;
+#[cfg(test)]
+mod tests;
+mod words;
+
+pub use bounds::BLOCK_LEN;
+pub use fault::{FrameFault, LineFault, ReadFault};
+pub use frame::{FrameLine, read_frame};
+pub use laws::{entries_read_back, line_reads_one_way};
+pub use lines::{LineFound, LineSource, LinesRefused};
+pub use order::{Counts, LedgerLine, Stage, read_line};
+pub use reader::{Found, LedgerReader};

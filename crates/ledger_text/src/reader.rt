@@ -1,0 +1,170 @@
+//! Reads a ledger line by line.
+ghost use Rattle.std.specs.Prelude.{◌≡◌};
+ghost use Rattle.ledger_text.specs.Places.{stage_after};
+
+use crate::fault::{LineFault, ReadFault};
+use crate::lines::{LineFound, LineSource, LinesRefused};
+use crate::order::{Counts, LedgerLine, Stage, read_line};
+use pcap_io::TapSource;
+use std::alloc::Global;
+
+/// What a reader finds next.
+#[derive(Clone, Copy, Debug, PartialEq, Eq)]
+pub enum Found {
+    /// A line, whose bytes the reader lends.
+    Line(LedgerLine),
+    /// The end, after the line `total`.
+    Complete,
+    /// The end of a ledger that has no line `total`: the run was aborted.
+    Incomplete,
+}
+
+/// What stands before the line after this one.
+#[inline]
+fn stage_after(line: &LedgerLine) -> Stage
+    ensures { result ≡ stage_after line.now }
+{
+    match line {
+        LedgerLine::Head | LedgerLine::Frame(_) => Stage::Frames,
+        LedgerLine::Counts(counts) => Stage::Counts(*counts),
+    }
+}
+
+/// A ledger that is read line by line.
+#[derive(Debug, Drop)]
+pub struct LedgerReader<S> {
+    lines: LineSource<S>,
+    stage: Stage,
+    /// How many lines were read. It stays at 2^64 - 1 once there.
+    number: u64,
+    failed: bool,
+}
+
+impl<S: TapSource> LedgerReader<S> {
+    ghost use Rattle.std.specs.Prelude.{◌≡◌, [], IfOk, IfErr, OnOk, OnErr, true, false, Err};
+    ghost use Rattle.std.specs.Io.KnownBytes.{Keeps};
+    ghost use Rattle.ledger_text.specs.Lines.{lent_line, line_source, lines_left, unread_of};
+    ghost use Rattle.ledger_text.specs.Reader.{IsFound, IsReadFault, reading_of, source_of};
+    ghost use Rattle.ledger_text.specs.Places.{IsRead, IsReadRefused, end_at, next_number};
+    ghost use Rattle.ledger_text.specs.declared.fault.ReadFault.TheVariants as faults;
+    ghost use Rattle.ledger_text.specs.declared.order.Stage.TheVariants as stages;
+
+    /// A reader of which nothing is read yet. Allocates a block of 64 KiB; where there is no memory for it
+    /// the source comes back.
+    pub fn new(alloc: Global, source: S) -> Result<LedgerReader<S>, LinesRefused<S>>
+        ensures source { IfOk result (λ reader. source_of reader ≡ source) }
+        ensures unread { IfOk result (λ reader. unread_of reader.lines ≡ []) }
+        ensures start { IfOk result (λ reader. (reader.stage ≡ stages.Head)
+            × (reader.number ≡ 0) × (reader.failed ≡ false)) }
+        ensures refused { IfErr result (λ refused. refused.source ≡ source) }
+    {
+        Ok(LedgerReader {
+            lines: LineSource::new(alloc, source)?,
+            stage: Stage::Head,
+            number: 0,
+            failed: false,
+        })
+    }
+
+    /// Goes on to the next line, whose bytes `line` lends, or finds the end, which is found again at each
+    /// later call. After a fault each later call returns `Failed`. Allocates nothing.
+    pub fn advance(&mut self) -> Result<Found, ReadFault>
+        ensures found { self.old.failed ≡ false → IfOk result (IsFound
+            (reading_of S.remaining S.failures self.old) (reading_of S.remaining S.failures self.new)
+            (lent_line self.new.lines)) }
+        ensures fault { self.old.failed ≡ false → IfErr result (IsReadFault
+            (reading_of S.remaining S.failures self.old) (reading_of S.remaining S.failures self.new)
+            (lent_line self.new.lines) (unread_of self.new.lines)) }
+        ensures sound { self.old.failed ≡ false → OnOk result (self.new.failed ≡ false) }
+        ensures broken { OnErr result (self.new.failed ≡ true) }
+        ensures failed { self.old.failed ≡ true → (result ≡ Err faults.Failed) × (self.new ≡ self.old) }
+    {
+        if self.failed {
+            return Err(ReadFault::Failed);
+        }
+        let answer = self.find();
+        self.failed = answer.is_err();
+        answer
+    }
+
+    /// Finds the next line or the end.
+    fn find(&mut self) -> Result<Found, ReadFault>
+        ensures found { IfOk result (IsFound
+            (reading_of S.remaining S.failures self.old) (reading_of S.remaining S.failures self.new)
+            (lent_line self.new.lines)) }
+        ensures fault { IfErr result (IsReadFault
+            (reading_of S.remaining S.failures self.old) (reading_of S.remaining S.failures self.new)
+            (lent_line self.new.lines) (unread_of self.new.lines)) }
+    {
+        match self.lines.advance()? {
+            LineFound::Line => self.read(),
+            LineFound::End => Ok(self.end()),
+            LineFound::Unended => Err(self.fault(LineFault::Newline)),
+            LineFound::Long => Err(self.fault(LineFault::Long)),
+        }
+    }
+
+    /// Reads the line that was found.
+    #[inline]
+    fn read(&mut self) -> Result<Found, ReadFault>
+        ensures found { IfOk result (IsRead self.old.stage self.old.number (lent_line self.old.lines)
+            self.new.stage self.new.number) }
+        ensures fault { IfErr result (IsReadRefused self.old.stage self.old.number
+            (lent_line self.old.lines)) }
+        ensures same { OnErr result ((self.new.stage ≡ self.old.stage)
+            × (self.new.number ≡ self.old.number)) }
+        ensures lines { self.new.lines ≡ self.old.lines }
+    {
+        match read_line(self.stage, self.lines.line()) {
+            Ok(line) => {
+                self.stage = stage_after(&line);
+                self.number = self.number.saturating_add(1);
+                Ok(Found::Line(line))
+            }
+            Err(fault) => Err(self.fault(fault)),
+        }
+    }
+
+    /// The fault of the next line.
+    fn fault(&self, fault: LineFault) -> ReadFault
+        ensures { result ≡ faults.Line (next_number self.now.number) fault }
+    {
+        ReadFault::Line {
+            number: self.number.saturating_add(1),
+            fault,
+        }
+    }
+
+    /// What the end is.
+    fn end(&self) -> Found
+        ensures { result ≡ end_at self.now.stage }
+    {
+        match self.stage {
+            Stage::Counts(Counts::Total) => Found::Complete,
+            _ => Found::Incomplete,
+        }
+    }
+
+    /// The line that was found last, without its newline.
+    #[inline]
+    pub fn line(&self) -> &[u8]
+        ensures { result.now ≡ lent_line self.now.lines }
+    {
+        self.lines.line()
+    }
+
+    /// The number of the line that was found last, counted from 1: that of the head.
+    #[inline]
+    pub fn number(&self) -> u64
+        ensures { result ≡ self.now.number }
+    {
+        self.number
+    }
+
+    /// The source. What was read ahead is lost.
+    pub fn into_source(self) -> S
+        ensures { result ≡ source_of self }
+    {
+        self.lines.into_source()
+    }
+}
