@@ -41,14 +41,12 @@ fn two_taps_run<R: Threads + Wait + Sync + AllocGlobal>(rt: &R, way: Way) -> Opt
     Some(run_over(rt, way, &config, &programs, devices, &OpenGate))
 }
 
-/// What is left of a run that was refused memory: a prefix of each output, and both sources but for
-/// one whose thread couldn't be started.
+/// What is left of a run that was refused memory: a prefix of each output, and all devices.
 fn has_prefixes(rt: &impl Abort, ran: &Ran, capture: &[u8], fault: WatchFault) {
     assert!(rt; capture.starts_with(ran.capture.taken()));
     assert!(rt; TWO_TAPS.as_bytes().starts_with(ran.ledger.taken()));
     match fault {
         WatchFault::Memory => assert_eq!(rt; ran.failures(), Some([0; 4])),
-        WatchFault::Spawn => assert!(rt; ran.a.is_some() || ran.b.is_some()),
         _ => panic!(rt; "another fault: {fault}"),
     }
 }
