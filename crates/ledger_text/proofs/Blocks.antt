@@ -1,12 +1,12 @@
 -- What stands between two places of a block, and what reads do to it.
-use Rattle.std.proofs.Common.{◌≡◌, ◌∙◌, ℕ, ◌+◌, ◌-◌, ◌<◌, ◌≤◌, ◌==◌, List, [], ◌∷◌, ◌++◌, length, take, drop, slice_range, Option, Some, None, false, true, get_or, refl, sym, ap, arith, append_assoc, drop-drop, length-drop, length-append, eqb-true, take_all}
+use Rattle.std.proofs.Common.{◌≡◌, ◌∙◌, ℕ, ◌+◌, ◌-◌, ◌<◌, ◌≤◌, List, [], ◌∷◌, ◌++◌, length, take, drop, slice_range, Option, Some, None, get_or, refl, sym, ap, arith, append_assoc, drop-drop, length-drop, eqb-true}
 use Rattle.std.specs.List.{position_or_len, before_first, after_first}
-use Rattle.std.specs.Io.KnownBytes.{Keeps, Consumes, IsAtEnd, prepend_known}
+use Rattle.std.specs.Io.KnownBytes.{Keeps, Consumes, prepend_known}
 use Rattle.std.proofs.lemmas.Grind.{common_steps}
 use Rattle.std.proofs.lemmas.List.{drop-take, drop-append-le, take-append-le, length-take-le, take_at, take-take}
 use Rattle.std.proofs.lemmas.List.Sums.{split_at_first, fails_before_first, passes_at_first, position_or_len_is}
 use Rattle.std.proofs.Math.Seq.{take-append-add}
-use Rattle.pcap_io.proofs.Draws.{split, length-between, keeps_more}
+use Rattle.pcap_io.proofs.Draws.{length-between}
 use Rattle.ledger_text.specs.Newlines.{is_newline, NoNewline}
 
 -- ---- a read behind the unread bytes

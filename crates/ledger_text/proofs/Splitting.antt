@@ -1,9 +1,8 @@
 -- The first field of a line, and the rest.
-use Rattle.std.proofs.Common.{◌≡◌, ◌≢◌, ◌∙◌, ℕ, ◌+◌, ◌<◌, ◌≤◌, List, [], ◌∷◌, length, take, drop, refl, sym, ap, arith, false}
+use Rattle.std.proofs.Common.{◌≡◌, ◌≢◌, ℕ, ◌+◌, ◌<◌, ◌≤◌, List, [], ◌∷◌, length, take, drop, ap, arith, false}
 use Rattle.std.specs.List.{position_or_len, All}
 use Rattle.std.proofs.lemmas.List.Splits.{slice_split_first, slice_split_none, length-slice_split}
 use Rattle.std.proofs.lemmas.List.Sums.{fails_before_first}
-use Rattle.std.proofs.lemmas.Grind.{common_steps}
 use Rattle.ledger_text.specs.Fields.{is_space, fields_of}
 
 pub split_some : (line : List ℕ) (n : ℕ) → n ≡ position_or_len is_space line → n < length line

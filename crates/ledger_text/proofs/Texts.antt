@@ -1,17 +1,15 @@
 -- The line of a frame against the text of an entry.
-use Rattle.std.proofs.Common.{◌≡◌, ◌∙◌, ℕ, zero, suc, ◌+◌, ◌/◌, ◌%◌, ◌^◌, ◌<◌, ◌≤◌, ◌==◌, Bool, true, false, cond, nat_lt, ltb-true, List, [], ◌∷◌, ◌++◌, length, Option, None, Some, IfSome, is_some, codes, refl, sym, ap, subst, arith, lit<, append_assoc}
+use Rattle.std.proofs.Common.{◌≡◌, ◌∙◌, ℕ, zero, suc, ◌/◌, ◌%◌, ◌^◌, ◌<◌, ◌≤◌, Bool, true, false, cond, nat_lt, ltb-true, List, [], ◌∷◌, ◌++◌, Option, None, Some, IfSome, codes, refl, sym, ap, arith, append_assoc}
 use Rattle.std.proofs.lemmas.Bool.Decides.{nat_tests}
 use Rattle.std.proofs.lemmas.List.{append_cancel_right}
 use Rattle.std.specs.Option.{option_map_or}
 use Rattle.std.specs.Fmt.{decimal}
-use Rattle.std.specs.List.{join_with_byte, slice_split, onto_first, list_all}
+use Rattle.std.specs.List.{join_with_byte, onto_first, list_all}
 use Rattle.std.specs.Str.Parse.{AllDigits}
 use Rattle.std.specs.Int.{IsInRange}
 use Rattle.std.proofs.lemmas.Fmt.{digits_decimal}
 use Rattle.std.proofs.lemmas.Str.Parse.{digit_from_value}
-use Rattle.std.proofs.lemmas.Grind.{common_steps}
 use Rattle.std.proofs.lemmas.List.Splits.{join_with_byte-slice_split, slice_split-cons_no}
-use Rattle.afdx_frame.specs.Frame.{Frame}
 use Rattle.afdx_frame.specs.View.{link_of, sequence_of}
 use Rattle.afdx_frame.specs.declared.key.VlId.{VlId}
 use Rattle.afdx_frame.specs.declared.key.Network.{Network}
@@ -25,7 +23,7 @@ use Rattle.integrity.specs.declared.verdict.Integrity.TheVariants.{First, Reset,
 use Rattle.redundancy.specs.declared.verdict.Redundancy.{Redundancy}
 use Rattle.redundancy.specs.declared.verdict.Redundancy.TheVariants.{Deliver, Copy, Both}
 use Rattle.verdict_ledger.specs.Entry.{Entry}
-use Rattle.verdict_ledger.specs.Text.{line_text, address_text, is_addressed, link_number, optional_field, verdict_text, word_field, number_field, network_word, class_word, policing_word, integrity_word, redundancy_word, mask_text, hex_digit}
+use Rattle.verdict_ledger.specs.Text.{line_text, is_addressed, optional_field, verdict_text, word_field, number_field, network_word, class_word, policing_word, integrity_word, redundancy_word, mask_text, hex_digit}
 use Rattle.ledger_text.specs.Reads.{dash_or, Below}
 use Rattle.ledger_text.specs.Fields.{fields_of, is_space}
 use Rattle.ledger_text.specs.FrameText.{IsFrameLine, IsFrameText, frame_fields, link_fits, link_text, shown}

@@ -1,6 +1,5 @@
 -- The line of a frame as its fields, and what is wrong with a line that is none.
-use Rattle.std.specs.Prelude.{◌≡◌, ℕ, suc, ◌*◌, ◌^◌, ◌<◌, List, [], ◌∷◌, Option, Some, None, codes, decimal, is_some, IfSome, Result, Ok, Err, if◌then◌else◌}
-use Rattle.std.specs.Option.{option_map_or}
+use Rattle.std.specs.Prelude.{◌≡◌, ℕ, suc, ◌^◌, ◌<◌, List, [], ◌∷◌, None, decimal, IfSome, Result, Ok, Err, if◌then◌else◌}
 use Rattle.afdx_frame.specs.View.{link_of, sequence_of}
 use Rattle.afdx_frame.specs.declared.key.VlId.{VlId}
 use Rattle.vl_judge.specs.Judgement.{Judgement, IsReached}

@@ -3,7 +3,8 @@ ghost use Rattle.std.specs.Prelude.{◌≡◌, ◌∷◌, ◌^◌, [], false};
 ghost use Rattle.std.specs.Option.{option_map_or};
 ghost use Rattle.integrity.specs.Sequence.{is_valid};
 ghost use Rattle.vl_judge.specs.Judgement.{is_regular, is_within};
-ghost use Rattle.verdict_ledger.specs.Text.{class_word, integrity_word, network_word, policing_word, redundancy_word, mask_text};
+ghost use Rattle.verdict_ledger.specs.Text.{class_word, integrity_word, network_word, policing_word};
+ghost use Rattle.verdict_ledger.specs.Text.{redundancy_word, mask_text};
 ghost use Rattle.ledger_text.specs.Reads.{Any, Below, Optional, Reads, dash_or, hex_text};
 
 use afdx_frame::Network;

@@ -1,4 +1,4 @@
-use Rattle.std.proofs.Common.{rules, ◌≡◌, ◌∷◌, length, ◌+◌, ◌-◌, take, drop, ap, sym, ◌∙◌, arith, take_all, length-drop}
+use Rattle.std.proofs.Common.{◌≡◌, ◌∷◌, length, ◌+◌, ◌-◌, take, drop, ap, sym, ◌∙◌, arith, take_all, length-drop}
 use Rattle.ledger_text.specs.Fields.{fields_of}
 use Rattle.ledger_text.proofs.Splitting.{split_some}
 use Rattle.ledger_text.proofs.fields.split_field.Goals as goal

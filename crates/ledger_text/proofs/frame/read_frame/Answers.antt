@@ -1,6 +1,5 @@
-use Rattle.std.proofs.Common.{rules, ◌≡◌, ◌∙◌, ◌<◌, ◌^◌, ◌==◌, Err, List, [], ℕ, Option, IfSome, is_some, false, decimal, ap, sym}
+use Rattle.std.proofs.Common.{rules, ◌≡◌, ◌∙◌, ◌^◌, [], ℕ, Option, IfSome, is_some, false, decimal, ap, sym}
 use Rattle.std.specs.Option.{option_map_or}
-use Rattle.std.specs.Bool.{MatchBool}
 use Rattle.afdx_frame.specs.declared.key.VlId.{VlId}
 use Rattle.vl_config.specs.declared.class.Class.{Class}
 use Rattle.integrity.specs.Sequence.{is_valid}

@@ -1,5 +1,4 @@
-use Rattle.std.proofs.Common.{arith, take, get_or}
-use Rattle.std.specs.Str.Parse.{digits_value}
+use Rattle.std.proofs.Common.{arith}
 use Rattle.ledger_text.proofs.Decimals.{one_more}
 use Rattle.ledger_text.proofs.number.value_of.Goals as goal
 

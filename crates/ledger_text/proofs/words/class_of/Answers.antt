@@ -1,4 +1,4 @@
-use Rattle.std.proofs.Common.{arith, rules}
+use Rattle.std.proofs.Common.{arith}
 use Rattle.ledger_text.proofs.Spelling.{twelve}
 use Rattle.ledger_text.proofs.words.class_of.Goals as goal
 

@@ -1,4 +1,4 @@
-use Rattle.std.proofs.Common.{rules, ◌≡◌, ap}
+use Rattle.std.proofs.Common.{rules, ap}
 use Rattle.std.specs.Io.KnownBytes.{Keeps}
 use Rattle.ledger_text.specs.Lines.{lines_left}
 use Rattle.ledger_text.proofs.Blocks.{line_consumed}

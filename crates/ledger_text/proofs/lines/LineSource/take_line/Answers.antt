@@ -1,4 +1,4 @@
-use Rattle.std.proofs.Common.{rules, arith, ◌≡◌, ◌+◌, ◌-◌, ◌≤◌, ◌<◌, ◌∙◌, ap, List, ℕ, length, slice_range}
+use Rattle.std.proofs.Common.{rules, arith, ◌≡◌, ◌-◌, ◌≤◌, ◌∙◌, ap, List, ℕ, slice_range}
 use Rattle.std.specs.List.{position_or_len}
 use Rattle.ledger_text.specs.Newlines.{is_newline}
 use Rattle.pcap_io.proofs.Draws.{length-between}
