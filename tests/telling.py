@@ -4,6 +4,7 @@ import resource
 import struct
 import subprocess
 
+from analyser import watch
 from harness import EVERY, FAULT, PROGRAM, SUCCESS, difference, frame, header, record, run, run_at_terminal, say
 from stamps import version_of_the_program
 from texts import ABOUT, ADVICE, ALLOWED, CHECK_SEQUENCES, COUNTS, EXPRESSION, GZIP, LINK_KEYS, NO_DOCUMENT, NOT_NUMERIC
@@ -313,8 +314,10 @@ def little_memory(desk):
     blanks = b" " * (16 * 10**6)
     desk.lay(config=TABLE, filter=EVERY, a=header(), b=header())
     debug = ["debug", "--filter", desk.paths["filter"], "--tap", desk.paths["a"]]
-    told = [twice("little memory", "watch 5 Spawn", "", desk.arguments(), stdin=subprocess.DEVNULL, preexec_fn=limit)]
-    told.append(twice("little memory", "asm 8 Memory", "", ["asm"], input=blanks + b"ret #0", preexec_fn=limit))
+    ran = run(desk.arguments(), stdin=subprocess.DEVNULL, stdout=subprocess.PIPE, preexec_fn=limit)
+    made = watch(TABLE, EVERY, header(), header())
+    say("little memory: no room for a thread", desk.agrees(ran, made.capture, made.lines + made.summary))
+    told = [twice("little memory", "asm 8 Memory", "", ["asm"], input=blanks + b"ret #0", preexec_fn=limit)]
     told.append(twice("little memory", "debug 4 Memory", "", debug, input=blanks, preexec_fn=limit))
     desk.lay(config=TABLE, filter=blanks + EVERY.encode(), a=header(), b=header())
     told.append(twice("little memory", "watch 7 Memory", "", desk.arguments(), stdin=subprocess.DEVNULL, preexec_fn=limit))

@@ -60,7 +60,6 @@ ADVICE = {
     "watch 3 Read B": UNREADABLE,
     "watch 4 Write capture": "the capture can't be written: is the disk full, or the pipe closed?",
     "watch 4 Write ledger": "the ledger can't be written: is the disk full, or the pipe closed?",
-    "watch 5": "the system starts no more threads: raise its limits by ulimit -u and ulimit -v",
     "watch 7": NO_MEMORY,
 }
 # What a table may have at each key.
