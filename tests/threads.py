@@ -3,6 +3,7 @@ import os
 import pty
 import resource
 import select
+import shutil
 import subprocess
 import time
 import tty
@@ -85,15 +86,26 @@ def without_threads(most):
     resource.setrlimit(resource.RLIMIT_NPROC, (most, most))
 
 
+def with_threads(command, most):
+    """What a command comes to as that user. None: this machine doesn't let it be run so."""
+    pipes = {"stdin": subprocess.DEVNULL, "stdout": subprocess.PIPE, "stderr": subprocess.PIPE}
+    try:
+        return ended(command, preexec_fn=lambda: without_threads(most), **pipes)
+    except (OSError, subprocess.SubprocessError):
+        return None
+
+
 def few_threads(desk):
     """Where the system lets no thread be started, or a few, the run is the same: the calling thread reads the taps that have none, and does
     what no worker does."""
-    if os.getuid():
-        skip("watch: no thread to be had", "only root can become a user who may have no threads")
-        return
     steady, short = header() + long.packets(0, 3000), header() + long.packets(0, 300)
-    pipes = {"stdin": subprocess.DEVNULL, "stdout": subprocess.PIPE, "stderr": subprocess.PIPE}
+    # That user may not look into the folder that the program stands in.
+    program = shutil.copy(PROGRAM, os.path.join(desk.directory, "program"))
     os.chmod(desk.directory, 0o755)
+    os.chmod(program, 0o755)
+    if os.getuid() or with_threads([program, "--version"], 4) is None:
+        skip("watch: no thread to be had", "the program can't be run as a user who may have no threads")
+        return
     for name, a, b in (
         ("both taps", steady, steady),
         ("A ends first", short, steady),
@@ -107,8 +119,7 @@ def few_threads(desk):
                 desk.lay(config=TABLE, filter=EVERY, a=a, b=b)
                 for path in desk.paths.values():
                     os.chmod(path, 0o666)
-                command = [PROGRAM, *desk.arguments(), "--workers", workers]
-                ran = ended(command, preexec_fn=lambda: without_threads(most), **pipes)
+                ran = with_threads([program, *desk.arguments(), "--workers", workers], most)
                 fault = desk.agrees(ran, made.capture, made.lines + made.summary)
                 say(f"watch: {most - 1} threads to be had, {name}, {workers} workers", fault)
 
