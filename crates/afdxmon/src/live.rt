@@ -25,6 +25,7 @@ pub struct Blocks {
 }
 
 impl Blocks {
+    /// Nothing was written yet. `AllocError` if there is no memory for the block.
     pub fn new(alloc: Global, output: Output) -> Result<Blocks, AllocError> {
         let Ok(writer) = BufWriter::with_capacity(alloc, BLOCK, output) else {
             return Err(AllocError);

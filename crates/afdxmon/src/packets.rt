@@ -24,6 +24,7 @@ pub struct PacketCount {
 }
 
 impl PacketCount {
+    /// Of a recording of which nothing has come by.
     pub fn new() -> PacketCount {
         PacketCount {
             has_begun: false,

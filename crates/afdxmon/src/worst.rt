@@ -80,6 +80,7 @@ pub struct WorstLinks {
 }
 
 impl WorstLinks {
+    /// Of a ledger of which nothing was written.
     pub fn new(alloc: Global) -> WorstLinks {
         WorstLinks {
             alloc,
@@ -89,6 +90,7 @@ impl WorstLinks {
         }
     }
 
+    /// Whether no link has a discard.
     pub fn is_empty(&self) -> bool {
         self.links.is_empty()
     }
@@ -161,10 +163,12 @@ pub struct LedgerWriter {
 }
 
 impl LedgerWriter {
+    /// A ledger whose bytes go on to `blocks`; no links are told where `worst` is None.
     pub fn new(blocks: Blocks, worst: Option<WorstLinks>) -> LedgerWriter {
         LedgerWriter { blocks, worst }
     }
 
+    /// The links that were found; None where they aren't told, or there was no memory for them.
     pub fn into_worst(self) -> Option<WorstLinks> {
         self.worst
     }

@@ -9,7 +9,7 @@ use Rattle.std.proofs.Math.Seq.{take-append-add}
 use Rattle.pcap_io.proofs.Draws.{length-between}
 use Rattle.ledger_text.specs.Newlines.{is_newline, NoNewline}
 
--- ---- a read behind the unread bytes
+-- ---- a read that follows the unread bytes
 
 pub ahead : (s e : ℕ) (xs : List ℕ) → s ≤ e → drop s (take e xs) ≡ slice_range xs s e
 ahead s e xs le =

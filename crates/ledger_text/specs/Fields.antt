@@ -21,7 +21,7 @@ abbrev pub next_fields : List (List ℕ) → List (List ℕ)
 next_fields [] = []
 next_fields (field ∷ fields) = fields
 
--- The first n of the wanted fields stand at the front of the fields, where the end of the wanted ones counts as one more of them.
+-- The first n of the wanted fields are the first of the fields, where the end of the wanted ones counts as one more of them.
 abbrev pub Agrees : ℕ → List (List ℕ) → List (List ℕ) → Type 0
 Agrees zero wanted fields = Unit {0}
 Agrees (suc n) [] fields = fields ≡ []

@@ -178,7 +178,7 @@ impl<S: TapSource> LineSource<S> {
         self.end = end - start;
     }
 
-    /// Reads once behind the unread bytes. False: nothing came, and the source has ended.
+    /// Reads once, after the unread bytes. False: nothing came, and the source has ended.
     fn read_behind(&mut self) -> Result<bool, DeviceFault>
         requires { self.old.end < BLOCK_LEN }
         ensures kept { Keeps (lines_left S.remaining self.old) (lines_left S.remaining self.new) }

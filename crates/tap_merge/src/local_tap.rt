@@ -38,7 +38,8 @@ impl<S: TapSource> LocalTap<S> {
     pub(crate) fn fill(&mut self, alloc: Global)
         requires { HasPut S.TapSource self.old.promise.reader.value self.old.promise.put.value self.old.fed }
         ensures promise { self.new.promise ≡ self.old.promise }
-        ensures read { HasPut S.TapSource self.old.promise.reader.value self.old.promise.put.value self.new.fed }
+        ensures read { HasPut S.TapSource self.old.promise.reader.value
+            self.old.promise.put.value self.new.fed }
     {
         if !self.over {
             self.over = fill(alloc, &mut self.fed);

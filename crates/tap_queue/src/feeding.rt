@@ -52,9 +52,9 @@ pub fn fill<S: TapSource>(alloc: Global, fed: &mut Fed<S>) -> bool
 }
 
 /// Reads a recording into a ring, up to its ending or the first fault. It waits where the ring is
-/// full, and stops where the taker is gone or has it stop. Out of memory, it puts the item `Failed`. The gate is
-/// called once, before the first frame is read. Items are put together that were read ahead together, so
-/// that none waits for the source to give more.
+/// full, and stops where the taker is gone or has it stop. Out of memory, it puts the item `Failed`. The
+/// gate is called once, before the first frame is read. Items are put together that were read ahead together,
+/// so that none waits for the source to give more.
 pub fn feed<R: Wait, S: TapSource, G: TapGate>(
     rt: &R,
     alloc: Global,
