@@ -13,6 +13,8 @@ _afdxmon_files() {
 
 _afdxmon() {
     local current=$2 previous=$3 i=$COMP_CWORD
+    local verdicts='discarded delivered cut runt oversize foreign unconfigured toolong regular excess within'
+    verdicts+=' first next skip reset off out deliver copy both'
     # bash makes three words of --option=value.
     if [ "$current" = '=' ]; then
         current=''
@@ -21,15 +23,17 @@ _afdxmon() {
     fi
     COMPREPLY=()
     if [ "$i" -eq 1 ]; then
-        _afdxmon_words 'watch capture debug asm help -h --help -V --version' "$current"
+        _afdxmon_words 'watch capture debug cut asm help -h --help -V --version' "$current"
         return
     fi
     case ${COMP_WORDS[1]} in
-        watch | capture | debug)
+        watch | capture | debug | cut)
             case $previous in
                 --workers) _afdxmon_words '1 2 3 4 5 6 7 8' "$current"; return ;;
-                --code) return ;;
-                --quiet | --help) ;;
+                --network) _afdxmon_words 'A B' "$current"; return ;;
+                --verdict) _afdxmon_words "$verdicts" "$current"; return ;;
+                --code | --link | --from | --to | --filters | --around) return ;;
+                --quiet | --ledger-only | --help) ;;
                 -o | --*) _afdxmon_files "$current"; return ;;
             esac
             ;;
@@ -40,8 +44,11 @@ _afdxmon() {
             ;;
         capture:-*) _afdxmon_words '--code --filter --source -o --output -h --help' "$current" ;;
         debug:-*) _afdxmon_words '--filter --source --tap -h --help' "$current" ;;
+        cut:-*)
+            _afdxmon_words '--ledger --a --b --config --link --network --verdict --from --to --filters --around --ledger-only -o --output -h --help' "$current"
+            ;;
         asm:-*) _afdxmon_words '-h --help' "$current" ;;
-        help:*) _afdxmon_words 'watch capture debug asm help' "$current" ;;
+        help:*) _afdxmon_words 'watch capture debug cut asm help' "$current" ;;
         capture:*) _afdxmon_files "$current" ;;
     esac
 }

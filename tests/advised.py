@@ -1,7 +1,7 @@
 """Tests that what the program advises works: each command of docs/MESSAGES.md and of the advice runs as it stands, and what it
 writes is taken.
 
-The commands name in.pcap, in.pcapng, in.pcap.gz, in.pcap.zst and in.asm. A command whose tool isn't installed is left out.
+The commands name in.pcap, in.pcap.gz, in.pcap.zst and in.asm. A command whose tool isn't installed is left out.
 """
 import os
 import re
@@ -18,25 +18,9 @@ WHOLE = header() + b"".join(record(*one) for one in FRAMES)
 TOOLS = ("editcap", "reordercap", "gunzip", "unzstd", "tcpdump", "afdxmon")
 
 
-def pcapng(frames):
-    """A pcapng file of frames, its timestamps in nanoseconds."""
-
-    def block(kind, body):
-        body += bytes(-len(body) % 4)
-        size = struct.pack("<I", len(body) + 12)
-        return struct.pack("<I", kind) + size + body + size
-
-    interface = struct.pack("<HHI", 1, 0, 0) + struct.pack("<HHB3x", 9, 1, 9) + bytes(4)
-    out = block(0x0A0D0D0A, struct.pack("<IHHq", 0x1A2B3C4D, 1, 0, -1)) + block(1, interface)
-    for stamp, data in frames:
-        out += block(6, struct.pack("<IIIII", 0, stamp >> 32, stamp & 0xFFFFFFFF, len(data), len(data)) + data)
-    return out
-
-
 # Recordings that are refused or end early, by a word of the command that mends them, and the frames that are to come out.
 BAD = struct.pack("<IIII", 0, 40, 262145, 60) + bytes(60)
 MENDS = (
-    ("in.pcapng", {"in.pcapng": pcapng(FRAMES)}, FRAMES),
     ("-C -4", {"in.pcap": header(link_type=0x24000001) + b"".join(record(stamp, data + b"fcs.") for stamp, data in FRAMES)}, FRAMES),
     ("1-2", {"in.pcap": header() + b"".join(record(*one) for one in FRAMES[:2]) + BAD}, FRAMES[:2]),
     ("-c 1000000000", {"in.pcap": WHOLE}, FRAMES),
@@ -52,7 +36,7 @@ def commands():
     """The commands that the page and the advice show."""
     with open(os.path.join(HERE, "..", "docs", "MESSAGES.md"), encoding="utf-8") as page:
         shown = re.findall(r"`([^`]*)`", page.read())
-    told = [text.format(2) for text in (*texts.ADVICE.values(), *texts.ENDINGS.values(), texts.PCAPNG, texts.GZIP, texts.ZSTD)]
+    told = [text.format(2) for text in (*texts.ADVICE.values(), *texts.ENDINGS.values(), texts.GZIP, texts.ZSTD)]
     told += [texts.CHECK_SEQUENCES, texts.EXPRESSION, texts.SOURCE, texts.NOT_NUMERIC]
     tool = "|".join(TOOLS)
     files = r"in\.\S+|out\.pcap|1-2|-\S+|[0-9]+|nsecpcap|EN10MB|'[^']*'|asm|<"

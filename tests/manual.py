@@ -52,7 +52,7 @@ def sections(page, macro):
 def options_in_page(text, tags_only=True):
     """The options that a man page tags, or all that it names: `Fl -a` is --a."""
     lines = [line for line in text.splitlines() if line.startswith(".It ") or not tags_only]
-    return {"-" + word for line in lines for word in re.findall(r"\bFl (-?\w+)", line)}
+    return {"-" + word for line in lines for word in re.findall(r"\bFl (-?\w[\w-]*)", line)}
 
 
 def synopsis(page):
@@ -61,7 +61,7 @@ def synopsis(page):
     by_command = {}
     for part in parts:
         command = re.match(r"\.Cm (\w+)", part)
-        found = {"-" + word for word in re.findall(r"\bFl (-?\w+)|\| (-\w+)", part) for word in word if word}
+        found = {"-" + word for word in re.findall(r"\bFl (-?\w[\w-]*)|\| (-\w[\w-]*)", part) for word in word if word}
         by_command[command[1] if command else ""] = found
     return by_command
 
@@ -225,8 +225,8 @@ def fault_lines():
     tagged = [row for page in PAGES for row in re.findall(r"^\.It Li (\w+ \d.*)", read(MAN, page), re.M)]
     found = {" ".join(re.sub(r"\bAr \w+|\bLi\b", "", row).split()) for row in tagged}
     documents = read(TOP, "docs", "MESSAGES.md") + read(TOP, "docs", "TABLE.md")
-    lines = re.findall(r"`(?:afdxmon: )?((?:asm|debug|numeric|load|watch|config) \d \w[\w ]*)`", documents)
-    known = {re.sub(r"(?<=at) [NI]\b|(?<=word) W\b|(?<=link) \d", "", line) for line in lines}
+    lines = re.findall(r"`(?:afdxmon: )?((?:asm|debug|numeric|load|cut|watch|config) \d \w[\w ]*)`", documents)
+    known = {re.sub(r"(?<=at) [NI]\b|(?<=word) W\b|(?<=link) \d| (?:WHAT|REASON|OPTION)\b", "", line) for line in lines}
     say("the man pages have each fault line", differ(found, known))
 
 

@@ -170,7 +170,7 @@ EARLY = (
     ({}, {"b": "nowhere"}, (), "file --b"),
     ({}, {}, ("--workers", "0"), "watch 1 Workers"),
     ({}, {}, ("--workers", "9"), "watch 1 Workers"),
-    ({"a": b"\x0a\x0d\x0d\x0a" + bytes(40)}, {}, (), "watch 2 Header A 2 Magic"),
+    ({"a": b"\x0a\x0d\x0d\x0a" + bytes(40)}, {}, (), "watch 2 Header A 5 ByteOrderMagic"),
     ({"b": b""}, {}, (), "watch 2 Header B 1 Short"),
     ({"b": header(link_type=101)}, {}, (), "watch 2 Header B 4 LinkType"),
     ({}, {"a": "directory"}, (), "watch 3 Read A"),

@@ -5,10 +5,11 @@ import struct
 import subprocess
 
 from analyser import watch
+from blocks import CUSTOM, MOST_INTERFACES, Blocks
 from harness import EVERY, FAULT, PROGRAM, SUCCESS, difference, frame, header, record, run, run_at_terminal, say
 from stamps import version_of_the_program
 from texts import ABOUT, ADVICE, ALLOWED, CHECK_SEQUENCES, COUNTS, EXPRESSION, GZIP, LINK_KEYS, NO_DOCUMENT, NOT_NUMERIC
-from texts import PCAPNG, PROGRAM_HELP, SOURCE, TOP_KEYS, ZSTD, advice_on, advice_on_ending, help_of
+from texts import PROGRAM_HELP, SOURCE, TOP_KEYS, ZSTD, advice_on, advice_on_ending, help_of
 from watching import LINK_5, TABLE
 
 MIB = 1 << 20
@@ -160,9 +161,17 @@ TABLES = (
     (f"{INLINE},\n  {{ id = 6 }}]\n", "2 Missing link 1", ":3:3: link 1, id 6: name is missing\n  { id = 6 }]\n  ^\n", ALLOWED["name"]),
     (f"{INLINE}, {{ }}]\n", "2 Missing link 1", f":2:{len(OF_INLINE) + 3}: link 1: id is missing\n{OF_INLINE}, {{ }}]\n{' ' * (len(OF_INLINE) + 2)}^\n", ALLOWED["id"]),
 )
+# pcapng files whose first section header is wrong, and the fault.
+SECTIONS = (
+    (Blocks().section(magic=1).bytes(), "5 ByteOrderMagic"),
+    (Blocks().section(2).bytes(), "6 SectionVersion"),
+    (Blocks().section(length=24).bytes(), "7 SectionLength"),
+    (Blocks().section(last=24).bytes(), "8 SectionLengthsDiffer"),
+    (Blocks().section(options=b"\1\0\x09\0").bytes(), "9 SectionOption"),
+)
 # Files that are no recordings, the fault, and what its advice is where the first bytes say what they are.
 HEADS = (
-    (b"\x0a\x0d\x0d\x0a" + bytes(40), "2 Magic", PCAPNG),
+    (b"\x0a\x0d\x0d\x0a" + bytes(40), "5 ByteOrderMagic", ADVICE["watch 2 Header A 5"]),
     (b"\x1f\x8b\x08\0" + bytes(40), "2 Magic", GZIP),
     (b"\x28\xb5\x2f\xfd" + bytes(40), "2 Magic", ZSTD),
     (header(link_type=0x24000001), "4 LinkType", CHECK_SEQUENCES),
@@ -227,8 +236,11 @@ def runs(desk):
         lead = desk.paths["b"] + ": "
         twice("a file that is no recording", f"watch 2 Header B {fault}", lead, desk.arguments(), advice=advice, stdin=subprocess.DEVNULL)
     # Standard input isn't read again, so nothing more is known of it.
-    given, lead = b"\x0a\x0d\x0d\x0a" + bytes(40), "standard input: "
+    given, lead = b"no recording: 0123456789", "standard input: "
     twice("a stream that is no recording", "watch 2 Header A 2 Magic", lead, ["capture", "--code", EVERY], input=given)
+    for given, fault in SECTIONS:
+        desk.lay(config=TABLE, filter=EVERY, a=given, b=header())
+        told.append(twice("a damaged section header", f"watch 2 Header A {fault}", desk.paths["a"] + ": ", desk.arguments(), stdin=subprocess.DEVNULL))
     refused_to(desk)
     piped(desk)
     return told
@@ -343,12 +355,36 @@ def helps():
 
 # Recordings of two frames that end early, in each way, and one that does before its first frame.
 TWO = header() + record(1, frame(5, 60, 1)) + record(2, frame(5, 60, 2))
+
+
+def two():
+    """A pcapng file of two packets."""
+    return Blocks().section().interface("eth0", 9).packet(1, frame(5, 60, 1)).packet(2, frame(5, 60, 2))
+
+
+def many():
+    """More interfaces than are read."""
+    file = two()
+    for _ in range(MOST_INTERFACES):
+        file.interface()
+    return file
+
+
 EARLY = (
     (TWO + b"\0", "cut after 2 frames: truncated within a record"),
     (TWO + record(0, frame(5, 60, 3)), "bad after 2 frames: timestamp out of order"),
     (TWO + struct.pack("<IIII", 0, 3, 262145, 60), "bad after 2 frames: captured length over 262144 bytes"),
     (TWO + struct.pack("<IIII", 0, 10**9, 60, 60), "bad after 2 frames: fraction of a second out of range"),
     (header() + struct.pack("<IIII", 0, 3, 262145, 60), "bad after 0 frames: captured length over 262144 bytes"),
+    (two().block(CUSTOM, bytes(4), 13).bytes(), "bad after 2 frames: a block's length is wrong"),
+    (two().block(CUSTOM, bytes(4), last=20).bytes(), "bad after 2 frames: the two lengths of a block differ"),
+    (two().packet(3, b"frame", captured=9).bytes(), "bad after 2 frames: a packet or an option reaches beyond its block"),
+    (two().packet(3, b"frame", 1).bytes(), "bad after 2 frames: a packet of an interface that isn't described"),
+    (two().bytes() + Blocks().section(2).bytes(), "bad after 2 frames: a section of another version"),
+    (two().simple(b"frame").bytes(), "bad after 2 frames: a packet without a timestamp"),
+    (two().packet(2**63, b"frame").bytes(), "bad after 2 frames: timestamp before 1970 or after 2106"),
+    (many().bytes(), "bad after 2 frames: too many interfaces"),
+    (Blocks().section().interface().block(CUSTOM, bytes(4), 13).bytes(), "bad after 0 frames: a block's length is wrong"),
 )
 
 

@@ -8,18 +8,19 @@ NOT_NUMERIC = "not the numeric form of a filter: tcpdump -y EN10MB -ddd 'ip and 
 EXPRESSION = "an expression, not its numeric form: tcpdump -y EN10MB -ddd 'ip and udp' prints that"
 SOURCE = "a filter's source, not its numeric form: afdxmon asm < in.asm prints that"
 NO_MEMORY = "the system has no memory left for it: end other programs, or raise its limit by ulimit -v"
-RECORDING = "--{} needs a recording that can be read: a pcap file or a pipe"
+RECORDING = "--{} needs a recording that can be read: a pcap or pcapng file, or a pipe"
 OUTPUT = "--{} needs a file that can be written, in a directory that is there"
 UNREADABLE = "the recording can't be read: is it a file or a pipe?"
 FEW_INSTRUCTIONS = "a filter has at most 4096 instructions"
 # The first words of a fault line after `afdxmon: `, and the line that a terminal shows last.
+DAMAGED_SECTION = "a pcapng file that is damaged in its section header: record again"
 ADVICE = {
     "file --config": "--config needs a table of virtual links: a TOML document, at most 16 MiB of UTF-8",
     "file --filter": "--filter needs a filter in the numeric form, at most 16 MiB of UTF-8",
     "file --a": RECORDING.format("a"),
     "file --b": RECORDING.format("b"),
     "file --tap": RECORDING.format("tap"),
-    "file RECORDING": "RECORDING needs a recording that can be read: a pcap file or a pipe",
+    "file RECORDING": "RECORDING needs a recording that can be read: a pcap or pcapng file, or a pipe",
     "file --source": "--source needs a filter's source, at most 16 MiB of UTF-8",
     "file --output": OUTPUT.format("output"),
     "file --capture": OUTPUT.format("capture"),
@@ -52,10 +53,15 @@ ADVICE = {
     "load 8": "the last instruction must be a return",
     "load 9": "a scratch memory slot is read that some path to the instruction hasn't stored",
     "watch 1": "--workers is 1 to 8",
-    "watch 2 Header A 1": "not a pcap file: it has fewer than the 24 bytes of a file header",
-    "watch 2 Header A 2": "not a pcap file; if pcapng: editcap -F nsecpcap in.pcapng out.pcap; if compressed: gunzip",
+    "watch 2 Header A 1": "not a recording: it ends within its file header",
+    "watch 2 Header A 2": "neither a pcap nor a pcapng file; if compressed: gunzip",
     "watch 2 Header A 3": "a pcap file of another version than 2.4: editcap -F nsecpcap in.pcap out.pcap writes 2.4",
     "watch 2 Header B 4": "a pcap file of another link type than 1, Ethernet: record on an Ethernet interface",
+    "watch 2 Header A 5": DAMAGED_SECTION,
+    "watch 2 Header A 6": "a pcapng file of another major version than 1: record as pcapng 1.0 or pcap",
+    "watch 2 Header A 7": DAMAGED_SECTION,
+    "watch 2 Header A 8": DAMAGED_SECTION,
+    "watch 2 Header A 9": DAMAGED_SECTION,
     "watch 3 Read A": UNREADABLE,
     "watch 3 Read B": UNREADABLE,
     "watch 4 Write capture": "the capture can't be written: is the disk full, or the pipe closed?",
@@ -82,17 +88,28 @@ TOP_KEYS = "the table has constant, late_us, filters and the links"
 LINK_KEYS = "a link has id, name, bag_ms, jitter_us, smax, integrity, redundancy and skew_us"
 COUNTS = "at most 4096 links and 7 filters"
 # The advice on a file that is no recording, by the first bytes that it has.
-PCAPNG = "a pcapng file: editcap -F nsecpcap in.pcapng out.pcap writes it as pcap"
 GZIP = "compressed by gzip: gunzip in.pcap.gz"
 ZSTD = "compressed by zstd: unzstd in.pcap.zst"
 CHECK_SEQUENCES = "its frames have their check sequence: editcap -F nsecpcap -L -C -4 in.pcap out.pcap takes it off"
 # The advice on a recording that ends early, by the words of its note.
+DAMAGED = "damaged there: editcap -F nsecpcap -r in.pcap out.pcap 1-{} keeps what is before"
+CHOOSE = "choose one by its number or name after the path, as flight.pcapng:0"
 ENDINGS = {
     "truncated within a record": "record again, or go on with the frames before it",
     "timestamp out of order": "the frames from there on are left out: reordercap in.pcap out.pcap sorts them",
-    "captured length over 262144 bytes": "damaged there: editcap -F nsecpcap -r in.pcap out.pcap 1-{} keeps what is before",
-    "fraction of a second out of range": "damaged there: editcap -F nsecpcap -r in.pcap out.pcap 1-{} keeps what is before",
+    "captured length over 262144 bytes": DAMAGED,
+    "fraction of a second out of range": DAMAGED,
     "too many frames": "the rest is left out: editcap -F nsecpcap -c 1000000000 in.pcap out.pcap splits it",
+    "a block's length is wrong": DAMAGED,
+    "the two lengths of a block differ": DAMAGED,
+    "a packet or an option reaches beyond its block": DAMAGED,
+    "a packet of an interface that isn't described": DAMAGED,
+    "a section of another version": DAMAGED,
+    "a packet without a timestamp": "simple packets have no time: record with enhanced packets, as dumpcap does",
+    "timestamp before 1970 or after 2106": "the recorder's clock was wrong: the frames from there on are left out",
+    "packets of several interfaces, and none is chosen": CHOOSE,
+    "too many interfaces": "the rest is left out: a section has at most 256 interfaces",
+    "the chosen interface isn't there": "capinfos in.pcapng lists the interfaces of a file",
 }
 DAMAGED_AT_ONCE = "the file is damaged at its first packet: record again"
 
@@ -116,6 +133,7 @@ ABOUT = {
     "asm": "Assembles a filter's source from standard input, and prints its numeric form",
     "watch": "Judges the frames of two recordings, and writes those that a filter accepts",
     "debug": "Steps through a filter on the frames of a recording, by commands from standard input",
+    "cut": "Copies the frames of two recordings that a ledger's lines select",
 }
 # What each command's help says after the line of what it does.
 HELP = {
@@ -123,7 +141,7 @@ HELP = {
 Usage: afdxmon capture [OPTIONS] <--code <TEXT>|--filter <FILE>|--source <FILE>> [RECORDING]
 
 Arguments:
-  [RECORDING]  The recording, a pcap file [default: -]
+  [RECORDING]  The recording, a pcap or pcapng file [default: -]
 
 Options:
       --code <TEXT>    The filter in the numeric form, as `tcpdump -ddd` prints it
@@ -152,8 +170,8 @@ Usage: afdxmon watch [OPTIONS] --config <FILE> --ledger <FILE> <--a <FILE>|--b <
 Options:
       --config <FILE>   The table of virtual links, a TOML document
       --filter <FILE>   The filter in the numeric form, as `afdxmon asm` prints it
-      --a <FILE>        The recording of network A, a pcap file
-      --b <FILE>        The recording of network B, a pcap file
+      --a <FILE>        The recording of network A, a pcap or pcapng file
+      --b <FILE>        The recording of network B, a pcap or pcapng file
       --capture <FILE>  The capture to write, a nanosecond pcap file
       --ledger <FILE>   The ledger of verdicts to write
       --workers <N>     The number of workers, 1 to 8 [default: 2]
@@ -173,13 +191,40 @@ Usage: afdxmon debug --tap <FILE> <--filter <FILE>|--source <FILE>>
 Options:
       --filter <FILE>  The filter in the numeric form, as `afdxmon asm` prints it
       --source <FILE>  The filter's source, as `afdxmon asm` reads it
-      --tap <FILE>     The recording, a pcap file
+      --tap <FILE>     The recording, a pcap or pcapng file
   -h, --help           Print help
 
 Commands: select <n>, step [+|-]<n>, cont, breakpoint <n>, disassemble, tally, quit
 
 Example: the state before the filter's first three instructions on frame 0
   printf 'select 0\nstep 1\nstep 1\n' | afdxmon debug --filter flight.filter --tap a.pcap
+""",
+    "cut": r"""
+Usage: afdxmon cut [OPTIONS] --ledger <FILE> <--a <FILE>|--b <FILE>|--ledger-only>
+
+Options:
+      --ledger <FILE>   The ledger of the recordings
+      --a <FILE>        The recording of network A, a pcap or pcapng file
+      --b <FILE>        The recording of network B, a pcap or pcapng file
+      --config <FILE>   The table of virtual links: --link may then have their names
+      --link <LIST>     Virtual links, as '301-305,42' or 'engine_*'; '*' stands for any letters
+      --network <A|B>   The network
+      --verdict <LIST>  Words of the ledger's fields 6 to 9, 'discarded' or 'delivered'
+      --from <TIME>     The first moment
+      --to <TIME>       The last moment
+      --filters <MASK>  A mask of filters in hexadecimal: '06' is what filter 1 or 2 accepts
+      --around <N>      Take N frames of the same link before and after each selected one too [default: 0]
+      --ledger-only     Print the ledger's lines of the selected frames in place of packets
+  -o, --output <FILE>   The nanosecond pcap file to write, or the text file of lines [default: -]
+  -h, --help            Print help
+
+Frames are written whole, as recorded, in the ledger's order. A frame is selected if it meets every
+option from --link to --filters that is given. With --around the ledger is read twice: it has to be
+a file. A TIME is '2027-01-15T08:00:12.119534506Z', the '08:00:12.1195' of the recording's day in
+UTC, or nanoseconds since 1970. '-' is standard input, or standard output.
+
+Example: keep the frames that policing discarded
+  afdxmon cut --ledger flight.ledger --a a.pcap --b b.pcap --verdict excess -o excess.pcap
 """,
 }
 PROGRAM_HELP = (

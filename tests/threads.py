@@ -5,6 +5,7 @@ import resource
 import select
 import shutil
 import subprocess
+import sys
 import time
 import tty
 
@@ -77,6 +78,24 @@ def on_one_processor(desk):
             pipes = {"stdin": subprocess.DEVNULL, "stdout": subprocess.PIPE, "stderr": subprocess.PIPE}
             ran = ended(command, preexec_fn=lambda: os.sched_setaffinity(0, {only}), **pipes)
             say(f"watch on one processor: {name}, {workers} workers", desk.agrees(ran, *out))
+
+
+def beside_busy_ones(desk):
+    """Threads come to the same end beside processes that keep all processors busy."""
+    frames = 20_000
+    steady = header() + long.packets(0, frames)
+    out = (b"".join(long.pieces_twice(frames)), b"afdx-ledger 2\n" + long.lines(0, frames) + long.totals(frames, 2 * frames))
+    busy = [subprocess.Popen([sys.executable, "-c", "while True: pass"]) for _ in range(2 * (os.cpu_count() or 1))]
+    try:
+        for workers in ("1", "2", "3", "4", "5", "6", "7", "8"):
+            desk.lay(config=TABLE, filter=EVERY, a=steady, b=steady)
+            pipes = {"stdin": subprocess.DEVNULL, "stdout": subprocess.PIPE, "stderr": subprocess.PIPE}
+            ran = ended([PROGRAM, *desk.arguments(), "--workers", workers], **pipes)
+            say(f"watch beside busy processes, {workers} workers", desk.agrees(ran, *out))
+    finally:
+        for child in busy:
+            child.kill()
+            child.wait()
 
 
 def without_threads(most):
@@ -298,6 +317,7 @@ def cases(desk):
     counted(desk)
     few_threads(desk)
     on_one_processor(desk)
+    beside_busy_ones(desk)
     failing_taps(desk)
     pausing_taps(desk)
     told_at_once(desk)

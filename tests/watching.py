@@ -194,11 +194,23 @@ def watched(desk, name, config, code, a, b, paths=None):
     return expected
 
 
+def by_each_count(desk, name, given, expected):
+    """Runs with 1 to 8 workers leave the same."""
+    fault = ""
+    for count in range(1, 9):
+        desk.lay(**given)
+        ran = desk.watch("--workers", str(count))
+        fault = fault or desk.agrees(ran, expected.capture, expected.lines + expected.summary)
+    say(f"watch: {name}, 1 to 8 workers", fault)
+
+
 def generated(desk):
     """Small pairs of recordings: late, equal and missing stamps, every class and verdict, several links and filters."""
     told = set()
     for seed in range(150):
-        expected = watched(desk, f"pair {seed}", *pairs.pair(random.Random(seed)))
+        given = dict(zip(("config", "filter", "a", "b"), pairs.pair(random.Random(seed))))
+        expected = watched(desk, f"pair {seed}", *given.values())
+        by_each_count(desk, f"pair {seed}", given, expected)
         told.update((expected.lines + expected.summary).decode().replace("\n", " ").split(" "))
     missing = sorted(pairs.WORDS - told)
     say("watch: the pairs have each word of a ledger", f"without {missing}" if missing else "")

@@ -3,7 +3,7 @@
 #
 #   wireshark/check.sh RECORDING LEDGER A|B      the recording of one network: all of its lines, in its order
 #   wireshark/check.sh RECORDING LEDGER capture  what `watch --capture` wrote: the lines that keep bytes
-#   wireshark/check.sh RECORDING LEDGER part     any frames of both networks: for each another line of the ledger
+#   wireshark/check.sh RECORDING LEDGER part     any frames of both networks, as `cut` writes them: for each another line of the ledger
 #
 # For each way one line: 'same' or 'DIFFERENT'. The status is 0 where all are the same. Takes the plugin beside this file,
 # else the one that is installed.

@@ -1,7 +1,7 @@
 //! That no output is another file of its command, and that the standard streams are there.
 use analyser::{
-    CaptureArguments, CaptureFiles, Fault, FileOption, FilterArgument, Inode, Named,
-    WatchArguments, WatchFiles, is_standard,
+    CaptureArguments, CaptureFiles, CutArguments, CutFiles, Fault, FileOption, FilterArgument,
+    Inode, Named, WatchArguments, WatchFiles, is_standard,
 };
 use std::fs::Metadata;
 use std::io::{ErrorKind, Read, Write};
@@ -105,6 +105,18 @@ pub fn refuse_shared_output(rt: &HostRuntime, given: &CaptureArguments<'_>) -> R
         filter,
         source,
         recording: input(rt, given.recording),
+        output: output(rt, given.output),
+    };
+    files.refuse_shared()
+}
+
+/// Refuses an output of `cut` that is one of its inputs.
+pub fn refuse_shared_cut(rt: &HostRuntime, given: &CutArguments<'_>) -> Result<(), Fault> {
+    let files = CutFiles {
+        ledger: input(rt, given.ledger),
+        a: input_if(rt, given.a),
+        b: input_if(rt, given.b),
+        config: input_if(rt, given.config),
         output: output(rt, given.output),
     };
     files.refuse_shared()

@@ -5,6 +5,7 @@
 #![tactic(auto)]
 
 mod files;
+mod interface;
 mod live;
 mod packets;
 mod pauses;
@@ -15,17 +16,21 @@ mod worst;
 
 use afdx_frame::{Network, TapFrame};
 use analyser::{
-    AsmRun, CaptureArguments, CaptureRun, DebugArguments, Exit, Fault, FileOption, FilterArgument,
-    HeldTap, Invocation, Summary, TapRead, USAGE, WatchArguments, WatchFault, WatchRefused,
-    Watched, answer_line, begin_session, capture_by, filter_of, filter_of_source, is_standard,
-    load_filters, read_arguments, read_config, read_file, read_tap, run_asm, run_session,
+    AsmRun, CaptureArguments, CaptureRun, CutArguments, DebugArguments, Exit, Fault, FileOption,
+    FilterArgument, HeldTap, Invocation, LinesRun, Neighbours, NeighboursRun, Selection,
+    SelectionOption, Summary, TapRead, USAGE, WatchArguments, WatchFault, WatchRefused, Watched,
+    answer_line, begin_session, capture_by, cut_frames, filter_of, filter_of_source, is_standard,
+    load_filters, neighbours_of, print_lines, read_arguments, read_config, read_file, read_tap,
+    run_asm, run_session, selection_of,
 };
 use bpf_debugger::DebugFault;
 use bpf_loader::Program;
-use files::{refuse_closed, refuse_shared, refuse_shared_output};
+use files::{refuse_closed, refuse_shared, refuse_shared_cut, refuse_shared_output};
+use interface::{Choices, Skipped, choose, interfaces_of};
 use live::{Blocks, LiveInput, Watcher};
 use pauses::Pauses;
-use pcap_io::{ReadSource, WriteSink};
+use pcap_io::{ReadSource, TapSource, WriteSink};
+use pcapng::{Choice, RecordingSource};
 use progress::{Progress, Recording};
 use std::alloc::Global;
 use std::io::{BufRead, BufReader, BufWriter, ErrorKind, IsTerminal, Write};
@@ -42,7 +47,8 @@ use worst::{LedgerWriter, WorstLinks};
 /// How many bytes are handed to the system at once.
 const BLOCK: usize = 65536;
 
-/// Why a command was not begun. Of a filter's source the text shows a person where its fault lies.
+/// Why a command was not begun. Of a filter's source the text shows a person where its fault lies; of a file
+/// of several interfaces it lists them.
 #[derive(Drop)]
 struct Refused {
     fault: Fault,
@@ -113,6 +119,47 @@ fn open_tap(
 /// There is no memory for a run.
 const NO_RUN: Fault = Fault::Watch(WatchFault::Memory);
 
+/// What reads a recording of either format as pcap.
+fn recording_of<S: TapSource + Drop>(
+    rt: &HostRuntime,
+    source: S,
+    choice: Choice,
+) -> Result<RecordingSource<S>, Fault> {
+    RecordingSource::new(rt.alloc(), source, choice).map_err(|_| NO_RUN)
+}
+
+/// Refuses a file that begins with packets of several interfaces, if none is chosen.
+fn refuse_several(
+    rt: &HostRuntime,
+    path: &str,
+    file: FileOption,
+    choice: Choice,
+) -> Result<(), Refused> {
+    match interfaces_of(rt, path, choice) {
+        Some(listed) => Err(Refused {
+            fault: Fault::Interfaces(file),
+            source: Some(listed),
+        }),
+        None => Ok(()),
+    }
+}
+
+/// The same of the recordings of two networks, where they are given.
+fn refuse_several_of_both(
+    rt: &HostRuntime,
+    a: Option<&str>,
+    b: Option<&str>,
+    choices: Choices,
+) -> Result<(), Refused> {
+    if let Some(path) = a {
+        refuse_several(rt, path, FileOption::A, choices.a)?;
+    }
+    if let Some(path) = b {
+        refuse_several(rt, path, FileOption::B, choices.b)?;
+    }
+    Ok(())
+}
+
 /// What hands an output its bytes in blocks.
 fn blocks_of(rt: &HostRuntime, output: Output) -> Result<Blocks, Fault> {
     Blocks::new(rt.alloc(), output).map_err(|_| NO_RUN)
@@ -178,13 +225,18 @@ fn is_at_terminal(rt: &HostRuntime, path: &str) -> bool {
 
 /// Copies the frames of a recording that the filter accepts. What was written before a fault is handed to
 /// the system too. An error is a fault that was met before.
-fn capture(rt: &HostRuntime, given: &CaptureArguments<'_>) -> Result<Exit, Refused> {
+fn capture(
+    rt: &HostRuntime,
+    given: &CaptureArguments<'_>,
+    choice: Choice,
+) -> Result<Ended, Refused> {
     if is_at_terminal(rt, given.output) {
-        return Ok(Exit::Terminal);
+        return Ok(Ended::from(Exit::Terminal));
     }
     let program = filter(rt, given.filter)?;
     let recording = open(rt, given.recording, FileOption::Recording)?;
     refuse_shared_output(rt, given)?;
+    refuse_several(rt, given.recording, FileOption::Recording, choice)?;
     let output = create(rt, given.output, FileOption::Output)?;
     // What was kept so far can be seen while a pipe gives no more.
     let live = if recording.may_pause(rt) {
@@ -193,13 +245,18 @@ fn capture(rt: &HostRuntime, given: &CaptureArguments<'_>) -> Result<Exit, Refus
         None
     };
     let source = ReadSource::new(LiveInput::new(recording, live));
+    let source = recording_of(rt, source, choice)?;
     let CaptureRun {
         outcome,
-        source: _,
+        source,
         sink,
     } = capture_by(rt.alloc(), &program, source, WriteSink::new(output));
     let flushed = sink.into_writer().flush().is_ok();
-    Ok(Exit::of_capture(outcome, flushed))
+    Ok(Ended {
+        exit: Exit::of_capture(outcome, flushed),
+        worst: None,
+        skipped: Skipped::one(source.skipped()),
+    })
 }
 
 /// A filter that accepts no frame.
@@ -220,16 +277,163 @@ fn set_up(rt: &HostRuntime, given: &WatchArguments<'_>) -> Result<(Config, Vec<P
     Ok((config, programs))
 }
 
-/// How a command ended, and of `watch` the worst links, if they are to be told.
+/// The table of virtual links, if it is given.
+fn table_of(rt: &HostRuntime, path: Option<&str>) -> Result<Option<Config>, Fault> {
+    let Some(path) = path else {
+        return Ok(None);
+    };
+    let text = text_of(rt, path, FileOption::Config)?;
+    Ok(Some(read_config(rt.alloc(), &text)?))
+}
+
+/// An input of which something is written.
+type LiveSource = ReadSource<LiveInput>;
+
+/// What reads an input of which something is written. What was written so far can be seen while a pipe gives
+/// no more.
+fn live_source(rt: &HostRuntime, input: Input, output: &Blocks) -> Result<LiveSource, Fault> {
+    let live = if input.may_pause(rt) {
+        Some(same(output)?)
+    } else {
+        None
+    };
+    Ok(ReadSource::new(LiveInput::new(input, live)))
+}
+
+/// What is read and written by a cut.
+#[derive(Drop)]
+struct CutDevices<'a> {
+    selection: &'a Selection,
+    neighbours: Option<Neighbours>,
+    ledger: LiveSource,
+    a: RecordingSource<LiveSource>,
+    b: RecordingSource<LiveSource>,
+    sink: WriteSink<Blocks>,
+}
+
+/// Prints the lines that the selection takes. They are checked against the recordings that are given.
+fn cut_lines(rt: &HostRuntime, files: CutDevices<'_>, is_checked: bool) -> Ended {
+    let CutDevices {
+        selection,
+        neighbours,
+        ledger,
+        a,
+        b,
+        sink,
+    } = files;
+    let recordings = if is_checked { Some((a, b)) } else { None };
+    let LinesRun {
+        outcome,
+        ledger: _,
+        recordings,
+        output,
+    } = print_lines(rt.alloc(), selection, neighbours, ledger, recordings, sink);
+    let skipped = match recordings {
+        Some((a, b)) => Skipped::two(a.skipped(), b.skipped()),
+        None => Skipped::none(),
+    };
+    let flushed = output.into_writer().flush().is_ok();
+    Ended {
+        exit: Exit::of_cut(outcome.map_err(Fault::Cut), flushed),
+        worst: None,
+        skipped,
+    }
+}
+
+/// Writes the frames of the lines that the selection takes.
+fn cut_packets(rt: &HostRuntime, files: CutDevices<'_>) -> Ended {
+    let CutDevices {
+        selection,
+        neighbours,
+        ledger,
+        a,
+        b,
+        sink,
+    } = files;
+    let run = cut_frames(rt.alloc(), selection, neighbours, ledger, a, b, sink);
+    let flushed = run.output.into_writer().flush().is_ok();
+    Ended {
+        exit: Exit::of_cut(run.outcome.map_err(Fault::Cut), flushed),
+        worst: None,
+        skipped: Skipped::two(run.a.skipped(), run.b.skipped()),
+    }
+}
+
+/// The lines around those that are selected, where such are asked for. The ledger is read for that.
+fn neighbours(
+    rt: &HostRuntime,
+    given: &CutArguments<'_>,
+    selection: &Selection,
+) -> Result<Option<Neighbours>, Fault> {
+    if given.around == 0 {
+        return Ok(None);
+    }
+    let ledger = open(rt, given.ledger, FileOption::Ledger)?;
+    if is_standard(given.ledger) || ledger.length(rt).is_none() {
+        return Err(Fault::Selection {
+            option: SelectionOption::Around,
+            item: 0,
+        });
+    }
+    let around = u32::from(given.around);
+    let NeighboursRun { outcome, ledger: _ } = neighbours_of(
+        rt.alloc(),
+        selection,
+        around,
+        ReadSource::new(ledger),
+    );
+    match outcome {
+        Ok(found) => Ok(Some(found)),
+        Err(fault) => Err(Fault::Cut(fault)),
+    }
+}
+
+/// Writes the frames of two recordings that a selection of their ledger's lines takes, or these lines. What
+/// was written before a fault is handed to the system too. An error is a fault that was met before.
+fn cut(rt: &HostRuntime, given: &CutArguments<'_>, choices: Choices) -> Result<Ended, Refused> {
+    if !given.ledger_only && is_at_terminal(rt, given.output) {
+        return Ok(Ended::from(Exit::Terminal));
+    }
+    let config = table_of(rt, given.config)?;
+    let selection = selection_of(rt.alloc(), given, config.as_ref())?;
+    let neighbours = neighbours(rt, given, &selection)?;
+    let ledger = open(rt, given.ledger, FileOption::Ledger)?;
+    let a = open_tap(rt, given.a, Network::A, None)?;
+    let b = open_tap(rt, given.b, Network::B, None)?;
+    refuse_shared_cut(rt, given)?;
+    refuse_several_of_both(rt, given.a, given.b, choices)?;
+    let output = create(rt, given.output, FileOption::Output)?;
+    let files = CutDevices {
+        selection: &selection,
+        neighbours,
+        ledger: live_source(rt, ledger, &output)?,
+        a: recording_of(rt, live_source(rt, a, &output)?, choices.a)?,
+        b: recording_of(rt, live_source(rt, b, &output)?, choices.b)?,
+        sink: WriteSink::new(output),
+    };
+    Ok(if given.ledger_only {
+        cut_lines(rt, files, given.a.is_some() || given.b.is_some())
+    } else {
+        cut_packets(rt, files)
+    })
+}
+
+/// How a command ended, of `watch` the worst links, if they are to be told, and how many packets that are
+/// not of Ethernet its recordings have.
 #[derive(Drop)]
 struct Ended {
     exit: Exit,
     worst: Option<WorstLinks>,
+    skipped: Skipped,
 }
 
 impl From<Exit> for Ended {
     fn from(exit: Exit) -> Ended {
-        Ended { exit, worst: None }
+        Ended {
+            exit,
+            worst: None,
+            skipped: Skipped::none(),
+        }
     }
 }
 
@@ -240,20 +444,26 @@ type CaptureSink = WriteSink<Blocks>;
 type LedgerSink = WriteSink<LedgerWriter>;
 
 /// How a run over two recordings ended, whose outputs are handed to the system.
-fn settle<S: Drop>(
+fn settle<S: TapSource + Drop>(
     run: Result<
-        Watched<S, S, CaptureSink, LedgerSink>,
-        WatchRefused<S, S, CaptureSink, LedgerSink>,
+        Watched<RecordingSource<S>, RecordingSource<S>, CaptureSink, LedgerSink>,
+        WatchRefused<RecordingSource<S>, RecordingSource<S>, CaptureSink, LedgerSink>,
     >,
 ) -> Ended {
-    let (outcome, capture, ledger) = match run {
+    let (outcome, skipped, capture, ledger) = match run {
         Ok(done) => {
             let [a, b] = done.endings;
             let totals = done.totals;
-            (Ok(Summary { a, b, totals }), done.capture, done.ledger)
+            (
+                Ok(Summary { a, b, totals }),
+                Skipped::two(done.a.skipped(), done.b.skipped()),
+                done.capture,
+                done.ledger,
+            )
         }
         Err(refused) => (
             Err(Fault::Watch(refused.fault)),
+            Skipped::none(),
             refused.capture,
             refused.ledger,
         ),
@@ -264,6 +474,7 @@ fn settle<S: Drop>(
     Ended {
         exit: Exit::of_watch(outcome, capture_flushed, ledger_flushed),
         worst: ledger.into_worst(),
+        skipped,
     }
 }
 
@@ -282,6 +493,7 @@ struct Analysis<'a> {
     given: &'a WatchArguments<'a>,
     config: &'a Config,
     programs: &'a [Program],
+    choices: Choices,
     /// Becomes true once a fault was told.
     told: &'a AtomicBool,
 }
@@ -293,10 +505,11 @@ fn watch_networks<R: Threads + Wait + Sync>(
     threads: &R,
     analysis: &Analysis<'_>,
     pauses: Option<&Pauses>,
-) -> Result<Ended, Fault> {
-    let given = analysis.given;
+) -> Result<Ended, Refused> {
+    let (given, choices) = (analysis.given, analysis.choices);
     let a = open_tap(rt, given.a, Network::A, pauses)?;
     let b = open_tap(rt, given.b, Network::B, pauses)?;
+    refuse_several_of_both(rt, given.a, given.b, choices)?;
     let (capture, ledger) = open_outputs(rt, given)?;
     let progress = if given.quiet {
         None
@@ -305,6 +518,8 @@ fn watch_networks<R: Threads + Wait + Sync>(
     };
     let shown = progress.as_ref();
     let outputs = (same(&capture)?, same(&ledger)?);
+    let a = ReadSource::new(Recording::with_pauses(rt, a, Network::A, shown, pauses));
+    let b = ReadSource::new(Recording::with_pauses(rt, b, Network::B, shown, pauses));
     let watcher = Watcher::new(rt, *given, outputs, shown, pauses, analysis.told);
     let run = analyser::watch(
         threads,
@@ -312,8 +527,8 @@ fn watch_networks<R: Threads + Wait + Sync>(
         analysis.config,
         analysis.programs,
         u32::from(given.workers),
-        ReadSource::new(Recording::with_pauses(rt, a, Network::A, shown, pauses)),
-        ReadSource::new(Recording::with_pauses(rt, b, Network::B, shown, pauses)),
+        recording_of(rt, a, choices.a)?,
+        recording_of(rt, b, choices.b)?,
         WriteSink::new(capture),
         WriteSink::new(LedgerWriter::new(ledger, worst_links(rt, given))),
         &watcher,
@@ -330,7 +545,7 @@ fn watch_pauses<R: Threads + Wait + Sync>(
     threads: &R,
     analysis: &Analysis<'_>,
     pauses: &Pauses,
-) -> Result<Ended, Fault> {
+) -> Result<Ended, Refused> {
     thread::scope(thread::scope_env(), threads, |scope| {
         // Without that thread nothing is told of them.
         let _ = scope.spawn(|| pauses.tell(rt, threads));
@@ -345,6 +560,7 @@ fn watch<R: Threads + Wait + Sync>(
     rt: &HostRuntime,
     threads: &R,
     given: &WatchArguments<'_>,
+    choices: Choices,
     told: &AtomicBool,
 ) -> Result<Ended, Refused> {
     if given.capture.is_some_and(|path| is_at_terminal(rt, path)) {
@@ -356,6 +572,7 @@ fn watch<R: Threads + Wait + Sync>(
         given,
         config: &config,
         programs: &programs,
+        choices,
         told,
     };
     let ended = match Pauses::begin(rt, given) {
@@ -423,29 +640,41 @@ fn debug_terminal(rt: &HostRuntime, program: Program, frames: Vec<TapFrame>) -> 
 }
 
 /// Reads a recording whole, and shows its progress.
-fn read_tap_shown(rt: &HostRuntime, tap: Input) -> Result<HeldTap, WatchFault> {
+fn read_tap_shown(
+    rt: &HostRuntime,
+    tap: Input,
+    choice: Choice,
+) -> Result<(HeldTap, Skipped), Fault> {
     let progress = Progress::begin(rt, tap.length(rt), None);
     let recording = Recording::new(rt, tap, Network::A, progress.as_ref());
-    let TapRead { outcome, source: _ } = read_tap(rt.alloc(), ReadSource::new(recording));
+    let source = recording_of(rt, ReadSource::new(recording), choice)?;
+    let TapRead { outcome, source } = read_tap(rt.alloc(), source);
     if let Some(progress) = &progress {
         progress.erase(rt);
     }
-    outcome
+    match outcome {
+        Ok(held) => Ok((held, Skipped::one(source.skipped()))),
+        Err(fault) => Err(Fault::Watch(fault)),
+    }
 }
 
 /// Steps through a filter on the frames of a recording. An error is a fault that was met before the session.
-fn debug(rt: &HostRuntime, given: &DebugArguments<'_>) -> Result<Exit, Refused> {
+fn debug(rt: &HostRuntime, given: &DebugArguments<'_>, choice: Choice) -> Result<Ended, Refused> {
     let program = filter(rt, given.filter)?;
     let tap = open(rt, given.tap, FileOption::Tap)?;
-    let tap = match read_tap_shown(rt, tap) {
-        Ok(tap) => tap,
-        Err(fault) => return Err(Refused::from(Fault::Watch(fault))),
-    };
-    if rt.stdin().is_terminal() {
+    refuse_several(rt, given.tap, FileOption::Tap, choice)?;
+    let (tap, skipped) = read_tap_shown(rt, tap, choice)?;
+    let exit = if rt.stdin().is_terminal() {
         let outcome = debug_terminal(rt, program, tap.frames);
-        return Ok(Exit::of_session(tap.ending, outcome, true));
-    }
-    Ok(debug_input(rt, program, tap))
+        Exit::of_session(tap.ending, outcome, true)
+    } else {
+        debug_input(rt, program, tap)
+    };
+    Ok(Ended {
+        exit,
+        worst: None,
+        skipped,
+    })
 }
 
 /// Tells a person at a terminal what a run over two recordings came to.
@@ -481,16 +710,17 @@ fn run<R: Threads + Wait + Sync>(
     rt: &HostRuntime,
     threads: &R,
     command: Invocation<'_>,
+    choices: Choices,
     told: &AtomicBool,
 ) -> Result<Ended, Refused> {
     command.refuse_taken()?;
-    let exit = match command {
-        Invocation::Watch(given) => return watch(rt, threads, &given, told),
-        Invocation::Asm => asm(rt)?,
-        Invocation::Capture(given) => capture(rt, &given)?,
-        Invocation::Debug(given) => debug(rt, &given)?,
-    };
-    Ok(Ended::from(exit))
+    match command {
+        Invocation::Watch(given) => watch(rt, threads, &given, choices, told),
+        Invocation::Asm => Ok(Ended::from(asm(rt)?)),
+        Invocation::Capture(given) => capture(rt, &given, choices.a),
+        Invocation::Debug(given) => debug(rt, &given, choices.a),
+        Invocation::Cut(given) => cut(rt, &given, choices),
+    }
 }
 
 /// Carries out a command, and tells standard error how it ended.
@@ -501,10 +731,12 @@ fn carry_out<R: Threads + Wait + Sync>(
 ) -> Exit {
     let quiet = matches!(command, Invocation::Watch(given) if given.quiet);
     let told = AtomicBool::new(false);
-    let ended = match run(rt, threads, command, &told) {
+    let (command, choices) = choose(rt, command);
+    let ended = match run(rt, threads, command, choices, &told) {
         Ok(ended) if told.load(Ordering::SeqCst) => ended,
         Ok(ended) => {
             let _ = tell(rt, command, &ended.exit, None);
+            let _ = ended.skipped.tell(rt, &ended.exit);
             ended
         }
         Err(Refused { fault, source }) => {

@@ -3,9 +3,10 @@
 use crate::streams::Output;
 use afdx_frame::Network;
 use analyser::{
-    EndingAdvice, Exit, Fault, FileOption, FilterArgument, HEAD_LEN, Invocation, MAX_TEXT, Note,
-    TO_A_TERMINAL, TapNote, WatchFault, advice, caret_at, file_of, header_advice, is_standard,
-    load_offset, numeric_advice, numeric_offset, place_at, source_offset, written_as,
+    CutFault, EndingAdvice, Exit, Fault, FileOption, FilterArgument, HEAD_LEN, Invocation,
+    MAX_TEXT, Note, TO_A_TERMINAL, TapNote, WITHOUT_TOTAL, WatchFault, advice, caret_at, file_of,
+    header_advice, is_standard, load_offset, numeric_advice, numeric_offset, place_at,
+    source_offset, written_as,
 };
 use bpf_asm::AsmFault;
 use config_place::{key_offset, slip_of};
@@ -69,6 +70,11 @@ fn given<'a>(command: Invocation<'a>, file: FileOption) -> Option<&'a str> {
         (Invocation::Capture(given), FileOption::Output | FileOption::Capture) => {
             Some(given.output)
         }
+        (Invocation::Cut(given), FileOption::Ledger) => Some(given.ledger),
+        (Invocation::Cut(given), FileOption::A) => given.a,
+        (Invocation::Cut(given), FileOption::B) => given.b,
+        (Invocation::Cut(given), FileOption::Config) => given.config,
+        (Invocation::Cut(given), FileOption::Output) => Some(given.output),
         _ => None,
     }
 }
@@ -79,9 +85,17 @@ fn path_of<'a>(command: Invocation<'a>, file: FileOption) -> Option<&'a str> {
     if is_standard(path) { None } else { Some(path) }
 }
 
+/// Is it a ledger, which `cut` reads?
+fn is_ledger_read(command: Invocation<'_>, file: FileOption) -> bool {
+    matches!((command, file), (Invocation::Cut(_), FileOption::Ledger))
+}
+
 /// What a person knows a file by: its path, or the stream or option that is in its place.
 fn name_of<'a>(command: Invocation<'a>, file: FileOption) -> Option<&'a str> {
     match (given(command, file), file) {
+        (Some(path), _) if is_standard(path) && is_ledger_read(command, file) => {
+            Some("standard input")
+        }
         (Some(path), FileOption::Capture | FileOption::Ledger | FileOption::Output)
             if is_standard(path) => { Some("standard output") }
         (Some(path), _) if is_standard(path) => Some("standard input"),
@@ -96,7 +110,7 @@ fn code_of<'a>(command: Invocation<'a>) -> Option<&'a str> {
     let filter = match command {
         Invocation::Capture(given) => given.filter,
         Invocation::Debug(given) => given.filter,
-        Invocation::Asm | Invocation::Watch(_) => return None,
+        Invocation::Asm | Invocation::Watch(_) | Invocation::Cut(_) => return None,
     };
     match filter {
         FilterArgument::Code(code) => Some(code),
@@ -109,7 +123,7 @@ fn source_of<'a>(command: Invocation<'a>) -> Option<&'a str> {
     let filter = match command {
         Invocation::Capture(given) => given.filter,
         Invocation::Debug(given) => given.filter,
-        Invocation::Asm | Invocation::Watch(_) => return None,
+        Invocation::Asm | Invocation::Watch(_) | Invocation::Cut(_) => return None,
     };
     match filter {
         FilterArgument::Source(path) => Some(path),
@@ -239,6 +253,9 @@ fn show_caret(rt: &HostRuntime, text: &str, at: usize) -> io::Result<()> {
     }
 }
 
+/// What a ledger that is read needs.
+const LEDGER_ADVICE: &str = "--ledger needs a ledger that can be read: a file of watch, or a pipe";
+
 /// Tells why a file can't be opened, read or written, and what it needs.
 fn explain_file(
     rt: &HostRuntime,
@@ -246,8 +263,17 @@ fn explain_file(
     file: FileOption,
     fault: &Fault,
 ) -> io::Result<()> {
-    let reason = path_of(command, file).and_then(|path| reason_of(rt, path, file));
+    let is_read = is_ledger_read(command, file);
+    let reason = path_of(command, file).and_then(|path| {
+        if is_read {
+            reason_of_input(rt, path, file)
+        } else {
+            reason_of(rt, path, file)
+        }
+    });
     match (name_of(command, file), reason) {
+        (Some(name), Some(reason)) if is_read => eprintln!(rt; "{name}: {reason}"),
+        (name, None) if is_read => advise(rt, name, LEDGER_ADVICE),
         (Some(name), Some(reason)) => {
             eprintln!(rt; "{name}: {reason}")?;
             rt.eprintln(advice(fault))
@@ -374,6 +400,17 @@ fn explain_filter(
     }
 }
 
+/// Tells what is wrong with a recording's file header.
+fn explain_header(
+    rt: &HostRuntime,
+    command: Invocation<'_>,
+    file: FileOption,
+    fault: HeaderFault,
+) -> io::Result<()> {
+    let advice = advice_on_header(rt, path_of(command, file), fault);
+    advise(rt, name_of(command, file), advice)
+}
+
 /// Tells a person what a fault line means: the file and the place in it, why it can't be had or taken, and
 /// what to do.
 fn explain(
@@ -388,12 +425,12 @@ fn explain(
         (Fault::File(_) | Fault::Watch(WatchFault::Read { .. }), Some(file)) => {
             explain_file(rt, command, file, fault)
         }
+        (Fault::Cut(CutFault::Read { .. }), Some(file)) => explain_file(rt, command, file, fault),
         (Fault::Watch(WatchFault::Header { fault, .. }), Some(file)) => {
-            advise(
-                rt,
-                name,
-                advice_on_header(rt, path_of(command, file), fault),
-            )
+            explain_header(rt, command, file, fault)
+        }
+        (Fault::Cut(CutFault::Header { fault, .. }), Some(file)) => {
+            explain_header(rt, command, file, fault)
         }
         (Fault::Config(fault), _) => explain_table(rt, command, fault),
         (Fault::Asm(fault), _) => explain_source(rt, command, fault, source),
@@ -457,8 +494,12 @@ pub fn tell(
             note_ending(rt, command, Network::A, run.a)?;
             note_ending(rt, command, Network::B, run.b)
         }
+        Exit::WithoutTotal => rt.eprintln(WITHOUT_TOTAL),
         Exit::Fault(fault) => {
-            rt.eprintln(*fault)?;
+            match (fault, source) {
+                (Fault::Interfaces(_), Some(listed)) => eprintln!(rt; "{fault}: {listed}")?,
+                _ => rt.eprintln(*fault)?,
+            }
             if !rt.stderr().is_terminal() {
                 return Ok(());
             }

@@ -9,7 +9,7 @@ use Rattle.pcap_io.specs.Layout.{fractions_of, nanoseconds_of}
 use Rattle.pcap_io.specs.Recording.{AreGood, IsGood, Packet, frame_of, frames_of, stamp_of}
 use Rattle.pcap_io.specs.declared.layout.Layout.{Layout}
 use Rattle.pcap_io.specs.declared.layout.Precision.{Precision}
-use Rattle.pcap_io.specs.declared.layout.Precision.TheVariants.{Nanoseconds, Microseconds}
+use Rattle.pcap_io.specs.declared.layout.Precision.TheVariants.{Nanoseconds, Microseconds, Converted}
 use Rattle.pcap_io.proofs.Captures.{whole_capture}
 use Rattle.filter_workers.specs.Filters.{answer_for}
 use Rattle.capture_run.specs.Capture.{accepted, capture_text, kept_len, records_of}
@@ -39,6 +39,7 @@ capture_text-accepted p frames = ap (λ (x : List ℕ). capture_header ++ x) (re
 within_seconds : (q : Precision) (seconds fraction : ℕ) → seconds < 2 ^ 32 → fraction < fractions_of q → seconds * 1000000000 + fraction * nanoseconds_of q < 1000000000 * 2 ^ 32
 within_seconds Nanoseconds seconds fraction s f = omega (arith, s, f)
 within_seconds Microseconds seconds fraction s f = omega (arith, s, f)
+within_seconds Converted seconds fraction s f = omega (arith, s, f)
 
 is_frame : (network : Network) (l : Layout) (late high n : ℕ) (r : Packet) → n < 2 ^ 32 → IsGood l late high r → IsFrame (frame_of network l n r)
 is_frame network l late high n r fits good = record {

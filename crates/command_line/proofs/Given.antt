@@ -1,4 +1,4 @@
--- What the options of watch and debug give.
+-- What the options of watch, debug and cut give.
 use Rattle.std.proofs.Common.{◌≡◌, ◌≢◌, ℕ, ◌<◌, ◌^◌, Bool, true, false, ◌&&◌, [], ◌∷◌, length, Option, Some, None, Result, Err, refl, ap, ◌∙◌, codes}
 use Rattle.std.proofs.lemmas.Bool.{lt-ltb, ltb-true}
 use Rattle.std.proofs.lemmas.Slice.Eq.{bytes_eq-Decides}
@@ -10,13 +10,13 @@ use Rattle.clap.specs.Words.{Text, first_value, one_text, rows_of}
 use Rattle.clap.specs.declared.parser.matches.Found.{Found}
 use Rattle.clap.proofs.WalkLemmas.{first_value-rows, one_text-rows}
 use Rattle.command_line.specs.declared.misuse.Misuse.{Misuse}
-use Rattle.command_line.specs.Arguments.{FilterWords, are_digits, capture_in, capture_with, debug_in, debug_with, filter_in, flag_in, is_byte_numeral, number_in, one_filter, watch_in, watch_with}
+use Rattle.command_line.specs.Arguments.{FilterWords, are_digits, capture_in, capture_with, cut_in, cut_with, debug_in, debug_with, filter_in, flag_in, is_numeral, number_in, one_filter, watch_in, watch_with}
 
 -- ---- the texts
 
 pub watch_is : (f : Found) (config filter a b capture ledger : Option Text) (workers : Option ℕ) (quiet : Option Bool) →
     config ≡ first_value f (codes "config") → filter ≡ first_value f (codes "filter") → a ≡ first_value f (codes "a") → b ≡ first_value f (codes "b") →
-    capture ≡ first_value f (codes "capture") → ledger ≡ first_value f (codes "ledger") → workers ≡ option_and_then number_in (one_text f (codes "workers")) →
+    capture ≡ first_value f (codes "capture") → ledger ≡ first_value f (codes "ledger") → workers ≡ option_and_then (number_in 8) (one_text f (codes "workers")) →
     quiet ≡ option_and_then flag_in (one_text f (codes "quiet")) → watch_with config filter a b capture ledger workers quiet ≡ watch_in (rows_of f)
 watch_is f config filter a b capture ledger workers quiet e1 e2 e3 e4 e5 e6 e7 e8 = cc (
   e1 ∙ first_value-rows f (codes "config"),
@@ -25,7 +25,7 @@ watch_is f config filter a b capture ledger workers quiet e1 e2 e3 e4 e5 e6 e7 e
   e4 ∙ first_value-rows f (codes "b"),
   e5 ∙ first_value-rows f (codes "capture"),
   e6 ∙ first_value-rows f (codes "ledger"),
-  e7 ∙ ap (option_and_then number_in) (one_text-rows f (codes "workers")),
+  e7 ∙ ap (option_and_then (number_in 8)) (one_text-rows f (codes "workers")),
   e8 ∙ ap (option_and_then flag_in) (one_text-rows f (codes "quiet")),
 )
 
@@ -42,6 +42,29 @@ pub debug_is : (f : Found) (filter : Result FilterWords Misuse) (tap : Option Te
     debug_with filter tap ≡ debug_in (rows_of f)
 debug_is f filter tap e1 e2 = cc (e1, e2 ∙ first_value-rows f (codes "tap"))
 
+pub cut_is : (f : Found) (ledger a b config link network verdict from to filters : Option Text) (around : Option ℕ) (ledger_only : Option Bool) (output : Option Text) →
+    ledger ≡ first_value f (codes "ledger") → a ≡ first_value f (codes "a") → b ≡ first_value f (codes "b") → config ≡ first_value f (codes "config") →
+    link ≡ first_value f (codes "link") → network ≡ first_value f (codes "network") → verdict ≡ first_value f (codes "verdict") → from ≡ first_value f (codes "from") →
+    to ≡ first_value f (codes "to") → filters ≡ first_value f (codes "filters") →
+    around ≡ option_and_then (number_in 16) (one_text f (codes "around")) →
+    ledger_only ≡ option_and_then flag_in (one_text f (codes "ledger-only")) → output ≡ first_value f (codes "output") →
+    cut_with ledger a b config link network verdict from to filters around ledger_only output ≡ cut_in (rows_of f)
+cut_is f ledger a b config link network verdict from to filters around ledger_only output e1 e2 e3 e4 e5 e6 e7 e8 e9 e10 e11 e12 e13 = cc (
+  e1 ∙ first_value-rows f (codes "ledger"),
+  e2 ∙ first_value-rows f (codes "a"),
+  e3 ∙ first_value-rows f (codes "b"),
+  e4 ∙ first_value-rows f (codes "config"),
+  e5 ∙ first_value-rows f (codes "link"),
+  e6 ∙ first_value-rows f (codes "network"),
+  e7 ∙ first_value-rows f (codes "verdict"),
+  e8 ∙ first_value-rows f (codes "from"),
+  e9 ∙ first_value-rows f (codes "to"),
+  e10 ∙ first_value-rows f (codes "filters"),
+  e11 ∙ ap (option_and_then (number_in 16)) (one_text-rows f (codes "around")),
+  e12 ∙ ap (option_and_then flag_in) (one_text-rows f (codes "ledger-only")),
+  e13 ∙ first_value-rows f (codes "output"),
+)
+
 -- ---- the number
 
 digits_true : (cs : Text) → AllDigits 10 cs → are_digits cs ≡ true
@@ -57,24 +80,24 @@ all_digits [] e = tt
 all_digits (c ∷ cs) e =
     let p = both_true (nat_lt (digit_value c) 10) (are_digits cs) e in (ltb-true (digit_value c) 10 p.0, all_digits cs p.1)
 
-numeral_true : (digits : Text) → IsNumeral 10 digits × (digits_value 10 digits < 2 ^ 8) → is_byte_numeral digits ≡ true
-numeral_true digits ((some, all), small) = rw (lt-ltb 0 (length digits) some, digits_true digits all, lt-ltb (digits_value 10 digits) 256 small) refl
+numeral_true : (bits : ℕ) (digits : Text) → IsNumeral 10 digits × (digits_value 10 digits < 2 ^ bits) → is_numeral bits digits ≡ true
+numeral_true bits digits ((some, all), small) = rw (lt-ltb 0 (length digits) some, digits_true digits all, lt-ltb (digits_value 10 digits) (2 ^ bits) small) refl
 
-numeral_of : (digits : Text) → is_byte_numeral digits ≡ true → IsNumeral 10 digits × (digits_value 10 digits < 2 ^ 8)
-numeral_of digits e =
-    let p = both_true (nat_lt 0 (length digits)) (are_digits digits && nat_lt (digits_value 10 digits) 256) e in
-    let q = both_true (are_digits digits) (nat_lt (digits_value 10 digits) 256) p.1 in
-    ((ltb-true 0 (length digits) p.0, all_digits digits q.0), ltb-true (digits_value 10 digits) 256 q.1)
+numeral_of : (bits : ℕ) (digits : Text) → is_numeral bits digits ≡ true → IsNumeral 10 digits × (digits_value 10 digits < 2 ^ bits)
+numeral_of bits digits e =
+    let p = both_true (nat_lt 0 (length digits)) (are_digits digits && nat_lt (digits_value 10 digits) (2 ^ bits)) e in
+    let q = both_true (are_digits digits) (nat_lt (digits_value 10 digits) (2 ^ bits)) p.1 in
+    ((ltb-true 0 (length digits) p.0, all_digits digits q.0), ltb-true (digits_value 10 digits) (2 ^ bits) q.1)
 
-pub number_is : (text : Text) (n : ℕ) → (IsNumeral 10 (without_leading_plus text) × (digits_value 10 (without_leading_plus text) < 2 ^ 8))
-    × (n ≡ digits_value 10 (without_leading_plus text)) → Some n ≡ number_in text
-number_is text n (holds, same) = rw (numeral_true (without_leading_plus text) holds) (ap Some same)
+pub number_is : (bits : ℕ) (text : Text) (n : ℕ) → (IsNumeral 10 (without_leading_plus text) × (digits_value 10 (without_leading_plus text) < 2 ^ bits))
+    × (n ≡ digits_value 10 (without_leading_plus text)) → Some n ≡ number_in bits text
+number_is bits text n (holds, same) = rw (numeral_true bits (without_leading_plus text) holds) (ap Some same)
 
-pub no_number : (E : Type 0) (text : Text) (e : E) → ParsesUnsigned {E = E} 8 10 text (Err e) → None ≡ number_in text
-no_number E text e fails = by (is_byte_numeral (without_leading_plus text)) refl
+pub no_number : (bits : ℕ) (E : Type 0) (text : Text) (e : E) → ParsesUnsigned {E = E} bits 10 text (Err e) → None ≡ number_in bits text
+no_number bits E text e fails = by (is_numeral bits (without_leading_plus text)) refl
   where
-    by : (b : Bool) → is_byte_numeral (without_leading_plus text) ≡ b → None ≡ (if b then Some (digits_value 10 (without_leading_plus text)) else None)
-    by true is = absurd (fails (numeral_of (without_leading_plus text) is))
+    by : (b : Bool) → is_numeral bits (without_leading_plus text) ≡ b → None ≡ (if b then Some (digits_value 10 (without_leading_plus text)) else None)
+    by true is = absurd (fails (numeral_of bits (without_leading_plus text) is))
     by false is = refl
 
 -- ---- the flag

@@ -1,10 +1,11 @@
 -- The command-line arguments (this project's profile), as clap reads them, and what the commands ask of them besides: `capture` and
--- `debug` take one filter, `watch` at least one recording, and a capture only with a filter.
-use Rattle.std.specs.Prelude.{◌≡◌, ℕ, pos, nat_lt, Bool, true, false, ◌&&◌, not, List, [], ◌∷◌, length, Option, Some, None, is_some, Result, Ok, Err, codes, option_and_then, if◌then◌else◌}
+-- `debug` take one filter, `watch` at least one recording, and a capture only with a filter; `cut` takes a network's letter, and at
+-- least one recording unless it prints the ledger's lines alone.
+use Rattle.std.specs.Prelude.{◌≡◌, ℕ, pos, nat_lt, Bool, true, false, ◌^◌, ◌&&◌, ◌||◌, not, List, [], ◌∷◌, length, Option, Some, None, is_some, Result, Ok, Err, codes, option_and_then, if◌then◌else◌}
 use Rattle.std.specs.Char.{digit_value}
 use Rattle.std.specs.Str.Parse.{digits_value, without_leading_plus}
 use Rattle.std.specs.Borrow.{Bor}
-use Rattle.std.specs.Option.{option_map}
+use Rattle.std.specs.Option.{option_map, option_map_or}
 use Rattle.std.specs.Str.{bytes_eq}
 use Rattle.clap.specs.Faults.{fault_of}
 use Rattle.clap.specs.Kinds.{Kinds, or_else}
@@ -16,6 +17,7 @@ use Rattle.clap.specs.declared.builder.action.ArgAction.TheVariants.{Set, SetTru
 use Rattle.clap.specs.declared.error.kind.ErrorKind.{ErrorKind}
 use Rattle.clap.specs.declared.error.kind.ErrorKind.TheVariants as kind
 use Rattle.command_line.specs.declared.arguments.CaptureArguments.{CaptureArguments}
+use Rattle.command_line.specs.declared.arguments.CutArguments.{CutArguments}
 use Rattle.command_line.specs.declared.arguments.DebugArguments.{DebugArguments}
 use Rattle.command_line.specs.declared.arguments.FilterArgument.{FilterArgument}
 use Rattle.command_line.specs.declared.arguments.FilterArgument.TheVariants as given
@@ -73,8 +75,29 @@ watch_app = with_rule (with_rule (watch_files (new_app (codes "watch"))) workers
 unfoldable pub debug_app : App
 debug_app = with_option (codes "tap") true (with_option (codes "source") false (with_option (codes "filter") false (new_app (codes "debug"))))
 
+-- a flag: the ledger's lines in place of packets
+abbrev pub ledger_only_rule : Rule
+ledger_only_rule = record (new_rule (codes "ledger-only")) { long = Some (codes "ledger-only"); action = Some SetTrue }
+
+-- the ledger, its recordings and the table of its names
+abbrev pub cut_files : App → App
+cut_files app = with_option (codes "config") false (with_option (codes "b") false (with_option (codes "a") false (with_option (codes "ledger") true app)))
+
+-- what each selected frame has to be
+abbrev pub cut_selection : App → App
+cut_selection app =
+    with_option (codes "filters") false (with_option (codes "to") false (with_option (codes "from") false (with_option (codes "verdict") false (with_option (codes "network") false (with_option (codes "link") false app)))))
+
+-- a number of 16 bits: how many frames around each selected one, none where it isn't given
+abbrev pub around_rule : Rule
+around_rule = record (option_rule (codes "around") false) { defaults = codes "0" ∷ []; parser = Some (Signed (pos 0) (pos 65535)) }
+
+unfoldable pub cut_app : App
+cut_app = with_rule (with_rule (with_rule (cut_selection (cut_files (new_app (codes "cut")))) around_rule) ledger_only_rule) output_rule
+
 unfoldable pub afdxmon_app : App
-afdxmon_app = with_subcommand (with_subcommand (with_subcommand (with_subcommand program_app capture_app.top) asm_app.top) watch_app.top) debug_app.top
+afdxmon_app =
+    with_subcommand (with_subcommand (with_subcommand (with_subcommand (with_subcommand program_app capture_app.top) asm_app.top) watch_app.top) debug_app.top) cut_app.top
 
 -- the command is that of capture
 abbrev pub IsCapture : Command → Type 0
@@ -91,6 +114,10 @@ IsWatch c = (app_of c ≡ watch_app) × ((out-Command c).has_globals ≡ false)
 -- the command is that of debug
 abbrev pub IsDebug : Command → Type 0
 IsDebug c = (app_of c ≡ debug_app) × ((out-Command c).has_globals ≡ false)
+
+-- the command is that of cut
+abbrev pub IsCut : Command → Type 0
+IsCut c = (app_of c ≡ cut_app) × ((out-Command c).has_globals ≡ false)
 
 -- ---- what arguments ask for
 
@@ -122,24 +149,41 @@ pub record DebugWords : Type 0 where
   pub filter : FilterWords
   pub tap : Text
 
+-- a ledger and its recordings, what selects frames of it, and what is written of them
+pub record CutWords : Type 0 where
+  pub ledger : Text
+  pub a : Option Text
+  pub b : Option Text
+  pub config : Option Text
+  pub link : Option Text
+  pub network : Option Text
+  pub verdict : Option Text
+  pub from : Option Text
+  pub to : Option Text
+  pub filters : Option Text
+  pub around : ℕ
+  pub ledger_only : Bool
+  pub output : Text
+
 pub data Meant : Type 0 where
   Captures : CaptureWords → Meant
   Assembles : Meant
   Watches : WatchWords → Meant
   Debugs : DebugWords → Meant
+  Cuts : CutWords → Meant
 
 abbrev pub are_digits : Text → Bool
 are_digits [] = true
 are_digits (c ∷ cs) = nat_lt (digit_value c) 10 && are_digits cs
 
--- decimal digits, at least one, of a number below 256
-abbrev pub is_byte_numeral : Text → Bool
-is_byte_numeral digits = nat_lt 0 (length digits) && (are_digits digits && nat_lt (digits_value 10 digits) 256)
+-- decimal digits, at least one, of a number of so many bits
+abbrev pub is_numeral : ℕ → Text → Bool
+is_numeral bits digits = nat_lt 0 (length digits) && (are_digits digits && nat_lt (digits_value 10 digits) (2 ^ bits))
 
--- the number of 8 bits that a text holds; a plus may stand first
-abbrev pub number_in : Text → Option ℕ
-number_in text =
-    if is_byte_numeral (without_leading_plus text) then Some (digits_value 10 (without_leading_plus text)) else None
+-- the number of so many bits that a text holds; a plus may stand first
+abbrev pub number_in : ℕ → Text → Option ℕ
+number_in bits text =
+    if is_numeral bits (without_leading_plus text) then Some (digits_value 10 (without_leading_plus text)) else None
 
 -- what a flag's text says
 abbrev pub flag_in : Text → Option Bool
@@ -188,7 +232,7 @@ watch_with _ _ _ _ _ _ _ _ = None
 abbrev pub watch_in : List Row → Option WatchWords
 watch_in rows =
     watch_with (first_of (codes "config") rows) (first_of (codes "filter") rows) (first_of (codes "a") rows) (first_of (codes "b") rows)
-    (first_of (codes "capture") rows) (first_of (codes "ledger") rows) (option_and_then number_in (one_of (codes "workers") rows))
+    (first_of (codes "capture") rows) (first_of (codes "ledger") rows) (option_and_then (number_in 8) (one_of (codes "workers") rows))
     (option_and_then flag_in (one_of (codes "quiet") rows))
 
 -- there is a recording, and a capture has its filter
@@ -206,6 +250,43 @@ debug_with _ _ = Err misuse.Incomplete
 abbrev pub debug_in : List Row → Result DebugWords Misuse
 debug_in rows = debug_with (filter_in rows) (first_of (codes "tap") rows)
 
+abbrev pub cut_with : Option Text → Option Text → Option Text → Option Text → Option Text → Option Text → Option Text → Option Text → Option Text → Option Text →
+    Option ℕ → Option Bool → Option Text → Option CutWords
+cut_with (Some ledger) a b config link network verdict from to filters (Some around) (Some ledger_only) (Some output) =
+    Some (record {
+      ledger = ledger;
+      a = a;
+      b = b;
+      config = config;
+      link = link;
+      network = network;
+      verdict = verdict;
+      from = from;
+      to = to;
+      filters = filters;
+      around = around;
+      ledger_only = ledger_only;
+      output = output;
+    })
+cut_with _ _ _ _ _ _ _ _ _ _ _ _ _ = None
+
+-- what the options of cut give
+abbrev pub cut_in : List Row → Option CutWords
+cut_in rows =
+    cut_with (first_of (codes "ledger") rows) (first_of (codes "a") rows) (first_of (codes "b") rows) (first_of (codes "config") rows) (first_of (codes "link") rows)
+    (first_of (codes "network") rows) (first_of (codes "verdict") rows) (first_of (codes "from") rows) (first_of (codes "to") rows) (first_of (codes "filters") rows)
+    (option_and_then (number_in 16) (one_of (codes "around") rows)) (option_and_then flag_in (one_of (codes "ledger-only") rows)) (first_of (codes "output") rows)
+
+-- the text is a network's letter
+abbrev pub is_network : Text → Bool
+is_network text = bytes_eq text (codes "A") || bytes_eq text (codes "B")
+
+-- packets have a recording to come from, and a network is A or B
+abbrev pub checked_cut : CutWords → Result CutWords Misuse
+checked_cut w =
+    if not w.ledger_only && (not (is_some w.a) && not (is_some w.b)) then Err misuse.NoRecording
+    else if option_map_or is_network w.network true then Ok w else Err misuse.NoNetwork
+
 -- by the subcommand that was met and what it was given
 abbrev pub meant_in : Option (Text × List Row) → Result Meant Misuse
 meant_in None = Err misuse.Incomplete
@@ -213,7 +294,8 @@ meant_in (Some met) =
     if bytes_eq met.0 (codes "capture") then mapped Captures (capture_in met.1)
     else if bytes_eq met.0 (codes "asm") then Ok Assembles
     else if bytes_eq met.0 (codes "watch") then mapped Watches (and_then checked (required (watch_in met.1)))
-    else if bytes_eq met.0 (codes "debug") then mapped Debugs (debug_in met.1) else Err misuse.Incomplete
+    else if bytes_eq met.0 (codes "debug") then mapped Debugs (debug_in met.1)
+    else if bytes_eq met.0 (codes "cut") then mapped Cuts (and_then checked_cut (required (cut_in met.1))) else Err misuse.Incomplete
 
 -- by the arguments, the program's name first
 abbrev pub meant_asked : List Text → Result Meant Misuse
@@ -221,12 +303,13 @@ meant_asked texts = meant_in (subcommand_of afdxmon_app texts)
 
 -- ---- how arguments are refused
 
--- an option more than there may be, or one too few
+-- an option more than there may be, one too few, or a value that is none of the option's
 abbrev pub misuse_kind : Misuse → ErrorKind
 misuse_kind misuse.TwoFilters = kind.ArgumentConflict
 misuse_kind misuse.NoFilter = kind.MissingRequiredArgument
 misuse_kind misuse.NoRecording = kind.MissingRequiredArgument
 misuse_kind misuse.Unfiltered = kind.MissingRequiredArgument
+misuse_kind misuse.NoNetwork = kind.InvalidValue
 misuse_kind misuse.Incomplete = kind.MissingRequiredArgument
 
 abbrev pub misuse_kinds : {X : Type 0} → Result X Misuse → Kinds
@@ -265,8 +348,26 @@ watch_words w = record {
 abbrev pub debug_words : DebugArguments → DebugWords
 debug_words d = record { filter = filter_words d.filter; tap = d.tap.now }
 
+abbrev pub cut_words : CutArguments → CutWords
+cut_words c = record {
+  ledger = c.ledger.now;
+  a = option_map text_of c.a;
+  b = option_map text_of c.b;
+  config = option_map text_of c.config;
+  link = option_map text_of c.link;
+  network = option_map text_of c.network;
+  verdict = option_map text_of c.verdict;
+  from = option_map text_of c.from;
+  to = option_map text_of c.to;
+  filters = option_map text_of c.filters;
+  around = c.around;
+  ledger_only = c.ledger_only;
+  output = c.output.now;
+}
+
 abbrev pub meant_by : Invocation → Meant
 meant_by (words.Capture c) = Captures (capture_words c)
 meant_by words.Asm = Assembles
 meant_by (words.Watch w) = Watches (watch_words w)
 meant_by (words.Debug d) = Debugs (debug_words d)
+meant_by (words.Cut c) = Cuts (cut_words c)

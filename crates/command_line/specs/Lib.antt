@@ -2,6 +2,7 @@ pub mod Arguments
 pub mod Caret
 pub mod Exit
 pub mod Line
+pub mod Moment
 pub mod Place
 pub mod Refused
 pub mod Shared

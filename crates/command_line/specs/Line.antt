@@ -19,6 +19,16 @@ use Rattle.bpf_asm.specs.declared.fault.AsmFault.{AsmFault}
 use Rattle.bpf_asm.specs.declared.fault.AsmFault.TheVariants as asm
 use Rattle.bpf_debugger.specs.declared.fault.DebugFault.{DebugFault}
 use Rattle.bpf_debugger.specs.declared.fault.DebugFault.TheVariants as debug
+use Rattle.ledger_text.specs.declared.fault.FrameFault.{FrameFault}
+use Rattle.ledger_text.specs.declared.fault.FrameFault.TheVariants as field
+use Rattle.ledger_text.specs.declared.fault.LineFault.{LineFault}
+use Rattle.ledger_text.specs.declared.fault.LineFault.TheVariants as line
+use Rattle.cut_run.specs.declared.fault.CutFault.{CutFault}
+use Rattle.cut_run.specs.declared.fault.CutFault.TheVariants as cut
+use Rattle.cut_run.specs.declared.fault.CutSource.{CutSource}
+use Rattle.cut_run.specs.declared.fault.CutSource.TheVariants as source
+use Rattle.command_line.specs.declared.fault.SelectionOption.{SelectionOption}
+use Rattle.command_line.specs.declared.fault.SelectionOption.TheVariants as selection
 use Rattle.command_line.specs.declared.fault.FileOption.{FileOption}
 use Rattle.command_line.specs.declared.fault.FileOption.TheVariants as file
 use Rattle.command_line.specs.declared.fault.Fault.{Fault}
@@ -95,6 +105,11 @@ header_part header.Short = codes "1 Short"
 header_part header.Magic = codes "2 Magic"
 header_part header.Version = codes "3 Version"
 header_part header.LinkType = codes "4 LinkType"
+header_part header.ByteOrderMagic = codes "5 ByteOrderMagic"
+header_part header.SectionVersion = codes "6 SectionVersion"
+header_part header.SectionLength = codes "7 SectionLength"
+header_part header.SectionLengthsDiffer = codes "8 SectionLengthsDiffer"
+header_part header.SectionOption = codes "9 SectionOption"
 
 abbrev pub network_part : Network → List ℕ
 network_part networks.A = codes "A"
@@ -117,6 +132,51 @@ debug_part debug.NoSuchFrame = codes "2 NoSuchFrame"
 debug_part debug.NoSuchInsn = codes "3 NoSuchInsn"
 debug_part debug.Memory = codes "4 Memory"
 
+-- the field of a frame's line that departs from every such line
+abbrev pub field_part : FrameFault → List ℕ
+field_part field.Timestamp = codes "timestamp"
+field_part field.Network = codes "network"
+field_part field.Index = codes "index"
+field_part field.Link = codes "link"
+field_part field.Sequence = codes "sequence"
+field_part field.Class = codes "class"
+field_part field.Policing = codes "policing"
+field_part field.Integrity = codes "integrity"
+field_part field.Redundancy = codes "redundancy"
+field_part field.Kept = codes "kept"
+field_part field.Mask = codes "mask"
+field_part field.Fields = codes "fields"
+
+abbrev pub line_fault_part : LineFault → List ℕ
+line_fault_part line.Head = codes "head"
+line_fault_part (line.Frame f) = field_part f
+line_fault_part line.Order = codes "order"
+line_fault_part line.Newline = codes "newline"
+line_fault_part line.Long = codes "long"
+line_fault_part line.TooMany = codes "toomany"
+
+abbrev pub source_part : CutSource → List ℕ
+source_part source.Ledger = codes "Ledger"
+source_part (source.Recording network) = network_part network
+
+abbrev pub cut_part : CutFault → List ℕ
+cut_part (cut.Ledger at f) = codes "1 Ledger at " ++ decimal at ++ codes " " ++ line_fault_part f
+cut_part (cut.Order at) = codes "2 Order at " ++ decimal at
+cut_part (cut.Absent at) = codes "3 Absent at " ++ decimal at
+cut_part (cut.Header network f) = codes "4 Header " ++ network_part network ++ codes " " ++ header_part f
+cut_part (cut.Read from) = codes "5 Read " ++ source_part from
+cut_part cut.Write = codes "6 Write Output"
+cut_part cut.Memory = codes "7 Memory"
+
+-- the option whose text selects nothing
+abbrev pub selection_part : SelectionOption → List ℕ
+selection_part selection.Link = codes "link"
+selection_part selection.Verdict = codes "verdict"
+selection_part selection.From = codes "from"
+selection_part selection.To = codes "to"
+selection_part selection.Filters = codes "filters"
+selection_part selection.Around = codes "around"
+
 -- the number of a filter of the table; that of the command line has none
 abbrev pub filter_part : Option ℕ → List ℕ
 filter_part None = []
@@ -132,3 +192,6 @@ line_of (fault.Numeric f filter) = codes "afdxmon: numeric " ++ numeric_part f +
 line_of (fault.Load f filter) = codes "afdxmon: load " ++ load_part f ++ filter_part filter
 line_of (fault.Watch f) = codes "afdxmon: watch " ++ watch_part f
 line_of (fault.Debug f) = codes "afdxmon: debug " ++ debug_part f
+line_of (fault.Cut f) = codes "afdxmon: cut " ++ cut_part f
+line_of (fault.Selection option item) = codes "afdxmon: cut 8 Selection " ++ selection_part option ++ codes " at " ++ decimal item
+line_of (fault.Interfaces f) = codes "afdxmon: interfaces " ++ file_part f

@@ -6,6 +6,10 @@ use Rattle.run_outcome.specs.declared.fault.WatchFault.{WatchFault}
 use Rattle.run_outcome.specs.declared.fault.WatchFault.TheVariants as watch
 use Rattle.run_outcome.specs.declared.fault.Output.{Output}
 use Rattle.run_outcome.specs.declared.fault.Output.TheVariants as output
+use Rattle.cut_run.specs.declared.fault.CutFault.{CutFault}
+use Rattle.cut_run.specs.declared.fault.CutFault.TheVariants as cut
+use Rattle.cut_run.specs.declared.fault.CutSource.{CutSource}
+use Rattle.cut_run.specs.declared.fault.CutSource.TheVariants as source
 use Rattle.command_line.specs.declared.fault.FileOption.{FileOption}
 use Rattle.command_line.specs.declared.fault.FileOption.TheVariants as file
 use Rattle.command_line.specs.declared.fault.Fault.{Fault}
@@ -35,6 +39,20 @@ file_of_run watch.RingLost = None
 file_of_run watch.Memory = None
 file_of_run watch.Filters = None
 
+abbrev pub file_of_source : CutSource → FileOption
+file_of_source source.Ledger = file.Ledger
+file_of_source (source.Recording network) = input_of network
+
+-- the file that can't be read or written, and the ledger of a line
+abbrev pub file_of_cut : CutFault → Option FileOption
+file_of_cut (cut.Ledger at f) = Some file.Ledger
+file_of_cut (cut.Order at) = Some file.Ledger
+file_of_cut (cut.Absent at) = Some file.Ledger
+file_of_cut (cut.Header network f) = Some (input_of network)
+file_of_cut (cut.Read from) = Some (file_of_source from)
+file_of_cut cut.Write = Some file.Output
+file_of_cut cut.Memory = None
+
 abbrev pub file_of : Fault → Option FileOption
 file_of (fault.File f) = Some f
 file_of (fault.Shared output other) = Some output
@@ -45,3 +63,6 @@ file_of (fault.Numeric f filter) = Some (refused_filter filter)
 file_of (fault.Load f filter) = Some (refused_filter filter)
 file_of (fault.Watch f) = file_of_run f
 file_of (fault.Debug f) = None
+file_of (fault.Cut f) = file_of_cut f
+file_of (fault.Selection option item) = None
+file_of (fault.Interfaces f) = Some f

@@ -6,6 +6,7 @@ use Rattle.command_line.specs.declared.fault.Fault.TheVariants as fault
 use Rattle.command_line.specs.declared.fault.FileOption.{FileOption}
 use Rattle.command_line.specs.declared.fault.FileOption.TheVariants as file
 use Rattle.command_line.specs.declared.shared.CaptureFiles.{CaptureFiles}
+use Rattle.command_line.specs.declared.shared.CutFiles.{CutFiles}
 use Rattle.command_line.specs.declared.shared.Inode.{Inode}
 use Rattle.command_line.specs.declared.shared.Named.{Named}
 use Rattle.command_line.specs.declared.shared.Named.TheVariants as named
@@ -65,3 +66,11 @@ output_answer (Some other) = Err (fault.Shared file.Output other.0)
 -- the output of capture is none of its inputs; else the first that it is
 abbrev pub capture_answer : CaptureFiles → Result (Unit {0}) Fault
 capture_answer files = output_answer (find (λ other. is_one_file files.output other.1) (capture_inputs files))
+
+-- what the output of cut must not be, with the option that names it
+abbrev pub cut_inputs : CutFiles → List (FileOption × Named)
+cut_inputs files = (file.Ledger, files.ledger) ∷ (file.A, files.a) ∷ (file.B, files.b) ∷ (file.Config, files.config) ∷ []
+
+-- the output of cut is none of its inputs; else the first that it is
+abbrev pub cut_answer : CutFiles → Result (Unit {0}) Fault
+cut_answer files = output_answer (find (λ other. is_one_file files.output other.1) (cut_inputs files))

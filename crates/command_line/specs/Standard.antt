@@ -6,6 +6,7 @@ use Rattle.std.specs.Str.{bytes_eq}
 use Rattle.clap.specs.Words.{Text}
 use Rattle.command_line.specs.Arguments.{text_of}
 use Rattle.command_line.specs.declared.arguments.CaptureArguments.{CaptureArguments}
+use Rattle.command_line.specs.declared.arguments.CutArguments.{CutArguments}
 use Rattle.command_line.specs.declared.arguments.DebugArguments.{DebugArguments}
 use Rattle.command_line.specs.declared.arguments.FilterArgument.{FilterArgument}
 use Rattle.command_line.specs.declared.arguments.FilterArgument.TheVariants as given
@@ -68,9 +69,14 @@ watch_outputs w = stream_of file.Capture (given_if w.capture) ∷ stream_of file
 abbrev pub debug_inputs : DebugArguments → List Stream
 debug_inputs d = stream_of file.Standard true ∷ filter_stream d.filter ∷ stream_of file.Tap (is_standard d.tap.now) ∷ []
 
+abbrev pub cut_inputs : CutArguments → List Stream
+cut_inputs c =
+    stream_of file.Ledger (is_standard c.ledger.now) ∷ stream_of file.A (given_if c.a) ∷ stream_of file.B (given_if c.b) ∷ stream_of file.Config (given_if c.config) ∷ []
+
 -- at most one file is standard input, and at most one standard output; else the second one and the first
 abbrev pub one_each : Invocation → Result (Unit {0}) Fault
 one_each (words.Capture c) = second_answer (capture_inputs c)
 one_each words.Asm = Ok tt
 one_each (words.Watch w) = first_fault (second_answer (watch_inputs w)) (second_answer (watch_outputs w))
 one_each (words.Debug d) = second_answer (debug_inputs d)
+one_each (words.Cut c) = second_answer (cut_inputs c)

@@ -2,7 +2,7 @@
 ghost use Rattle.std.specs.Prelude.{◌≡◌, [], false, true, map, IfOk, IfErr, option_map, string_bytes, Ok};
 ghost use Rattle.clap.specs.Words.{FailsBy, app_of, found_of, kind_of, rows_of, rule_of, subcommand_rows_of, takes};
 ghost use Rattle.clap.specs.declared.error.kind.ErrorKind.TheVariants.{OutOfMemory};
-ghost use Rattle.command_line.specs.Arguments.{IsAsm, IsCapture, IsDebug, IsWatch, afdxmon_app, capture_in, capture_words, checked, debug_in, debug_words, filter_in, filter_words, kinds_asked, mapped, meant_asked, meant_by, meant_in, misuse_kind, misuse_kinds, one_filter, option_rule, output_rule, program_app, quiet_rule, recording_rule, text_of, watch_in, watch_words, workers_rule};
+ghost use Rattle.command_line.specs.Arguments.{IsAsm, IsCapture, IsCut, IsDebug, IsWatch, afdxmon_app, around_rule, capture_in, capture_words, checked, checked_cut, cut_in, cut_words, debug_in, debug_words, filter_in, filter_words, is_network, kinds_asked, ledger_only_rule, mapped, meant_asked, meant_by, meant_in, misuse_kind, misuse_kinds, one_filter, option_rule, output_rule, program_app, quiet_rule, recording_rule, text_of, watch_in, watch_words, workers_rule};
 
 use crate::misuse::Misuse;
 use clap::{Arg, ArgAction, ArgMatches, Command, Error};
@@ -19,6 +19,8 @@ pub enum Invocation<'a> {
     Watch(WatchArguments<'a>),
     /// Step through a filter on the frames of a recording.
     Debug(DebugArguments<'a>),
+    /// Copy the frames of two recordings that a selection of their ledger's lines names.
+    Cut(CutArguments<'a>),
 }
 
 /// A filter, by how it is given.
@@ -73,6 +75,38 @@ pub struct DebugArguments<'a> {
     pub tap: &'a str,
 }
 
+/// A ledger, its recordings, and what selects frames of it, as texts that nothing has read yet. Where an
+/// option isn't given, it leaves every frame selected. `-` is standard input or output.
+#[derive(Clone, Copy, Debug, PartialEq, Eq)]
+pub struct CutArguments<'a> {
+    /// The ledger.
+    pub ledger: &'a str,
+    /// The recording of network A. One of the two is given, unless the ledger's lines alone are printed.
+    pub a: Option<&'a str>,
+    /// The recording of network B.
+    pub b: Option<&'a str>,
+    /// The table of virtual links, which has their names.
+    pub config: Option<&'a str>,
+    /// Virtual links: identifiers, ranges of them, or names.
+    pub link: Option<&'a str>,
+    /// A network's letter: `A` or `B`.
+    pub network: Option<&'a str>,
+    /// Words of a ledger's verdicts.
+    pub verdict: Option<&'a str>,
+    /// The first moment.
+    pub from: Option<&'a str>,
+    /// The last moment.
+    pub to: Option<&'a str>,
+    /// A mask of filters, of which one is to accept the frame.
+    pub filters: Option<&'a str>,
+    /// How many frames of the same link are taken before and after each selected one.
+    pub around: u16,
+    /// Are the ledger's lines printed in place of packets?
+    pub ledger_only: bool,
+    /// Where packets or lines are written.
+    pub output: &'a str,
+}
+
 /// The version that `--version` prints. In a copy of the linked program `tools/stamp` puts the commit in the
 /// place of the 12 letters.
 const VERSION: &str = "0.1.0 (commit unknown-tree)";
@@ -80,6 +114,12 @@ const VERSION: &str = "0.1.0 (commit unknown-tree)";
 const NUMERIC_HELP: &str = "The filter in the numeric form, as `afdxmon asm` prints it";
 
 const SOURCE_HELP: &str = "The filter's source, as `afdxmon asm` reads it";
+
+const A_HELP: &str = "The recording of network A, a pcap or pcapng file";
+
+const B_HELP: &str = "The recording of network B, a pcap or pcapng file";
+
+const OUTPUT_HELP: &str = "The capture to write, a nanosecond pcap file";
 
 /// An option with a value.
 fn option<'a>(
@@ -100,20 +140,14 @@ fn option<'a>(
         .action(ArgAction::Set)
 }
 
-/// The option that names the capture that is written.
-fn output_option<'a>(alloc: Global) -> Arg<'a>
+/// The option that names the file that is written.
+fn output_option<'a>(alloc: Global, help: &'a str) -> Arg<'a>
     ensures rule { rule_of result ≡ output_rule }
     ensures local { result.global ≡ false }
 {
-    option(
-        alloc,
-        "output",
-        "FILE",
-        "The capture to write, a nanosecond pcap file",
-        false,
-    )
-    .short('o')
-    .default_value("-")
+    option(alloc, "output", "FILE", help, false)
+        .short('o')
+        .default_value("-")
 }
 
 /// The word that names the recording.
@@ -123,7 +157,7 @@ fn recording_word<'a>(alloc: Global) -> Arg<'a>
 {
     Arg::new(alloc, "recording")
         .value_name("RECORDING")
-        .help("The recording, a pcap file")
+        .help("The recording, a pcap or pcapng file")
         .default_value("-")
         .action(ArgAction::Set)
 }
@@ -155,7 +189,7 @@ fn capture_command<'a>(alloc: Global) -> Result<Command<'a>, AllocError>
         ))?
         .arg(option(alloc, "filter", "FILE", NUMERIC_HELP, false))?
         .arg(option(alloc, "source", "FILE", SOURCE_HELP, false))?
-        .arg(output_option(alloc))?
+        .arg(output_option(alloc, OUTPUT_HELP))?
         .arg(recording_word(alloc))
 }
 
@@ -217,28 +251,15 @@ fn watch_command<'a>(alloc: Global) -> Result<Command<'a>, AllocError>
     ensures { IfOk result IsWatch }
 {
     let config = "The table of virtual links, a TOML document";
-    let capture = "The capture to write, a nanosecond pcap file";
     Command::new(alloc, "watch")
         .about("Judges the frames of two recordings, and writes those that a filter accepts")
         .override_usage(WATCH_USAGE)
         .after_help(WATCH_EXAMPLE)
         .arg(option(alloc, "config", "FILE", config, true))?
         .arg(option(alloc, "filter", "FILE", NUMERIC_HELP, false))?
-        .arg(option(
-            alloc,
-            "a",
-            "FILE",
-            "The recording of network A, a pcap file",
-            false,
-        ))?
-        .arg(option(
-            alloc,
-            "b",
-            "FILE",
-            "The recording of network B, a pcap file",
-            false,
-        ))?
-        .arg(option(alloc, "capture", "FILE", capture, false))?
+        .arg(option(alloc, "a", "FILE", A_HELP, false))?
+        .arg(option(alloc, "b", "FILE", B_HELP, false))?
+        .arg(option(alloc, "capture", "FILE", OUTPUT_HELP, false))?
         .arg(option(
             alloc,
             "ledger",
@@ -272,7 +293,82 @@ fn debug_command<'a>(alloc: Global) -> Result<Command<'a>, AllocError>
         .after_help(DEBUG_EXAMPLE)
         .arg(option(alloc, "filter", "FILE", NUMERIC_HELP, false))?
         .arg(option(alloc, "source", "FILE", SOURCE_HELP, false))?
-        .arg(option(alloc, "tap", "FILE", "The recording, a pcap file", true))
+        .arg(option(
+            alloc,
+            "tap",
+            "FILE",
+            "The recording, a pcap or pcapng file",
+            true,
+        ))
+}
+
+const CUT_USAGE: &str = "\
+afdxmon cut [OPTIONS] --ledger <FILE> <--a <FILE>|--b <FILE>|--ledger-only>";
+
+/// What stands after the options in the help of `cut`.
+const CUT_EXAMPLE: &str = "\
+Frames are written whole, as recorded, in the ledger's order. A frame is selected if it meets every
+option from --link to --filters that is given. With --around the ledger is read twice: it has to be
+a file. A TIME is '2027-01-15T08:00:12.119534506Z', the '08:00:12.1195' of the recording's day in
+UTC, or nanoseconds since 1970. '-' is standard input, or standard output.
+
+Example: keep the frames that policing discarded
+  afdxmon cut --ledger flight.ledger --a a.pcap --b b.pcap --verdict excess -o excess.pcap";
+
+/// The option that takes frames around those that are selected.
+fn around_option<'a>(alloc: Global) -> Arg<'a>
+    ensures rule { rule_of result ≡ around_rule }
+    ensures local { result.global ≡ false }
+{
+    let help = "Take N frames of the same link before and after each selected one too";
+    option(alloc, "around", "N", help, false)
+        .value_parser(clap::value_parser!(u16))
+        .default_value("0")
+}
+
+/// The option that prints lines in place of packets.
+fn ledger_only_option<'a>(alloc: Global) -> Arg<'a>
+    ensures rule { rule_of result ≡ ledger_only_rule }
+    ensures local { result.global ≡ false }
+{
+    Arg::new(alloc, "ledger-only")
+        .long("ledger-only")
+        .help("Print the ledger's lines of the selected frames in place of packets")
+        .action(ArgAction::SetTrue)
+}
+
+/// The command `cut`.
+fn cut_command<'a>(alloc: Global) -> Result<Command<'a>, AllocError>
+    ensures { IfOk result IsCut }
+{
+    let config = "The table of virtual links: --link may then have their names";
+    let link = "Virtual links, as '301-305,42' or 'engine_*'; '*' stands for any letters";
+    let verdict = "Words of the ledger's fields 6 to 9, 'discarded' or 'delivered'";
+    let filters = "A mask of filters in hexadecimal: '06' is what filter 1 or 2 accepts";
+    let output = "The nanosecond pcap file to write, or the text file of lines";
+    Command::new(alloc, "cut")
+        .about("Copies the frames of two recordings that a ledger's lines select")
+        .override_usage(CUT_USAGE)
+        .after_help(CUT_EXAMPLE)
+        .arg(option(
+            alloc,
+            "ledger",
+            "FILE",
+            "The ledger of the recordings",
+            true,
+        ))?
+        .arg(option(alloc, "a", "FILE", A_HELP, false))?
+        .arg(option(alloc, "b", "FILE", B_HELP, false))?
+        .arg(option(alloc, "config", "FILE", config, false))?
+        .arg(option(alloc, "link", "LIST", link, false))?
+        .arg(option(alloc, "network", "A|B", "The network", false))?
+        .arg(option(alloc, "verdict", "LIST", verdict, false))?
+        .arg(option(alloc, "from", "TIME", "The first moment", false))?
+        .arg(option(alloc, "to", "TIME", "The last moment", false))?
+        .arg(option(alloc, "filters", "MASK", filters, false))?
+        .arg(around_option(alloc))?
+        .arg(ledger_only_option(alloc))?
+        .arg(output_option(alloc, output))
 }
 
 /// The program's own command, before its subcommands.
@@ -293,7 +389,8 @@ fn whole_command<'a>(alloc: Global) -> Result<Command<'a>, AllocError>
         .subcommand(capture_command(alloc)?)?
         .subcommand(asm_command(alloc))?
         .subcommand(watch_command(alloc)?)?
-        .subcommand(debug_command(alloc)?)
+        .subcommand(debug_command(alloc)?)?
+        .subcommand(cut_command(alloc)?)
 }
 
 /// The one filter that is given by its text, as a file in the numeric form or as a source.
@@ -384,6 +481,47 @@ fn debug_arguments<'a>(given: &ArgMatches<'a>) -> Result<DebugArguments<'a>, Mis
     Ok(DebugArguments { filter, tap })
 }
 
+/// What the options of `cut` give.
+fn cut_arguments<'a>(options: &ArgMatches<'a>) -> Option<CutArguments<'a>>
+    ensures { option_map cut_words result ≡ cut_in (rows_of (found_of options.now)) }
+{
+    Some(CutArguments {
+        ledger: options.get_str("ledger")?,
+        a: options.get_str("a"),
+        b: options.get_str("b"),
+        config: options.get_str("config"),
+        link: options.get_str("link"),
+        network: options.get_str("network"),
+        verdict: options.get_str("verdict"),
+        from: options.get_str("from"),
+        to: options.get_str("to"),
+        filters: options.get_str("filters"),
+        around: options.get_one::<u16>("around")?,
+        ledger_only: options.get_one::<bool>("ledger-only")?,
+        output: options.get_str("output")?,
+    })
+}
+
+/// Is the text a network's letter?
+fn is_network(text: &str) -> bool
+    ensures { result ≡ is_network text.now }
+{
+    text == "A" || text == "B"
+}
+
+/// Refuses packets without a recording, and a network that is neither A nor B.
+fn checked_cut(given: CutArguments<'_>) -> Result<CutArguments<'_>, Misuse>
+    ensures { mapped cut_words result ≡ checked_cut (cut_words given.entry) }
+{
+    if !given.ledger_only && given.a.is_none() && given.b.is_none() {
+        return Err(Misuse::NoRecording);
+    }
+    match given.network {
+        Some(network) if !is_network(network) => Err(Misuse::NoNetwork),
+        _ => Ok(given),
+    }
+}
+
 /// What the matches of a command line ask for.
 fn arguments_of<'a>(matches: &ArgMatches<'a>) -> Result<Invocation<'a>, Misuse>
     ensures { mapped meant_by result ≡ meant_in (subcommand_rows_of matches.now) }
@@ -406,6 +544,12 @@ fn arguments_of<'a>(matches: &ArgMatches<'a>) -> Result<Invocation<'a>, Misuse>
     if name == "debug" {
         return Ok(Invocation::Debug(debug_arguments(given)?));
     }
+    if name == "cut" {
+        let Some(given) = cut_arguments(given) else {
+            return Err(Misuse::Incomplete);
+        };
+        return Ok(Invocation::Cut(checked_cut(given)?));
+    }
     Err(Misuse::Incomplete)
 }
 
@@ -417,6 +561,7 @@ fn refusal(alloc: Global, command: Option<&str>, misuse: Misuse) -> Result<Error
         Some("capture") => capture_command(alloc)?,
         Some("watch") => watch_command(alloc)?,
         Some("debug") => debug_command(alloc)?,
+        Some("cut") => cut_command(alloc)?,
         _ => whole_command(alloc)?,
     };
     command.error(misuse.kind(), misuse.message())

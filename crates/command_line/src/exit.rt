@@ -1,9 +1,10 @@
 //! How the program ends: its exit status, and what it tells standard error.
 ghost use Rattle.std.specs.Prelude.{◌≡◌};
-ghost use Rattle.command_line.specs.Exit.{exit_at, exit_of, session_exit, status_of, text_exit, watch_exit};
+ghost use Rattle.command_line.specs.Exit.{cut_exit, exit_at, exit_of, session_exit, status_of, text_exit, watch_exit};
 
 use crate::fault::{Fault, FileOption};
 use crate::summary::Summary;
+use cut_run::{CutEnding, CutFault};
 use pcap_io::Ending;
 use run_outcome::{Output, WatchFault};
 
@@ -14,6 +15,9 @@ pub const USAGE: u8 = 2;
 pub const TO_A_TERMINAL: &str = "\
 afdxmon: packets aren't written to a terminal: name a file by -o (of watch by --capture), or use a pipe";
 
+/// What is noted of a ledger whose run was aborted.
+pub const WITHOUT_TOTAL: &str = "afdxmon: note: ledger ends without its total";
+
 /// How a command ended.
 #[derive(Clone, Copy, Debug)]
 pub enum Exit {
@@ -23,6 +27,8 @@ pub enum Exit {
     Note(Ending),
     /// Status 0: both recordings were read up to their endings.
     Watched(Summary),
+    /// Status 0: the ledger of a cut ended before its line `total`. What stands there was cut.
+    WithoutTotal,
     /// Status 1.
     Fault(Fault),
     /// Status 2: packets would be written to a terminal. Nothing was opened.
@@ -94,12 +100,25 @@ impl Exit {
         }
     }
 
+    /// The end of a cut, from what it came to and whether its output was flushed. An output that can't be
+    /// flushed is one that can't be written.
+    pub fn of_cut(outcome: Result<CutEnding, Fault>, flushed: bool) -> Exit
+        ensures { result ≡ cut_exit outcome flushed }
+    {
+        match outcome {
+            Err(fault) => Exit::Fault(fault),
+            Ok(_) if !flushed => Exit::Fault(Fault::Cut(CutFault::Write)),
+            Ok(CutEnding::Complete) => Exit::Success,
+            Ok(CutEnding::Incomplete) => Exit::WithoutTotal,
+        }
+    }
+
     /// The program's exit status.
     pub fn status(&self) -> u8
         ensures { result ≡ status_of self.now }
     {
         match self {
-            Exit::Success | Exit::Note(_) | Exit::Watched(_) => 0,
+            Exit::Success | Exit::Note(_) | Exit::Watched(_) | Exit::WithoutTotal => 0,
             Exit::Fault(_) => 1,
             Exit::Terminal => USAGE,
         }

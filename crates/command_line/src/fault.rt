@@ -1,6 +1,6 @@
 //! Why a command was aborted, and the line that says so.
 ghost use Rattle.std.specs.Prelude.{◌≡◌, IfOk, string_bytes};
-ghost use Rattle.command_line.specs.Line.{debug_part, file_part, header_part, line_of, network_part};
+ghost use Rattle.command_line.specs.Line.{debug_part, field_part, file_part, header_part, line_fault_part, line_of, network_part, selection_part, source_part};
 
 use afdx_frame::Network;
 use bpf_asm::AsmFault;
@@ -8,6 +8,8 @@ use bpf_debugger::DebugFault;
 use bpf_isa::NumericFault;
 use bpf_loader::LoadFault;
 use bpf_text::TextFault;
+use cut_run::{CutFault, CutSource};
+use ledger_text::{FrameFault, LineFault};
 use pcap_io::HeaderFault;
 use run_outcome::{Output, WatchFault};
 use std::alloc::{AllocError, Global};
@@ -32,6 +34,17 @@ pub enum FileOption {
     Recording,
     /// The file that `capture` writes.
     Output,
+}
+
+/// An option whose text selects frames of a ledger.
+#[derive(Clone, Copy, Debug, PartialEq, Eq)]
+pub enum SelectionOption {
+    Link,
+    Verdict,
+    From,
+    To,
+    Filters,
+    Around,
 }
 
 /// A fault that the program reports by a line. A numeric text or a program may be that of a numbered
@@ -65,6 +78,15 @@ pub enum Fault {
     Watch(WatchFault),
     /// A session of the debugger that isn't begun: there is no memory for it.
     Debug(DebugFault),
+    Cut(CutFault),
+    /// A text that selects nothing: its first item that is none of its option's, counted from 0. A moment
+    /// and a mask are one item.
+    Selection {
+        option: SelectionOption,
+        item: usize,
+    },
+    /// A pcapng file with packets of more than one Ethernet interface, of which none is chosen.
+    Interfaces(FileOption),
 }
 
 /// Where a fault of the table is: a link, or the top table.
@@ -244,6 +266,11 @@ fn header_name(fault: HeaderFault) -> &'static str
         HeaderFault::Magic => "2 Magic",
         HeaderFault::Version => "3 Version",
         HeaderFault::LinkType => "4 LinkType",
+        HeaderFault::ByteOrderMagic => "5 ByteOrderMagic",
+        HeaderFault::SectionVersion => "6 SectionVersion",
+        HeaderFault::SectionLength => "7 SectionLength",
+        HeaderFault::SectionLengthsDiffer => "8 SectionLengthsDiffer",
+        HeaderFault::SectionOption => "9 SectionOption",
     }
 }
 
@@ -288,6 +315,93 @@ impl Display for WatchPart {
             WatchFault::Memory => f.write_str("7 Memory"),
             WatchFault::Filters => f.write_str("8 Filters"),
         }
+    }
+}
+
+fn field_name(fault: FrameFault) -> &'static str
+    ensures { result.now ≡ field_part fault }
+{
+    match fault {
+        FrameFault::Timestamp => "timestamp",
+        FrameFault::Network => "network",
+        FrameFault::Index => "index",
+        FrameFault::Link => "link",
+        FrameFault::Sequence => "sequence",
+        FrameFault::Class => "class",
+        FrameFault::Policing => "policing",
+        FrameFault::Integrity => "integrity",
+        FrameFault::Redundancy => "redundancy",
+        FrameFault::Kept => "kept",
+        FrameFault::Mask => "mask",
+        FrameFault::Fields => "fields",
+    }
+}
+
+/// What is wrong with a ledger's line; of a frame's line the first field that is.
+fn line_fault_name(fault: LineFault) -> &'static str
+    ensures { result.now ≡ line_fault_part fault }
+{
+    match fault {
+        LineFault::Head => "head",
+        LineFault::Frame(field) => field_name(field),
+        LineFault::Order => "order",
+        LineFault::Newline => "newline",
+        LineFault::Long => "long",
+        LineFault::TooMany => "toomany",
+    }
+}
+
+fn source_name(source: CutSource) -> &'static str
+    ensures { result.now ≡ source_part source }
+{
+    match source {
+        CutSource::Ledger => "Ledger",
+        CutSource::Recording(network) => network_name(network),
+    }
+}
+
+/// The number and name of a cut's fault, and what it concerns.
+#[derive(Clone, Copy)]
+struct CutPart(CutFault);
+
+impl Display for CutPart {
+    ghost use Rattle.std.specs.Prelude.{Some};
+    ghost use Rattle.command_line.specs.Line.{cut_part};
+
+    ghost output = { λ part. Some (cut_part part.0) };
+
+    fn fmt<W: fmt::Write>(&self, f: &mut Formatter<W>) -> fmt::Result {
+        match self.0 {
+            CutFault::Ledger { line, fault } => {
+                let fault = line_fault_name(fault);
+                write!(f, "1 Ledger at {line} {fault}")
+            }
+            CutFault::Order { line } => write!(f, "2 Order at {line}"),
+            CutFault::Absent { line } => write!(f, "3 Absent at {line}"),
+            CutFault::Header { network, fault } => {
+                let (network, fault) = (network_name(network), header_name(fault));
+                write!(f, "4 Header {network} {fault}")
+            }
+            CutFault::Read { source } => {
+                let source = source_name(source);
+                write!(f, "5 Read {source}")
+            }
+            CutFault::Write => f.write_str("6 Write Output"),
+            CutFault::Memory => f.write_str("7 Memory"),
+        }
+    }
+}
+
+fn selection_name(option: SelectionOption) -> &'static str
+    ensures { result.now ≡ selection_part option }
+{
+    match option {
+        SelectionOption::Link => "link",
+        SelectionOption::Verdict => "verdict",
+        SelectionOption::From => "from",
+        SelectionOption::To => "to",
+        SelectionOption::Filters => "filters",
+        SelectionOption::Around => "around",
     }
 }
 
@@ -345,6 +459,18 @@ impl Display for Fault {
             Fault::Debug(fault) => {
                 let fault = debug_name(fault);
                 write!(f, "afdxmon: debug {fault}")
+            }
+            Fault::Cut(fault) => {
+                let fault = CutPart(fault);
+                write!(f, "afdxmon: cut {fault}")
+            }
+            Fault::Selection { option, item } => {
+                let option = selection_name(option);
+                write!(f, "afdxmon: cut 8 Selection {option} at {item}")
+            }
+            Fault::Interfaces(file) => {
+                let file = file_name(file);
+                write!(f, "afdxmon: interfaces {file}")
             }
         }
     }

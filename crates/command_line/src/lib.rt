@@ -9,6 +9,7 @@ mod fault;
 mod meaning;
 mod message;
 mod misuse;
+mod moment;
 mod place;
 mod refused;
 mod shared;
@@ -16,16 +17,18 @@ mod standard;
 mod summary;
 
 pub use arguments::{
-    CaptureArguments, DebugArguments, FilterArgument, Invocation, WatchArguments, read_arguments,
+    CaptureArguments, CutArguments, DebugArguments, FilterArgument, Invocation, WatchArguments,
+    read_arguments,
 };
 pub use caret::{Caret, Place, caret_at, place_at};
-pub use exit::{Exit, TO_A_TERMINAL, USAGE};
-pub use fault::{Fault, FileOption, fault_line};
+pub use exit::{Exit, TO_A_TERMINAL, USAGE, WITHOUT_TOTAL};
+pub use fault::{Fault, FileOption, SelectionOption, fault_line};
 pub use meaning::{EndingAdvice, HEAD_LEN, advice, header_advice, numeric_advice};
-pub use message::{Note, TapNote};
+pub use message::{Note, SkippedNote, TapNote};
 pub use misuse::Misuse;
+pub use moment::{MomentText, read_moment};
 pub use place::file_of;
 pub use refused::{Written, load_offset, numeric_offset, source_offset, written_as};
-pub use shared::{CaptureFiles, Inode, Named, WatchFiles};
+pub use shared::{CaptureFiles, CutFiles, Inode, Named, WatchFiles};
 pub use standard::is_standard;
 pub use summary::{Hint, Summary, hint_of};

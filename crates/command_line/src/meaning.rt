@@ -1,13 +1,15 @@
 //! What a fault line or a note means and what to do, in plain words, for a person at a terminal. The texts
 //! stand alone: an installed program has no documents beside it.
 
-use crate::fault::{Fault, FileOption};
+use crate::fault::{Fault, FileOption, SelectionOption};
 use crate::refused::Written;
 use bpf_asm::AsmFault;
 use bpf_debugger::DebugFault;
 use bpf_isa::NumericFault;
 use bpf_loader::LoadFault;
 use bpf_text::TextFault;
+use cut_run::{CutFault, CutSource};
+use ledger_text::LineFault;
 use pcap_io::{BadReason, Ending, HeaderFault};
 use run_outcome::{Output, WatchFault};
 use std::fmt;
@@ -59,14 +61,9 @@ pub const HEAD_LEN: usize = 24;
 /// What to do with a file that has the magic number of no pcap file, by its first bytes.
 fn magic_advice(head: &[u8]) -> &'static str {
     match head {
-        [0x0a, 0x0d, 0x0d, 0x0a, ..] => {
-            "a pcapng file: editcap -F nsecpcap in.pcapng out.pcap writes it as pcap"
-        }
         [0x1f, 0x8b, ..] => "compressed by gzip: gunzip in.pcap.gz",
         [0x28, 0xb5, 0x2f, 0xfd, ..] => "compressed by zstd: unzstd in.pcap.zst",
-        _ => {
-            "not a pcap file; if pcapng: editcap -F nsecpcap in.pcapng out.pcap; if compressed: gunzip"
-        }
+        _ => { "neither a pcap nor a pcapng file; if compressed: gunzip" }
     }
 }
 
@@ -90,12 +87,21 @@ fn link_type_advice(head: &[u8]) -> &'static str {
 /// nothing is known of it.
 pub fn header_advice(fault: HeaderFault, head: &[u8]) -> &'static str {
     match fault {
-        HeaderFault::Short => "not a pcap file: it has fewer than the 24 bytes of a file header",
+        HeaderFault::Short => "not a recording: it ends within its file header",
         HeaderFault::Magic => magic_advice(head),
         HeaderFault::Version => {
             "a pcap file of another version than 2.4: editcap -F nsecpcap in.pcap out.pcap writes 2.4"
         }
         HeaderFault::LinkType => link_type_advice(head),
+        HeaderFault::SectionVersion => {
+            "a pcapng file of another major version than 1: record as pcapng 1.0 or pcap"
+        }
+        HeaderFault::ByteOrderMagic
+        | HeaderFault::SectionLength
+        | HeaderFault::SectionLengthsDiffer
+        | HeaderFault::SectionOption => {
+            "a pcapng file that is damaged in its section header: record again"
+        }
     }
 }
 
@@ -114,16 +120,32 @@ impl Display for EndingAdvice {
             Ending::Bad(_, BadReason::TooMany) => f.write_str(
                 "the rest is left out: editcap -F nsecpcap -c 1000000000 in.pcap out.pcap splits it",
             ),
-            Ending::Bad(0, BadReason::Length | BadReason::Fraction) => {
+            Ending::Bad(_, BadReason::SimplePacket) => f.write_str(
+                "simple packets have no time: record with enhanced packets, as dumpcap does",
+            ),
+            Ending::Bad(_, BadReason::StampRange) => {
+                f.write_str("the recorder's clock was wrong: the frames from there on are left out")
+            }
+            Ending::Bad(_, BadReason::SeveralInterfaces) => { f.write_str(CHOOSE_INTERFACE) }
+            Ending::Bad(_, BadReason::TooManyInterfaces) => {
+                f.write_str("the rest is left out: a section has at most 256 interfaces")
+            }
+            Ending::Bad(_, BadReason::NoSuchInterface) => {
+                f.write_str("capinfos in.pcapng lists the interfaces of a file")
+            }
+            Ending::Bad(0, _) => {
                 f.write_str("the file is damaged at its first packet: record again")
             }
-            Ending::Bad(count, BadReason::Length | BadReason::Fraction) => write!(
+            Ending::Bad(count, _) => write!(
                 f,
                 "damaged there: editcap -F nsecpcap -r in.pcap out.pcap 1-{count} keeps what is before"
             ),
         }
     }
 }
+
+const CHOOSE_INTERFACE: &str =
+    "choose one by its number or name after the path, as flight.pcapng:0";
 
 const OUT_OF_MEMORY: &str =
     "the system has no memory left for it: end other programs, or raise its limit by ulimit -v";
@@ -162,10 +184,11 @@ fn file_advice(file: FileOption) -> &'static str {
         }
         FileOption::Source => "--source needs a filter's source, at most 16 MiB of UTF-8",
         FileOption::Recording =>
-            "RECORDING needs a recording that can be read: a pcap file or a pipe",
-        FileOption::Tap => "--tap needs a recording that can be read: a pcap file or a pipe",
-        FileOption::A => "--a needs a recording that can be read: a pcap file or a pipe",
-        FileOption::B => "--b needs a recording that can be read: a pcap file or a pipe",
+            "RECORDING needs a recording that can be read: a pcap or pcapng file, or a pipe",
+        FileOption::Tap =>
+            "--tap needs a recording that can be read: a pcap or pcapng file, or a pipe",
+        FileOption::A => "--a needs a recording that can be read: a pcap or pcapng file, or a pipe",
+        FileOption::B => "--b needs a recording that can be read: a pcap or pcapng file, or a pipe",
         FileOption::Capture => {
             "--capture needs a file that can be written, in a directory that is there"
         }
@@ -260,6 +283,54 @@ fn debug_advice(fault: DebugFault) -> &'static str {
     }
 }
 
+fn line_advice(fault: LineFault) -> &'static str {
+    match fault {
+        LineFault::Head => "no ledger of version 2: afdxmon watch writes one by --ledger",
+        LineFault::Frame(_) => "a line of no frame's form: was the ledger changed?",
+        LineFault::Order => "no line of a ledger stands there: was the ledger changed?",
+        LineFault::Newline => "the last line is cut off: what stands before it was taken",
+        LineFault::Long => "no line of a ledger is so long",
+        LineFault::TooMany => "no ledger has so many lines",
+    }
+}
+
+fn cut_advice(fault: CutFault) -> &'static str {
+    match fault {
+        CutFault::Ledger { fault, .. } => line_advice(fault),
+        CutFault::Order { .. } => {
+            "the line's frame comes no later than the one before: was the ledger changed?"
+        }
+        CutFault::Absent { .. } => {
+            "the recording has no such frame: give those that the ledger was written of"
+        }
+        CutFault::Header { fault, .. } => header_advice(fault, &[]),
+        CutFault::Read {
+            source: CutSource::Ledger,
+        } => "the ledger can't be read: is it a file or a pipe?",
+        CutFault::Read {
+            source: CutSource::Recording(_),
+        } => "the recording can't be read: is it a file or a pipe?",
+        CutFault::Write => "the output can't be written: is the disk full, or the pipe closed?",
+        CutFault::Memory => OUT_OF_MEMORY,
+    }
+}
+
+fn selection_advice(option: SelectionOption) -> &'static str {
+    match option {
+        SelectionOption::Link => {
+            "--link needs identifiers 0 to 65535, as 301-305,42, or with --config names, as engine_*"
+        }
+        SelectionOption::Verdict => {
+            "--verdict needs words of a ledger's fields 6 to 9, 'discarded' or 'delivered'"
+        }
+        SelectionOption::From | SelectionOption::To => {
+            "a time is 2027-01-15T08:00:12.119534506Z, 08:00:12.1195, or nanoseconds since 1970"
+        }
+        SelectionOption::Filters => "--filters needs a mask: 01 to ff",
+        SelectionOption::Around => "--around reads the ledger twice: name a file of it, no pipe",
+    }
+}
+
 /// What a fault line means and what to do, in plain words, for a person at a terminal.
 pub fn advice(fault: &Fault) -> &'static str {
     match *fault {
@@ -272,5 +343,8 @@ pub fn advice(fault: &Fault) -> &'static str {
         Fault::Load { fault, .. } => load_advice(fault),
         Fault::Watch(fault) => watch_advice(fault),
         Fault::Debug(fault) => debug_advice(fault),
+        Fault::Cut(fault) => cut_advice(fault),
+        Fault::Selection { option, .. } => selection_advice(option),
+        Fault::Interfaces(_) => CHOOSE_INTERFACE,
     }
 }

@@ -36,6 +36,16 @@ fn reason_words(reason: BadReason) -> &'static str
         BadReason::Fraction => "fraction of a second out of range",
         BadReason::StampBack => "timestamp out of order",
         BadReason::TooMany => "too many frames",
+        BadReason::BlockLength => "a block's length is wrong",
+        BadReason::BlockLengthsDiffer => "the two lengths of a block differ",
+        BadReason::BlockBounds => "a packet or an option reaches beyond its block",
+        BadReason::UnknownInterface => "a packet of an interface that isn't described",
+        BadReason::Section => "a section of another version",
+        BadReason::SimplePacket => "a packet without a timestamp",
+        BadReason::StampRange => "timestamp before 1970 or after 2106",
+        BadReason::SeveralInterfaces => "packets of several interfaces, and none is chosen",
+        BadReason::TooManyInterfaces => "too many interfaces",
+        BadReason::NoSuchInterface => "the chosen interface isn't there",
     }
 }
 
@@ -80,6 +90,52 @@ impl Display for Note {
     fn fmt<W: fmt::Write>(&self, f: &mut Formatter<W>) -> fmt::Result {
         let ending = EndingPart(self.0);
         write!(f, "afdxmon: note: recording{ending}")
+    }
+}
+
+/// A number of packets, with its unit.
+#[derive(Clone, Copy)]
+struct Packets(u64);
+
+impl Display for Packets {
+    ghost use Rattle.std.specs.Prelude.{Some};
+    ghost use Rattle.command_line.specs.Exit.{packets_text};
+
+    ghost output = { λ packets. Some (packets_text packets.0) };
+
+    fn fmt<W: fmt::Write>(&self, f: &mut Formatter<W>) -> fmt::Result {
+        let count = self.0;
+        if count == 1 {
+            write!(f, "{count} packet")
+        } else {
+            write!(f, "{count} packets")
+        }
+    }
+}
+
+/// The note on packets of a pcapng file that are not of Ethernet and were left out, without its newline. Of
+/// a command's one recording there is no network.
+#[derive(Clone, Copy, Debug)]
+pub struct SkippedNote(pub Option<Network>, pub u64);
+
+impl Display for SkippedNote {
+    ghost use Rattle.std.specs.Prelude.{Some};
+    ghost use Rattle.command_line.specs.Exit.{skipped_note_of};
+
+    ghost output = { λ note. Some (skipped_note_of note.0 note.1) };
+
+    fn fmt<W: fmt::Write>(&self, f: &mut Formatter<W>) -> fmt::Result {
+        let packets = Packets(self.1);
+        match self.0 {
+            Some(network) => {
+                let network = network_name(network);
+                write!(
+                    f,
+                    "afdxmon: note: recording of network {network} has {packets} not of Ethernet"
+                )
+            }
+            None => write!(f, "afdxmon: note: recording has {packets} not of Ethernet"),
+        }
     }
 }
 

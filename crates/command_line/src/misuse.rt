@@ -11,10 +11,12 @@ pub enum Misuse {
     NoFilter,
     /// A filter is given in more than one way.
     TwoFilters,
-    /// A run has neither of its two recordings.
+    /// A run, or a cut that is to have packets, has neither of the two recordings.
     NoRecording,
     /// A capture is to be written, and no filter says of which frames.
     Unfiltered,
+    /// A network is given that is neither A nor B.
+    NoNetwork,
     /// An argument isn't there that clap requires or has a default for. This is not met.
     Incomplete,
 }
@@ -26,6 +28,7 @@ impl Misuse {
     {
         match self {
             Misuse::TwoFilters => ErrorKind::ArgumentConflict,
+            Misuse::NoNetwork => ErrorKind::InvalidValue,
             Misuse::NoFilter | Misuse::NoRecording | Misuse::Unfiltered | Misuse::Incomplete => {
                 ErrorKind::MissingRequiredArgument
             }
@@ -39,6 +42,7 @@ impl Misuse {
             Misuse::TwoFilters => "more than one filter is given",
             Misuse::NoRecording => "no recording is given: --a, --b or both name one",
             Misuse::Unfiltered => "--capture needs --filter, which says what frames it is to have",
+            Misuse::NoNetwork => "--network is A or B",
             Misuse::Incomplete => "a required argument is missing",
         }
     }

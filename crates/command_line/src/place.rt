@@ -1,9 +1,10 @@
 //! Which file a fault is of, for a person who is told its path.
 ghost use Rattle.std.specs.Prelude.{◌≡◌};
-ghost use Rattle.command_line.specs.Place.{file_of, input_of, output_of, refused_filter};
+ghost use Rattle.command_line.specs.Place.{file_of, file_of_cut, file_of_source, input_of, output_of, refused_filter};
 
 use crate::fault::{Fault, FileOption};
 use afdx_frame::Network;
+use cut_run::{CutFault, CutSource};
 use run_outcome::{Output, WatchFault};
 
 fn input_of(network: Network) -> FileOption
@@ -34,15 +35,40 @@ fn filter_file(filter: Option<u8>) -> FileOption
     }
 }
 
+fn source_file(source: CutSource) -> FileOption
+    ensures { result ≡ file_of_source source }
+{
+    match source {
+        CutSource::Ledger => FileOption::Ledger,
+        CutSource::Recording(network) => input_of(network),
+    }
+}
+
+/// The file of a cut's fault: that of a line is the ledger.
+fn cut_file(fault: CutFault) -> Option<FileOption>
+    ensures { result ≡ file_of_cut fault }
+{
+    match fault {
+        CutFault::Ledger { .. } | CutFault::Order { .. } | CutFault::Absent { .. } => {
+            Some(FileOption::Ledger)
+        }
+        CutFault::Header { network, .. } => Some(input_of(network)),
+        CutFault::Read { source } => Some(source_file(source)),
+        CutFault::Write => Some(FileOption::Output),
+        CutFault::Memory => None,
+    }
+}
+
 /// The file that a fault is of. `A` is the one recording of `capture` and `debug` too. None: the fault is
 /// of no file.
 pub fn file_of(fault: &Fault) -> Option<FileOption>
     ensures { result ≡ file_of fault.now }
 {
     match *fault {
-        Fault::File(file) | Fault::Shared { output: file, .. } | Fault::Taken { file, .. } => Some(
-            file,
-        ),
+        Fault::File(file)
+        | Fault::Shared { output: file, .. }
+        | Fault::Taken { file, .. }
+        | Fault::Interfaces(file) => Some(file),
         Fault::Config(_) => Some(FileOption::Config),
         Fault::Asm(_) => Some(FileOption::Standard),
         Fault::Numeric { filter, .. } | Fault::Load { filter, .. } => Some(filter_file(filter)),
@@ -57,6 +83,8 @@ pub fn file_of(fault: &Fault) -> Option<FileOption>
             | WatchFault::Memory
             | WatchFault::Filters,
         )
-        | Fault::Debug(_) => None,
+        | Fault::Debug(_)
+        | Fault::Selection { .. } => None,
+        Fault::Cut(fault) => cut_file(fault),
     }
 }

@@ -1,6 +1,6 @@
 //! Which output is a file that another option names too.
 ghost use Rattle.std.specs.Prelude.{◌≡◌};
-ghost use Rattle.command_line.specs.Shared.{capture_answer, is_one_file, named_by, shared_answer, twin_of};
+ghost use Rattle.command_line.specs.Shared.{capture_answer, cut_answer, is_one_file, named_by, shared_answer, twin_of};
 
 use crate::fault::{Fault, FileOption};
 
@@ -144,6 +144,44 @@ impl CaptureFiles<'_> {
             FileOption::Source
         } else if self.output.is_one_file(&self.recording) {
             FileOption::Recording
+        } else {
+            return Ok(());
+        };
+        Err(Fault::Shared {
+            output: FileOption::Output,
+            other,
+        })
+    }
+}
+
+/// What the options of `cut` name. One that isn't given names nothing, which is `Other`.
+#[derive(Clone, Copy, Debug, PartialEq, Eq)]
+pub struct CutFiles<'a> {
+    pub ledger: Named<'a>,
+    pub a: Named<'a>,
+    pub b: Named<'a>,
+    pub config: Named<'a>,
+    pub output: Named<'a>,
+}
+
+impl CutFiles<'_> {
+    /// Refuses an output that is the ledger, a recording or the table: writing it would destroy what stands
+    /// there.
+    ///
+    /// # Errors
+    ///
+    /// `Fault::Shared`, with the first of them that is its file too.
+    pub fn refuse_shared(&self) -> Result<(), Fault>
+        ensures { result ≡ cut_answer self.now }
+    {
+        let other = if self.output.is_one_file(&self.ledger) {
+            FileOption::Ledger
+        } else if self.output.is_one_file(&self.a) {
+            FileOption::A
+        } else if self.output.is_one_file(&self.b) {
+            FileOption::B
+        } else if self.output.is_one_file(&self.config) {
+            FileOption::Config
         } else {
             return Ok(());
         };

@@ -130,6 +130,12 @@ impl Invocation<'_> {
                 filter_stream(given.filter),
                 stream_of(FileOption::Tap, given.tap),
             ]),
+            Invocation::Cut(given) => refuse_second(&[
+                stream_of(FileOption::Ledger, given.ledger),
+                stream_if(FileOption::A, given.a),
+                stream_if(FileOption::B, given.b),
+                stream_if(FileOption::Config, given.config),
+            ]),
         }
     }
 }

@@ -7,6 +7,7 @@ mod capture;
 mod debug;
 mod inputs;
 mod laws;
+mod selection;
 mod tap;
 mod text;
 
@@ -15,5 +16,6 @@ pub use capture::{CaptureRun, Ran, capture_by, capture_over, run_capture};
 pub use debug::{DebugRun, answer_line, begin_session, debug_over, run_debug, run_session};
 pub use inputs::{filter_of, filter_of_source, load_filters, read_config, read_file};
 pub use laws::source_means_its_program;
+pub use selection::selection_of;
 pub use tap::{HeldTap, TapRead, read_tap};
 pub use text::MAX_TEXT;

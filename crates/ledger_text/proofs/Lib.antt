@@ -4,3 +4,4 @@ pub mod Spelling
 pub mod Faults
 pub mod Texts
 pub mod Blocks
+pub mod Ledgers

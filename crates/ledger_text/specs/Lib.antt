@@ -5,6 +5,7 @@ pub mod Fields
 pub mod Laws
 pub mod Newlines
 pub mod Lines
+pub mod Ledger
 pub mod Order
 pub mod Places
 pub mod Reader

@@ -1,11 +1,10 @@
 -- What contracts see of a reader of a ledger.
-use Rattle.std.specs.Prelude.{◌≡◌, ℕ, List, Option}
+use Rattle.std.specs.Prelude.{◌≡◌, ℕ, ◌+◌, List, Option}
 use Rattle.std.specs.Io.KnownBytes.{IsAtEnd, Keeps}
 use Rattle.pcap_io.specs.Device.{CountsFailure}
 use Rattle.ledger_text.specs.Newlines.{NoNewline}
 use Rattle.ledger_text.specs.Lines.{IsNextLine, line_source, lines_left}
-use Rattle.ledger_text.specs.Order.{IsLineFaultAt}
-use Rattle.ledger_text.specs.Places.{IsRead, end_at, next_number}
+use Rattle.ledger_text.specs.Places.{IsLineRefused, IsRead, end_at}
 use Rattle.ledger_text.specs.declared.lines.LineFound.TheVariants as next
 use Rattle.ledger_text.specs.declared.order.Stage.{Stage}
 use Rattle.ledger_text.specs.declared.fault.LineFault.{LineFault}
@@ -48,10 +47,10 @@ IsFound old new line end =
 abbrev pub IsBadLine : Reading → Reading → List ℕ → LineFault → Type 0
 IsBadLine old new line wrong.Newline = IsNextLine old.left new.left line next.Unended
 IsBadLine old new line wrong.Long = IsNextLine old.left new.left line next.Long
-IsBadLine old new line fault = IsNextLine old.left new.left line next.Line × IsLineFaultAt old.stage line fault
+IsBadLine old new line fault = IsNextLine old.left new.left line next.Line × IsLineRefused old.stage old.number line fault
 
 -- The source failed, and no byte that it gave is lost, of which none ends a line; or the next line is wrong.
 abbrev pub IsReadFault : Reading → Reading → List ℕ → List ℕ → ReadFault → Type 0
 IsReadFault old new line unread faults.Device = CountsFailure old.failures new.failures × Keeps old.left new.left × NoNewline unread
-IsReadFault old new line unread (faults.Line n fault) = (n ≡ next_number old.number) × IsBadLine old new line fault × (new.failures ≡ old.failures)
+IsReadFault old new line unread (faults.Line n fault) = (n ≡ old.number + 1) × IsBadLine old new line fault × (new.failures ≡ old.failures)
 IsReadFault old new line unread faults.Failed = ⊥

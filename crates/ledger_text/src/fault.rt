@@ -65,6 +65,9 @@ pub enum LineFault {
     /// The line and its newline have no room in a block of [`BLOCK_LEN`](crate::BLOCK_LEN) bytes.
     #[error("too long")]
     Long,
+    /// [`MOST_LINES`](crate::MOST_LINES) stand before the line.
+    #[error("too many lines")]
+    TooMany,
 }
 
 /// Why a reader of a ledger doesn't go on. After a fault each later call returns `Failed`.

@@ -36,7 +36,7 @@ mod reader_tests;
 mod tests;
 mod words;
 
-pub use bounds::BLOCK_LEN;
+pub use bounds::{BLOCK_LEN, MOST_LINES};
 pub use fault::{FrameFault, LineFault, ReadFault};
 pub use frame::{FrameLine, read_frame};
 pub use laws::{entries_read_back, line_reads_one_way};

@@ -1,7 +1,9 @@
 //! Reads a ledger line by line.
-ghost use Rattle.std.specs.Prelude.{◌≡◌};
+ghost use Rattle.std.specs.Prelude.{◌≡◌, ◌≤◌};
 ghost use Rattle.ledger_text.specs.Places.{stage_after};
+ghost use Rattle.ledger_text.specs.declared.bounds.TheConstants.{MOST_LINES};
 
+use crate::bounds::MOST_LINES;
 use crate::fault::{LineFault, ReadFault};
 use crate::lines::{LineFound, LineSource, LinesRefused};
 use crate::order::{Counts, LedgerLine, Stage, read_line};
@@ -35,17 +37,18 @@ fn stage_after(line: &LedgerLine) -> Stage
 pub struct LedgerReader<S> {
     lines: LineSource<S>,
     stage: Stage,
-    /// How many lines were read. It stays at 2^64 - 1 once there.
+    /// How many lines were read.
     number: u64,
     failed: bool,
+    ghost few: { number ≤ MOST_LINES },
 }
 
 impl<S: TapSource> LedgerReader<S> {
-    ghost use Rattle.std.specs.Prelude.{◌≡◌, [], IfOk, IfErr, OnOk, OnErr, true, false, Err};
+    ghost use Rattle.std.specs.Prelude.{◌≡◌, ◌+◌, [], IfOk, IfErr, OnOk, OnErr, true, false, Err};
     ghost use Rattle.std.specs.Io.KnownBytes.{Keeps};
     ghost use Rattle.ledger_text.specs.Lines.{lent_line, line_source, lines_left, unread_of};
     ghost use Rattle.ledger_text.specs.Reader.{IsFound, IsReadFault, reading_of, source_of};
-    ghost use Rattle.ledger_text.specs.Places.{IsRead, IsReadRefused, end_at, next_number};
+    ghost use Rattle.ledger_text.specs.Places.{IsRead, IsReadRefused, end_at};
     ghost use Rattle.ledger_text.specs.declared.fault.ReadFault.TheVariants as faults;
     ghost use Rattle.ledger_text.specs.declared.order.Stage.TheVariants as stages;
 
@@ -115,10 +118,13 @@ impl<S: TapSource> LedgerReader<S> {
             × (self.new.number ≡ self.old.number)) }
         ensures lines { self.new.lines ≡ self.old.lines }
     {
+        if self.number == MOST_LINES {
+            return Err(self.fault(LineFault::TooMany));
+        }
         match read_line(self.stage, self.lines.line()) {
             Ok(line) => {
                 self.stage = stage_after(&line);
-                self.number = self.number.saturating_add(1);
+                self.number += 1;
                 Ok(Found::Line(line))
             }
             Err(fault) => Err(self.fault(fault)),
@@ -127,10 +133,10 @@ impl<S: TapSource> LedgerReader<S> {
 
     /// The fault of the next line.
     fn fault(&self, fault: LineFault) -> ReadFault
-        ensures { result ≡ faults.Line (next_number self.now.number) fault }
+        ensures { result ≡ faults.Line (self.now.number + 1) fault }
     {
         ReadFault::Line {
-            number: self.number.saturating_add(1),
+            number: self.number + 1,
             fault,
         }
     }

@@ -1,7 +1,7 @@
 //! Ledgers that a reader by the written rules has judged: the number of lines that are read, or that of the
 //! first wrong line, and what is found there. `C` is the end of a complete ledger and `I` that of an
 //! incomplete one, `H` a wrong head, `O` a wrong order, `N` a missing newline, `X` a line that is too long,
-//! and `a` to `l` a wrong field.
+//! `M` one line more than are read, and `a` to `l` a wrong field.
 use crate::tests::letter;
 use crate::{Found, LedgerReader, LineFault, ReadFault};
 use pcap_io::{MemSource, Script, TapSource};
@@ -126,6 +126,7 @@ fn fault_letter(fault: LineFault) -> u8 {
         LineFault::Order => b'O',
         LineFault::Newline => b'N',
         LineFault::Long => b'X',
+        LineFault::TooMany => b'M',
         LineFault::Frame(fault) => letter(&Err(fault)),
     }
 }

@@ -30,5 +30,5 @@ mod recording;
 
 pub use laws::{one_order, rounds_are_one_list, runs_end_in_order, runs_follow};
 pub use merger::Merger;
-pub use model::{Answered, Core, Event, MAX_WORKERS, Work, every_run_is_in_order};
+pub use model::{Answered, Core, CoreSizes, Event, MAX_WORKERS, Work, every_run_is_in_order};
 pub use recording::is_recording;

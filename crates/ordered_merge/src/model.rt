@@ -10,6 +10,8 @@ mod event;
 mod parts;
 mod round;
 mod side;
+mod sizes;
 
 pub use engine::{Core, MAX_WORKERS, every_run_is_in_order};
 pub use event::{Answered, Event, Work};
+pub use sizes::CoreSizes;

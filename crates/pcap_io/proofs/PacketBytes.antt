@@ -12,7 +12,7 @@ use Rattle.pcap_io.specs.Recording.{Packet, IsGood, header_bytes, packet_bytes, 
 use Rattle.pcap_io.specs.declared.layout.ByteOrder.{ByteOrder}
 use Rattle.pcap_io.specs.declared.layout.ByteOrder.TheVariants.{Little, Big}
 use Rattle.pcap_io.specs.declared.layout.Precision.{Precision}
-use Rattle.pcap_io.specs.declared.layout.Precision.TheVariants.{Nanoseconds, Microseconds}
+use Rattle.pcap_io.specs.declared.layout.Precision.TheVariants.{Nanoseconds, Microseconds, Converted}
 use Rattle.pcap_io.specs.declared.layout.Layout.{Layout}
 use Rattle.pcap_io.specs.declared.packet_header.PacketHeader.{PacketHeader}
 
@@ -151,6 +151,7 @@ fine_from_none l late high head e =
 pub fractions_fit : (p : Precision) (n : ℕ) → n < fractions_of p → n < 2 ^ 32
 fractions_fit Nanoseconds n h = omega arith
 fractions_fit Microseconds n h = omega arith
+fractions_fit Converted n h = omega arith
 
 -- ---- what a packet is to a reader
 

@@ -1,6 +1,7 @@
 pub mod Block
 pub mod Bytes
 pub mod Capture
+pub mod Converted
 pub mod Device
 pub mod Items
 pub mod Laws

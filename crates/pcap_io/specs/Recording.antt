@@ -3,12 +3,13 @@ use Rattle.std.specs.Prelude.{◌≡◌, ℕ, ◌+◌, ◌-◌, ◌*◌, ◌^◌
 use Rattle.afdx_frame.specs.Frame.{Frame, frame_with}
 use Rattle.afdx_frame.specs.declared.bounds.TheConstants.{MAX_SNAPLEN}
 use Rattle.afdx_frame.specs.declared.key.Network.{Network}
+use Rattle.pcap_io.specs.Converted.{fraction_reason}
 use Rattle.pcap_io.specs.Layout.{number_in, bytes_in, nanoseconds_of, fractions_of}
 use Rattle.pcap_io.specs.declared.layout.Layout.{Layout}
 use Rattle.pcap_io.specs.declared.packet_header.PacketHeader.{PacketHeader}
 use Rattle.pcap_io.specs.declared.packet_header.TheConstants.{PACKET_HEADER_LEN}
 use Rattle.pcap_io.specs.declared.recording.BadReason.{BadReason}
-use Rattle.pcap_io.specs.declared.recording.BadReason.TheVariants.{Length, Fraction, StampBack, TooMany}
+use Rattle.pcap_io.specs.declared.recording.BadReason.TheVariants.{Length, StampBack, TooMany}
 use Rattle.pcap_io.specs.declared.recording.Ending.{Ending}
 use Rattle.pcap_io.specs.declared.recording.Ending.TheVariants.{Clean, Cut, Bad}
 
@@ -80,7 +81,7 @@ header_fields layout bytes = record {
 abbrev pub reason_at : Layout → ℕ → ℕ → PacketHeader → Option BadReason
 reason_at layout late high head =
     if nat_lt MAX_SNAPLEN head.captured_len then Some Length
-    else if nat_le (fractions_of layout.precision) head.fraction then Some Fraction
+    else if nat_le (fractions_of layout.precision) head.fraction then Some (fraction_reason layout.precision head.fraction)
     else if nat_lt (stamp_at layout head.seconds head.fraction + late) high then Some StampBack
     else None
 

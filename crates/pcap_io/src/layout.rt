@@ -21,6 +21,9 @@ pub enum Precision {
     Nanoseconds,
     /// The older form.
     Microseconds,
+    /// Nanoseconds, in what a recording of another format was converted to. What can't be converted is
+    /// told by codes: in the file header's field `sigfigs`, and in a fraction from a second on.
+    Converted,
 }
 
 /// How a recording writes its numbers.
@@ -45,6 +48,22 @@ pub enum HeaderFault {
     /// The link type isn't 1, Ethernet.
     #[error("the link type isn't Ethernet")]
     LinkType,
+    /// The byte-order magic of the first section header is neither order of 1A2B3C4D (pcapng, as all
+    /// faults that follow).
+    #[error("the byte-order magic of the section header is unknown")]
+    ByteOrderMagic,
+    /// Its major version isn't 1.
+    #[error("the major version of the section isn't 1")]
+    SectionVersion,
+    /// Its length is no multiple of 4, less than 28, or larger than that of any block that is read.
+    #[error("the length of the section header is wrong")]
+    SectionLength,
+    /// Its two lengths differ.
+    #[error("the two lengths of the section header differ")]
+    SectionLengthsDiffer,
+    /// One of its options reaches beyond it.
+    #[error("an option reaches beyond the section header")]
+    SectionOption,
 }
 
 /// The bytes of a file header.
@@ -63,7 +82,8 @@ pub fn read_u32(order: ByteOrder, bytes: &[u8]) -> u32
 }
 
 /// The number in the first two bytes.
-fn read_u16(order: ByteOrder, bytes: &[u8]) -> u16
+#[inline(always)]
+pub fn read_u16(order: ByteOrder, bytes: &[u8]) -> u16
     requires { 2 ≤ length bytes.now }
     ensures { result ≡ number_in order 2 bytes.now }
 {
@@ -82,6 +102,7 @@ fn layout_of_magic(magic: u32) -> Option<Layout>
         0xa1b2_3c4d => (ByteOrder::Big, Precision::Nanoseconds),
         0xd4c3_b2a1 => (ByteOrder::Little, Precision::Microseconds),
         0xa1b2_c3d4 => (ByteOrder::Big, Precision::Microseconds),
+        0x7063_6e67 => (ByteOrder::Little, Precision::Converted),
         _ => return None,
     };
     Some(Layout { order, precision })
@@ -102,6 +123,11 @@ pub fn layout_of(header: &[u8]) -> Result<Layout, HeaderFault>
     }
     if read_u32(layout.order, &header[20..]) != 1 {
         return Err(HeaderFault::LinkType);
+    }
+    if layout.precision == Precision::Converted {
+        if let Some(fault) = HeaderFault::of_code(read_u32(layout.order, &header[12..])) {
+            return Err(fault);
+        }
     }
     Ok(layout)
 }

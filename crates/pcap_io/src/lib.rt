@@ -29,6 +29,7 @@
 #![tactic(auto)]
 
 mod block;
+mod converted;
 mod device;
 mod item;
 mod laws;
@@ -46,10 +47,11 @@ mod transfer;
 mod write_sink;
 mod writer;
 
+pub use converted::CONVERTED_MAGIC;
 pub use device::{DeviceFault, OutSink, TapSource};
 pub use item::{Found, Item, ReadFault};
 pub use laws::{capture_is_read, every_recording_parses, one_parse, reading_gives_the_parse};
-pub use layout::HeaderFault;
+pub use layout::{ByteOrder, HeaderFault, read_u16, read_u32};
 pub use mem_sink::MemSink;
 pub use mem_source::MemSource;
 pub use packet_header::MAX_PACKET_LEN;

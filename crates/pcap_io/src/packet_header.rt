@@ -50,7 +50,7 @@ impl PacketHeader {
             → result < 1000000000 * 2 ^ 32 }
     {
         let unit = match layout.precision {
-            Precision::Nanoseconds => 1,
+            Precision::Nanoseconds | Precision::Converted => 1,
             Precision::Microseconds => 1000,
         };
         u64::from(self.seconds) * 1_000_000_000 + u64::from(self.fraction) * unit
@@ -63,13 +63,13 @@ impl PacketHeader {
         ensures { result ≡ reason_at layout late high self.now }
     {
         let fractions = match layout.precision {
-            Precision::Nanoseconds => 1_000_000_000,
+            Precision::Nanoseconds | Precision::Converted => 1_000_000_000,
             Precision::Microseconds => 1_000_000,
         };
         if self.captured_len as usize > MAX_SNAPLEN {
             Some(BadReason::Length)
         } else if self.fraction >= fractions {
-            Some(BadReason::Fraction)
+            Some(BadReason::of_fraction(layout.precision, self.fraction))
         } else if self.stamp(layout).saturating_add(late) < high {
             Some(BadReason::StampBack)
         } else {

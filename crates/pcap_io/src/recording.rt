@@ -11,6 +11,28 @@ pub enum BadReason {
     StampBack,
     /// More packets follow than are read.
     TooMany,
+    /// A block's length is no multiple of 4, too small for its type, or too large for a block that is
+    /// read whole (pcapng, as all reasons that follow).
+    BlockLength,
+    /// The two lengths of a block differ.
+    BlockLengthsDiffer,
+    /// A packet's captured bytes or an option reach beyond their block, or an option that is read has
+    /// another length than its kind.
+    BlockBounds,
+    /// A packet is of an interface that its section doesn't describe.
+    UnknownInterface,
+    /// A later section is of another major version, or its byte-order magic is unknown.
+    Section,
+    /// A simple packet has no timestamp.
+    SimplePacket,
+    /// The timestamp lies before 1970, or 2^32 seconds or more after its start.
+    StampRange,
+    /// Packets are of more than one Ethernet interface, and none was chosen.
+    SeveralInterfaces,
+    /// A section describes more interfaces than are read.
+    TooManyInterfaces,
+    /// The chosen interface was never described.
+    NoSuchInterface,
 }
 
 /// How a recording ends. The number is that of the frames before the ending.

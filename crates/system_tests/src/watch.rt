@@ -11,6 +11,7 @@ mod long;
 mod many;
 mod pauses;
 mod safe;
+mod sizes;
 mod stopping;
 mod worked;
 

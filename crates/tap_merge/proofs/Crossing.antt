@@ -35,7 +35,7 @@ feeding_fields S source = struct_send (shape (Feeding.the_type S)) (search (send
 put_fields : IsSend TapPut.the_field.row
 put_fields =
     struct_send (shape TapPut.the_type)
-    (search (sendable, crosses), (producer_fields _ _ _ _ _ batch_send send frees, (Arc-send Bells.the_row bells_send bells_sync, tt)))
+    (search (sendable, crosses), (search sendable, (producer_fields _ _ _ _ _ batch_send send frees, (Arc-send Bells.the_row bells_send bells_sync, tt))))
 
 memory_fields : IsSend BlockMemory.the_field.row
 memory_fields =
@@ -51,7 +51,7 @@ block_fields S source =
 
 reader_fields : (S : RattleType) → IsSend S → IsSend (TapReader.the_field S).row
 reader_fields S source =
-    struct_send (shape (TapReader.the_type S)) (block_fields S source, (search (sendable, crosses) depth 40, (search sendable, (search sendable, (search sendable, tt)))))
+    struct_send (shape (TapReader.the_type S)) (block_fields S source, (search (sendable, crosses) depth 40 fits 100000, (search sendable, (search sendable, (search sendable, tt)))))
 
 pub parcel_send : (S : RattleType) → IsSend S → IsSend (Parcel.the_row S)
 parcel_send S source =

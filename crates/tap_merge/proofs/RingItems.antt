@@ -19,7 +19,6 @@ use Rattle.pcap_io.specs.declared.recording.Ending.{Ending}
 use Rattle.ordered_merge.proofs.Following.{follows_cut, follows_end, follows_fetch_a, follows_fetch_b}
 use Rattle.tap_queue.specs.Ring.{SameEnd}
 use Rattle.ordered_merge.specs.Merge.{after_cut, change_tap, cut_frames, fetched}
-use Rattle.tap_merge.specs.declared.taps.TheConstants.{ROUND}
 use Rattle.tap_queue.specs.Ring.{Looks}
 use Rattle.run_outcome.specs.declared.fault.WatchFault.{WatchFault}
 use Rattle.run_outcome.specs.declared.fault.WatchFault.TheVariants as watch
@@ -233,9 +232,9 @@ pub is_met : (end : Option Ending) (tap : Tap) (xs : List TapItem) → HasEnding
 is_met None tap xs h done = absurd (false≢true (sym h ∙ done))
 is_met (Some e) tap xs h done = refl
 
-pub taken_after_cut : (late : ℕ) (cut : List Frame) (rings : Rings) (m : MergerState) (round : List Frame) → HasTaken late cut rings → m ≡ after_cut rings.merger ROUND →
-    round ≡ cut_frames rings.merger ROUND → HasTaken late (cut ++ round) (record rings { merger = m })
-taken_after_cut late cut rings m round h is round_is = record {
+pub taken_after_cut : (most late : ℕ) (cut : List Frame) (rings : Rings) (m : MergerState) (round : List Frame) → HasTaken late cut rings → m ≡ after_cut rings.merger most →
+    round ≡ cut_frames rings.merger most → HasTaken late (cut ++ round) (record rings { merger = m })
+taken_after_cut most late cut rings m round h is round_is = record {
   late_is = ap (λ (s : MergerState). s.late) is ∙ h.late_is;
   network_a = h.network_a;
   network_b = h.network_b;
@@ -243,7 +242,7 @@ taken_after_cut late cut rings m round h is round_is = record {
   late_b = h.late_b;
   few_a = h.few_a;
   few_b = h.few_b;
-  follows = rw (is, round_is) (follows_cut rings.merger (frames_in (taken_items rings.a)) (frames_in (taken_items rings.b)) cut ROUND h.follows);
+  follows = rw (is, round_is) (follows_cut rings.merger (frames_in (taken_items rings.a)) (frames_in (taken_items rings.b)) cut most h.follows);
   ended_a = subst (λ (s : MergerState). HasEnding rings.end_a s.a (taken_items rings.a)) (sym is) h.ended_a;
   ended_b = subst (λ (s : MergerState). HasEnding rings.end_b s.b (taken_items rings.b)) (sym is) h.ended_b;
   failed = h.failed;

@@ -10,7 +10,7 @@ use Rattle.tap_queue.specs.Ring.{has_lost, taken_items}
 use Rattle.tap_queue.specs.declared.end.TapEnd.{TapEnd}
 use Rattle.tap_queue.specs.declared.item.TapItem.{TapItem}
 use Rattle.run_outcome.specs.Recording.{LeavesUnread}
-use Rattle.tap_merge.specs.Reads.{HasPut}
+use Rattle.tap_merge.specs.Reads.{HasPut, ReadsOn}
 use Rattle.tap_merge.specs.Taps.{HasRead}
 use Rattle.tap_merge.specs.declared.feeding.Feeding.{Feeding}
 use Rattle.tap_merge.specs.declared.tap_thread.TapFeed.{TapFeed}
@@ -38,6 +38,12 @@ IsFeeding s (Local tap) = HasPut s tap.promise.reader.value tap.promise.put.valu
 pub record KeepsFeeding {S : Type 0} (s : SourceMembers S) (old new : TapFeed S) : Type 0 where
   pub promise : promise_of new ≡ promise_of old
   pub feeding : IsFeeding s new
+
+-- the tap is read by a thread of its own still, or it was read on
+abbrev pub FeedsOn : {S : Type 0} → TapFeed S → TapFeed S → Type 0
+FeedsOn (Thread old) (Thread new) = ⊤
+FeedsOn (Local old) (Local new) = ReadsOn old.fed new.fed
+FeedsOn _ _ = ⊥
 
 -- All items of a reader, up to an ending or a fault, were taken from the ring, and its source came back.
 pub record IsSettled {S : Type 0} (s : SourceMembers S) (reader : TapReader S) (end : TapEnd) (source : S) : Type 0 where

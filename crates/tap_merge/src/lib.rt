@@ -11,4 +11,4 @@ mod taps;
 
 pub use rings::Rings;
 pub use tap_thread::{TapFeed, leave_tap, settle_tap, start_tap};
-pub use taps::{Taps, Unopened};
+pub use taps::{ROUND, Taps, Unopened};

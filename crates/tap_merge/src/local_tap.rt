@@ -2,7 +2,7 @@
 ghost use Rattle.std.specs.Prelude.{◌≡◌, []};
 ghost use Rattle.tap_queue.specs.Items.{is_over};
 ghost use Rattle.tap_queue.specs.Ring.{put_items, put_of};
-ghost use Rattle.tap_merge.specs.Reads.{HasPut};
+ghost use Rattle.tap_merge.specs.Reads.{HasPut, ReadsOn};
 
 use crate::feeding::Feeding;
 use pcap_io::{TapReader, TapSource};
@@ -40,6 +40,7 @@ impl<S: TapSource> LocalTap<S> {
         ensures promise { self.new.promise ≡ self.old.promise }
         ensures read { HasPut S.TapSource self.old.promise.reader.value
             self.old.promise.put.value self.new.fed }
+        ensures filled { ReadsOn self.old.fed self.new.fed }
     {
         if !self.over {
             self.over = fill(alloc, &mut self.fed);

@@ -4,15 +4,15 @@ ghost use Rattle.std.specs.Option.{option_map_or};
 ghost use Rattle.afdx_frame.specs.Frame.{Frame};
 ghost use Rattle.tap_queue.specs.Items.{frames_in};
 ghost use Rattle.tap_queue.specs.Ring.{taken_items};
-ghost use Rattle.tap_merge.specs.declared.taps.TheConstants.{ROUND};
+ghost use Rattle.std.specs.NonZero.{non_zero_usize_get};
 ghost use Rattle.tap_merge.specs.Rings.{AgreesWith, IsLost, IsNotFailed, MergesItem, TakesFailure, TakesOn, TapFault};
 
-use crate::taps::ROUND;
 use afdx_frame::{Network, TapFrame};
 use ordered_merge::Merger;
 use pcap_io::{Ending, ReadFault};
 use run_outcome::WatchFault;
 use std::alloc::AllocError;
+use std::num::NonZeroUsize;
 use std::sync::Wait;
 use tap_queue::{TapEnd, TapItem};
 
@@ -132,9 +132,9 @@ impl Rings {
         Ok(true)
     }
 
-    /// Merges up to [`ROUND`] items: one, which it waits for, and those after it that are there. False: both
+    /// Merges up to `most` items: one, which it waits for, and those after it that are there. False: both
     /// have ended.
-    fn merge_some<R: Wait>(&mut self, rt: &R) -> Result<bool, WatchFault>
+    fn merge_some<R: Wait>(&mut self, rt: &R, most: usize) -> Result<bool, WatchFault>
         requires none { self.old.fault ≡ None }
         requires taken { (late : ℕ) × (cut : List Frame) × HasTaken late cut self.old }
         ensures a { SameEnd self.old.a self.new.a }
@@ -150,7 +150,7 @@ impl Rings {
             → HasTaken late cut self.old → StopsTaking late cut self.new.a self.new.b) }
         ensures fault { IfErr result (λ fault. RingsFault fault self.new.a self.new.b) }
     {
-        for _item in 0..ROUND {
+        for _item in 0..most {
             if !self.merge_one(rt)? {
                 return Ok(false);
             }
@@ -162,9 +162,9 @@ impl Rings {
         Ok(true)
     }
 
-    /// Merges more items, unless a source has failed, and keeps the fault of one that fails. False: both have
-    /// ended, or a source has failed.
-    fn merge_more<R: Wait>(&mut self, rt: &R) -> Result<bool, WatchFault>
+    /// Merges up to `most` items more, unless a source has failed, and keeps the fault of one that fails.
+    /// False: both have ended, or a source has failed.
+    fn merge_more<R: Wait>(&mut self, rt: &R, most: usize) -> Result<bool, WatchFault>
         requires { (late : ℕ) × (cut : List Frame) × HasTaken late cut self.old }
         ensures a { SameEnd self.old.a self.new.a }
         ensures b { SameEnd self.old.b self.new.b }
@@ -181,7 +181,7 @@ impl Rings {
         if self.fault.is_some() {
             return Ok(false);
         }
-        match self.merge_some(rt) {
+        match self.merge_some(rt, most) {
             Ok(more) => Ok(more),
             Err(WatchFault::Read { network }) => {
                 self.fault = Some(WatchFault::Read { network });
@@ -191,14 +191,18 @@ impl Rings {
         }
     }
 
-    /// The next frames in order, at most [`ROUND`]; there may be none yet. None: both recordings have ended,
+    /// The next frames in order, at most `most`; there may be none yet. None: both recordings have ended,
     /// and all their frames were given.
     ///
     /// # Errors
     ///
     /// `Read` if a source failed, once all frames were given that are safe without what it didn't give.
     /// `Memory` and `RingLost` at once.
-    pub fn next_round<R: Wait>(&mut self, rt: &R) -> Result<Option<Vec<TapFrame>>, WatchFault>
+    pub fn next_round<R: Wait>(
+        &mut self,
+        rt: &R,
+        most: NonZeroUsize,
+    ) -> Result<Option<Vec<TapFrame>>, WatchFault>
         requires { (late : ℕ) × (cut : List Frame) × HasTaken late cut self.old }
         ensures a { SameEnd self.old.a self.new.a }
         ensures b { SameEnd self.old.b self.new.b }
@@ -206,7 +210,7 @@ impl Rings {
             → HasTaken late cut self.old
             → HasTaken late (cut ++ option_map_or (λ frames. frames.items) round []) self.new) }
         ensures size { IfOk result (λ round.
-            option_map_or (λ frames. length frames.items) round 0 ≤ ROUND) }
+            option_map_or (λ frames. length frames.items) round 0 ≤ non_zero_usize_get most) }
         ensures ended { result ≡ Ok None → (is_some self.new.end_a ≡ true)
             × (is_some self.new.end_b ≡ true) × (self.new.merger.pending ≡ []) }
         ensures stopped { OnErr result ((late : ℕ) (cut : List Frame)
@@ -216,8 +220,9 @@ impl Rings {
             → HasTaken late cut self.old → HasTaken late cut self.new))) }
         ensures fault { IfErr result (λ fault. RingsFault fault self.new.a self.new.b) }
     {
-        let merged = self.merge_more(rt)?;
-        let round = match self.merger.cut(ROUND) {
+        let most = most.get();
+        let merged = self.merge_more(rt, most)?;
+        let round = match self.merger.cut(most) {
             Ok(round) => round,
             Err(AllocError) => return Err(WatchFault::Memory),
         };

@@ -5,7 +5,7 @@ ghost use Rattle.rtrb.specs.Ring.{received};
 ghost use Rattle.tap_queue.specs.Ring.{IsRing, put_items};
 ghost use Rattle.tap_merge.specs.Parcels.{KeepsPromise, Promises};
 ghost use Rattle.tap_merge.specs.Reads.{IsReadInto};
-ghost use Rattle.tap_merge.specs.Threads.{IsFeeding, IsLeft, IsSettled, KeepsFeeding, promise_of};
+ghost use Rattle.tap_merge.specs.Threads.{FeedsOn, IsFeeding, IsLeft, IsSettled, KeepsFeeding, promise_of};
 
 use crate::feeding::Feeding;
 use crate::local_tap::LocalTap;
@@ -95,7 +95,8 @@ impl<S: TapSource + Drop> TapFeed<S> {
     /// Reads on until the ring is full, where no thread does.
     pub fn fill(&mut self, alloc: Global)
         requires { IsFeeding S.TapSource self.old }
-        ensures { KeepsFeeding S.TapSource self.old self.new }
+        ensures kept { KeepsFeeding S.TapSource self.old self.new }
+        ensures filled { FeedsOn self.old self.new }
     {
         match self {
             TapFeed::Thread(_thread) => {}

@@ -12,6 +12,7 @@ use ordered_merge::Merger;
 use pcap_io::{Ending, Item, OpenRefused, ReadFault, TapReader, TapSource};
 use run_outcome::{MAX_FRAMES, WatchFault, fault_of_open};
 use std::alloc::{AllocError, Global};
+use std::num::NonZeroUsize;
 
 /// Merges the next frame of a network's reader, or its ending, which it returns.
 fn merge_next<S: TapSource>(
@@ -65,8 +66,8 @@ pub struct Unopened<S, T> {
     pub b: T,
 }
 
-/// How many frames are merged before a round of them is cut, and the most frames of a round: so few that
-/// they stay in the processor's cache from merging to writing.
+/// How many frames a program merges before a round of them is cut, and the most frames of its rounds: so few
+/// that they stay in the processor's cache from merging to writing.
 pub const ROUND: usize = 1024;
 
 impl<S: TapSource, T: TapSource> Taps<S, T> {
@@ -77,9 +78,16 @@ impl<S: TapSource, T: TapSource> Taps<S, T> {
     ghost use Rattle.run_outcome.specs.Device.{SinkView, source_at};
     ghost use Rattle.run_outcome.specs.Opening.{AbortsAtOpening, watch_devices};
 
-    /// Opens the recordings of networks A and B, in this order. A stamp may lie by `late` nanoseconds
-    /// below the greatest one of its recording before it. A refusal gives both back.
-    pub fn open(alloc: Global, late: u64, a: S, b: T) -> Result<Taps<S, T>, Unopened<S, T>>
+    /// Opens the recordings of networks A and B, in this order, which are read in blocks of so many bytes
+    /// ([`TapReader::with_block_len`]). A stamp may lie by `late` nanoseconds below the greatest one of its
+    /// recording before it. A refusal gives both back.
+    pub fn open(
+        alloc: Global,
+        late: u64,
+        block_len: usize,
+        a: S,
+        b: T,
+    ) -> Result<Taps<S, T>, Unopened<S, T>>
         ensures opened { IfOk result (λ taps.
             HasMerged S.TapSource T.TapSource
             late (source_at S.TapSource a) (source_at T.TapSource b)
@@ -96,7 +104,7 @@ impl<S: TapSource, T: TapSource> Taps<S, T> {
             (source_at T.TapSource e.b) capture ledger)) }
     {
         let a = match TapReader::open(a, Network::A, MAX_FRAMES, late) {
-            Ok(reader) => reader,
+            Ok(reader) => reader.with_block_len(block_len),
             Err(OpenRefused { source, fault }) => {
                 let fault = fault_of_open(Network::A, fault);
                 return Err(Unopened {
@@ -107,7 +115,7 @@ impl<S: TapSource, T: TapSource> Taps<S, T> {
             }
         };
         let b = match TapReader::open(b, Network::B, MAX_FRAMES, late) {
-            Ok(reader) => reader,
+            Ok(reader) => reader.with_block_len(block_len),
             Err(OpenRefused { source, fault }) => {
                 let (fault, a) = (fault_of_open(Network::B, fault), a.into_source());
                 return Err(Unopened {
@@ -178,8 +186,8 @@ impl<S: TapSource, T: TapSource> Taps<S, T> {
         Ok(true)
     }
 
-    /// Merges up to [`ROUND`] items. False: both have ended.
-    fn merge_some(&mut self, alloc: Global) -> Result<bool, WatchFault>
+    /// Merges up to `most` items, at least one. False: both have ended.
+    fn merge_some(&mut self, alloc: Global, most: usize) -> Result<bool, WatchFault>
         requires { Agree self.old }
         ensures agree { OnOk result (Agree self.new) }
         ensures merged { OnOk result ((late : ℕ) (a b : SourceView)
@@ -202,7 +210,7 @@ impl<S: TapSource, T: TapSource> Taps<S, T> {
         if !self.merge_one(alloc)? {
             return Ok(false);
         }
-        for _more in 1..ROUND {
+        for _more in 1..most {
             if !self.merge_one(alloc)? {
                 break;
             }
@@ -210,8 +218,8 @@ impl<S: TapSource, T: TapSource> Taps<S, T> {
         Ok(true)
     }
 
-    /// Takes out the first safe frames in order, at most [`ROUND`].
-    fn cut_round(&mut self) -> Result<Vec<TapFrame>, WatchFault>
+    /// Takes out the first safe frames in order, at most `most`.
+    fn cut_round(&mut self, most: NonZeroUsize) -> Result<Vec<TapFrame>, WatchFault>
         requires { Agree self.old }
         ensures agree { OnOk result (Agree self.new) }
         ensures merged { IfOk result (λ round. (late : ℕ) (a b : SourceView)
@@ -232,15 +240,19 @@ impl<S: TapSource, T: TapSource> Taps<S, T> {
             (reading_of S.remaining S.failures self.new.a)
             (reading_of T.remaining T.failures self.new.b)) }
     {
-        match self.merger.cut(ROUND) {
+        match self.merger.cut(most.get()) {
             Ok(round) => Ok(round),
             Err(AllocError) => Err(WatchFault::Memory),
         }
     }
 
-    /// The next frames in order, at most [`ROUND`]; there may be none yet. None: both recordings have ended,
+    /// The next frames in order, at most `most`; there may be none yet. None: both recordings have ended,
     /// and all their frames were given.
-    pub fn next_round(&mut self, alloc: Global) -> Result<Option<Vec<TapFrame>>, WatchFault>
+    pub fn next_round(
+        &mut self,
+        alloc: Global,
+        most: NonZeroUsize,
+    ) -> Result<Option<Vec<TapFrame>>, WatchFault>
         requires { Agree self.old }
         ensures agree { OnOk result (Agree self.new) }
         ensures merged { IfOk result (λ round. (late : ℕ) (a b : SourceView)
@@ -262,8 +274,8 @@ impl<S: TapSource, T: TapSource> Taps<S, T> {
             (reading_of S.remaining S.failures self.new.a)
             (reading_of T.remaining T.failures self.new.b)) }
     {
-        let merged = self.merge_some(alloc)?;
-        let round = self.cut_round()?;
+        let merged = self.merge_some(alloc, most.get())?;
+        let round = self.cut_round(most)?;
         if merged {
             return Ok(Some(round));
         }

@@ -3,7 +3,7 @@ use Rattle.std.proofs.Common.{rules, ◌≡◌, true, false, List, [], ◌∷◌
 use Rattle.std.proofs.lemmas.List.{append-nil}
 use Rattle.pcap_io.specs.Position.{Reading}
 use Rattle.tap_queue.specs.Items.{Gives, GivesOne, IsFed, is_last, is_over}
-use Rattle.tap_queue.specs.Ring.{PutsMore, SamePut, put_items}
+use Rattle.tap_queue.specs.Ring.{PutsMore, PutsSome, SamePut, put_items}
 use Rattle.tap_queue.specs.declared.item.TapItem.{TapItem}
 use Rattle.tap_queue.specs.declared.ring.TapPut.{TapPut}
 use Rattle.tap_queue.specs.declared.item.TapItem.TheVariants.{Frame, End, Failed}
@@ -84,7 +84,12 @@ puts_on first mid after items old now new fresh going before ring put gives =
       gives = gives_append first mid after more items before.gives going_more gives;
     }
 
--- the ring's end was looked at
-pub puts_same : (first mid : Reading) (old now new : TapPut) → PutsMore first mid old now → SamePut now new → put_items new ≡ put_items now
-    → PutsMore first mid old new
-puts_same first mid old now new before ring put = record { ring = search rules; more = before.more; put = put ∙ before.put; gives = before.gives }
+-- an item was put after those that were put before
+pub puts_some : (old now new : TapPut) (more items : List TapItem) (item : TapItem) → put_items now ≡ put_items old ++ more
+    → put_items new ≡ put_items now ++ item ∷ items → PutsSome old new
+puts_some old now new [] items item before put = (item, items, put ∙ ap (λ (l : List TapItem). l ++ item ∷ items) (before ∙ append-nil (put_items old)))
+puts_some old now new (first ∷ more) items item before put = (
+  first,
+  more ++ item ∷ items,
+  put ∙ ap (λ (l : List TapItem). l ++ item ∷ items) before ∙ append_assoc (put_items old) (first ∷ more) (item ∷ items),
+)

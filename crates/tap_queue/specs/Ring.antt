@@ -1,11 +1,11 @@
 -- What contracts see of a ring's two ends.
-use Rattle.std.specs.Prelude.{◌≡◌, ◌++◌, ℕ, Bool, List}
-use Rattle.rtrb.specs.Ring.{IsPair, SameConsumer, SameProducer, received, sent}
+use Rattle.std.specs.Prelude.{◌≡◌, ◌<◌, ◌++◌, [], ◌∷◌, ℕ, Bool, false, List}
+use Rattle.rtrb.specs.Ring.{IsPair, SameConsumer, SameProducer, known_free, received, sent}
 use Rattle.afdx_frame.specs.declared.key.Network.{Network}
 use Rattle.pcap_io.specs.declared.reader.TapReader.{TapReader}
 use Rattle.pcap_io.specs.Position.{Reading}
 use Rattle.tap_queue.specs.Batches.{items_in, taken_of}
-use Rattle.tap_queue.specs.Items.{Gives}
+use Rattle.tap_queue.specs.Items.{Gives, is_over}
 use Rattle.tap_queue.specs.declared.item.TapItem.{TapItem}
 use Rattle.tap_queue.specs.declared.ring.TapPut.{TapPut}
 use Rattle.tap_queue.specs.declared.end.TapEnd.{TapEnd}
@@ -58,6 +58,30 @@ pub record PutsMore (before after : Reading) (old new : TapPut) : Type 0 where
   pub more : List TapItem
   pub put : put_items new ≡ put_items old ++ more
   pub gives : Gives before more after
+
+-- there is room for a batch, as this end knows
+abbrev pub KnowsRoom : TapPut → Type 0
+KnowsRoom put = 0 < known_free put.producer
+
+-- at least one more item was put
+abbrev pub PutsSome : TapPut → TapPut → Type 0
+PutsSome old new = (item : TapItem) × (items : List TapItem) × (put_items new ≡ put_items old ++ item ∷ items)
+
+-- The ring was filled: this end knows of no room that is left, unless the ending or a fault was put; where it knew of room before, more
+-- was put.
+pub record Fills (old new : TapPut) : Type 0 where
+  pub full : is_over (put_items new) ≡ false → KnowsRoom new → ⊥
+  pub some : KnowsRoom old → PutsSome old new
+
+-- a new ring for the recording of a network: nothing was put, taken or lost
+pub record IsNewRing (network : Network) (late : ℕ) (ends : TapPut × TapEnd) : Type 0 where
+  pub ring : IsRing ends.0 ends.1
+  pub none_put : put_items ends.0 ≡ []
+  pub none_taken : taken_items ends.1 ≡ []
+  pub not_lost : has_lost ends.1 ≡ false
+  pub tap : tap_of ends.0 ≡ network
+  pub network_is : network_of ends.1 ≡ network
+  pub late_is : late_of ends.1 ≡ late
 
 -- ---- a reader and its ring's end
 

@@ -245,6 +245,7 @@ impl TapEnd {
         let Fed { reader, put } = fed;
         let TapPut {
             network: _,
+            batch_len: _,
             mut producer,
             bells: _,
         } = put;
@@ -279,6 +280,7 @@ impl TapEnd {
         let Fed { reader, put } = fed;
         let TapPut {
             network: _,
+            batch_len: _,
             mut producer,
             bells: _,
         } = put;

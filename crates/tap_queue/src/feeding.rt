@@ -3,11 +3,11 @@ ghost use Rattle.std.specs.Prelude.{◌≡◌, [], false};
 ghost use Rattle.pcap_io.specs.Reader.{reading_of};
 ghost use Rattle.tap_queue.specs.Items.{Gives, GivesOne, IsFed, is_over};
 ghost use Rattle.tap_queue.specs.Batches.{batch_items};
-ghost use Rattle.tap_queue.specs.Ring.{PutsMore, SamePut, put_items, put_of, reader_of};
+ghost use Rattle.tap_queue.specs.Ring.{Fills, PutsMore, SamePut, put_items, put_of, reader_of};
 
 use crate::gate::TapGate;
 use crate::item::{Batch, TapItem};
-use crate::ring::{BATCH_LEN, RING_LEN, TapPut};
+use crate::ring::TapPut;
 use pcap_io::{Item, TapReader, TapSource};
 use std::alloc::Global;
 use std::collections::VecDeque;
@@ -38,17 +38,17 @@ pub fn fill<S: TapSource>(alloc: Global, fed: &mut Fed<S>) -> bool
     ensures put { PutsMore (reading_of S.remaining S.failures (reader_of fed.old))
         (reading_of S.remaining S.failures (reader_of fed.new)) (put_of fed.old) (put_of fed.new) }
     ensures over { result ≡ is_over (put_items (put_of fed.new)) }
+    ensures filled { Fills (put_of fed.old) (put_of fed.new) }
 {
-    let mut over = false;
-    for _ in 0..RING_LEN {
-        if over || !fed.put.has_room() {
-            break;
-        }
-        let (batch, last) = next_batch(alloc, &mut fed.reader);
+    let room = fed.put.room();
+    for _ in 0..room {
+        let (batch, over) = next_batch(alloc, &mut fed.reader, fed.put.batch_len);
         fed.put.put_reserved(batch);
-        over = last;
+        if over {
+            return true;
+        }
     }
-    over
+    false
 }
 
 /// Reads a recording into a ring, up to its ending or the first fault. It waits where the ring is
@@ -70,7 +70,7 @@ pub fn feed<R: Wait, S: TapSource, G: TapGate>(
     gate.tap(put.network);
     let (mut reader, mut put) = (reader, put);
     for _ in rt.forever() {
-        let (batch, last) = next_batch(alloc, &mut reader);
+        let (batch, last) = next_batch(alloc, &mut reader, put.batch_len);
         if !put.put(rt, batch) || last {
             return Fed { reader, put };
         }
@@ -78,9 +78,9 @@ pub fn feed<R: Wait, S: TapSource, G: TapGate>(
     unreachable!()
 }
 
-/// The items that the reader gives next: one, and those after it that were read ahead already. Whether the
-/// last of them is an ending or a fault.
-fn next_batch<S: TapSource>(alloc: Global, reader: &mut TapReader<S>) -> (Batch, bool)
+/// The items that the reader gives next: one, and those after it that were read ahead already, at most so
+/// many in all. Whether the last of them is an ending or a fault.
+fn next_batch<S: TapSource>(alloc: Global, reader: &mut TapReader<S>, most: usize) -> (Batch, bool)
     ensures given { Gives (reading_of S.remaining S.failures reader.old) (batch_items result.0)
         (reading_of S.remaining S.failures reader.new) }
     ensures last { result.1 ≡ is_over (batch_items result.0) }
@@ -88,8 +88,9 @@ fn next_batch<S: TapSource>(alloc: Global, reader: &mut TapReader<S>) -> (Batch,
     let first = next_item(alloc, reader);
     let mut last = first.is_last();
     // Without memory for more, a batch is one item.
-    let mut more = VecDeque::with_capacity(alloc, BATCH_LEN - 1).unwrap_or(VecDeque::new(alloc));
-    for _ in 1..BATCH_LEN {
+    let room = most.saturating_sub(1);
+    let mut more = VecDeque::with_capacity(alloc, room).unwrap_or(VecDeque::new(alloc));
+    for _ in 0..room {
         if last || more.len() == more.capacity() || !reader.holds_packet() {
             break;
         }

@@ -32,4 +32,4 @@ pub use end::TapEnd;
 pub use feeding::{Fed, feed, fill};
 pub use gate::TapGate;
 pub use item::{RingLost, TapItem};
-pub use ring::{BATCH_LEN, RING_LEN, TapPut, tap_ring};
+pub use ring::{BATCH_LEN, RING_LEN, RingSizes, TapPut, sized_tap_ring, tap_ring};

@@ -1,7 +1,7 @@
 //! A ring and its two ends.
-ghost use Rattle.std.specs.Prelude.{◌≡◌, ◌<◌, ◌++◌, [], false, IfOk, IsFalse, IsTrue};
+ghost use Rattle.std.specs.Prelude.{◌≡◌, ◌+◌, ◌<◌, ◌≤◌, ◌++◌, [], false, IfOk, IsFalse, IsTrue};
 ghost use Rattle.rtrb.specs.Ring.{known_free};
-ghost use Rattle.tap_queue.specs.Ring.{IsRing, SamePut, has_lost, late_of, network_of};
+ghost use Rattle.tap_queue.specs.Ring.{IsNewRing, IsRing, SamePut, has_lost, late_of, network_of};
 ghost use Rattle.tap_queue.specs.Batches.{batch_items};
 ghost use Rattle.tap_queue.specs.Ring.{put_items, tap_of, taken_items};
 
@@ -20,10 +20,30 @@ pub const RING_LEN: usize = 4;
 /// are short.
 pub const BATCH_LEN: usize = 512;
 
+/// How much a ring holds. What is put and taken is the same for any; a run of a program has the default.
+#[derive(Clone, Copy, Debug)]
+pub struct RingSizes {
+    /// How many batches of items a ring holds, at least one.
+    pub batches: usize,
+    /// How many items a batch has at most, at least one.
+    pub items: usize,
+}
+
+impl Default for RingSizes {
+    fn default() -> RingSizes {
+        RingSizes {
+            batches: RING_LEN,
+            items: BATCH_LEN,
+        }
+    }
+}
+
 /// The end of a ring that items are put into. It goes to the thread that reads the recording.
 #[derive(Drop)]
 pub struct TapPut {
     pub(crate) network: Network,
+    /// How many items a batch has at most.
+    pub(crate) batch_len: usize,
     pub(crate) producer: Producer<Batch>,
     pub(crate) bells: Arc<Bells, Global>,
 }
@@ -43,11 +63,28 @@ pub fn tap_ring(alloc: Global, network: Network, late: u64) -> Result<(TapPut, T
     ensures network { IfOk result (λ ends. network_of ends.1 ≡ network) }
     ensures late { IfOk result (λ ends. late_of ends.1 ≡ late) }
 {
-    let (producer, consumer) = RingBuffer::new(alloc, RING_LEN)?;
+    sized_tap_ring(alloc, network, late, RingSizes::default())
+}
+
+/// A ring of [`tap_ring`] that holds so much. A size of 0 is taken for 1.
+///
+/// # Errors
+///
+/// `AllocError` if there is no memory for the ring.
+pub fn sized_tap_ring(
+    alloc: Global,
+    network: Network,
+    late: u64,
+    sizes: RingSizes,
+) -> Result<(TapPut, TapEnd), AllocError>
+    ensures { IfOk result (IsNewRing network late) }
+{
+    let (producer, consumer) = RingBuffer::new(alloc, sizes.batches.max(1))?;
     let bells = Arc::new(alloc, Bells::new())?;
     let end = TapEnd::new(alloc, network, late, consumer, Arc::try_clone(&bells)?);
     let put = TapPut {
         network,
+        batch_len: sizes.items,
         producer,
         bells,
     };
@@ -67,13 +104,14 @@ impl TapPut {
         self.bells.putter.awake();
     }
 
-    /// Whether there is room for a batch at once.
-    pub(crate) fn has_room(&mut self) -> bool
+    /// For how many batches there is room at once.
+    pub(crate) fn room(&mut self) -> usize
         ensures ring { SamePut self.old self.new }
         ensures put { put_items self.new ≡ put_items self.old }
-        ensures room { IsTrue result → 0 < known_free self.new.producer }
+        ensures room { result ≡ known_free self.new.producer }
+        ensures kept { known_free self.old.producer ≤ known_free self.new.producer }
     {
-        !self.producer.is_full()
+        self.producer.slots()
     }
 
     /// Puts a batch where there is room.
@@ -81,6 +119,7 @@ impl TapPut {
         requires room { 0 < known_free self.old.producer }
         ensures ring { SamePut self.old self.new }
         ensures put { put_items self.new ≡ put_items self.old ++ batch_items batch }
+        ensures room { known_free self.old.producer ≡ known_free self.new.producer + 1 }
     {
         self.producer.push_reserved(batch);
     }

@@ -63,6 +63,16 @@ reason_word reason.Length = codes "length"
 reason_word reason.Fraction = codes "fraction"
 reason_word reason.StampBack = codes "stampback"
 reason_word reason.TooMany = codes "toomany"
+reason_word reason.BlockLength = codes "blocklength"
+reason_word reason.BlockLengthsDiffer = codes "blocklengthsdiffer"
+reason_word reason.BlockBounds = codes "blockbounds"
+reason_word reason.UnknownInterface = codes "unknowninterface"
+reason_word reason.Section = codes "section"
+reason_word reason.SimplePacket = codes "simplepacket"
+reason_word reason.StampRange = codes "stamprange"
+reason_word reason.SeveralInterfaces = codes "severalinterfaces"
+reason_word reason.TooManyInterfaces = codes "toomanyinterfaces"
+reason_word reason.NoSuchInterface = codes "nosuchinterface"
 
 -- ---- fields: a space, and a word or a number; `-` where there is none
 

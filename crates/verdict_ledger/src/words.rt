@@ -79,5 +79,15 @@ pub fn reason_field(reason: BadReason) -> &'static str
         BadReason::Fraction => " fraction",
         BadReason::StampBack => " stampback",
         BadReason::TooMany => " toomany",
+        BadReason::BlockLength => " blocklength",
+        BadReason::BlockLengthsDiffer => " blocklengthsdiffer",
+        BadReason::BlockBounds => " blockbounds",
+        BadReason::UnknownInterface => " unknowninterface",
+        BadReason::Section => " section",
+        BadReason::SimplePacket => " simplepacket",
+        BadReason::StampRange => " stamprange",
+        BadReason::SeveralInterfaces => " severalinterfaces",
+        BadReason::TooManyInterfaces => " toomanyinterfaces",
+        BadReason::NoSuchInterface => " nosuchinterface",
     }
 }

@@ -3,4 +3,5 @@ pub mod Laws
 pub mod Ready
 pub mod Run
 pub mod Running
+pub mod Sized
 pub mod Watch

@@ -10,9 +10,11 @@ mod gate;
 mod laws;
 mod one_thread;
 mod running;
+mod sizes;
 mod threads;
 
 pub use gate::{OpenGate, RunObserver};
 pub use laws::same_bytes_in_same_bytes_out;
-pub use one_thread::{Watched, watch_whole};
-pub use threads::watch;
+pub use one_thread::{Watched, sized_watch_whole, watch_whole};
+pub use sizes::RunSizes;
+pub use threads::{sized_watch, watch};

@@ -9,16 +9,19 @@ ghost use Rattle.verdict_ledger.specs.Ledger.{has_failed as ledger_has_failed, s
 ghost use Rattle.watch_run.specs.Run.{IsWatching, StopsWatching};
 ghost use Rattle.tap_merge.specs.Taps.{HasEnded};
 ghost use Rattle.run_outcome.specs.Device.{sink_at, source_at};
+ghost use Rattle.watch_run.specs.Sized.{HasAborted, HasWatched};
 ghost use Rattle.watch_run.specs.Watch.{AbortsRun, IsWatchAborted, IsWatched};
 ghost use Rattle.run_outcome.specs.Opening.{WatchDevices, devices_at, watch_devices};
 ghost use Rattle.round_output.specs.Round.{IsFilterCount};
 
+use crate::sizes::RunSizes;
 use bpf_loader::Program;
 use filter_workers::MAX_FILTERS;
 use pcap_io::{Ending, OutSink, TapSource};
 use round_output::{Entries, Outputs, Unwritten};
 use run_outcome::{WatchFault, WatchRefused};
 use std::alloc::Global;
+use std::num::NonZeroUsize;
 use tap_merge::{Taps, Unopened};
 use verdict_ledger::Totals;
 use vl_config::Config;
@@ -40,9 +43,10 @@ pub struct Watched<S, T, W, L> {
     pub ledger: L,
 }
 
-/// Reads, judges, filters and writes all frames, a round at a time.
+/// Reads, judges, filters and writes all frames, a round of at most `round_len` at a time.
 fn write_rounds<S: TapSource, T: TapSource, W: OutSink, L: OutSink>(
     alloc: Global,
+    round_len: NonZeroUsize,
     programs: &[Program],
     taps: &mut Taps<S, T>,
     outputs: &mut Outputs<W, L>,
@@ -67,7 +71,7 @@ fn write_rounds<S: TapSource, T: TapSource, W: OutSink, L: OutSink>(
         (sink_at L.OutSink (ledger_sink outputs.new.ledger))) }
 {
     let mut entries = Entries::new(alloc);
-    while let Some(round) = taps.next_round(alloc)? {
+    while let Some(round) = taps.next_round(alloc, round_len)? {
         outputs.write_round(programs, &round, &mut entries)?;
     }
     Ok(())
@@ -177,10 +181,35 @@ pub fn watch_whole<S: TapSource, T: TapSource, W: OutSink, L: OutSink>(
         a' b' refused.capture refused.ledger)))) }
     ensures back { IfErr result (λ refused. IsSome refused.a × IsSome refused.b) }
 {
+    let sizes = RunSizes::default();
+    sized_watch_whole(alloc, sizes, config, programs, a, b, capture, ledger)
+}
+
+/// [`watch_whole`] with these sizes. Of them it takes those of blocks and of rounds.
+///
+/// # Errors
+///
+/// Those of [`watch_whole`].
+pub fn sized_watch_whole<S: TapSource, T: TapSource, W: OutSink, L: OutSink>(
+    alloc: Global,
+    sizes: RunSizes,
+    config: &Config,
+    programs: &[Program],
+    a: S,
+    b: T,
+    capture: W,
+    ledger: L,
+) -> Result<Watched<S, T, W, L>, WatchRefused<S, T, W, L>>
+    ensures watched { IfOk result (HasWatched S.TapSource T.TapSource W.OutSink L.OutSink
+        programs.now config.now a b capture ledger) }
+    ensures aborted { IfErr result (HasAborted S.TapSource T.TapSource W.OutSink L.OutSink
+        programs.now config.now a b capture ledger) }
+    ensures back { IfErr result (λ refused. IsSome refused.a × IsSome refused.b) }
+{
     if programs.is_empty() || programs.len() > MAX_FILTERS {
         return Err(WatchRefused::new(WatchFault::Filters, a, b, capture, ledger));
     }
-    let mut taps = match Taps::open(alloc, config.late(), a, b) {
+    let mut taps = match Taps::open(alloc, config.late(), sizes.block, a, b) {
         Ok(taps) => taps,
         Err(Unopened { fault, a, b }) => {
             return Err(WatchRefused::new(fault, a, b, capture, ledger));
@@ -200,7 +229,7 @@ pub fn watch_whole<S: TapSource, T: TapSource, W: OutSink, L: OutSink>(
             return Err(WatchRefused::new(fault, a, b, capture, ledger));
         }
     };
-    match write_rounds(alloc, programs, &mut taps, &mut outputs) {
+    match write_rounds(alloc, sizes.round, programs, &mut taps, &mut outputs) {
         Ok(()) => finish(taps, outputs),
         Err(fault) => Err(stopped(fault, taps, outputs)),
     }

@@ -6,7 +6,7 @@ ghost use Rattle.pcap_io.specs.Reader.{reading_of};
 ghost use Rattle.pcap_io.specs.Writer.{sink_of};
 ghost use Rattle.tap_queue.specs.Ring.{SameEnd};
 ghost use Rattle.vl_config.specs.Document.{VlTable};
-ghost use Rattle.watch_run.specs.Feeds.{AreFeeding, KeepFeeding};
+ghost use Rattle.watch_run.specs.Feeds.{AreFeeding, FeedOn, KeepFeeding};
 ghost use Rattle.watch_run.specs.Running.{AbortsBegun, GoesOn, IsRunning, IsSharing, Steps, StopsRunning};
 ghost use Rattle.tap_merge.specs.Threads.{IsStarted, promise_of};
 ghost use Rattle.round_output.specs.Outputs.{HasWritten, IsFinished, StopsFinishing};
@@ -21,12 +21,14 @@ ghost use Rattle.afdx_frame.specs.Frame.{Frame};
 
 use crate::gate::RunObserver;
 use crate::one_thread::Watched;
+use crate::sizes::RunSizes;
 use afdx_frame::Network;
 use filter_workers::RunGate;
 use pcap_io::{Ending, OutSink, TapSource};
 use round_output::{Entries, Formatting, Outputs, Unwritten};
 use run_outcome::{WatchFault, WatchRefused};
 use std::alloc::{AllocError, Global};
+use std::num::NonZeroUsize;
 use std::sync::Wait;
 use std::thread::{Scope, Threads};
 use tap_merge::{Rings, TapFeed, leave_tap, settle_tap};
@@ -74,6 +76,7 @@ fn settle_idle<'a, R: Wait, W: OutSink, L: OutSink, G: RunGate + RunObserver + S
 /// before, which they were at. False: both recordings have ended, and all is written.
 fn write_next<'a, R: Wait, W: OutSink, L: OutSink, G: RunGate + Sync>(
     rt: &R,
+    round_len: NonZeroUsize,
     pool: &mut Pool<Formatting<'a, G>>,
     rings: &mut Rings,
     outputs: &mut Outputs<W, L>,
@@ -89,7 +92,7 @@ fn write_next<'a, R: Wait, W: OutSink, L: OutSink, G: RunGate + Sync>(
     ensures stepped { Steps W.OutSink L.OutSink pool.old.task.programs.now
         rings.old outputs.old flight.old rings.new outputs.new flight.new result }
 {
-    match rings.next_round(rt) {
+    match rings.next_round(rt, round_len) {
         Ok(Some(round)) => {
             outputs.share_round(rt, pool, flight, round, entries)?;
             Ok(true)
@@ -110,6 +113,7 @@ fn write_next<'a, R: Wait, W: OutSink, L: OutSink, G: RunGate + Sync>(
 fn write_rounds<'a, R: Wait, S, T, W: OutSink, L: OutSink, G: RunGate + RunObserver + Sync>(
     rt: &R,
     alloc: Global,
+    round_len: NonZeroUsize,
     gate: &G,
     pool: &mut Pool<Formatting<'a, G>>,
     feeds: &mut Feeds<S, T>,
@@ -145,7 +149,15 @@ where
             return Err(outputs.unwritten(fault));
         }
         feeds.fill(alloc);
-        match write_next(rt, pool, rings, &mut outputs, &mut flight, &mut entries) {
+        match write_next(
+            rt,
+            round_len,
+            pool,
+            rings,
+            &mut outputs,
+            &mut flight,
+            &mut entries,
+        ) {
             Ok(true) => {}
             Ok(false) => return Ok(outputs),
             Err(fault) => return Err(outputs.unwritten(fault)),
@@ -162,6 +174,7 @@ pub fn write_all<'s, E, R, S, T, W: OutSink, L: OutSink, G: RunGate + RunObserve
     alloc: Global,
     task: Formatting<'s, G>,
     workers: u32,
+    sizes: RunSizes,
     feeds: &mut Feeds<S, T>,
     rings: &mut Rings,
     outputs: Outputs<W, L>,
@@ -180,10 +193,11 @@ where
 {
     let gate = task.gate;
     let mut pool = match Pool::start(scope, rt, alloc, task, workers) {
-        Ok(pool) => pool,
+        Ok(pool) => pool.with_chunk_len(sizes.chunk),
         Err(AllocError) => return Err(outputs.unwritten(WatchFault::Memory)),
     };
-    let written = write_rounds(rt, alloc, gate, &mut pool, feeds, rings, outputs);
+    let round_len = sizes.round;
+    let written = write_rounds(rt, alloc, round_len, gate, &mut pool, feeds, rings, outputs);
     pool.close();
     written
 }
@@ -244,7 +258,8 @@ impl<S: TapSource + Drop, T: TapSource + Drop> Feeds<S, T> {
     /// Reads on until the rings are full, where no thread does.
     fn fill(&mut self, alloc: Global)
         requires { AreFeeding S.TapSource T.TapSource self.old }
-        ensures { KeepFeeding S.TapSource T.TapSource self.old self.new }
+        ensures kept { KeepFeeding S.TapSource T.TapSource self.old self.new }
+        ensures filled { FeedOn self.old self.new }
     {
         self.a.fill(alloc);
         self.b.fill(alloc);

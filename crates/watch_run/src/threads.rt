@@ -11,6 +11,7 @@ ghost use Rattle.watch_run.specs.Ready.{AreNew, AreTwoRings, IsReady, IsStartedO
 ghost use Rattle.watch_run.specs.Running.{IsNotBegun, IsRunningAborted};
 ghost use Rattle.filter_workers.specs.declared.decision.TheConstants.{MAX_FILTERS};
 ghost use Rattle.round_output.specs.Round.{IsFilterCount, IsWorkerCount};
+ghost use Rattle.watch_run.specs.Sized.{HasRun, HasStopped};
 ghost use Rattle.watch_run.specs.Watch.{IsWatched};
 ghost use Rattle.run_outcome.specs.Opening.{WatchDevices, devices_at};
 ghost use Rattle.run_outcome.specs.Device.{sink_at, source_at};
@@ -19,6 +20,7 @@ ghost use Rattle.run_outcome.specs.Opening.{watch_devices};
 use crate::gate::RunObserver;
 use crate::one_thread::Watched;
 use crate::running::{Feeds, Running, write_all};
+use crate::sizes::RunSizes;
 use afdx_frame::Network;
 use bpf_loader::Program;
 use filter_workers::{MAX_FILTERS, MAX_WORKERS, RunGate};
@@ -30,7 +32,7 @@ use std::sync::Wait;
 use std::thread;
 use std::thread::{Scope, Threads};
 use tap_merge::{Rings, Taps, Unopened, start_tap};
-use tap_queue::{TapEnd, TapGate, TapPut, tap_ring};
+use tap_queue::{RingSizes, TapEnd, TapGate, TapPut, sized_tap_ring};
 use vl_config::Config;
 
 /// A run that is ready to start: opened readers, the rings that they are read into, and the outputs, which
@@ -90,6 +92,7 @@ fn run_ready<'s, E, R, S, T, W, L, G>(
     alloc: Global,
     task: Formatting<'s, G>,
     workers: u32,
+    sizes: RunSizes,
     ready: Ready<S, T, W, L>,
 ) -> Result<Watched<S, T, W, L>, WatchRefused<S, T, W, L>>
 where
@@ -108,7 +111,9 @@ where
     let gate = task.gate;
     let (mut running, outputs) = ready.start(scope, rt, alloc, gate);
     let Running { feeds, rings } = &mut running;
-    match write_all(scope, rt, alloc, task, workers, feeds, rings, outputs) {
+    match write_all(
+        scope, rt, alloc, task, workers, sizes, feeds, rings, outputs,
+    ) {
         Ok(outputs) => running.finish(rt, outputs),
         Err(unwritten) => {
             gate.aborts(unwritten.fault);
@@ -120,6 +125,7 @@ where
 /// Opens the recordings, begins the outputs and makes the rings of a run.
 fn prepare<S: TapSource, T: TapSource, W: OutSink, L: OutSink>(
     alloc: Global,
+    sizes: RunSizes,
     config: &Config,
     programs: &[Program],
     a: S,
@@ -139,7 +145,7 @@ fn prepare<S: TapSource, T: TapSource, W: OutSink, L: OutSink>(
     ensures back { IfErr result (λ refused. IsSome refused.a × IsSome refused.b) }
 {
     let late = config.late();
-    let taps = match Taps::open(alloc, late, a, b) {
+    let taps = match Taps::open(alloc, late, sizes.block, a, b) {
         Ok(taps) => taps,
         Err(Unopened { fault, a, b }) => {
             return Err(WatchRefused::new(fault, a, b, capture, ledger));
@@ -159,7 +165,7 @@ fn prepare<S: TapSource, T: TapSource, W: OutSink, L: OutSink>(
             return Err(WatchRefused::new(fault, a, b, capture, ledger));
         }
     };
-    match two_rings(alloc, late) {
+    match two_rings(alloc, late, sizes.ring) {
         Ok(ends) => Ok(Ready::of(ends, taps, outputs)),
         Err(AllocError) => {
             let (a, b) = taps.into_sources();
@@ -173,11 +179,11 @@ fn prepare<S: TapSource, T: TapSource, W: OutSink, L: OutSink>(
 type TwoRings = ((TapPut, TapEnd), (TapPut, TapEnd));
 
 /// The rings of networks A and B.
-fn two_rings(alloc: Global, late: u64) -> Result<TwoRings, AllocError>
+fn two_rings(alloc: Global, late: u64, sizes: RingSizes) -> Result<TwoRings, AllocError>
     ensures { IfOk result (AreTwoRings late) }
 {
-    let a = tap_ring(alloc, Network::A, late)?;
-    let b = tap_ring(alloc, Network::B, late)?;
+    let a = sized_tap_ring(alloc, Network::A, late, sizes)?;
+    let b = sized_tap_ring(alloc, Network::B, late, sizes)?;
     Ok((a, b))
 }
 
@@ -271,17 +277,53 @@ where
         (sink_at W.OutSink refused.capture)
         (sink_at L.OutSink refused.ledger)) }
 {
+    let sizes = RunSizes::default();
+    sized_watch(
+        rt, alloc, sizes, config, programs, workers, a, b, capture, ledger, gate,
+    )
+}
+
+/// [`watch`] with these sizes.
+///
+/// # Errors
+///
+/// Those of [`watch`].
+pub fn sized_watch<R, S, T, W, L, G>(
+    rt: &R,
+    alloc: Global,
+    sizes: RunSizes,
+    config: &Config,
+    programs: &[Program],
+    workers: u32,
+    a: S,
+    b: T,
+    capture: W,
+    ledger: L,
+    gate: &G,
+) -> Result<Watched<S, T, W, L>, WatchRefused<S, T, W, L>>
+where
+    R: Threads + Wait + Sync,
+    S: TapSource + Drop + Send,
+    T: TapSource + Drop + Send,
+    W: OutSink + Drop,
+    L: OutSink + Drop,
+    G: RunGate + TapGate + RunObserver + Sync,
+    ensures watched { IfOk result (HasRun S.TapSource T.TapSource W.OutSink L.OutSink
+        workers programs.now config.now a b capture ledger) }
+    ensures aborted { IfErr result (HasStopped S.TapSource T.TapSource W.OutSink L.OutSink
+        workers programs.now config.now a b capture ledger) }
+{
     if workers == 0 || workers > MAX_WORKERS {
         return Err(WatchRefused::new(WatchFault::Workers, a, b, capture, ledger));
     }
     if programs.is_empty() || programs.len() > MAX_FILTERS {
         return Err(WatchRefused::new(WatchFault::Filters, a, b, capture, ledger));
     }
-    let ready = match prepare(alloc, config, programs, a, b, capture, ledger) {
+    let ready = match prepare(alloc, sizes, config, programs, a, b, capture, ledger) {
         Ok(ready) => ready,
         Err(refused) => return Err(refused),
     };
-    run_threads(rt, alloc, programs, workers, gate, ready)
+    run_threads(rt, alloc, programs, workers, sizes, gate, ready)
 }
 
 /// Runs what is ready, and returns when each thread has come to its end.
@@ -290,6 +332,7 @@ fn run_threads<R, S, T, W, L, G>(
     alloc: Global,
     programs: &[Program],
     workers: u32,
+    sizes: RunSizes,
     gate: &G,
     ready: Ready<S, T, W, L>,
 ) -> Result<Watched<S, T, W, L>, WatchRefused<S, T, W, L>>
@@ -327,7 +370,7 @@ where
                 both.0.programs.now both.1 result) }
         {
             let (task, ready) = slot.take().unwrap();
-            run_ready(scope, rt, alloc, task, workers, ready)
+            run_ready(scope, rt, alloc, task, workers, sizes, ready)
         },
     )
 }

@@ -3,7 +3,6 @@ use Rattle.std.specs.Prelude.{◌≡◌, ℕ, ◌+◌, ◌*◌, ◌/◌, ◌<◌
 use Rattle.std.specs.Int.{div_ceil}
 use Rattle.filter_workers.specs.Seats.{DeskId}
 use Rattle.filter_workers.specs.declared.desk.TheConstants.{MAX_NUMBERS}
-use Rattle.worker_pool.specs.declared.chunk.TheConstants.{MAX_CHUNK}
 
 -- A round as its workers share it: with what is done, the desk at which the numbers of its chunks are claimed, and how
 -- many items a chunk has.
@@ -16,17 +15,17 @@ pub record Posted (T N : Type 0) : Type 0 where
 abbrev pub posted : {T N : Type 0} → T → N → DeskId → ℕ → Posted T N
 posted task round desk size = record { task = task; round = round; desk = desk; size = size }
 
--- how many items a chunk has of a round of len items that so many threads share
-abbrev pub chunk_size : ℕ → ℕ → ℕ
-chunk_size threads len = max (min (len / (2 * threads)) MAX_CHUNK) 1
+-- how many items a chunk of at most so many has of a round of len items that so many threads share
+abbrev pub chunk_size : ℕ → ℕ → ℕ → ℕ
+chunk_size most threads len = max (min (len / (2 * threads)) most) 1
 
 -- how many chunks of this size there are of len items
 abbrev pub chunk_count : ℕ → ℕ → ℕ
 chunk_count size len = div_ceil len size
 
 -- a round of len items that so many threads share has more chunks than a desk has numbers
-abbrev pub IsTooLong : ℕ → ℕ → Type 0
-IsTooLong threads len = MAX_NUMBERS < chunk_count (chunk_size threads len) len
+abbrev pub IsTooLong : ℕ → ℕ → ℕ → Type 0
+IsTooLong most threads len = MAX_NUMBERS < chunk_count (chunk_size most threads len) len
 
 -- the number after the last item of the chunk that begins with this one
 abbrev pub chunk_end : ℕ → ℕ → ℕ → ℕ

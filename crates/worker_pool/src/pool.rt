@@ -3,6 +3,7 @@ ghost use Rattle.std.specs.Prelude.{◌≡◌, ◌<◌, ◌≤◌, max, vec_len,
 ghost use Rattle.std.specs.Arc.{arc_value};
 
 use crate::bell::Bells;
+use crate::chunk::MAX_CHUNK;
 use crate::fault::PoolFault;
 use crate::flight::{InFlight, Worker};
 use crate::job::Station;
@@ -21,7 +22,8 @@ pub const MAX_WORKERS: u32 = 8;
 /// How many rounds a worker can be asked for before it has come to the first.
 const MOST_JOBS: usize = 4;
 
-/// Workers that wait for rounds. Contracts see the task, and how many threads share a round.
+/// Workers that wait for rounds. Contracts see the task, how many threads share a round, and the most items
+/// of a chunk.
 #[derive(Drop)]
 pub struct Pool<T: Task> {
     alloc: Global,
@@ -29,6 +31,8 @@ pub struct Pool<T: Task> {
     workers: Vec<Worker<T>>,
     /// Batches that were given back.
     spares: Vec<T::Batch>,
+    /// The most items of a chunk.
+    most: usize,
 }
 
 impl<T: Task> Model for Pool<T> {
@@ -39,7 +43,11 @@ impl<T: Task> Model for Pool<T> {
 
     ghost Value = { PoolView T };
 
-    ghost view = { λ p. record { task = arc_value p.task; threads = vec_len p.workers + 1 } };
+    ghost view = { λ p. record {
+      task = arc_value p.task;
+      threads = vec_len p.workers + 1;
+      most = p.most;
+    } };
 
     ghost invariant = { λ p. vec_len p.workers < MAX_WORKERS };
 }
@@ -84,6 +92,7 @@ fn start_workers<'s, E, R: Threads + Wait + Sync, T: Task + 's>(
 impl<T: Task> Pool<T> {
     ghost use Rattle.std.specs.Prelude.{◌⊎◌, IfErr};
     ghost use Rattle.worker_pool.specs.Chunks.{AreBatches, IsTooLong, chunk_size};
+    ghost use Rattle.worker_pool.specs.declared.chunk.TheConstants.{MAX_CHUNK};
     ghost use Rattle.worker_pool.specs.declared.fault.PoolFault.TheVariants.{Long, Lost, Memory};
 
     /// Starts a pool of so many workers, of which the calling thread is one, for the rounds of a task.
@@ -104,6 +113,7 @@ impl<T: Task> Pool<T> {
         T: 's,
         ensures task { IfOk result (λ pool. pool.task ≡ task) }
         ensures threads { IfOk result (λ pool. (1 ≤ pool.threads) × (pool.threads ≤ max workers 1)) }
+        ensures chunk { IfOk result (λ pool. pool.most ≡ MAX_CHUNK) }
     {
         let Ok(task) = Arc::new(alloc, task) else {
             return Err(AllocError);
@@ -113,7 +123,17 @@ impl<T: Task> Pool<T> {
             task,
             workers: start_workers(scope, rt, alloc, workers.min(MAX_WORKERS)),
             spares: Vec::new(alloc),
+            most: MAX_CHUNK,
         })
+    }
+
+    /// The same pool, whose chunks have at most `len` items, at least 1, and not [`MAX_CHUNK`].
+    pub fn with_chunk_len(self, len: usize) -> Pool<T>
+        ensures { result ≡ record self { most = len } }
+    {
+        let mut pool = self;
+        pool.most = len;
+        pool
     }
 
     /// Hands a round to all workers, and returns at once. The calling thread may do other work while
@@ -128,14 +148,14 @@ impl<T: Task> Pool<T> {
         ensures task { IfOk result (λ flight. flight.task ≡ self.old.task) }
         ensures round { IfOk result (λ flight. flight.round ≡ round) }
         ensures size { IfOk result (λ flight. flight.size
-            ≡ chunk_size self.old.threads (T.len self.old.task round)) }
+            ≡ chunk_size self.old.most self.old.threads (T.len self.old.task round)) }
         ensures fault { IfErr result (λ fault. (fault ≡ Memory) ⊎ ((fault ≡ Long)
-            × IsTooLong self.old.threads (T.len self.old.task round))) }
+            × IsTooLong self.old.most self.old.threads (T.len self.old.task round))) }
     {
         let alloc = self.alloc;
         let threads = self.workers.len() + 1;
         let task = Arc::try_clone(&self.task)?;
-        let (posting, seat) = Posting::new(alloc, task, round, threads)?;
+        let (posting, seat) = Posting::new(alloc, task, round, self.most, threads)?;
         let spares = mem::replace(&mut self.spares, Vec::new(alloc));
         let part = spares.len() / threads;
         let mut flight = InFlight::new(alloc, posting, seat, spares)?;
@@ -189,6 +209,7 @@ impl<T: Task> Pool<T> {
             task: _,
             workers,
             spares: _,
+            most: _,
         } = self;
         for worker in workers {
             let Worker { jobs, bells } = worker;

@@ -53,22 +53,23 @@ impl<T: Task> Posting<T> {
     ghost use Rattle.worker_pool.specs.Chunks.{AreBatches, IsTooLong, chunk_size, posted};
     ghost use Rattle.worker_pool.specs.Shares.{IsOfChunk, IsShare};
 
-    /// A round that so many threads share, and the one seat at its desk.
+    /// A round that so many threads share in chunks of at most `most` items, and the one seat at its desk.
     pub(crate) fn new(
         alloc: Global,
         task: Arc<T, Global>,
         round: T::Round,
+        most: usize,
         threads: usize,
     ) -> Result<(Posting<T>, DeskSeat), PoolFault>
         requires { (0 < threads) × (threads ≤ 65536) }
         ensures posting { IfOk result (λ made. made.0 ≡ posted (arc_value task) round made.0.desk
-            (chunk_size threads (T.len (arc_value task) round))) }
+            (chunk_size most threads (T.len (arc_value task) round))) }
         ensures seat { IfOk result (λ made. made.1 ≡ first_seat made.0.desk) }
         ensures fault { IfErr result (λ fault. (fault ≡ Memory) ⊎ ((fault ≡ Long)
-            × IsTooLong threads (T.len (arc_value task) round))) }
+            × IsTooLong most threads (T.len (arc_value task) round))) }
     {
         let len = task.len(&round);
-        let size = size_of_chunk(threads, len);
+        let size = size_of_chunk(most, threads, len);
         let count = count_of_chunks(size, len) as u64;
         if count > MAX_NUMBERS {
             return Err(PoolFault::Long);

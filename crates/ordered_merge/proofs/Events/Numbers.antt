@@ -8,7 +8,6 @@ use Rattle.afdx_frame.specs.declared.key.Network.{Network}
 use Rattle.afdx_frame.specs.declared.key.Network.TheVariants.{A, B}
 use Rattle.ordered_merge.specs.declared.model.event.Event.{Event}
 use Rattle.ordered_merge.specs.declared.model.event.Event.TheVariants as events
-use Rattle.ordered_merge.specs.declared.model.round.TheConstants.{ROUND_CAPACITY}
 use Rattle.ordered_merge.specs.declared.model.round.Worker.{Worker}
 use Rattle.ordered_merge.specs.declared.model.round.Worker.TheVariants.{Idle, Holding, Through}
 use Rattle.ordered_merge.specs.Merge.{MergerState, cut_frames}
@@ -114,7 +113,7 @@ pub step_numbers : (answer : Frame → ℕ) (e : Event) (s : CoreState) → HasN
 step_numbers answer (events.Put network) s h = side_numbers network s (put_step (side_of s network)) h
 step_numbers answer (events.End network) s h = side_numbers network s (end_step (side_of s network)) h
 step_numbers answer (events.Fetch network) s h = fetch_numbers network s (fetch_step network (side_of s network) s.merger) h
-step_numbers answer events.Cut s h = cut_numbers s.round (cut_frames s.merger ROUND_CAPACITY) s
+step_numbers answer events.Cut s h = cut_numbers s.round (cut_frames s.merger s.round_capacity) s
 step_numbers answer (events.Claim w) s h = claim_numbers s.round (slice_get s.workers w) w s h refl
 step_numbers answer (events.Post w) s h = post_numbers answer s.round (slice_get s.workers w) w s h refl
 step_numbers answer events.Gather s h = gather_numbers s.round s

@@ -13,9 +13,9 @@ use Rattle.afdx_frame.specs.declared.key.Network.TheVariants.{A, B}
 use Rattle.ordered_merge.specs.declared.model.event.Event.{Event}
 use Rattle.ordered_merge.specs.declared.model.event.Event.TheVariants as events
 use Rattle.ordered_merge.specs.declared.model.event.Answered.{Answered}
-use Rattle.ordered_merge.specs.declared.model.round.TheConstants.{ROUND_CAPACITY}
 use Rattle.ordered_merge.specs.declared.model.round.Worker.{Worker}
 use Rattle.ordered_merge.specs.declared.model.round.Worker.TheVariants.{Idle, Holding, Through}
+use Rattle.ordered_merge.specs.declared.model.sizes.CoreSizes.{CoreSizes}
 use Rattle.ordered_merge.specs.declared.model.side.RingItem.{RingItem}
 use Rattle.ordered_merge.specs.declared.model.side.RingItem.TheVariants as items
 use Rattle.ordered_merge.specs.Order.{IsOrder, IsRising}
@@ -137,8 +137,9 @@ firsts_can_fetch late a b s is B f ring e =
 
 -- ---- each event
 
-pub new_is_of : (late : ℕ) (a b : List Frame) (workers : List Worker) → IsRecording A late a → IsRecording B late b → IsOf late a b (new_core a b workers late)
-new_is_of late a b workers h k = record {
+pub new_is_of : (sizes : CoreSizes) (late : ℕ) (a b : List Frame) (workers : List Worker) → IsRecording A late a → IsRecording B late b
+    → IsOf late a b (new_core sizes a b workers late)
+new_is_of sizes late a b workers h k = record {
   fetched_a = [];
   fetched_b = [];
   window = refl;
@@ -198,7 +199,7 @@ put_same : (left : List Frame) (side : SideState) (is_ended : Bool) → side.lef
     → IfSome (put_of left side) (Same is_ended side)
 put_same [] side is_ended e mark = tt
 put_same (f ∷ left) side is_ended e mark =
-    cond_both (has_room side) (Some (record { left = left; marked = side.marked; ring = side.ring ++ items.Frame f ∷ [] })) None (λ o. IfSome o (Same is_ended side))
+    cond_both (has_room side) (Some (record side { left = left; ring = side.ring ++ items.Frame f ∷ [] })) None (λ o. IfSome o (Same is_ended side))
     (λ _. record {
       frames = put_coming f left side.ring ∙ ap (λ (l : List Frame). ring_frames side.ring ++ l) (sym e);
       mark = mark_put side.marked is_ended f left side.ring (subst (λ (l : List Frame). MarkStands side.marked is_ended l side.ring) e mark);
@@ -208,7 +209,7 @@ put_same (f ∷ left) side is_ended e mark =
 end_same : (left : List Frame) (marked : Bool) (side : SideState) (is_ended : Bool) → side.left ≡ left → side.marked ≡ marked
     → MarkStands side.marked is_ended side.left side.ring → IfSome (end_of left marked side) (Same is_ended side)
 end_same [] false side is_ended e g mark =
-    cond_both (has_room side) (Some (record { left = side.left; marked = true; ring = side.ring ++ items.End ∷ [] })) None (λ o. IfSome o (Same is_ended side))
+    cond_both (has_room side) (Some (record side { marked = true; ring = side.ring ++ items.End ∷ [] })) None (λ o. IfSome o (Same is_ended side))
     (λ _. record {
       frames = ap (λ (l : List Frame). l ++ side.left) (ring_append side.ring (items.End ∷ []) ∙ append-nil (ring_frames side.ring));
       mark = subst (λ (l : List Frame). MarkStands true is_ended l (side.ring ++ items.End ∷ [])) (sym e)
@@ -312,12 +313,12 @@ fetch_sound A late a b s is = fetch_sound_a s.a.ring late a b s is refl
 fetch_sound B late a b s is = fetch_sound_b s.b.ring late a b s is refl
 
 cut_sound : (round : Option RoundState) (frames : List Frame) (late : ℕ) (a b : List Frame) (s : CoreState) → IsOf late a b s → s.round ≡ round
-    → cut_frames s.merger ROUND_CAPACITY ≡ frames → IfSome (cut_of round frames s) (IsOf late a b)
+    → cut_frames s.merger s.round_capacity ≡ frames → IfSome (cut_of round frames s) (IsOf late a b)
 cut_sound (Some r) frames late a b s is e g = tt
 cut_sound None [] late a b s is e g = tt
 cut_sound None (f ∷ frames) late a b s is e g =
-    let before : given s ++ cut_frames s.merger ROUND_CAPACITY ≡ output_frames s.output ++ f ∷ frames =
-    ap (λ (l : List Frame). l ++ cut_frames s.merger ROUND_CAPACITY) (ap (λ (o : Option RoundState). output_frames s.output ++ round_frames o) e ∙ append-nil (output_frames s.output))
+    let before : given s ++ cut_frames s.merger s.round_capacity ≡ output_frames s.output ++ f ∷ frames =
+    ap (λ (l : List Frame). l ++ cut_frames s.merger s.round_capacity) (ap (λ (o : Option RoundState). output_frames s.output ++ round_frames o) e ∙ append-nil (output_frames s.output))
     ∙ ap (λ (l : List Frame). output_frames s.output ++ l) g in
     record {
       fetched_a = is.fetched_a;
@@ -329,8 +330,8 @@ cut_sound None (f ∷ frames) late a b s is e g =
       whole_b = is.whole_b;
       mark_a = is.mark_a;
       mark_b = is.mark_b;
-      follows = subst (λ (l : List Frame). Follows (after_cut s.merger ROUND_CAPACITY) is.fetched_a is.fetched_b l) before
-          (follows_cut s.merger is.fetched_a is.fetched_b (given s) ROUND_CAPACITY is.follows);
+      follows = subst (λ (l : List Frame). Follows (after_cut s.merger s.round_capacity) is.fetched_a is.fetched_b l) before
+          (follows_cut s.merger is.fetched_a is.fetched_b (given s) s.round_capacity is.follows);
       answers = length-replicate (length (f ∷ frames)) None;
     }
 
@@ -423,7 +424,7 @@ pub step_sound : (answer : Frame → ℕ) (e : Event) (late : ℕ) (a b : List F
 step_sound answer (events.Put network) late a b s is = put_sound network late a b s is
 step_sound answer (events.End network) late a b s is = end_sound network late a b s is
 step_sound answer (events.Fetch network) late a b s is = fetch_sound network late a b s is
-step_sound answer events.Cut late a b s is = cut_sound s.round (cut_frames s.merger ROUND_CAPACITY) late a b s is refl refl
+step_sound answer events.Cut late a b s is = cut_sound s.round (cut_frames s.merger s.round_capacity) late a b s is refl refl
 step_sound answer (events.Claim w) late a b s is = claim_sound s.round (slice_get s.workers w) w late a b s is refl
 step_sound answer (events.Post w) late a b s is = post_sound answer s.round (slice_get s.workers w) w late a b s is refl
 step_sound answer events.Gather late a b s is = gather_sound s.round late a b s is refl
@@ -657,7 +658,7 @@ pub step_answers : (answer : Frame → ℕ) (e : Event) (s : CoreState) → Answ
 step_answers answer (events.Put network) s h = side_answers network answer s (put_step (side_of s network)) h
 step_answers answer (events.End network) s h = side_answers network answer s (end_step (side_of s network)) h
 step_answers answer (events.Fetch network) s h = fetch_answers network answer s (fetch_step network (side_of s network) s.merger) h
-step_answers answer events.Cut s h = cut_answers answer s.round (cut_frames s.merger ROUND_CAPACITY) s h
+step_answers answer events.Cut s h = cut_answers answer s.round (cut_frames s.merger s.round_capacity) s h
 step_answers answer (events.Claim w) s h = claim_keeps answer s.round (slice_get s.workers w) w s h refl
 step_answers answer (events.Post w) s h = post_keeps answer s.round (slice_get s.workers w) w s h refl
 step_answers answer events.Gather s h = gather_keeps answer s.round s h refl

@@ -10,6 +10,7 @@ use Rattle.ordered_merge.specs.declared.model.event.Event.TheVariants as events
 use Rattle.ordered_merge.specs.declared.model.event.Answered.{Answered}
 use Rattle.ordered_merge.specs.declared.model.round.Worker.{Worker}
 use Rattle.ordered_merge.specs.declared.model.round.Worker.TheVariants.{Idle, Holding, Through}
+use Rattle.ordered_merge.specs.declared.model.sizes.CoreSizes.{CoreSizes}
 use Rattle.ordered_merge.specs.declared.model.side.RingItem.{RingItem}
 use Rattle.ordered_merge.specs.declared.model.side.RingItem.TheVariants as items
 use Rattle.ordered_merge.specs.Order.{IsRising}
@@ -138,12 +139,12 @@ abbrev pub core_run : (Frame → ℕ) → CoreState → List Event → CoreState
 core_run answer s [] = s
 core_run answer s (e ∷ events) = core_run answer (unwrap_or (core_step answer s e) s) events
 
--- After each list of events the core holds the frames of both recordings, the output is a prefix of their one order, and all of it once
--- the core is complete; each answer is the Work's.
+-- Whatever a core's sizes, after each list of events it holds the frames of both recordings, the output is a prefix of their one order, and
+-- all of it once the core is complete; each answer is the Work's.
 abbrev pub EveryRunIsInOrder : Type 0
-EveryRunIsInOrder = (answer : Frame → ℕ) (late : ℕ) (a b : List Frame) (workers : List Worker) (events : List Event)
+EveryRunIsInOrder = (answer : Frame → ℕ) (sizes : CoreSizes) (late : ℕ) (a b : List Frame) (workers : List Worker) (events : List Event)
     → IsRecording A late a → IsRecording B late b
-    → IsPermutation (a ++ b) (held (core_run answer (new_core a b workers late) events))
-    × OutputIsPrefix (core_run answer (new_core a b workers late) events)
-    × OutputIsAll (core_run answer (new_core a b workers late) events)
-    × AnswersAre answer (core_run answer (new_core a b workers late) events)
+    → IsPermutation (a ++ b) (held (core_run answer (new_core sizes a b workers late) events))
+    × OutputIsPrefix (core_run answer (new_core sizes a b workers late) events)
+    × OutputIsAll (core_run answer (new_core sizes a b workers late) events)
+    × AnswersAre answer (core_run answer (new_core sizes a b workers late) events)

@@ -10,9 +10,9 @@ use Rattle.ordered_merge.specs.declared.model.event.Event.TheVariants as events
 use Rattle.ordered_merge.specs.declared.model.event.Answered.{Answered}
 use Rattle.ordered_merge.specs.declared.model.side.RingItem.{RingItem}
 use Rattle.ordered_merge.specs.declared.model.side.RingItem.TheVariants as items
-use Rattle.ordered_merge.specs.declared.model.round.TheConstants.{ROUND_CAPACITY}
 use Rattle.ordered_merge.specs.declared.model.round.Worker.{Worker}
 use Rattle.ordered_merge.specs.declared.model.round.Worker.TheVariants.{Idle, Holding, Through}
+use Rattle.ordered_merge.specs.declared.model.sizes.CoreSizes.{CoreSizes}
 use Rattle.ordered_merge.specs.Merge.{MergerState, CanFetch, fetched, ended, cut_frames, after_cut, new_state}
 use Rattle.ordered_merge.specs.Events.Side.{SideState, new_side, put_step, end_step}
 use Rattle.ordered_merge.specs.Events.Round.{RoundState, new_round, claimed, after_claim, posted, is_answered, is_through, answered}
@@ -21,14 +21,23 @@ pub record CoreState : Type 0 where
   pub a : SideState
   pub b : SideState
   pub merger : MergerState
+  -- the most frames of a round
+  pub round_capacity : ℕ
   -- the open round, if there is one
   pub round : Option RoundState
   pub workers : List Worker
   pub output : List Answered
 
-abbrev pub new_core : List Frame → List Frame → List Worker → ℕ → CoreState
-new_core a b workers late =
-    record { a = new_side a; b = new_side b; merger = new_state late; round = None; workers = workers; output = [] }
+abbrev pub new_core : CoreSizes → List Frame → List Frame → List Worker → ℕ → CoreState
+new_core sizes a b workers late = record {
+  a = new_side sizes.ring a;
+  b = new_side sizes.ring b;
+  merger = new_state late;
+  round_capacity = sizes.round;
+  round = None;
+  workers = workers;
+  output = [];
+}
 
 abbrev pub side_of : CoreState → Network → SideState
 side_of s A = s.a
@@ -56,7 +65,7 @@ core_fetch_step network s =
 -- the first safe frames are a round, which no worker has begun
 abbrev pub cut_of : Option RoundState → List Frame → CoreState → Option CoreState
 cut_of None (f ∷ frames) s = Some (record s {
-  merger = after_cut s.merger ROUND_CAPACITY;
+  merger = after_cut s.merger s.round_capacity;
   round = Some (new_round (f ∷ frames));
   workers = replicate (length s.workers) Idle;
 })
@@ -64,7 +73,7 @@ cut_of None [] s = None
 cut_of (Some r) frames s = None
 
 abbrev pub cut_step : CoreState → Option CoreState
-cut_step s = cut_of s.round (cut_frames s.merger ROUND_CAPACITY) s
+cut_step s = cut_of s.round (cut_frames s.merger s.round_capacity) s
 
 -- an idle worker draws the next number of the open round
 abbrev pub claim_of : Option RoundState → Option Worker → ℕ → CoreState → Option CoreState

@@ -9,6 +9,7 @@ ghost use Rattle.ordered_merge.specs.Recording.{IsRecording};
 use crate::model::event::{Answered, Event, Work};
 use crate::model::parts::Parts;
 use crate::model::round::Worker;
+use crate::model::sizes::CoreSizes;
 use afdx_frame::{Network, TapFrame};
 use std::alloc::{AllocError, Global};
 use std::marker::Model;
@@ -19,7 +20,7 @@ pub const MAX_WORKERS: u32 = 8;
 /// Both taps, their rings, the merger and the workers, as a machine over [`Event`]s.
 ///
 /// Each event is one atomic step of one of them, so a list of events is an interleaving of their
-/// threads. Whatever the list, the output is a prefix of the one order of both recordings.
+/// threads. Whatever the list and the sizes, the output is a prefix of the one order of both recordings.
 #[derive(Debug, Drop)]
 pub struct Core {
     parts: Parts,
@@ -37,24 +38,28 @@ impl Model for Core {
 }
 
 impl Core {
-    /// A core over the recordings of both taps, in which a timestamp may lie by `late` nanoseconds below the
-    /// greatest one before it, with 1 to [`MAX_WORKERS`] workers. A refusal drops both lists.
+    /// A core of these sizes over the recordings of both taps, in which a timestamp may lie by `late`
+    /// nanoseconds below the greatest one before it, with 1 to [`MAX_WORKERS`] workers. A refusal drops both
+    /// lists.
     pub fn new(
         alloc: Global,
+        sizes: CoreSizes,
         a: Vec<TapFrame>,
         b: Vec<TapFrame>,
         workers: u32,
         late: u64,
     ) -> Result<Core, AllocError>
+        requires some_ring { 1 ≤ sizes.ring }
+        requires some_round { 1 ≤ sizes.round }
         requires recording_a { IsRecording Network.A late a.items }
         requires recording_b { IsRecording Network.B late b.items }
         requires some_workers { 1 ≤ workers }
         requires few_workers { workers ≤ MAX_WORKERS }
         ensures { IfOk result (λ core.
-            core ≡ new_core a.items b.items (replicate workers Worker.Idle) late) }
+            core ≡ new_core sizes a.items b.items (replicate workers Worker.Idle) late) }
     {
         Ok(Core {
-            parts: Parts::new(alloc, a, b, workers, late)?,
+            parts: Parts::new(alloc, sizes, a, b, workers, late)?,
         })
     }
 
@@ -86,7 +91,7 @@ impl Core {
     }
 }
 
-/// Whatever the events, the output is a prefix of the order of both recordings.
+/// Whatever the events and the sizes, the output is a prefix of the order of both recordings.
 pub fn every_run_is_in_order()
     ensures { EveryRunIsInOrder }
 {}

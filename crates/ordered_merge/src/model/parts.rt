@@ -10,8 +10,9 @@ ghost use Rattle.ordered_merge.specs.Events.Side.{Steps};
 
 use crate::merger::Merger;
 use crate::model::event::{Answered, Event, Work};
-use crate::model::round::{ROUND_CAPACITY, Round, Worker, no_answers};
+use crate::model::round::{Round, Worker, no_answers};
 use crate::model::side::{RingItem, TapSide};
+use crate::model::sizes::CoreSizes;
 use afdx_frame::{Network, TapFrame};
 use std::alloc::{AllocError, Global};
 use std::marker::Model;
@@ -24,6 +25,8 @@ pub(crate) struct Parts {
     a: TapSide,
     b: TapSide,
     merger: Merger,
+    /// The most frames of a round.
+    round_capacity: usize,
     round: Option<Round>,
     workers: Vec<Worker>,
     output: Vec<Answered>,
@@ -38,6 +41,7 @@ impl Model for Parts {
       a = p.a;
       b = p.b;
       merger = p.merger;
+      round_capacity = p.round_capacity;
       round = p.round;
       workers = p.workers.items;
       output = p.output.items;
@@ -47,19 +51,21 @@ impl Model for Parts {
 impl Parts {
     pub(crate) fn new(
         alloc: Global,
+        sizes: CoreSizes,
         a: Vec<TapFrame>,
         b: Vec<TapFrame>,
         workers: u32,
         late: u64,
     ) -> Result<Parts, AllocError>
         ensures { IfOk result (λ s.
-            s ≡ new_core a.items b.items (replicate workers Worker.Idle) late) }
+            s ≡ new_core sizes a.items b.items (replicate workers Worker.Idle) late) }
     {
         Ok(Parts {
             alloc,
-            a: TapSide::new(alloc, a)?,
-            b: TapSide::new(alloc, b)?,
+            a: TapSide::new(alloc, sizes.ring, a)?,
+            b: TapSide::new(alloc, sizes.ring, b)?,
             merger: Merger::new(alloc, late),
+            round_capacity: sizes.round,
             round: None,
             workers: idle_workers(alloc, workers as usize)?,
             output: Vec::new(alloc),
@@ -114,12 +120,12 @@ impl Parts {
         ensures unchanged { OnErr result (self.new ≡ self.old) }
         ensures memory { OnErr result (IsSome (cut_step self.old)) }
     {
-        let count = self.merger.count_safe(ROUND_CAPACITY);
+        let count = self.merger.count_safe(self.round_capacity);
         if self.round.is_some() || count == 0 {
             return Ok(false);
         }
         let answers = no_answers(self.alloc, count)?;
-        let frames = self.merger.cut(ROUND_CAPACITY)?;
+        let frames = self.merger.cut(self.round_capacity)?;
         self.round = Some(Round::new(frames, answers));
         self.workers.fill(Worker::Idle);
         Ok(true)

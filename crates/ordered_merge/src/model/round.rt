@@ -9,9 +9,6 @@ use afdx_frame::TapFrame;
 use std::alloc::{AllocError, Global};
 use std::marker::Model;
 
-/// The most frames of a round.
-pub(crate) const ROUND_CAPACITY: usize = 256;
-
 /// What a worker does.
 #[derive(Clone, Copy, Debug)]
 pub(crate) enum Worker {

@@ -8,9 +8,6 @@ use std::alloc::{AllocError, Global};
 use std::collections::VecDeque;
 use std::marker::Model;
 
-/// The most items on a tap's ring.
-pub(crate) const RING_CAPACITY: usize = 64;
-
 /// What a tap puts onto its ring.
 #[derive(Debug, Drop)]
 pub(crate) enum RingItem {
@@ -23,6 +20,8 @@ pub(crate) enum RingItem {
 pub(crate) struct TapSide {
     left: VecDeque<TapFrame>,
     marked: bool,
+    /// The most items on the ring.
+    capacity: usize,
     ring: VecDeque<RingItem>,
 }
 
@@ -30,25 +29,34 @@ impl Model for TapSide {
     ghost use Rattle.std.specs.Prelude.{◌≤◌, length};
     ghost use Rattle.std.specs.VecDeque.{deque_capacity};
     ghost use Rattle.ordered_merge.specs.Events.Side.{SideState};
-    ghost use Rattle.ordered_merge.specs.declared.model.side.TheConstants.{RING_CAPACITY};
 
     ghost Value = { SideState };
 
-    ghost view = { λ s. record { left = s.left.items; marked = s.marked; ring = s.ring.items } };
+    ghost view = { λ s. record {
+      left = s.left.items;
+      marked = s.marked;
+      capacity = s.capacity;
+      ring = s.ring.items;
+    } };
 
     ghost invariant = { λ s.
-        (RING_CAPACITY ≤ deque_capacity s.ring) × (length s.ring.items ≤ RING_CAPACITY) };
+        (s.capacity ≤ deque_capacity s.ring) × (length s.ring.items ≤ s.capacity) };
 }
 
 impl TapSide {
-    /// A tap that puts these frames.
-    pub(crate) fn new(alloc: Global, frames: Vec<TapFrame>) -> Result<TapSide, AllocError>
-        ensures { IfOk result (λ s. s ≡ new_side frames.items) }
+    /// A tap that puts these frames onto a ring of so many items.
+    pub(crate) fn new(
+        alloc: Global,
+        capacity: usize,
+        frames: Vec<TapFrame>,
+    ) -> Result<TapSide, AllocError>
+        ensures { IfOk result (λ s. s ≡ new_side capacity frames.items) }
     {
         Ok(TapSide {
             left: VecDeque::from_vec(frames),
             marked: false,
-            ring: VecDeque::with_capacity(alloc, RING_CAPACITY)?,
+            capacity,
+            ring: VecDeque::with_capacity(alloc, capacity)?,
         })
     }
 
@@ -56,7 +64,7 @@ impl TapSide {
     pub(crate) fn put(&mut self) -> bool
         ensures { Steps (put_step self.old) self.old result self.new }
     {
-        if self.ring.len() >= RING_CAPACITY {
+        if self.ring.len() >= self.capacity {
             return false;
         }
         match self.left.pop_front() {
@@ -72,7 +80,7 @@ impl TapSide {
     pub(crate) fn mark_end(&mut self) -> bool
         ensures { Steps (end_step self.old) self.old result self.new }
     {
-        if self.marked || !self.left.is_empty() || self.ring.len() >= RING_CAPACITY {
+        if self.marked || !self.left.is_empty() || self.ring.len() >= self.capacity {
             return false;
         }
         self.ring.push_back_reserved(RingItem::End);
@@ -85,7 +93,8 @@ impl TapSide {
         ensures ring { self.old.ring ≡ option_to_list result ++ self.new.ring }
         ensures left { self.new.left ≡ self.old.left }
         ensures marked { self.new.marked ≡ self.old.marked }
-        ensures room { OnSome result (length self.new.ring < RING_CAPACITY) }
+        ensures capacity { self.new.capacity ≡ self.old.capacity }
+        ensures room { OnSome result (length self.new.ring < self.new.capacity) }
         ensures none { IfNone result (self.old.ring ≡ []) }
     {
         self.ring.pop_front()
@@ -93,10 +102,11 @@ impl TapSide {
 
     /// Puts an item back onto the ring, as its oldest.
     pub(crate) fn put_back(&mut self, item: RingItem)
-        requires { length self.old.ring < RING_CAPACITY }
+        requires { length self.old.ring < self.old.capacity }
         ensures ring { self.new.ring ≡ item ∷ self.old.ring }
         ensures left { self.new.left ≡ self.old.left }
         ensures marked { self.new.marked ≡ self.old.marked }
+        ensures capacity { self.new.capacity ≡ self.old.capacity }
     {
         self.ring.push_front_reserved(item);
     }

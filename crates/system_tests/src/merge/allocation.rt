@@ -4,7 +4,7 @@
 //! The script `tests/allocations.sh` has each allocation in them fail in turn. A test `refusal_..` then
 //! passes by either answer, and a test `ample_..` by the right one alone.
 
-use crate::merge::cores::{Digits, core_of, is_prefix};
+use crate::merge::cores::{AMPLE, Digits, core_of, is_prefix};
 use crate::merge::{cut_into, fetch, parts_of};
 use afdx_frame::Key;
 use afdx_frame::Network::{self, A, B};
@@ -112,7 +112,7 @@ fn happens(rt: &(impl Abort + AllocGlobal), core: &mut Core, event: Event) -> bo
 
 /// Runs the core to its end. Returns whether there was the memory.
 fn runs_a_core(rt: &(impl Abort + AllocGlobal)) -> bool {
-    let Ok(mut core) = core_of(rt, 5, &[10, 5, 7], &[12]) else {
+    let Ok(mut core) = core_of(rt, AMPLE, 5, &[10, 5, 7], &[12]) else {
         return false;
     };
     let mut ample = true;

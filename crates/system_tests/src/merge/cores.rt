@@ -4,7 +4,7 @@ use crate::merge::frame_at;
 use crate::merge::numbers::Numbers;
 use afdx_frame::Network::{self, A, B};
 use afdx_frame::{Key, TapFrame};
-use ordered_merge::{Core, Event, Work, is_recording};
+use ordered_merge::{Core, CoreSizes, Event, Work, is_recording};
 use std::alloc::AllocError;
 use std::process::Abort;
 use std::test::Fail;
@@ -34,9 +34,16 @@ fn recording(
     Ok(frames)
 }
 
-/// A core over two recordings, with two workers.
+/// The sizes of a core whose rings and rounds have room for all frames of a short test.
+pub const AMPLE: CoreSizes = CoreSizes {
+    ring: 64,
+    round: 256,
+};
+
+/// A core of these sizes over two recordings, with two workers.
 pub fn core_of(
     rt: &(impl Abort + AllocGlobal),
+    sizes: CoreSizes,
     late: u64,
     a: &[u64],
     b: &[u64],
@@ -45,7 +52,9 @@ pub fn core_of(
     let b = recording(rt, B, b)?;
     assert!(rt; is_recording(A, late, &a));
     assert!(rt; is_recording(B, late, &b));
-    Core::new(rt.alloc(), a, b, 2, late)
+    assert!(rt; sizes.ring > 0);
+    assert!(rt; sizes.round > 0);
+    Core::new(rt.alloc(), sizes, a, b, 2, late)
 }
 
 /// The event of this number, among those of two taps and three workers, of which one is none.
@@ -95,7 +104,7 @@ fn runs(
         step(&mut core, event_of(numbers.below(14)))?;
         is_prefix(rt, &core, order);
     }
-    for _ in 0..20 {
+    for _ in 0..30 {
         for number in 0..14 {
             step(&mut core, event_of(number))?;
             is_prefix(rt, &core, order);
@@ -107,20 +116,23 @@ fn runs(
 
 #[test]
 fn lists_of_events(rt: HostRuntime) -> Result<(), Fail> {
-    for seed in 0..150 {
-        let core = core_of(&rt, 0, &[1, 9], &[5, 9])?;
-        runs(&rt, seed, core, &[(1, A), (5, B), (9, A), (9, B)])?;
-        let core = core_of(&rt, 5, &[10, 5], &[12, 7])?;
-        runs(&rt, seed, core, &[(5, A), (7, B), (10, A), (12, B)])?;
-        let core = core_of(&rt, 0, &[], &[3])?;
-        runs(&rt, seed, core, &[(3, B)])?;
+    for (ring, round) in [(64, 256), (1, 1), (2, 3)] {
+        let sizes = CoreSizes { ring, round };
+        for seed in 0..50 {
+            let core = core_of(&rt, sizes, 0, &[1, 9], &[5, 9])?;
+            runs(&rt, seed, core, &[(1, A), (5, B), (9, A), (9, B)])?;
+            let core = core_of(&rt, sizes, 5, &[10, 5], &[12, 7])?;
+            runs(&rt, seed, core, &[(5, A), (7, B), (10, A), (12, B)])?;
+            let core = core_of(&rt, sizes, 0, &[], &[3])?;
+            runs(&rt, seed, core, &[(3, B)])?;
+        }
     }
     Ok(())
 }
 
 #[test]
 fn events_that_happen(rt: HostRuntime) -> Result<(), Fail> {
-    let mut core = core_of(&rt, 0, &[1], &[])?;
+    let mut core = core_of(&rt, AMPLE, 0, &[1], &[])?;
     for (event, happens) in [
         (Event::Fetch(A), false),
         (Event::End(A), false),
@@ -165,13 +177,17 @@ fn steps(core: &mut Core, event: Event, times: u32) -> Result<u32, AllocError> {
     Ok(happened)
 }
 
-#[test]
-fn rings_and_rounds_are_bounded(rt: HostRuntime) -> Result<(), Fail> {
+/// Rings and rounds of these sizes hold so much and no more.
+fn bounds(rt: &(impl Abort + AllocGlobal), ring: u32, round: u32) -> Result<(), Fail> {
     let stamps = vec![in rt.alloc(); 7; 600]?;
-    let mut core = core_of(&rt, 0, &stamps, &[])?;
+    let sizes = CoreSizes {
+        ring: ring as usize,
+        round: round as usize,
+    };
+    let mut core = core_of(rt, sizes, 0, &stamps, &[])?;
     step(&mut core, Event::End(B))?;
     step(&mut core, Event::Fetch(B))?;
-    assert_eq!(rt; steps(&mut core, Event::Put(A), 100)?, 64);
+    assert_eq!(rt; steps(&mut core, Event::Put(A), 100)?, ring);
     for _ in 0..600 {
         step(&mut core, Event::Fetch(A))?;
         step(&mut core, Event::Put(A))?;
@@ -185,6 +201,14 @@ fn rings_and_rounds_are_bounded(rt: HostRuntime) -> Result<(), Fail> {
     }
     step(&mut core, Event::Claim(1))?;
     assert_eq!(rt; steps(&mut core, Event::Gather, 2)?, 1);
-    assert_eq!(rt; core.output().len(), 256);
+    assert_eq!(rt; core.output().len(), round as usize);
+    Ok(())
+}
+
+#[test]
+fn rings_and_rounds_are_bounded(rt: HostRuntime) -> Result<(), Fail> {
+    for (ring, round) in [(64, 256), (1, 1), (3, 255)] {
+        bounds(&rt, ring, round)?;
+    }
     Ok(())
 }

@@ -160,7 +160,7 @@ fn end_of(ending: Ending) -> Result<End, Fail> {
         Ending::Bad(count, BadReason::Length) => End::Length(count),
         Ending::Bad(count, BadReason::Fraction) => End::Fraction(count),
         Ending::Bad(count, BadReason::StampBack) => End::StampBack(count),
-        Ending::Bad(_, BadReason::TooMany) => return Err("too many".into()),
+        Ending::Bad(..) => return Err("a reason that no pcap file has".into()),
     })
 }
 
@@ -171,6 +171,7 @@ fn end_of_fault(fault: OpenFault) -> Result<End, Fail> {
         OpenFault::Header(HeaderFault::Magic) => End::Magic,
         OpenFault::Header(HeaderFault::Version) => End::Version,
         OpenFault::Header(HeaderFault::LinkType) => End::LinkType,
+        OpenFault::Header(_) => return Err("a fault that no pcap file has".into()),
         OpenFault::Device => return Err("the source failed".into()),
     })
 }

@@ -22,7 +22,7 @@ const PROMPT: &str =
      smax = 100\nintegrity = false\nredundancy = false\nskew_us = 0\n";
 
 /// The same, with a third link, in which a stamp may lie by two microseconds below an earlier one.
-const LATE: &str =
+pub const LATE: &str =
     "constant = 50331648\nlate_us = 2\n[[link]]\nid = 5\nname = \"brake\"\nbag_ms = 1\n\
      jitter_us = 0\nsmax = 200\nintegrity = true\nredundancy = true\nskew_us = 3\n\
      [[link]]\nid = 6\nname = \"flaps\"\nbag_ms = 2\njitter_us = 500\n\
@@ -168,7 +168,7 @@ fn kind_of(ending: Ending) -> usize {
         Ending::Bad(_, BadReason::Length) => 2,
         Ending::Bad(_, BadReason::Fraction) => 3,
         Ending::Bad(_, BadReason::StampBack) => 4,
-        Ending::Bad(_, BadReason::TooMany) => 5,
+        Ending::Bad(..) => 5,
     }
 }
 

@@ -2,7 +2,7 @@ use Rattle.std.proofs.Common.{rules, ap, ap₂, ◌≡◌, ◌∙◌, codes, fal
 use Rattle.std.specs.Str.{bytes_eq}
 use Rattle.clap.specs.Words.{Row, Text, found_of, rows_of}
 use Rattle.clap.specs.declared.parser.matches.Found.{Found}
-use Rattle.command_line.specs.Arguments.{WatchWords, Watches, and_then, checked, mapped, meant_in, required, watch_in, watch_words}
+use Rattle.command_line.specs.Arguments.{CutWords, Cuts, WatchWords, Watches, and_then, checked, checked_cut, cut_in, cut_words, mapped, meant_in, required, watch_in, watch_words}
 use Rattle.command_line.proofs.arguments.arguments_of.Goals as goal
 
 -- the two halves of what was met
@@ -20,6 +20,13 @@ watches : (met : Option (Text × List Row)) (name : Text) (given : Found) (w v :
 watches met name given w v e no_capture no_asm is same right =
     rw (e, no_capture, no_asm, is) (ap (mapped Watches) (right ∙ ap (λ o. and_then checked (required o)) same))
 
+-- a selection of a ledger's frames was met, and this is what it is given
+cuts : (met : Option (Text × List Row)) (name : Text) (given : Found) (w v : CutWords) → met ≡ Some (name, rows_of given) → bytes_eq name (codes "capture") ≡ false →
+    bytes_eq name (codes "asm") ≡ false → bytes_eq name (codes "watch") ≡ false → bytes_eq name (codes "debug") ≡ false → bytes_eq name (codes "cut") ≡ true →
+    Some w ≡ cut_in (rows_of given) → Ok v ≡ checked_cut w → Ok (Cuts v) ≡ meant_in met
+cuts met name given w v e no_capture no_asm no_watch no_debug is same right =
+    rw (e, no_capture, no_asm, no_watch, no_debug, is) (ap (mapped Cuts) (right ∙ ap (λ o. and_then checked_cut (required o)) same))
+
 pub returns-then-eq-3 : goal.returns-then-eq-3
 returns-then-eq-3 c =
     let no_capture : bytes_eq c.in-Some.name.now (codes "capture") ≡ false = search rules in
@@ -27,3 +34,13 @@ returns-then-eq-3 c =
     let is : bytes_eq c.in-Some.name.now (codes "watch") ≡ true = search rules in
     watches _ c.in-Some.name.now (found_of c.in-Some.given.now) (watch_words c.in-Some-watch_arguments.given) _ (both _ _ _ _ _ c.in-Some.ensures.name c.in-Some.ensures.rows) no_capture no_asm is
     c.in-Some-watch_arguments.ensures c.in_ok-checked.ensures
+
+pub returns-then-eq-5 : goal.returns-then-eq-5
+returns-then-eq-5 c =
+    let no_capture : bytes_eq c.in-Some.name.now (codes "capture") ≡ false = search rules in
+    let no_asm : bytes_eq c.in-Some.name.now (codes "asm") ≡ false = search rules in
+    let no_watch : bytes_eq c.in-Some.name.now (codes "watch") ≡ false = search rules in
+    let no_debug : bytes_eq c.in-Some.name.now (codes "debug") ≡ false = search rules in
+    let is : bytes_eq c.in-Some.name.now (codes "cut") ≡ true = search rules in
+    cuts _ c.in-Some.name.now (found_of c.in-Some.given.now) (cut_words c.in-Some-cut_arguments.given) _ (both _ _ _ _ _ c.in-Some.ensures.name c.in-Some.ensures.rows) no_capture no_asm no_watch no_debug is
+    c.in-Some-cut_arguments.ensures c.in_ok-checked_cut.ensures

@@ -14,14 +14,14 @@ pub returns-in_err-get_one : goal.returns-in_err-get_one
 returns-in_err-get_one c =
     let text = one_text (found_of c.args.given.now) (codes "workers") in
     rw c.from_residual-in_err-get_one.ensures (watch_is (found_of c.args.given.now) _ _ _ _ _ _ None _ c.in_ok-get_str.ensures c.get_str-2.ensures c.get_str-3.ensures c.get_str-4.ensures c.get_str-5.ensures c.in_ok-get_str-2.ensures
-    (missing number_in text (λ t is. (let r = c.in_err-get_one.ensures.value t is in no_number _ t r.0 r.1.0))) refl)
+    (missing (number_in 8) text (λ t is. (let r = c.in_err-get_one.ensures.value t is in no_number 8 _ t r.0 r.1.0))) refl)
 
 pub returns-in_err-get_one-2 : goal.returns-in_err-get_one-2
 returns-in_err-get_one-2 c =
     let text = one_text (found_of c.args.given.now) (codes "workers") in
     let flag = one_text (found_of c.args.given.now) (codes "quiet") in
     rw c.from_residual-in_err-get_one-2.ensures (watch_is (found_of c.args.given.now) _ _ _ _ _ _ (Some c.in_ok-get_one.field-0) None c.in_ok-get_str.ensures c.get_str-2.ensures c.get_str-3.ensures c.get_str-4.ensures c.get_str-5.ensures c.in_ok-get_str-2.ensures
-    (found number_in text c.in_ok-get_one.field-0 c.in_ok-get_one.ensures.none (λ t is. number_is t c.in_ok-get_one.field-0 (c.in_ok-get_one.ensures.value t is).0))
+    (found (number_in 8) text c.in_ok-get_one.field-0 c.in_ok-get_one.ensures.none (λ t is. number_is 8 t c.in_ok-get_one.field-0 (c.in_ok-get_one.ensures.value t is).0))
     (missing flag_in flag (λ t is. (let r = c.in_err-get_one-2.ensures.value t is in no_flag t r.1))))
 
 pub returns : goal.returns
@@ -29,5 +29,5 @@ returns c =
     let text = one_text (found_of c.args.given.now) (codes "workers") in
     let flag = one_text (found_of c.args.given.now) (codes "quiet") in
     watch_is (found_of c.args.given.now) _ _ _ _ _ _ (Some c.in_ok-get_one.field-0) (Some c.in_ok-get_one-2.field-0) c.in_ok-get_str.ensures c.get_str-2.ensures c.get_str-3.ensures c.get_str-4.ensures c.get_str-5.ensures c.in_ok-get_str-2.ensures
-    (found number_in text c.in_ok-get_one.field-0 c.in_ok-get_one.ensures.none (λ t is. number_is t c.in_ok-get_one.field-0 (c.in_ok-get_one.ensures.value t is).0))
+    (found (number_in 8) text c.in_ok-get_one.field-0 c.in_ok-get_one.ensures.none (λ t is. number_is 8 t c.in_ok-get_one.field-0 (c.in_ok-get_one.ensures.value t is).0))
     (found flag_in flag c.in_ok-get_one-2.field-0 c.in_ok-get_one-2.ensures.none (λ t is. flag_is t c.in_ok-get_one-2.field-0 (c.in_ok-get_one-2.ensures.value t is)))

@@ -3,10 +3,11 @@ use Rattle.std.specs.Result.{IfOk}
 use Rattle.clap.specs.Words.{AddsSubcommand, App, app_of, with_subcommand}
 use Rattle.clap.specs.declared.builder.command.Command.{Command}
 use Rattle.clap.specs.declared.builder.command.Command.TheViews.{out-Command}
-use Rattle.command_line.specs.Arguments.{afdxmon_app, asm_app, capture_app, debug_app, program_app, watch_app}
+use Rattle.command_line.specs.Arguments.{afdxmon_app, asm_app, capture_app, cut_app, debug_app, program_app, watch_app}
 use Rattle.command_line.proofs.arguments.whole_command.Goals as goal
 
-afdxmon_is : afdxmon_app ≡ with_subcommand (with_subcommand (with_subcommand (with_subcommand program_app capture_app.top) asm_app.top) watch_app.top) debug_app.top
+afdxmon_is : afdxmon_app ≡
+    with_subcommand (with_subcommand (with_subcommand (with_subcommand (with_subcommand program_app capture_app.top) asm_app.top) watch_app.top) debug_app.top) cut_app.top
 unfolding afdxmon_app
 afdxmon_is = refl
 
@@ -25,4 +26,5 @@ returns c =
     let capture = one_more _ _ _ program_app capture_app c.program_command.ensures c.in_ok-capture_command.ensures.0 c.in_ok-capture_command.ensures.1 c.in_ok-subcommand.ensures in
     let asm = one_more _ _ _ _ asm_app capture c.asm_command.ensures.0 c.asm_command.ensures.1 c.in_ok-subcommand-2.ensures in
     let watch = one_more _ _ _ _ watch_app asm c.in_ok-watch_command.ensures.0 c.in_ok-watch_command.ensures.1 c.in_ok-subcommand-3.ensures in
-    last _ _ _ debug_app c.subcommand-4.result afdxmon_app watch c.in_ok-debug_command.ensures.0 c.in_ok-debug_command.ensures.1 c.subcommand-4.ensures afdxmon_is
+    let debug = one_more _ _ _ _ debug_app watch c.in_ok-debug_command.ensures.0 c.in_ok-debug_command.ensures.1 c.in_ok-subcommand-4.ensures in
+    last _ _ _ cut_app c.subcommand-5.result afdxmon_app debug c.in_ok-cut_command.ensures.0 c.in_ok-cut_command.ensures.1 c.subcommand-5.ensures afdxmon_is

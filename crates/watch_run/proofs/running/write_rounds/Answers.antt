@@ -57,7 +57,7 @@ loop-preserved g c =
     record {
       pool = c.write_next.ensures.pool ∙ pool;
       task = rw pool at c.write_next.ensures.task;
-      feeding = still_feeding g.S.TapSource g.T.TapSource c.args.feeds.now c.loop.feeds c.fill.new.self c.loop.invariant.feeding c.fill.ensures;
+      feeding = still_feeding g.S.TapSource g.T.TapSource c.args.feeds.now c.loop.feeds c.fill.new.self c.loop.invariant.feeding c.fill.ensures.kept;
       a = same_trans before.a idle.a rings.a (same_trans before.a c.loop.rings.a idle.a c.loop.invariant.a c.settle_idle-idle.ensures.a) c.write_next.ensures.stepped.same_a;
       b = same_trans before.b idle.b rings.b (same_trans before.b c.loop.rings.b idle.b c.loop.invariant.b c.settle_idle-idle.ensures.b) c.write_next.ensures.stepped.same_b;
       running = λ vl_table capture ledger h.

@@ -4,8 +4,8 @@ use Rattle.ordered_merge.proofs.Events.Soundness.{held_is, new_is_of, output_is_
 use Rattle.ordered_merge.proofs.model.engine.every_run_is_in_order.Goals as goal
 
 pub returns : goal.returns
-returns c = λ answer late a b workers events h k.
-    let start = new_core a b workers late in
+returns c = λ answer sizes late a b workers events h k.
+    let start = new_core sizes a b workers late in
     let end = core_run answer start events in
-    let is = run_sound answer late a b start events (new_is_of late a b workers h k) in
+    let is = run_sound answer late a b start events (new_is_of sizes late a b workers h k) in
     (held_is late a b end is, output_is_prefix late a b end is, output_is_all late a b end is, run_answers answer start events record { output = tt; round = tt })

@@ -1,17 +1,16 @@
-use Rattle.std.proofs.Common.{◌∙◌, ◌++◌, List, sym, ap, arith}
+use Rattle.std.proofs.Common.{◌∙◌, ◌++◌, List, sym, ap}
 use Rattle.afdx_frame.specs.Frame.{Frame}
 use Rattle.afdx_frame.specs.declared.key.Network.TheVariants.{A, B}
 use Rattle.pcap_io.specs.Reader.{position_of, reading_of}
 use Rattle.ordered_merge.proofs.Following.{follows_cut}
 use Rattle.tap_merge.proofs.TwoTaps.{all_cut, has_met, part_of}
-use Rattle.tap_merge.specs.declared.taps.TheConstants.{ROUND}
 use Rattle.tap_merge.proofs.taps.Taps.cut_round.Goals as goal
 
 pub returns-in-Ok-clause-merged : goal.returns-in-Ok-clause-merged
 returns-in-Ok-clause-merged g c = λ late a b frames_a frames_b cut h. record {
   read_a = h.read_a;
   read_b = h.read_b;
-  follows = rw (c.in-Ok.ensures.rest, c.in-Ok.ensures.round) (follows_cut c.args.self.now.merger frames_a frames_b cut ROUND h.follows);
+  follows = rw (c.in-Ok.ensures.rest, c.in-Ok.ensures.round) (follows_cut c.args.self.now.merger frames_a frames_b cut c.get.result h.follows);
 }
 
 pub returns-in-Ok-clause-ended : goal.returns-in-Ok-clause-ended
@@ -19,7 +18,7 @@ returns-in-Ok-clause-ended g c = λ ended none.
     (let taps = c.args.self.now in (
       ended,
       sym (ap (λ (l : List Frame). l ++ c.cut.new.self.pending) none) ∙ sym c.in-Ok.ensures.whole
-          ∙ all_cut taps.merger ROUND (omega arith) (has_met A taps.end_a (position_of taps.a) taps.merger c.requires.0 ended.0)
+          ∙ all_cut taps.merger c.get.result c.get.ensures.nonzero (has_met A taps.end_a (position_of taps.a) taps.merger c.requires.0 ended.0)
           (has_met B taps.end_b (position_of taps.b) taps.merger c.requires.1 ended.1) (sym c.in-Ok.ensures.round ∙ none),
     ))
 

@@ -11,6 +11,6 @@ invariant_of-result c =
       c.args.late,
       c.args.a.items,
       c.args.b.items,
-      new_is_of c.args.late c.args.a.items c.args.b.items (replicate c.args.workers Idle) c.requires.recording_a c.requires.recording_b,
+      new_is_of c.args.sizes c.args.late c.args.a.items c.args.b.items (replicate c.args.workers Idle) c.requires.recording_a c.requires.recording_b,
       all_idle None c.args.workers,
     )

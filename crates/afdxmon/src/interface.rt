@@ -1,0 +1,218 @@
+//! Which interface of a pcapng recording is read: a number or a name after its path and a colon. And what is
+//! told of the others.
+use afdx_frame::Network;
+use analyser::{
+    CaptureArguments, CutArguments, DebugArguments, Exit, Invocation, SkippedNote, WatchArguments,
+    is_standard,
+};
+use pcap_io::{BadReason, Ending, Found, ReadSource, TapReader};
+use pcapng::{Choice, Interface, InterfaceName, RecordingSource};
+use std::fmt::Write;
+use std::fs::File;
+use std::io::{Read, Take};
+use std::{fs, io};
+
+/// What a command reads of its recordings: of network A, or of its one recording, and of network B.
+#[derive(Clone, Copy)]
+pub struct Choices {
+    pub a: Choice,
+    pub b: Choice,
+}
+
+/// The interface that a person names: digits are a number, and anything else is a name.
+fn choice_of(text: &str) -> Option<Choice> {
+    if text.is_empty() {
+        return None;
+    }
+    match text.parse::<u32>() {
+        Ok(number) if text.bytes().all(|byte| byte.is_ascii_digit()) => Some(Choice::Number(
+            number,
+        )),
+        Ok(_) | Err(_) => Some(Choice::Name(InterfaceName::new(text.as_bytes())?)),
+    }
+}
+
+/// The path of a recording, and the interface that is chosen after it. A path that names a file as it
+/// stands wins.
+fn chosen_in<'a>(rt: &HostRuntime, path: &'a str) -> (&'a str, Choice) {
+    if is_standard(path) || fs::metadata(rt, path).is_ok() {
+        return (path, Choice::Any);
+    }
+    match path.rsplit_once(':') {
+        Some((file, interface)) if is_standard(file) || fs::metadata(rt, file).is_ok() => {
+            match choice_of(interface) {
+                Some(choice) => (file, choice),
+                None => (path, Choice::Any),
+            }
+        }
+        Some(_) | None => (path, Choice::Any),
+    }
+}
+
+fn chosen_if<'a>(rt: &HostRuntime, path: Option<&'a str>) -> (Option<&'a str>, Choice) {
+    match path {
+        Some(path) => {
+            let (path, choice) = chosen_in(rt, path);
+            (Some(path), choice)
+        }
+        None => (None, Choice::Any),
+    }
+}
+
+/// A command whose recordings are named by their paths alone, and what it reads of them.
+pub fn choose<'a>(rt: &HostRuntime, command: Invocation<'a>) -> (Invocation<'a>, Choices) {
+    let (mut a, mut b) = (Choice::Any, Choice::Any);
+    let command = match command {
+        Invocation::Capture(given) => {
+            let (recording, choice) = chosen_in(rt, given.recording);
+            a = choice;
+            Invocation::Capture(CaptureArguments { recording, ..given })
+        }
+        Invocation::Debug(given) => {
+            let (tap, choice) = chosen_in(rt, given.tap);
+            a = choice;
+            Invocation::Debug(DebugArguments { tap, ..given })
+        }
+        Invocation::Watch(given) => {
+            let (of_a, choice_of_a) = chosen_if(rt, given.a);
+            let (of_b, choice_of_b) = chosen_if(rt, given.b);
+            (a, b) = (choice_of_a, choice_of_b);
+            Invocation::Watch(WatchArguments {
+                a: of_a,
+                b: of_b,
+                ..given
+            })
+        }
+        Invocation::Cut(given) => {
+            let (of_a, choice_of_a) = chosen_if(rt, given.a);
+            let (of_b, choice_of_b) = chosen_if(rt, given.b);
+            (a, b) = (choice_of_a, choice_of_b);
+            Invocation::Cut(CutArguments {
+                a: of_a,
+                b: of_b,
+                ..given
+            })
+        }
+        Invocation::Asm => Invocation::Asm,
+    };
+    (command, Choices { a, b })
+}
+
+/// How many packets of a command's recordings are not of Ethernet.
+#[derive(Clone, Copy)]
+pub enum Skipped {
+    /// Of the command's one recording.
+    One(u64),
+    /// Of the recordings of networks A and B.
+    Two(u64, u64),
+}
+
+impl Skipped {
+    /// There are none.
+    pub fn none() -> Skipped {
+        Skipped::One(0)
+    }
+
+    /// So many of the command's one recording.
+    pub fn one(packets: u64) -> Skipped {
+        Skipped::One(packets)
+    }
+
+    /// So many of the recordings of networks A and B.
+    pub fn two(a: u64, b: u64) -> Skipped {
+        Skipped::Two(a, b)
+    }
+
+    /// Notes them, unless a fault was told.
+    pub fn tell(self, rt: &HostRuntime, exit: &Exit) -> io::Result<()> {
+        if exit.status() != 0 {
+            return Ok(());
+        }
+        match self {
+            Skipped::One(packets) => note(rt, None, packets),
+            Skipped::Two(a, b) => {
+                note(rt, Some(Network::A), a)?;
+                note(rt, Some(Network::B), b)
+            }
+        }
+    }
+}
+
+fn note(rt: &HostRuntime, network: Option<Network>, packets: u64) -> io::Result<()> {
+    if packets == 0 {
+        return Ok(());
+    }
+    rt.eprintln(SkippedNote(network, packets))
+}
+
+/// How many bytes at the start of a file are looked at for packets of several interfaces, before its outputs
+/// are begun.
+const LOOKED_AT: u64 = 1 << 20;
+
+/// The type of a section header, which each pcapng file begins with.
+const SECTION: [u8; 4] = [0x0a, 0x0d, 0x0d, 0x0a];
+
+/// Does a regular file begin as pcapng does?
+fn is_pcapng(rt: &HostRuntime, path: &str) -> io::Result<bool> {
+    let mut first = [0; 4];
+    if !fs::metadata(rt, path)?.is_file() {
+        return Ok(false);
+    }
+    File::open(rt, path)?.read_exact(&mut first)?;
+    Ok(first == SECTION)
+}
+
+/// The reader of a file's start, after its last frame there, if that ends at a packet of a second interface.
+fn read_start(rt: &HostRuntime, path: &str) -> Option<RecordingSource<ReadSource<Take<File>>>> {
+    let start = File::open(rt, path).ok()?.take(LOOKED_AT);
+    let source = RecordingSource::new(rt.alloc(), ReadSource::new(start), Choice::Any).ok()?;
+    // No timestamp is late: what counts is whose packets there are.
+    let mut reader = TapReader::open(source, Network::A, 1 << 32, u64::MAX).ok()?;
+    for _ in 0..LOOKED_AT {
+        match reader.advance(rt.alloc()) {
+            Ok(Found::Frame) => {}
+            Ok(Found::End(Ending::Bad(_, BadReason::SeveralInterfaces))) => {
+                return Some(reader.into_source());
+            }
+            Ok(Found::End(_)) | Err(_) => return None,
+        }
+    }
+    None
+}
+
+/// An interface's name, if it can be shown.
+fn shown_name(interface: &Interface) -> Option<&str> {
+    let name = str::from_utf8(interface.name.as_ref()?.as_bytes()).ok()?;
+    if name.bytes().all(|byte| byte.is_ascii_graphic()) {
+        Some(name)
+    } else {
+        None
+    }
+}
+
+/// The Ethernet interfaces: the number of each, and its name.
+fn list_of(rt: &HostRuntime, interfaces: &[Interface]) -> Option<String> {
+    let mut list = String::new(rt.alloc());
+    for interface in interfaces {
+        if !interface.ethernet {
+            continue;
+        }
+        let number = interface.number;
+        let separator = if list.is_empty() { "" } else { ", " };
+        write!(list, "{separator}{number}").ok()?;
+        if let Some(name) = shown_name(interface) {
+            write!(list, " {name}").ok()?;
+        }
+    }
+    Some(list)
+}
+
+/// The Ethernet interfaces of a pcapng file that begins with packets of several, if none is chosen: the
+/// number of each, and its name.
+pub fn interfaces_of(rt: &HostRuntime, path: &str, choice: Choice) -> Option<String> {
+    if !matches!(choice, Choice::Any) || !is_pcapng(rt, path).unwrap_or(false) {
+        return None;
+    }
+    let source = read_start(rt, path)?;
+    list_of(rt, source.interfaces())
+}

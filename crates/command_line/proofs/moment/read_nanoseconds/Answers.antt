@@ -1,0 +1,10 @@
+use Rattle.std.proofs.Common.{◌≡◌, ◌∙◌, ap, option_and_then}
+use Rattle.command_line.specs.Moment.{within}
+use Rattle.command_line.proofs.Given.{no_number, number_is}
+use Rattle.command_line.proofs.moment.read_nanoseconds.Goals as goal
+
+pub returns-in-Ok : goal.returns-in-Ok
+returns-in-Ok c = c.within.ensures ∙ ap (option_and_then within) (number_is 64 c.args.text.now c.in-Ok.nanoseconds c.in-Ok.ensures.value.0)
+
+pub returns-in-Err : goal.returns-in-Err
+returns-in-Err c = ap (option_and_then within) (no_number 64 _ c.args.text.now c.in-Err.field-0 c.in-Err.ensures.value.0)

@@ -1,0 +1,127 @@
+-- One more line of a cut: it is written or passed over, or stops the cut.
+use Rattle.std.proofs.Common.{◌≡◌, ◌∙◌, ℕ, false, List, [], ◌∷◌, ◌++◌, take, Option, Result, Ok, Err, sym, subst, inl, inr}
+use Rattle.std.proofs.KnownBytes.{Appends-trans}
+use Rattle.std.specs.Prelude.{IfErr, MatchResult, OnOk}
+use Rattle.std.specs.Io.KnownBytes.{Appends}
+use Rattle.afdx_frame.specs.Frame.{Frame}
+use Rattle.afdx_frame.specs.declared.key.Network.TheVariants.{A, B}
+use Rattle.frame_finder.specs.Finder.{finding_of}
+use Rattle.ledger_text.specs.declared.frame.FrameLine.{FrameLine}
+use Rattle.line_selection.specs.Neighbours.{HasAsked}
+use Rattle.pcap_io.specs.Writer.{has_failed, sink_of}
+use Rattle.run_outcome.specs.Device.{SinkMembers, SinkView, SourceMembers, SourceView}
+use Rattle.run_outcome.specs.Fault.{FailsWhere}
+use Rattle.cut_run.specs.Cutting.{HasTaken, IsTakeFault, StopsTaking, TakesMore, WritesTaken, WritesUpTo}
+use Rattle.cut_run.specs.Faults.{OutputSink, names}
+use Rattle.cut_run.specs.Lines.{Choice, whole_capture, whole_packet}
+use Rattle.cut_run.specs.Naming.{IsNameFault, Names, StopsNaming, opening_at}
+use Rattle.cut_run.specs.declared.cut.Taking.{Taking}
+use Rattle.cut_run.specs.declared.fault.CutFault.{CutFault}
+use Rattle.cut_run.specs.declared.fault.CutFault.TheVariants as faults
+use Rattle.cut_run.specs.declared.fault.CutSource.TheVariants as source
+use Rattle.cut_run.proofs.Lines.{capture_more, named_before, named_last, passes_more, takes_more}
+use Rattle.cut_run.proofs.Naming.{part_read}
+
+-- ---- a line whose frame wasn't found
+
+record Parts (choice : Choice) (fault : CutFault) (n : ℕ) (a b : SourceView) (vs : List FrameLine) (v : FrameLine) (fa fb taken : List Frame) (before now : Option (List ℕ)) (x y : ℕ) : Type 0 where
+  why : IsTakeFault fault n a b vs v fa fb
+  written : WritesUpTo choice fault fa fb vs v taken before now
+  failures : FailsWhere (names fault OutputSink) x y
+
+parts : (choice : Choice) (fault : CutFault) (n : ℕ) (a b : SourceView) (vs : List FrameLine) (v : FrameLine) (fa fb taken : List Frame) (before now : Option (List ℕ)) (x y : ℕ)
+    → IsNameFault fault n a b vs v fa fb → Appends before now (whole_capture taken) → y ≡ x → Parts choice fault n a b vs v fa fb taken before now x y
+parts choice (faults.Ledger k f) n a b vs v fa fb taken before now x y h w e = absurd h
+parts choice (faults.Order k) n a b vs v fa fb taken before now x y h w e = record { why = h; written = w; failures = e }
+parts choice (faults.Absent k) n a b vs v fa fb taken before now x y h w e = record { why = h; written = w; failures = e }
+parts choice (faults.Header network f) n a b vs v fa fb taken before now x y h w e = absurd h
+parts choice (faults.Read source.Ledger) n a b vs v fa fb taken before now x y h w e = absurd h
+parts choice (faults.Read (source.Recording A)) n a b vs v fa fb taken before now x y h w e = record { why = h; written = w; failures = e }
+parts choice (faults.Read (source.Recording B)) n a b vs v fa fb taken before now x y h w e = record { why = h; written = w; failures = e }
+parts choice faults.Write n a b vs v fa fb taken before now x y h w e = absurd h
+parts choice faults.Memory n a b vs v fa fb taken before now x y h w e = record { why = h; written = w; failures = e }
+
+pub stops_naming : {S T W : Type 0} (s : SourceMembers S) (t : SourceMembers T) (w : SinkMembers W) (choice : Choice) (a b : SourceView) (output : SinkView)
+    (vs : List FrameLine) (fs taken fa fb : List Frame) (v : FrameLine) (n : ℕ) (fault : CutFault) (old new : Taking S T W)
+    → HasTaken s t w choice a b output vs fs taken fa fb old → StopsNaming s t a b vs fs v n fault new.recordings → new.output ≡ old.output
+    → StopsTaking s t w choice a b output vs fs taken v n fault new
+stops_naming s t w choice a b output vs fs taken fa fb v n fault old new h stops same =
+    let p = parts choice fault n a b vs v stops.frames_a stops.frames_b taken output.contents (w.contents (sink_of new.output)) output.failures (w.failures (sink_of new.output)) stops.why
+    (rw same h.written) (rw same h.no_failure) in
+    record {
+      frames_a = stops.frames_a;
+      frames_b = stops.frames_b;
+      read_a = stops.read_a;
+      read_b = stops.read_b;
+      rise = stops.rise;
+      named = stops.named;
+      takes = h.takes;
+      why = p.why;
+      written = p.written;
+      a_failures = stops.a_failures;
+      b_failures = stops.b_failures;
+      output_failures = p.failures;
+    }
+
+-- ---- a line whose frame was found
+
+pub written_line : {S T W : Type 0} (s : SourceMembers S) (t : SourceMembers T) (w : SinkMembers W) (choice : Choice) (a b : SourceView) (output : SinkView)
+    (vs : List FrameLine) (fs taken fa fb : List Frame) (v : FrameLine) (n : ℕ) (f : Frame) (r : Result (Unit {0}) CutFault) (old new : Taking S T W)
+    → HasTaken s t w choice a b output vs fs taken fa fb old → Names s t a b vs fs v f new.recordings
+    → HasAsked choice.selection choice.around (vs ++ v ∷ []) new.chooser → WritesTaken w choice vs v f r old new
+    → OnOk r (has_failed new.output ≡ false) → IfErr r (λ fault. fault ≡ faults.Write)
+    → MatchResult r (λ _. TakesMore s t w choice a b output vs fs v new)
+    (λ fault. StopsTaking s t w choice a b output vs fs taken v n fault new)
+written_line s t w choice a b output vs fs taken fa fb v n f (Ok tt) old new h names asked (inl (is, wrote)) going fault = (
+  f,
+  taken ++ f ∷ [],
+  names.0,
+  names.1,
+  record {
+    named = names.2;
+    takes = takes_more choice vs fs taken v f h.takes is;
+    asked = asked;
+    written = subst (λ (x : List ℕ). Appends output.contents (w.contents (sink_of new.output)) x) (sym (capture_more taken f))
+        (Appends-trans output.contents (w.contents (sink_of old.output)) (w.contents (sink_of new.output)) (whole_capture taken) (whole_packet f) h.written wrote.complete);
+    going = going;
+    no_failure = wrote.no_failure ∙ h.no_failure;
+  },
+)
+written_line s t w choice a b output vs fs taken fa fb v n f (Ok tt) old new h names asked (inr (not, ok, same)) going fault = (
+  f,
+  taken,
+  names.0,
+  names.1,
+  record {
+    named = names.2;
+    takes = passes_more choice vs fs taken v f h.takes not;
+    asked = asked;
+    written = rw same h.written;
+    going = rw same h.going;
+    no_failure = rw same h.no_failure;
+  },
+)
+written_line s t w choice a b output vs fs taken fa fb v n f (Err e) old new h names asked (inl (is, wrote)) going fault =
+    subst (λ (x : CutFault). StopsTaking s t w choice a b output vs fs taken v n x new) (sym fault)
+    (let named = names.2 in
+    record {
+      frames_a = names.0;
+      frames_b = names.1;
+      read_a = part_read (opening_at A a) names.0 named.floor_a (finding_of s.remaining s.failures new.recordings.a) named.read_a;
+      read_b = part_read (opening_at B b) names.1 named.floor_b (finding_of t.remaining t.failures new.recordings.b) named.read_b;
+      rise = h.named.rise;
+      named = named_before names.0 names.1 vs fs v f named.named;
+      takes = h.takes;
+      why = tt;
+      written = (
+        f,
+        wrote.prefix.0,
+        record { frame = named_last names.0 names.1 fa fb vs fs v f h.named.named named.named; chosen = is },
+        wrote.prefix.1,
+        Appends-trans output.contents (w.contents (sink_of old.output)) (w.contents (sink_of new.output)) (whole_capture taken) (take wrote.prefix.0 (whole_packet f)) h.written wrote.prefix.2,
+      );
+      a_failures = named.read_a.no_failure;
+      b_failures = named.read_b.no_failure;
+      output_failures = rw (sym h.no_failure) wrote.fault;
+    })
+written_line s t w choice a b output vs fs taken fa fb v n f (Err e) old new h names asked (inr (not, ok, same)) going fault = cc

@@ -1,0 +1,300 @@
+-- One more line of the ledger beside what is cut of it.
+use Rattle.std.proofs.Common.{◌≡◌, ◌∙◌, ℕ, ◌+◌, ◌<◌, ◌≤◌, false, List, [], ◌∷◌, ◌++◌, length, Option, refl, sym, ap, subst, arith, length-append}
+use Rattle.std.proofs.lemmas.List.{append-nil}
+use Rattle.std.specs.Io.KnownBytes.{IsAtEnd}
+use Rattle.afdx_frame.specs.Frame.{Frame}
+use Rattle.afdx_frame.specs.declared.key.Network.TheVariants.{A, B}
+use Rattle.frame_finder.specs.Finder.{finding_of}
+use Rattle.ledger_text.specs.Ledger.{HasReadLines, ReadLine, frame_lines, frames_in, has_failed as ledger_failed, left_of, lent_of, number_of, stage_of}
+use Rattle.ledger_text.specs.Places.{end_at}
+use Rattle.ledger_text.specs.Reader.{IsBadLine, IsFound, IsReadFault, reading_of, source_of}
+use Rattle.ledger_text.specs.declared.bounds.TheConstants.{MOST_LINES}
+use Rattle.ledger_text.specs.declared.fault.LineFault.{LineFault}
+use Rattle.ledger_text.specs.declared.fault.LineFault.TheVariants as wrong
+use Rattle.ledger_text.specs.declared.fault.ReadFault.{ReadFault}
+use Rattle.ledger_text.specs.declared.fault.ReadFault.TheVariants as read
+use Rattle.ledger_text.specs.declared.frame.FrameLine.{FrameLine}
+use Rattle.ledger_text.specs.declared.order.Counts.TheVariants as counts
+use Rattle.ledger_text.specs.declared.order.LedgerLine.{LedgerLine}
+use Rattle.ledger_text.specs.declared.order.LedgerLine.TheVariants as lines
+use Rattle.ledger_text.specs.declared.order.Stage.{Stage}
+use Rattle.ledger_text.specs.declared.order.Stage.TheVariants as stages
+use Rattle.ledger_text.specs.declared.reader.Found.TheVariants as found
+use Rattle.ledger_text.specs.declared.reader.LedgerReader.{LedgerReader}
+use Rattle.ledger_text.proofs.Ledgers.{found_line, found_one_more, frame_lines_one_more}
+use Rattle.pcap_io.specs.Writer.{sink_of}
+use Rattle.run_outcome.specs.Device.{SinkMembers, SourceMembers, SourceView}
+use Rattle.run_outcome.specs.Fault.{FailsWhere}
+use Rattle.cut_run.specs.Cut.{CutDevices, HasWritten, IsBadNext, IsLineFault, NextSays, ending_at, ledger_fault, place_at}
+use Rattle.cut_run.specs.Cutting.{EndsCut, HasCut, HasTaken, IsTakeFault, StopsCut, StopsTaking, TakesMore, WritesUpTo}
+use Rattle.cut_run.specs.Faults.{LedgerSource, names}
+use Rattle.cut_run.specs.Lines.{Choice}
+use Rattle.cut_run.specs.Naming.{opening_at}
+use Rattle.cut_run.specs.declared.cut.CutEnding.{CutEnding}
+use Rattle.cut_run.specs.declared.cut.CutEnding.TheVariants as ending
+use Rattle.cut_run.specs.declared.cut.Taking.{Taking}
+use Rattle.cut_run.specs.declared.fault.CutFault.{CutFault}
+use Rattle.cut_run.specs.declared.fault.CutFault.TheVariants as faults
+use Rattle.cut_run.specs.declared.fault.CutSource.TheVariants as source
+use Rattle.cut_run.proofs.Naming.{part_read}
+
+-- so many lines, and what was taken of them
+abbrev pub IsCutting : {L S T W : Type 0} → SourceMembers L → SourceMembers S → SourceMembers T → SinkMembers W → Choice → CutDevices → LedgerReader L
+    → Taking S T W → Type 0
+IsCutting l s t w choice before ledger taking =
+    (rs : List ReadLine) × (fs : List Frame) × (taken : List Frame) × (fa : List Frame) × (fb : List Frame)
+    × HasCut l s t w choice before rs fs taken fa fb ledger taking
+
+abbrev pub line_of : {L : Type 0} → LedgerReader L → LedgerLine → ReadLine
+line_of reader line = record { text = lent_of reader; line = line }
+
+-- ---- how many lines of frames there are
+
+one_frame : (line : LedgerLine) → length (frames_in line) ≤ 1
+one_frame (lines.Frame v) = omega arith
+one_frame lines.Head = omega arith
+one_frame (lines.Counts kind) = omega arith
+
+few_frames : (rs : List ReadLine) → length (frame_lines rs) ≤ length rs
+few_frames [] = omega arith
+few_frames (r ∷ rs) = omega (arith, length-append (frames_in r.line) (frame_lines rs), one_frame r.line, few_frames rs)
+
+-- a ledger that goes on has fewer lines than it may have
+pub few_before : {L : Type 0} (l : SourceMembers L) (bytes : Option (List ℕ)) (failures : ℕ) (rs : List ReadLine) (old new : LedgerReader L) (line : LedgerLine)
+    → HasReadLines l bytes failures rs old
+    → IsFound (reading_of l.remaining l.failures old) (reading_of l.remaining l.failures new) (lent_of new) (found.Line line)
+    → length (frame_lines rs) < MOST_LINES
+few_before l bytes failures rs old new line h is = omega (arith, few_frames rs, h.number, is.1.3)
+
+-- ---- the next line
+
+pub frame_cut : {L S T W : Type 0} (l : SourceMembers L) (s : SourceMembers S) (t : SourceMembers T) (w : SinkMembers W) (choice : Choice) (before : CutDevices)
+    (rs : List ReadLine) (fs taken fa fb : List Frame) (old new : LedgerReader L) (was now : Taking S T W) (v : FrameLine)
+    → HasCut l s t w choice before rs fs taken fa fb old was
+    → IsFound (reading_of l.remaining l.failures old) (reading_of l.remaining l.failures new) (lent_of new) (found.Line (lines.Frame v)) → ledger_failed new ≡ false
+    → TakesMore s t w choice before.a before.b before.output (frame_lines rs) fs v now
+    → IsCutting l s t w choice before new now
+frame_cut l s t w choice before rs fs taken fa fb old new was now v h is sound more = (
+  rs ++ line_of new (lines.Frame v) ∷ [],
+  fs ++ more.0 ∷ [],
+  more.1,
+  more.2,
+  more.3,
+  record {
+    read = found_one_more l before.ledger.remaining before.ledger.failures rs old new (lines.Frame v) h.read is sound;
+    took = subst (λ (vs : List FrameLine). HasTaken s t w choice before.a before.b before.output vs (fs ++ more.0 ∷ []) more.1 more.2 more.3 now)
+        (sym (frame_lines_one_more rs (line_of new (lines.Frame v)))) more.4;
+  },
+)
+
+pub other_cut : {L S T W : Type 0} (l : SourceMembers L) (s : SourceMembers S) (t : SourceMembers T) (w : SinkMembers W) (choice : Choice) (before : CutDevices)
+    (rs : List ReadLine) (fs taken fa fb : List Frame) (old new : LedgerReader L) (taking : Taking S T W) (line : LedgerLine) → frames_in line ≡ []
+    → HasCut l s t w choice before rs fs taken fa fb old taking
+    → IsFound (reading_of l.remaining l.failures old) (reading_of l.remaining l.failures new) (lent_of new) (found.Line line) → ledger_failed new ≡ false
+    → IsCutting l s t w choice before new taking
+other_cut l s t w choice before rs fs taken fa fb old new taking line none h is sound = (
+  rs ++ line_of new line ∷ [],
+  fs,
+  taken,
+  fa,
+  fb,
+  record {
+    read = found_one_more l before.ledger.remaining before.ledger.failures rs old new line h.read is sound;
+    took = subst (λ (vs : List FrameLine). HasTaken s t w choice before.a before.b before.output vs fs taken fa fb taking)
+        (sym (frame_lines_one_more rs (line_of new line) ∙ ap (λ (vs : List FrameLine). frame_lines rs ++ vs) none ∙ append-nil (frame_lines rs))) h.took;
+  },
+)
+
+-- ---- the end
+
+pub complete_at : (stage : Stage) → found.Complete ≡ end_at stage → ending.Complete ≡ ending_at stage
+complete_at (stages.Counts counts.Total) e = refl
+complete_at (stages.Counts counts.Link) e = cc
+complete_at (stages.Counts counts.Filter) e = cc
+complete_at (stages.Counts counts.Tap) e = cc
+complete_at stages.Head e = cc
+complete_at stages.Frames e = cc
+
+pub incomplete_at : (stage : Stage) → found.Incomplete ≡ end_at stage → ending.Incomplete ≡ ending_at stage
+incomplete_at (stages.Counts counts.Total) e = cc
+incomplete_at (stages.Counts counts.Link) e = refl
+incomplete_at (stages.Counts counts.Filter) e = refl
+incomplete_at (stages.Counts counts.Tap) e = refl
+incomplete_at stages.Head e = refl
+incomplete_at stages.Frames e = refl
+
+ends_with : {L S T W : Type 0} (l : SourceMembers L) (s : SourceMembers S) (t : SourceMembers T) (w : SinkMembers W) (choice : Choice) (before : CutDevices)
+    (rs : List ReadLine) (fs taken fa fb : List Frame) (old new : LedgerReader L) (taking : Taking S T W) (e : CutEnding) → e ≡ ending_at (stage_of old)
+    → IsAtEnd (left_of l old) → l.failures (source_of new) ≡ l.failures (source_of old)
+    → HasCut l s t w choice before rs fs taken fa fb old taking → EndsCut l s t w choice e before new taking
+ends_with l s t w choice before rs fs taken fa fb old new taking e is at same h = record {
+  rs = rs;
+  stage = stage_of old;
+  left = left_of l old;
+  fs = fs;
+  taken = taken;
+  frames_a = fa;
+  frames_b = fb;
+  lines = h.read.lines;
+  took = h.took;
+  ends = at;
+  ending_is = is;
+  no_failure = same ∙ h.read.no_failure;
+}
+
+pub ends_complete : {L S T W : Type 0} (l : SourceMembers L) (s : SourceMembers S) (t : SourceMembers T) (w : SinkMembers W) (choice : Choice)
+    (before : CutDevices) (rs : List ReadLine) (fs taken fa fb : List Frame) (old new : LedgerReader L) (taking : Taking S T W)
+    → IsFound (reading_of l.remaining l.failures old) (reading_of l.remaining l.failures new) (lent_of new) found.Complete
+    → HasCut l s t w choice before rs fs taken fa fb old taking → EndsCut l s t w choice ending.Complete before new taking
+ends_complete l s t w choice before rs fs taken fa fb old new taking is h =
+    ends_with l s t w choice before rs fs taken fa fb old new taking ending.Complete (complete_at (stage_of old) is.0) is.1 is.5 h
+
+pub ends_incomplete : {L S T W : Type 0} (l : SourceMembers L) (s : SourceMembers S) (t : SourceMembers T) (w : SinkMembers W) (choice : Choice)
+    (before : CutDevices) (rs : List ReadLine) (fs taken fa fb : List Frame) (old new : LedgerReader L) (taking : Taking S T W)
+    → IsFound (reading_of l.remaining l.failures old) (reading_of l.remaining l.failures new) (lent_of new) found.Incomplete
+    → HasCut l s t w choice before rs fs taken fa fb old taking → EndsCut l s t w choice ending.Incomplete before new taking
+ends_incomplete l s t w choice before rs fs taken fa fb old new taking is h =
+    ends_with l s t w choice before rs fs taken fa fb old new taking ending.Incomplete (incomplete_at (stage_of old) is.0) is.1 is.5 h
+
+-- ---- a line that stops the cut
+
+-- what a line's fault says of the ledger
+pub line_fault : (fault : CutFault) (before : CutDevices) (rs : List ReadLine) (stage : Stage) (left : Option (List ℕ)) (fa fb : List Frame) (n : ℕ) (v : FrameLine)
+    → n ≡ length rs + 1 → NextSays stage left v → IsTakeFault fault n before.a before.b (frame_lines rs) v fa fb → IsLineFault fault before rs stage left fa fb
+line_fault (faults.Ledger k f) before rs stage left fa fb n v count says why = absurd why
+line_fault (faults.Order k) before rs stage left fa fb n v count says why = (why.0 ∙ count, (v, says, why.1))
+line_fault (faults.Absent k) before rs stage left fa fb n v count says why = (why.0 ∙ count, (v, says, why.1))
+line_fault (faults.Header network f) before rs stage left fa fb n v count says why = absurd why
+line_fault (faults.Read source.Ledger) before rs stage left fa fb n v count says why = absurd why
+line_fault (faults.Read (source.Recording A)) before rs stage left fa fb n v count says why = (v, says, sym why)
+line_fault (faults.Read (source.Recording B)) before rs stage left fa fb n v count says why = (v, says, sym why)
+line_fault faults.Write before rs stage left fa fb n v count says why = (v, says)
+line_fault faults.Memory before rs stage left fa fb n v count says why = (v, says)
+
+-- and the ledger didn't fail
+pub ledger_well : (fault : CutFault) (n : ℕ) (a b : SourceView) (vs : List FrameLine) (v : FrameLine) (fa fb : List Frame) (x y : ℕ) → IsTakeFault fault n a b vs v fa fb → y ≡ x
+    → FailsWhere (names fault LedgerSource) x y
+ledger_well (faults.Ledger k f) n a b vs v fa fb x y why same = absurd why
+ledger_well (faults.Order k) n a b vs v fa fb x y why same = same
+ledger_well (faults.Absent k) n a b vs v fa fb x y why same = same
+ledger_well (faults.Header network f) n a b vs v fa fb x y why same = absurd why
+ledger_well (faults.Read source.Ledger) n a b vs v fa fb x y why same = absurd why
+ledger_well (faults.Read (source.Recording A)) n a b vs v fa fb x y why same = same
+ledger_well (faults.Read (source.Recording B)) n a b vs v fa fb x y why same = same
+ledger_well faults.Write n a b vs v fa fb x y why same = same
+ledger_well faults.Memory n a b vs v fa fb x y why same = same
+
+written_at : (choice : Choice) (fault : CutFault) (rs : List ReadLine) (stage : Stage) (left : Option (List ℕ)) (fa fb taken : List Frame) (v : FrameLine)
+    (bytes now : Option (List ℕ)) → NextSays stage left v → WritesUpTo choice fault fa fb (frame_lines rs) v taken bytes now
+    → HasWritten choice fault rs stage left fa fb taken bytes now
+written_at choice (faults.Ledger k f) rs stage left fa fb taken v bytes now says wrote = wrote
+written_at choice (faults.Order k) rs stage left fa fb taken v bytes now says wrote = wrote
+written_at choice (faults.Absent k) rs stage left fa fb taken v bytes now says wrote = wrote
+written_at choice (faults.Header network f) rs stage left fa fb taken v bytes now says wrote = wrote
+written_at choice (faults.Read x) rs stage left fa fb taken v bytes now says wrote = wrote
+written_at choice faults.Write rs stage left fa fb taken v bytes now says wrote = (v, wrote.0, wrote.1, says, wrote.2, wrote.3, wrote.4)
+written_at choice faults.Memory rs stage left fa fb taken v bytes now says wrote = wrote
+
+pub frame_stops : {L S T W : Type 0} (l : SourceMembers L) (s : SourceMembers S) (t : SourceMembers T) (w : SinkMembers W) (choice : Choice) (before : CutDevices)
+    (rs : List ReadLine) (fs taken fa fb : List Frame) (old new : LedgerReader L) (was now : Taking S T W) (v : FrameLine) (fault : CutFault)
+    → HasCut l s t w choice before rs fs taken fa fb old was
+    → IsFound (reading_of l.remaining l.failures old) (reading_of l.remaining l.failures new) (lent_of new) (found.Line (lines.Frame v))
+    → StopsTaking s t w choice before.a before.b before.output (frame_lines rs) fs taken v (number_of new) fault now
+    → StopsCut l s t w choice fault before new now
+frame_stops l s t w choice before rs fs taken fa fb old new was now v fault h is stops =
+    let count : number_of new ≡ length rs + 1 = is.1.2 ∙ ap (λ (n : ℕ). n + 1) h.read.number in
+    let says : NextSays (stage_of old) (left_of l old) v = (lent_of new, left_of l new, found_line l old new (lines.Frame v) is) in
+    record {
+      rs = rs;
+      stage = stage_of old;
+      left = left_of l old;
+      fs = fs;
+      taken = taken;
+      frames_a = stops.frames_a;
+      frames_b = stops.frames_b;
+      lines = h.read.lines;
+      read_a = stops.read_a;
+      read_b = stops.read_b;
+      rise = stops.rise;
+      named = stops.named;
+      takes = stops.takes;
+      why = line_fault fault before rs (stage_of old) (left_of l old) stops.frames_a stops.frames_b (number_of new) v count says stops.why;
+      written = written_at choice fault rs (stage_of old) (left_of l old) stops.frames_a stops.frames_b taken v before.output.contents (w.contents (sink_of now.output)) says stops.written;
+      ledger_failures = ledger_well fault (number_of new) before.a before.b (frame_lines rs) v stops.frames_a stops.frames_b before.ledger.failures (l.failures (source_of new)) stops.why (is.2 ∙ h.read.no_failure);
+      a_failures = stops.a_failures;
+      b_failures = stops.b_failures;
+      output_failures = stops.output_failures;
+    }
+
+-- ---- a line that is none of a ledger
+
+bad_at : (stage : Stage) (n m : ℕ) (left rest : Option (List ℕ)) (text : List ℕ) (x y : ℕ) (stage2 : Stage) (n2 : ℕ) (fault : LineFault) → n ≡ m
+    → IsBadLine (record { stage = stage; number = n; left = left; failures = x }) (record { stage = stage2; number = n2; left = rest; failures = y }) text fault
+    → IsBadLine (place_at stage m left) (place_at stage m rest) text fault
+bad_at stage n m left rest text x y stage2 n2 wrong.Newline same h = h
+bad_at stage n m left rest text x y stage2 n2 wrong.Long same h = h
+bad_at stage n m left rest text x y stage2 n2 wrong.Head same h = rw same at h
+bad_at stage n m left rest text x y stage2 n2 (wrong.Frame f) same h = rw same at h
+bad_at stage n m left rest text x y stage2 n2 wrong.Order same h = rw same at h
+bad_at stage n m left rest text x y stage2 n2 wrong.TooMany same h = rw same at h
+
+pub bad_next : {L : Type 0} (l : SourceMembers L) (bytes : Option (List ℕ)) (failures : ℕ) (rs : List ReadLine) (old new : LedgerReader L) (text : List ℕ) (n : ℕ)
+    (fault : LineFault) → HasReadLines l bytes failures rs old → n ≡ number_of old + 1
+    → IsBadLine (reading_of l.remaining l.failures old) (reading_of l.remaining l.failures new) text fault → IsBadNext n fault rs (stage_of old) (left_of l old)
+bad_next l bytes failures rs old new text n fault h count is = (
+  count ∙ ap (λ (m : ℕ). m + 1) h.number,
+  (
+    text,
+    left_of l new,
+    bad_at (stage_of old) (number_of old) (length rs) (left_of l old) (left_of l new) text (l.failures (source_of old)) (l.failures (source_of new)) (stage_of new) (number_of new) fault h.number is,
+  ),
+)
+
+pub ledger_stops : {L S T W : Type 0} (l : SourceMembers L) (s : SourceMembers S) (t : SourceMembers T) (w : SinkMembers W) (choice : Choice)
+    (before : CutDevices) (rs : List ReadLine) (fs taken fa fb : List Frame) (old new : LedgerReader L) (taking : Taking S T W) (text unread : List ℕ) (fault : ReadFault)
+    → HasCut l s t w choice before rs fs taken fa fb old taking
+    → IsReadFault (reading_of l.remaining l.failures old) (reading_of l.remaining l.failures new) text unread fault
+    → StopsCut l s t w choice (ledger_fault fault) before new taking
+ledger_stops l s t w choice before rs fs taken fa fb old new taking text unread (read.Line n f) h is = record {
+  rs = rs;
+  stage = stage_of old;
+  left = left_of l old;
+  fs = fs;
+  taken = taken;
+  frames_a = fa;
+  frames_b = fb;
+  lines = h.read.lines;
+  read_a = part_read (opening_at A before.a) fa h.took.named.floor_a (finding_of s.remaining s.failures taking.recordings.a) h.took.named.read_a;
+  read_b = part_read (opening_at B before.b) fb h.took.named.floor_b (finding_of t.remaining t.failures taking.recordings.b) h.took.named.read_b;
+  rise = h.took.named.rise;
+  named = h.took.named.named;
+  takes = h.took.takes;
+  why = bad_next l before.ledger.remaining before.ledger.failures rs old new text n f h.read is.0 is.1;
+  written = h.took.written;
+  ledger_failures = is.2 ∙ h.read.no_failure;
+  a_failures = h.took.named.read_a.no_failure;
+  b_failures = h.took.named.read_b.no_failure;
+  output_failures = h.took.no_failure;
+}
+ledger_stops l s t w choice before rs fs taken fa fb old new taking text unread read.Device h is = record {
+  rs = rs;
+  stage = stage_of old;
+  left = left_of l old;
+  fs = fs;
+  taken = taken;
+  frames_a = fa;
+  frames_b = fb;
+  lines = h.read.lines;
+  read_a = part_read (opening_at A before.a) fa h.took.named.floor_a (finding_of s.remaining s.failures taking.recordings.a) h.took.named.read_a;
+  read_b = part_read (opening_at B before.b) fb h.took.named.floor_b (finding_of t.remaining t.failures taking.recordings.b) h.took.named.read_b;
+  rise = h.took.named.rise;
+  named = h.took.named.named;
+  takes = h.took.takes;
+  why = tt;
+  written = h.took.written;
+  ledger_failures = rw (sym h.read.no_failure) is.0;
+  a_failures = h.took.named.read_a.no_failure;
+  b_failures = h.took.named.read_b.no_failure;
+  output_failures = h.took.no_failure;
+}
+ledger_stops l s t w choice before rs fs taken fa fb old new taking text unread read.Failed h is = absurd is

@@ -1,0 +1,10 @@
+pub mod Lines
+pub mod Order
+pub mod Naming
+pub mod Noted
+pub mod Printed
+pub mod Opening
+pub mod Cutting
+pub mod Ledgers
+pub mod Whole
+pub mod PrintedLedger

@@ -1,0 +1,183 @@
+-- What a cut leaves, and why it was aborted (this project's profile; the output is pcap savefile 2.4).
+use Rattle.std.specs.Prelude.{◌≡◌, ◌⊎◌, ℕ, ◌+◌, ◌-◌, ◌^◌, ◌<◌, List, ◌++◌, length, take, Option, None, Result, Ok, Err, ⊤}
+use Rattle.std.specs.Io.KnownBytes.{Appends, IsAtEnd}
+use Rattle.afdx_frame.specs.Frame.{Frame}
+use Rattle.afdx_frame.specs.declared.key.Network.TheVariants.{A, B}
+use Rattle.ledger_text.specs.Ledger.{ReadLine, ReadsLines, TakesLine, frame_lines}
+use Rattle.ledger_text.specs.Reader.{IsBadLine, Reading}
+use Rattle.ledger_text.specs.declared.fault.LineFault.{LineFault}
+use Rattle.ledger_text.specs.declared.fault.ReadFault.{ReadFault}
+use Rattle.ledger_text.specs.declared.fault.ReadFault.TheVariants as read
+use Rattle.ledger_text.specs.declared.frame.FrameLine.{FrameLine}
+use Rattle.ledger_text.specs.declared.order.LedgerLine.TheVariants as lines
+use Rattle.ledger_text.specs.declared.order.Counts.TheVariants as counts
+use Rattle.ledger_text.specs.declared.order.Stage.{Stage}
+use Rattle.ledger_text.specs.declared.order.Stage.TheVariants as stages
+use Rattle.pcap_io.specs.Capture.{capture_header}
+use Rattle.pcap_io.specs.Device.{AppendsPrefix}
+use Rattle.run_outcome.specs.Device.{SinkMembers, SinkView, SourceMembers, SourceView, sink_at, source_at}
+use Rattle.run_outcome.specs.Fault.{FailsWhere}
+use Rattle.run_outcome.specs.Recording.{FailsAtHeader, HasHeaderFault, IsReadPart, WasOpened}
+use Rattle.cut_run.specs.Faults.{LedgerSource, OutputSink, RecordingSource, names}
+use Rattle.cut_run.specs.Lines.{AreFramesOf, Choice, ComesLater, IsTakenNext, Rise, TakesOf, last_key, side, whole_capture, whole_packet}
+use Rattle.cut_run.specs.Naming.{LacksFrame, view_of}
+use Rattle.cut_run.specs.declared.cut.CutEnding.{CutEnding}
+use Rattle.cut_run.specs.declared.cut.CutEnding.TheVariants as ending
+use Rattle.cut_run.specs.declared.fault.CutFault.{CutFault}
+use Rattle.cut_run.specs.declared.fault.CutFault.TheVariants as faults
+use Rattle.cut_run.specs.declared.fault.CutSource.TheVariants as source
+
+-- the devices of a cut, as it sees them
+pub record CutDevices : Type 0 where
+  pub ledger : SourceView
+  pub a : SourceView
+  pub b : SourceView
+  pub output : SinkView
+
+abbrev pub devices_at : {L S T W : Type 0} → SourceMembers L → SourceMembers S → SourceMembers T → SinkMembers W → L → S → T → W → CutDevices
+devices_at l s t w ledger a b output = record { ledger = source_at l ledger; a = source_at s a; b = source_at t b; output = sink_at w output }
+
+-- any order of timestamps is read
+abbrev pub any_lateness : ℕ
+any_lateness = 2 ^ 64 - 1
+
+-- where a reader of a ledger stands after so many lines
+abbrev pub place_at : Stage → ℕ → Option (List ℕ) → Reading
+place_at stage number left = record { stage = stage; number = number; left = left; failures = 0 }
+
+-- a ledger is complete where it ends after its line `total`
+abbrev pub ending_at : Stage → CutEnding
+ending_at (stages.Counts counts.Total) = ending.Complete
+ending_at stage = ending.Incomplete
+
+-- ---- what was cut
+
+-- These lines of the ledger were read, and of both recordings these frames, among which each line of a frame finds its own: they come later
+-- one by one, and the frames stand as they were recorded.
+pub record HasFound (before after : CutDevices) (rs : List ReadLine) (stage : Stage) (left : Option (List ℕ)) (frames_a frames_b frames : List Frame) : Type 0 where
+  pub lines : ReadsLines stages.Head before.ledger.remaining rs stage left
+  pub read_a : IsReadPart A any_lateness before.a after.a frames_a
+  pub read_b : IsReadPart B any_lateness before.b after.b frames_b
+  pub rise : Rise None (frame_lines rs)
+  pub named : AreFramesOf frames_a frames_b (frame_lines rs) frames
+
+-- Only the device that the fault names failed, if it names one, and just once.
+pub record FailsOnly (fault : CutFault) (before after : CutDevices) : Type 0 where
+  pub ledger : FailsWhere (names fault LedgerSource) before.ledger.failures after.ledger.failures
+  pub a : FailsWhere (names fault (RecordingSource A)) before.a.failures after.a.failures
+  pub b : FailsWhere (names fault (RecordingSource B)) before.b.failures after.b.failures
+  pub output : FailsWhere (names fault OutputSink) before.output.failures after.output.failures
+
+pub record NoFailures (before after : CutDevices) : Type 0 where
+  pub ledger : after.ledger.failures ≡ before.ledger.failures
+  pub a : after.a.failures ≡ before.a.failures
+  pub b : after.b.failures ≡ before.b.failures
+  pub output : after.output.failures ≡ before.output.failures
+
+-- The ledger was read to its end, and the output has the capture of the frames of the lines that are taken.
+pub record IsCut (choice : Choice) (e : CutEnding) (before after : CutDevices) : Type 0 where
+  pub rs : List ReadLine
+  pub stage : Stage
+  pub left : Option (List ℕ)
+  pub frames_a : List Frame
+  pub frames_b : List Frame
+  pub frames : List Frame
+  pub taken : List Frame
+  pub found : HasFound before after rs stage left frames_a frames_b frames
+  pub takes : TakesOf choice (frame_lines rs) frames taken
+  pub ends : IsAtEnd left
+  pub ending_is : e ≡ ending_at stage
+  pub written : Appends before.output.contents after.output.contents (whole_capture taken)
+  pub no_failure : NoFailures before after
+
+-- ---- a cut that is not begun
+
+-- Nothing was written, and the ledger wasn't read: there was no memory for its block, or a recording wasn't opened, that of A first. Or
+-- the sink failed at the capture's file header, of which it has a prefix.
+abbrev pub StopsAtOpening : CutFault → CutDevices → CutDevices → Type 0
+StopsAtOpening faults.Memory before after = after ≡ before
+StopsAtOpening (faults.Header A f) before after =
+    HasHeaderFault f before.a after.a × (after.b ≡ before.b) × (after.ledger ≡ before.ledger) × (after.output ≡ before.output)
+StopsAtOpening (faults.Header B f) before after =
+    WasOpened before.a after.a × HasHeaderFault f before.b after.b × (after.ledger ≡ before.ledger) × (after.output ≡ before.output)
+StopsAtOpening (faults.Read (source.Recording A)) before after =
+    FailsAtHeader before.a after.a × (after.b ≡ before.b) × (after.ledger ≡ before.ledger) × (after.output ≡ before.output)
+StopsAtOpening (faults.Read (source.Recording B)) before after =
+    WasOpened before.a after.a × FailsAtHeader before.b after.b × (after.ledger ≡ before.ledger) × (after.output ≡ before.output)
+StopsAtOpening faults.Write before after =
+    WasOpened before.a after.a × WasOpened before.b after.b × (after.ledger ≡ before.ledger)
+    × AppendsPrefix before.output.contents after.output.contents capture_header
+StopsAtOpening fault before after = ⊥
+
+-- Recordings that weren't opened, whatever the other devices are: these stay.
+abbrev pub AreRefused : CutFault → SourceView → SourceView → SourceView → SourceView → Type 0
+AreRefused fault a b a_after b_after =
+    (ledger : SourceView) (output : SinkView)
+    → FailsOnly fault (record { ledger = ledger; a = a; b = b; output = output }) (record { ledger = ledger; a = a_after; b = b_after; output = output })
+    × StopsAtOpening fault (record { ledger = ledger; a = a; b = b; output = output }) (record { ledger = ledger; a = a_after; b = b_after; output = output })
+
+-- ---- a cut that was aborted at a line
+
+-- the next line of the ledger is that of a frame, and says this
+abbrev pub NextSays : Stage → Option (List ℕ) → FrameLine → Type 0
+NextSays stage left v = (text : List ℕ) × (rest : Option (List ℕ)) × TakesLine stage left rest (record { text = text; line = lines.Frame v })
+
+-- the line after these, the n-th, is none of a ledger
+abbrev pub IsBadNext : ℕ → LineFault → List ReadLine → Stage → Option (List ℕ) → Type 0
+IsBadNext n fault rs stage left =
+    (n ≡ length rs + 1) × ((text : List ℕ) × (rest : Option (List ℕ))
+    × IsBadLine (place_at stage (length rs) left) (place_at stage (length rs) rest) text fault)
+
+-- What the fault says of the line after these, of which each frame was found.
+abbrev pub IsLineFault : CutFault → CutDevices → List ReadLine → Stage → Option (List ℕ) → List Frame → List Frame → Type 0
+IsLineFault (faults.Ledger n fault) before rs stage left frames_a frames_b = IsBadNext n fault rs stage left
+IsLineFault (faults.Order n) before rs stage left frames_a frames_b =
+    (n ≡ length rs + 1) × ((v : FrameLine) × NextSays stage left v × (ComesLater (last_key (frame_lines rs)) v → ⊥))
+IsLineFault (faults.Absent n) before rs stage left frames_a frames_b =
+    (n ≡ length rs + 1) × ((v : FrameLine) × NextSays stage left v × LacksFrame (view_of v.network before.a before.b) (side v.network frames_a frames_b) v)
+IsLineFault (faults.Read source.Ledger) before rs stage left frames_a frames_b = ⊤
+IsLineFault (faults.Read (source.Recording network)) before rs stage left frames_a frames_b =
+    (v : FrameLine) × NextSays stage left v × (v.network ≡ network)
+IsLineFault faults.Memory before rs stage left frames_a frames_b = (v : FrameLine) × NextSays stage left v
+IsLineFault faults.Write before rs stage left frames_a frames_b = (v : FrameLine) × NextSays stage left v
+IsLineFault (faults.Header network fault) before rs stage left frames_a frames_b = ⊥
+
+-- The output has the whole capture of the frames taken. Where the sink failed, the next line is taken too, and a prefix of its frame's packet
+-- follows.
+abbrev pub HasWritten : Choice → CutFault → List ReadLine → Stage → Option (List ℕ) → List Frame → List Frame → List Frame → Option (List ℕ) → Option (List ℕ)
+    → Type 0
+HasWritten choice faults.Write rs stage left frames_a frames_b taken before after =
+    (v : FrameLine) × (f : Frame) × (part : ℕ) × NextSays stage left v × IsTakenNext choice frames_a frames_b (frame_lines rs) v f
+    × (part < length (whole_packet f))
+    × Appends before after (whole_capture taken ++ take part (whole_packet f))
+HasWritten choice fault rs stage left frames_a frames_b taken before after = Appends before after (whole_capture taken)
+
+-- The cut was aborted at the line after these.
+pub record StopsAtLine (choice : Choice) (fault : CutFault) (before after : CutDevices) : Type 0 where
+  pub rs : List ReadLine
+  pub stage : Stage
+  pub left : Option (List ℕ)
+  pub frames_a : List Frame
+  pub frames_b : List Frame
+  pub frames : List Frame
+  pub taken : List Frame
+  pub found : HasFound before after rs stage left frames_a frames_b frames
+  pub takes : TakesOf choice (frame_lines rs) frames taken
+  pub why : IsLineFault fault before rs stage left frames_a frames_b
+  pub written : HasWritten choice fault rs stage left frames_a frames_b taken before.output.contents after.output.contents
+
+-- why a cut was aborted, and what it leaves
+abbrev pub AbortsCut : Choice → CutFault → CutDevices → CutDevices → Type 0
+AbortsCut choice fault before after =
+    FailsOnly fault before after × (StopsAtOpening fault before after ⊎ StopsAtLine choice fault before after)
+
+-- what a cut came to, and what it leaves
+abbrev pub IsCutRun : Choice → Result CutEnding CutFault → CutDevices → CutDevices → Type 0
+IsCutRun choice (Ok e) before after = IsCut choice e before after
+IsCutRun choice (Err fault) before after = AbortsCut choice fault before after
+
+-- the fault of a ledger's reader, as a cut tells it
+abbrev pub ledger_fault : ReadFault → CutFault
+ledger_fault (read.Line n fault) = faults.Ledger n fault
+ledger_fault read.Device = faults.Read source.Ledger
+ledger_fault read.Failed = faults.Read source.Ledger

@@ -1,0 +1,87 @@
+-- The lines of frames of a ledger, the frames that they name, and what is written of them (this project's format).
+use Rattle.std.specs.Prelude.{◌≡◌, ◌⊎◌, ℕ, List, [], ◌∷◌, ◌++◌, length, flat_map, slice_get, Option, Some, None, ⊤}
+use Rattle.std.specs.declared.cmp.Ordering.TheVariants.{Less}
+use Rattle.afdx_frame.specs.Frame.{Frame, key_cmp}
+use Rattle.afdx_frame.specs.declared.key.Key.{Key}
+use Rattle.afdx_frame.specs.declared.key.Network.{Network}
+use Rattle.afdx_frame.specs.declared.key.Network.TheVariants.{A, B}
+use Rattle.ledger_text.specs.declared.frame.FrameLine.{FrameLine}
+use Rattle.line_selection.specs.Neighbours.{Around, IsChosen}
+use Rattle.line_selection.specs.declared.selection.Selection.{Selection}
+use Rattle.pcap_io.specs.Capture.{capture_header, packet_text}
+
+-- where a line's frame stands in the order of both networks
+abbrev pub key_of_line : FrameLine → Key
+key_of_line v = record { stamp = v.stamp; network = v.network; number = v.number }
+
+-- the place of the last of the lines, and `last` where there is none
+abbrev pub last_from : Option Key → List FrameLine → Option Key
+last_from last [] = last
+last_from last (v ∷ vs) = last_from (Some (key_of_line v)) vs
+
+-- the place of the last line, where there is one
+abbrev pub last_key : List FrameLine → Option Key
+last_key vs = last_from None vs
+
+-- a line comes later than the one before
+abbrev pub ComesLater : Option Key → FrameLine → Type 0
+ComesLater None v = ⊤
+ComesLater (Some k) v = key_cmp k (key_of_line v) ≡ Less
+
+-- each line comes later than the one before
+abbrev pub Rise : Option Key → List FrameLine → Type 0
+Rise last [] = ⊤
+Rise last (v ∷ vs) = ComesLater last v × Rise (Some (key_of_line v)) vs
+
+-- the frames of a line's network
+abbrev pub side : Network → List Frame → List Frame → List Frame
+side A frames_a frames_b = frames_a
+side B frames_a frames_b = frames_b
+
+-- The frame of a line: that of its index in its network's recording. It has the line's timestamp.
+pub record IsFrameOf (frames_a frames_b : List Frame) (v : FrameLine) (f : Frame) : Type 0 where
+  pub indexed : slice_get (side v.network frames_a frames_b) v.number ≡ Some f
+  pub stamp : f.stamp ≡ v.stamp.0
+
+-- each line's frame
+abbrev pub AreFramesOf : List Frame → List Frame → List FrameLine → List Frame → Type 0
+AreFramesOf frames_a frames_b [] [] = ⊤
+AreFramesOf frames_a frames_b (v ∷ vs) (f ∷ fs) = IsFrameOf frames_a frames_b v f × AreFramesOf frames_a frames_b vs fs
+AreFramesOf frames_a frames_b vs fs = ⊥
+
+-- which lines are taken: those of a selection, or where neighbours are taken too, those near the selected ones of these lines
+pub record Choice : Type 0 where
+  pub selection : Selection
+  pub around : Option Around
+
+-- a line that stands after these is taken
+abbrev pub Chooses : Choice → List FrameLine → FrameLine → Type 0
+Chooses choice before v = IsChosen choice.selection choice.around before v
+
+-- Of these lines, which stand after those before, and of what belongs to each, as its frame, this is taken, in their order.
+abbrev pub Takes : {X : Type 0} → Choice → List FrameLine → List FrameLine → List X → List X → Type 0
+Takes choice before [] [] taken = taken ≡ []
+Takes {X} choice before (v ∷ vs) (x ∷ xs) taken =
+    (Chooses choice before v × (more : List X) × (taken ≡ x ∷ more) × Takes choice (before ++ v ∷ []) vs xs more)
+    ⊎ ((Chooses choice before v → ⊥) × Takes choice (before ++ v ∷ []) vs xs taken)
+Takes choice before vs xs taken = ⊥
+
+-- of the lines of a ledger, and of what belongs to each, this is taken
+abbrev pub TakesOf : {X : Type 0} → Choice → List FrameLine → List X → List X → Type 0
+TakesOf choice vs xs taken = Takes choice [] vs xs taken
+
+-- the frame of the line after these, which is taken
+pub record IsTakenNext (choice : Choice) (frames_a frames_b : List Frame) (vs : List FrameLine) (v : FrameLine) (f : Frame) : Type 0 where
+  pub frame : IsFrameOf frames_a frames_b v f
+  pub chosen : Chooses choice vs v
+
+-- the packet of a frame, whole as recorded
+abbrev pub whole_packet : Frame → List ℕ
+whole_packet f = packet_text f (length f.bytes)
+
+abbrev pub whole_packets : List Frame → List ℕ
+whole_packets frames = flat_map whole_packet frames
+
+-- the capture of frames
+abbrev pub whole_capture : List Frame → List ℕ
+whole_capture frames = capture_header ++ whole_packets frames

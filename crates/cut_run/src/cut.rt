@@ -1,0 +1,252 @@
+//! From a ledger and its recordings to a capture.
+ghost use Rattle.std.specs.Prelude.{◌≡◌, ◌≤◌, ◌<◌, ◌++◌, ◌∷◌, length, List, Option, Err, IfErr, OnOk, MatchResult, false, []};
+ghost use Rattle.afdx_frame.specs.Frame.{Frame};
+ghost use Rattle.afdx_frame.specs.declared.bounds.TheConstants.{MAX_SNAPLEN};
+ghost use Rattle.frame_finder.specs.Finder.{finder_source, finding_of};
+ghost use Rattle.ledger_text.specs.declared.frame.FrameLine.{FrameLine};
+ghost use Rattle.ledger_text.specs.declared.bounds.TheConstants.{MOST_LINES};
+ghost use Rattle.line_selection.specs.Neighbours.{AreNoted, Around, HasAsked};
+ghost use Rattle.pcap_io.specs.Writer.{has_failed, sink_of};
+ghost use Rattle.run_outcome.specs.Device.{SinkView, SourceView};
+ghost use Rattle.ledger_text.specs.Ledger.{has_failed as ledger_failed};
+ghost use Rattle.cut_run.specs.Cut.{CutDevices, devices_at, IsCutRun, ledger_fault};
+ghost use Rattle.cut_run.specs.Cutting.{EndsCut, HasCut, HasTaken, StopsCut, StopsTaking, TakesMore, WritesTaken};
+ghost use Rattle.cut_run.specs.Lines.{Choice};
+ghost use Rattle.cut_run.specs.declared.fault.CutFault.TheVariants as faults;
+
+use crate::fault::{CutFault, CutSource};
+use crate::recordings::{Recordings, Unopened};
+use afdx_frame::TapFrame;
+use ledger_text::{Found, FrameLine, LedgerLine, LedgerReader, LinesRefused, ReadFault};
+use line_selection::{Chooser, Neighbours, Selection};
+use pcap_io::{CaptureWriter, OutSink, TapSource};
+use std::alloc::Global;
+
+/// How the ledger of a cut ended.
+#[derive(Clone, Copy, Debug, PartialEq, Eq)]
+pub enum CutEnding {
+    /// After its line `total`.
+    Complete,
+    /// Before that: its run was aborted.
+    Incomplete,
+}
+
+/// A cut that has ended, with the devices that it was given.
+#[derive(Debug, Drop)]
+pub struct CutRun<L, S, T, W> {
+    /// How the ledger ended, or why the cut was aborted.
+    pub outcome: Result<CutEnding, CutFault>,
+    /// The ledger's source.
+    pub ledger: L,
+    /// The source of network A.
+    pub a: S,
+    /// The source of network B.
+    pub b: T,
+    /// The output's sink.
+    pub output: W,
+}
+
+/// The frames of a cut: where they are found, and where those that are taken are written.
+#[derive(Drop)]
+pub(crate) struct Taking<S, T, W> {
+    recordings: Recordings<S, T>,
+    output: CaptureWriter<W>,
+    chooser: Chooser,
+}
+
+/// Why a reader of the ledger doesn't go on.
+pub(crate) fn ledger_fault(fault: ReadFault) -> CutFault
+    ensures { result ≡ ledger_fault fault }
+{
+    match fault {
+        ReadFault::Line { number, fault } => CutFault::Ledger {
+            line: number,
+            fault,
+        },
+        ReadFault::Device | ReadFault::Failed => CutFault::Read {
+            source: CutSource::Ledger,
+        },
+    }
+}
+
+impl<S: TapSource, T: TapSource, W: OutSink> Taking<S, T, W> {
+    /// Writes the frame of the ledger's next line, if it is taken.
+    #[inline]
+    fn write_taken(
+        &mut self,
+        selection: &Selection,
+        line: &FrameLine,
+        frame: &TapFrame,
+    ) -> Result<(), CutFault>
+        requires { has_failed self.old.output ≡ false }
+        ensures recordings { self.new.recordings ≡ self.old.recordings }
+        ensures written { (around : Option Around) (before : List FrameLine) → length before < MOST_LINES
+            → HasAsked selection.now around before self.old.chooser
+            → HasAsked selection.now around (before ++ line.now ∷ []) self.new.chooser
+            × WritesTaken W.OutSink (record { selection = selection.now; around = around }) before line.now
+            frame.now result self.old self.new }
+        ensures going { OnOk result (has_failed self.new.output ≡ false) }
+        ensures fault { IfErr result (λ fault. fault ≡ faults.Write) }
+    {
+        if !self.chooser.takes(selection, line) {
+            return Ok(());
+        }
+        let whole = frame.view().bytes().len() as u32;
+        self.output.put(frame, whole).map_err(|_| CutFault::Write)
+    }
+
+    /// Finds the frame of the ledger's next line, whose number this is, and writes it, if the line is taken.
+    #[inline]
+    fn cut_line(
+        &mut self,
+        alloc: Global,
+        selection: &Selection,
+        line: &FrameLine,
+        number: u64,
+    ) -> Result<(), CutFault>
+        requires { has_failed self.old.output ≡ false }
+        ensures cut { (around : Option Around) (a b : SourceView) (output : SinkView) (vs : List FrameLine)
+            (fs taken frames_a frames_b : List Frame) → length vs < MOST_LINES
+            → (let choice : Choice = record { selection = selection.now; around = around } in
+            HasTaken S.TapSource T.TapSource W.OutSink choice a b output vs fs taken
+            frames_a frames_b self.old
+            → MatchResult result
+            (λ _. TakesMore S.TapSource T.TapSource W.OutSink choice a b output vs fs line.now
+            self.new)
+            (λ fault. StopsTaking S.TapSource T.TapSource W.OutSink choice a b output vs fs taken
+            line.now number fault self.new)) }
+        ensures going { OnOk result (has_failed self.new.output ≡ false) }
+    {
+        let frame = self.recordings.find(alloc, line, number)?;
+        self.write_taken(selection, line, &frame)
+    }
+
+    /// The sources and the sink.
+    fn into_devices(self) -> (S, T, W)
+        ensures devices { result ≡ (
+          finder_source self.recordings.a,
+          finder_source self.recordings.b,
+          sink_of self.output,
+        ) }
+        ensures lost { (length (finding_of S.remaining S.failures self.recordings.a).unread ≤ MAX_SNAPLEN)
+            × (length (finding_of T.remaining T.failures self.recordings.b).unread ≤ MAX_SNAPLEN) }
+    {
+        let Taking {
+            recordings,
+            output,
+            chooser: _,
+        } = self;
+        let (a, b) = recordings.into_sources();
+        (a, b, output.finish())
+    }
+}
+
+/// Cuts up to the ledger's end.
+fn cut_lines<L: TapSource, S: TapSource, T: TapSource, W: OutSink>(
+    alloc: Global,
+    selection: &Selection,
+    ledger: &mut LedgerReader<L>,
+    taking: &mut Taking<S, T, W>,
+) -> Result<CutEnding, CutFault>
+    requires sound { ledger_failed ledger.old ≡ false }
+    requires going { has_failed taking.old.output ≡ false }
+    ensures { (around : Option Around) (before : CutDevices)
+        → (let choice : Choice = record { selection = selection.now; around = around } in
+        HasCut L.TapSource S.TapSource T.TapSource W.OutSink choice before [] [] [] [] []
+        ledger.old taking.old
+        → MatchResult result
+        (λ e. EndsCut L.TapSource S.TapSource T.TapSource W.OutSink choice e before
+        ledger.new taking.new)
+        (λ fault. StopsCut L.TapSource S.TapSource T.TapSource W.OutSink choice fault before
+        ledger.new taking.new)) }
+{
+    loop {
+        match ledger.advance() {
+            Ok(Found::Line(LedgerLine::Frame(line))) => {
+                taking.cut_line(alloc, selection, &line, ledger.number())?;
+            }
+            Ok(Found::Line(LedgerLine::Head)) => {}
+            Ok(Found::Line(LedgerLine::Counts(_))) => {}
+            Ok(Found::Complete) => return Ok(CutEnding::Complete),
+            Ok(Found::Incomplete) => return Ok(CutEnding::Incomplete),
+            Err(fault) => return Err(ledger_fault(fault)),
+        }
+    }
+}
+
+/// A cut that wasn't begun.
+fn refused<L, S, T, W>(fault: CutFault, ledger: L, a: S, b: T, output: W) -> CutRun<L, S, T, W>
+    ensures { result ≡ record { outcome = Err fault; ledger = ledger; a = a; b = b; output = output } }
+{
+    CutRun {
+        outcome: Err(fault),
+        ledger,
+        a,
+        b,
+        output,
+    }
+}
+
+/// Writes a capture of the frames whose lines in a ledger the selection takes, whole as recorded and in the
+/// ledger's order. Each line of a frame is checked against its network's recording, taken or not.
+///
+/// With neighbours, which [`neighbours_of`](crate::neighbours_of) has found by the same selection, the lines
+/// near selected ones are taken too.
+///
+/// One pass over all three files. It allocates a block for each of them, and room for the frames
+/// that a recording with late timestamps has before those that the ledger names earlier. All devices
+/// come back. Sources may have been read ahead.
+///
+/// # Errors
+///
+/// `Header` or `Read` if a recording can't be opened, and then nothing was written. Later the output has
+/// the whole capture of the frames up to the fault: `Ledger`, `Order` and `Absent` name the first
+/// wrong line. After `Write` it has a prefix of that.
+pub fn cut_frames<L: TapSource, S: TapSource, T: TapSource, W: OutSink>(
+    alloc: Global,
+    selection: &Selection,
+    neighbours: Option<Neighbours>,
+    ledger: L,
+    a: S,
+    b: T,
+    output: W,
+) -> CutRun<L, S, T, W>
+    ensures { (around : Option Around) → AreNoted selection.now around neighbours
+        → IsCutRun (record { selection = selection.now; around = around }) result.outcome
+        (devices_at L.TapSource S.TapSource T.TapSource W.OutSink ledger a b output)
+        (devices_at L.TapSource S.TapSource T.TapSource W.OutSink
+        result.ledger result.a result.b result.output) }
+{
+    let ledger = match LedgerReader::new(alloc, ledger) {
+        Ok(reader) => reader,
+        Err(LinesRefused { source }) => return refused(CutFault::Memory, source, a, b, output),
+    };
+    let recordings = match Recordings::open(alloc, a, b) {
+        Ok(recordings) => recordings,
+        Err(Unopened { fault, a, b }) => {
+            return refused(fault, ledger.into_source(), a, b, output);
+        }
+    };
+    let output = match CaptureWriter::begin(output) {
+        Ok(writer) => writer,
+        Err(sink) => {
+            let (a, b) = recordings.into_sources();
+            return refused(CutFault::Write, ledger.into_source(), a, b, sink);
+        }
+    };
+    let mut ledger = ledger;
+    let mut taking = Taking {
+        recordings,
+        output,
+        chooser: Chooser::new(neighbours),
+    };
+    let outcome = cut_lines(alloc, selection, &mut ledger, &mut taking);
+    let (a, b, output) = taking.into_devices();
+    CutRun {
+        outcome,
+        ledger: ledger.into_source(),
+        a,
+        b,
+        output,
+    }
+}

@@ -1,0 +1,3 @@
+pub mod Finder
+pub mod Passed
+pub mod Places

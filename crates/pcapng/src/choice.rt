@@ -1,0 +1,50 @@
+//! Which interface of a recording is read.
+ghost use Rattle.std.specs.Prelude.{◌≡◌, ◌≤◌, length, take, None, IfSome};
+ghost use Rattle.pcapng.specs.declared.choice.TheConstants.{MAX_NAME_LEN};
+
+/// The bytes of the longest name that can be chosen.
+pub const MAX_NAME_LEN: usize = 64;
+
+/// The name of an interface, of at most [`MAX_NAME_LEN`] bytes.
+#[derive(Clone, Copy, Debug, PartialEq, Eq)]
+pub struct InterfaceName {
+    /// The name, and zeros behind it.
+    bytes: [u8; MAX_NAME_LEN],
+    len: usize,
+    ghost bounded: { len ≤ MAX_NAME_LEN },
+}
+
+impl InterfaceName {
+    /// The name of these bytes. None: they are more than [`MAX_NAME_LEN`].
+    pub fn new(name: &[u8]) -> Option<InterfaceName>
+        ensures { IfSome result (λ n. take n.len n.bytes ≡ name.now) }
+    {
+        if name.len() > MAX_NAME_LEN {
+            return None;
+        }
+        let mut bytes = [0u8; MAX_NAME_LEN];
+        bytes[..name.len()].copy_from_slice(name);
+        Some(InterfaceName {
+            bytes,
+            len: name.len(),
+        })
+    }
+
+    /// Its bytes, which are UTF-8 in a recording that keeps to the format.
+    pub fn as_bytes(&self) -> &[u8]
+        ensures { result.now ≡ take self.now.len self.now.bytes }
+    {
+        &self.bytes[..self.len]
+    }
+}
+
+/// Which packets of a pcapng recording are read. Of no other format anything is chosen.
+#[derive(Clone, Copy, Debug, PartialEq, Eq)]
+pub enum Choice {
+    /// Those of the only Ethernet interface that has packets.
+    Any,
+    /// Those of the interface of this number in its section.
+    Number(u32),
+    /// Those of the interfaces of this name.
+    Name(InterfaceName),
+}

@@ -1,0 +1,184 @@
+//! Interfaces of a section, and the time that their timestamps stand for.
+ghost use Rattle.std.specs.Prelude.{◌≡◌, ℕ, ◌*◌, ◌<◌, ◌≤◌, ◌^◌, length, IfSome};
+
+use crate::choice::InterfaceName;
+use crate::options::find_option;
+use pcap_io::{BadReason, ByteOrder, read_u16};
+
+/// The codes of the options that are read (draft-ietf-opsawg-pcapng, Interface Description Block).
+const IF_NAME: u16 = 2;
+
+const IF_TSRESOL: u16 = 9;
+
+const IF_TSOFFSET: u16 = 14;
+
+/// The link type of Ethernet.
+const ETHERNET: u16 = 1;
+
+/// Where the options of an interface description start.
+const OPTIONS_AT: usize = 16;
+
+/// From this number of nanoseconds on a timestamp isn't read: 2^32 seconds.
+const END_OF_TIME: u128 = 4_294_967_296_000_000_000;
+
+/// The powers of 10 below 2^64.
+const POWERS_OF_TEN: [u64; 20] = [
+    1,
+    10,
+    100,
+    1_000,
+    10_000,
+    100_000,
+    1_000_000,
+    10_000_000,
+    100_000_000,
+    1_000_000_000,
+    10_000_000_000,
+    100_000_000_000,
+    1_000_000_000_000,
+    10_000_000_000_000,
+    100_000_000_000_000,
+    1_000_000_000_000_000,
+    10_000_000_000_000_000,
+    100_000_000_000_000_000,
+    1_000_000_000_000_000_000,
+    10_000_000_000_000_000_000,
+];
+
+/// The part of a second that timestamps count.
+#[derive(Clone, Copy, Debug, PartialEq, Eq)]
+pub enum Resolution {
+    /// 10 to the minus this.
+    Decimal(u8),
+    /// 2 to the minus this.
+    Binary(u8),
+}
+
+impl Resolution {
+    /// That of the option `if_tsresol`: where the top bit is set, the rest is the power of 2.
+    fn of_option(value: u8) -> Resolution {
+        if value < 128 {
+            Resolution::Decimal(value)
+        } else {
+            Resolution::Binary(value - 128)
+        }
+    }
+
+    /// So many counts in nanoseconds, cut down to whole ones.
+    #[inline]
+    fn nanoseconds(self, count: u64) -> u128 {
+        match self {
+            Resolution::Decimal(6) => u128::from(count) * 1000,
+            Resolution::Decimal(9) => u128::from(count),
+            Resolution::Decimal(power) if power < 9 => {
+                u128::from(count) * u128::from(POWERS_OF_TEN[9 - usize::from(power)])
+            }
+            Resolution::Decimal(power) => match POWERS_OF_TEN.get(usize::from(power) - 9) {
+                Some(counts) if *counts != 0 => u128::from(count / *counts),
+                _ => 0,
+            },
+            Resolution::Binary(power) if power < 128 => {
+                (u128::from(count) * 1_000_000_000) >> u32::from(power)
+            }
+            Resolution::Binary(_) => 0,
+        }
+    }
+}
+
+/// What is added to an interface's timestamps, in seconds.
+#[derive(Clone, Copy, Debug, PartialEq, Eq)]
+pub enum Offset {
+    Later(u64),
+    Earlier(u64),
+}
+
+impl Offset {
+    /// That of the option `if_tsoffset`, a signed number of 64 bits.
+    fn of_option(value: u64) -> Offset {
+        if value < 1 << 63 {
+            Offset::Later(value)
+        } else {
+            Offset::Earlier(value.wrapping_neg())
+        }
+    }
+}
+
+/// An interface of a section.
+#[derive(Clone, Copy, Debug)]
+pub struct Interface {
+    /// Its number in its section, from 0.
+    pub number: u32,
+    /// Its name, where it has one of at most [`MAX_NAME_LEN`](crate::MAX_NAME_LEN) bytes.
+    pub name: Option<InterfaceName>,
+    /// Its link type is Ethernet.
+    pub ethernet: bool,
+    /// It has had packets.
+    pub has_packets: bool,
+    pub resolution: Resolution,
+    pub offset: Offset,
+}
+
+/// The number in the first eight bytes.
+fn read_u64(order: ByteOrder, bytes: &[u8; 8]) -> u64 {
+    match order {
+        ByteOrder::Little => u64::from_le_bytes(*bytes),
+        ByteOrder::Big => u64::from_be_bytes(*bytes),
+    }
+}
+
+impl Interface {
+    /// The next interface of a section, which so many stand before. The block is whole, and its
+    /// options lie within it.
+    pub fn described(order: ByteOrder, number: u32, block: &[u8]) -> Result<Interface, BadReason>
+        requires { 20 ≤ length block.now }
+    {
+        let options = &block[OPTIONS_AT..block.len() - 4];
+        let name = match find_option(order, options, IF_NAME) {
+            Some(name) => InterfaceName::new(name),
+            None => None,
+        };
+        let resolution = match find_option(order, options, IF_TSRESOL) {
+            Some([value]) => Resolution::of_option(*value),
+            Some(_) => return Err(BadReason::BlockBounds),
+            None => Resolution::Decimal(6),
+        };
+        let offset = match find_option(order, options, IF_TSOFFSET) {
+            Some(value) => match <&[u8; 8]>::try_from(value) {
+                Ok(value) => Offset::of_option(read_u64(order, value)),
+                Err(_) => return Err(BadReason::BlockBounds),
+            },
+            None => Offset::Later(0),
+        };
+        Ok(Interface {
+            number,
+            name,
+            ethernet: read_u16(order, &block[8..]) == ETHERNET,
+            has_packets: false,
+            resolution,
+            offset,
+        })
+    }
+
+    /// The time of a timestamp in nanoseconds since 1970. None: it lies before that, or 2^32 seconds
+    /// or more after it.
+    #[inline]
+    pub fn stamp(&self, count: u64) -> Option<u64>
+        ensures { IfSome result (λ n. n < 2 ^ 32 * 1000000000) }
+    {
+        let nanoseconds = self.resolution.nanoseconds(count);
+        let total = match self.offset {
+            Offset::Later(0) => nanoseconds,
+            Offset::Later(seconds) => {
+                nanoseconds.checked_add(u128::from(seconds) * 1_000_000_000)?
+            }
+            Offset::Earlier(seconds) => {
+                nanoseconds.checked_sub(u128::from(seconds) * 1_000_000_000)?
+            }
+        };
+        if total < END_OF_TIME {
+            Some(total as u64)
+        } else {
+            None
+        }
+    }
+}

@@ -1,0 +1,142 @@
+//! A section of a recording: its byte order, its interfaces, and which of them is read.
+ghost use Rattle.std.specs.Prelude.{◌≡◌, ◌≤◌, ◌<◌, ◌*◌, ◌^◌, length, vec_capacity, vec_len, IfOk};
+ghost use Rattle.pcapng.specs.declared.section.TheConstants.{MAX_INTERFACES};
+
+use crate::choice::Choice;
+use crate::interface::Interface;
+use pcap_io::{BadReason, ByteOrder};
+use std::alloc::{AllocError, Global};
+
+/// How many interfaces of a section are read at most.
+pub const MAX_INTERFACES: usize = 256;
+
+/// What is done with a whole packet.
+#[derive(Clone, Copy, Debug, PartialEq, Eq)]
+pub enum Role {
+    /// It is given.
+    Taken,
+    /// Its interface isn't Ethernet: it is skipped and counted.
+    Counted,
+    /// Its interface isn't the chosen one: it is skipped.
+    Skipped,
+}
+
+/// A section, and what is known of the choice.
+#[derive(Debug, Drop)]
+pub struct Section {
+    pub choice: Choice,
+    pub order: ByteOrder,
+    interfaces: Vec<Interface>,
+    /// With no choice: the number of the Ethernet interface that had the first packet.
+    taken: Option<u32>,
+    /// The chosen interface was described, in this section or an earlier one.
+    described: bool,
+    ghost room: { MAX_INTERFACES ≤ vec_capacity interfaces },
+}
+
+impl Section {
+    /// No section yet. Allocates the memory of its interfaces.
+    pub fn new(alloc: Global, choice: Choice) -> Result<Section, AllocError> {
+        Ok(Section {
+            choice,
+            order: ByteOrder::Little,
+            interfaces: Vec::with_capacity(alloc, MAX_INTERFACES)?,
+            taken: None,
+            described: choice == Choice::Any,
+        })
+    }
+
+    /// Its interfaces so far.
+    pub fn interfaces(&self) -> &[Interface]
+        ensures { result.now ≡ self.now.interfaces.items }
+    {
+        self.interfaces.as_slice()
+    }
+
+    /// Whether the chosen interface was described.
+    pub fn is_described(&self) -> bool
+        ensures { result ≡ self.now.described }
+    {
+        self.described
+    }
+
+    /// A section of this byte order begins, with no interfaces.
+    pub fn begin(&mut self, order: ByteOrder) {
+        self.order = order;
+        self.interfaces.clear();
+    }
+
+    /// Whether the interface is the chosen one.
+    fn is_chosen(&self, interface: &Interface) -> bool {
+        match self.choice {
+            Choice::Any => true,
+            Choice::Number(number) => interface.number == number,
+            Choice::Name(name) => interface.name == Some(name),
+        }
+    }
+
+    /// The number of the interface that is described next.
+    pub fn next_number(&self) -> Result<u32, BadReason> {
+        let number = self.interfaces.len();
+        if number < MAX_INTERFACES {
+            Ok(number as u32)
+        } else {
+            Err(BadReason::TooManyInterfaces)
+        }
+    }
+
+    /// The time of a timestamp of the interface of this number.
+    #[inline]
+    pub fn stamp(&self, number: u32, count: u64) -> Result<u64, BadReason>
+        requires { number < vec_len self.now.interfaces }
+        ensures { IfOk result (λ n. n < 2 ^ 32 * 1000000000) }
+    {
+        match self.interfaces[number as usize].stamp(count) {
+            Some(stamp) => Ok(stamp),
+            None => Err(BadReason::StampRange),
+        }
+    }
+
+    /// One more interface.
+    pub fn add(&mut self, interface: Interface) -> Result<(), BadReason> {
+        if self.interfaces.len() >= MAX_INTERFACES {
+            return Err(BadReason::TooManyInterfaces);
+        }
+        if self.is_chosen(&interface) {
+            self.described = true;
+        }
+        self.interfaces.push(interface).unwrap();
+        Ok(())
+    }
+
+    /// What is done with a packet of the interface of this number.
+    #[inline]
+    pub fn role(&self, number: u32) -> Result<Role, BadReason>
+        ensures { IfOk result (λ r. number < vec_len self.now.interfaces) }
+    {
+        let Some(interface) = self.interfaces.get(number as usize) else {
+            return Err(BadReason::UnknownInterface);
+        };
+        if !self.is_chosen(interface) {
+            return Ok(Role::Skipped);
+        }
+        if !interface.ethernet {
+            return Ok(Role::Counted);
+        }
+        match (self.choice, self.taken) {
+            (Choice::Any, Some(taken)) if taken != number => Err(BadReason::SeveralInterfaces),
+            _ => Ok(Role::Taken),
+        }
+    }
+
+    /// The interface of this number had a packet.
+    #[inline]
+    pub fn note_packet(&mut self, number: u32, role: Role)
+        requires { number < vec_len self.old.interfaces }
+    {
+        self.interfaces[number as usize].has_packets = true;
+        if role == Role::Taken {
+            self.taken = Some(number);
+        }
+    }
+}

@@ -1,0 +1,198 @@
+//! The source that gives a recording of either format as pcap.
+ghost use Rattle.std.specs.Prelude.{◌≡◌, ◌≤◌, ◌<◌, [], length, take, IfSome, Ok, Err, IfOk, IfErr, OnOk, OnErr};
+ghost use Rattle.std.specs.Io.KnownBytes.{Consumes, Keeps, ReadConsumes};
+ghost use Rattle.pcap_io.specs.Device.{CountsFailure};
+ghost use Rattle.pcapng.specs.declared.block.TheConstants.{MAX_BLOCK_LEN};
+
+use crate::block::MAX_BLOCK_LEN;
+use crate::choice::Choice;
+use crate::converter::{Converter, Stage, Step};
+use crate::interface::Interface;
+use pcap_io::{DeviceFault, TapSource};
+use std::alloc::Global;
+
+/// A source that nothing was made of, as there was no memory.
+#[derive(Debug, Drop)]
+pub struct Refused<S> {
+    pub source: S,
+}
+
+/// A recording of either format, handed on as pcap.
+///
+/// A recording that doesn't begin as pcapng is handed on as it is. Of a pcapng recording the packets
+/// of one Ethernet interface are given. It reads its source ahead, at most 64 KiB at a time.
+#[derive(Debug, Drop)]
+pub struct RecordingSource<S> {
+    source: S,
+    /// How often the source has failed.
+    failures: u64,
+    converter: Converter,
+}
+
+impl<S: TapSource> RecordingSource<S> {
+    ghost use Rattle.pcap_io.specs.Bytes.{known_bytes};
+    ghost use Rattle.pcapng.specs.Handed.{Lacks, StillGiven, pending_of, remaining_of, unread_of, untouched};
+    ghost use Rattle.pcapng.specs.declared.converter.Stage.TheVariants.{Start, Untouched};
+
+    /// Hands on the recording of a source. It reads nothing yet, and allocates all that it will need:
+    /// a block of 2^20 bytes, of which it touches no more than 64 KiB unless a longer block comes, and
+    /// room for the interfaces of a section.
+    ///
+    /// # Errors
+    ///
+    /// There is no memory for these. The source comes back.
+    pub fn new(alloc: Global, source: S, choice: Choice) -> Result<RecordingSource<S>, Refused<S>>
+        ensures no_failure { IfOk result (λ s. ⟦<RecordingSource<S> as TapSource>⟧.failures s ≡ 0) }
+        ensures whole { IfOk result (λ s. IfSome (S.remaining source) (λ bytes.
+            remaining_of S.remaining s ≡ known_bytes (untouched bytes))) }
+        ensures refused { IfErr result (λ r. r.source ≡ source) }
+    {
+        match Converter::new(alloc, choice) {
+            Ok(converter) => Ok(RecordingSource {
+                source,
+                failures: 0,
+                converter,
+            }),
+            Err(_) => Err(Refused { source }),
+        }
+    }
+
+    /// The source. What was read ahead of it is lost.
+    pub fn into_source(self) -> S
+        ensures { result ≡ self.source }
+    {
+        self.source
+    }
+
+    /// How many packets of interfaces that aren't Ethernet were skipped so far.
+    pub fn skipped(&self) -> u64
+        ensures { result ≡ self.now.converter.skipped }
+    {
+        self.converter.skipped()
+    }
+
+    /// The interfaces that the current section described so far.
+    pub fn interfaces(&self) -> &[Interface]
+        ensures { result.now ≡ self.now.converter.section.interfaces.items }
+    {
+        self.converter.interfaces()
+    }
+
+    /// The source failed.
+    fn count_failure(&mut self) -> DeviceFault
+        ensures failures { CountsFailure self.old.failures self.new.failures }
+        ensures source { self.new.source ≡ self.old.source }
+        ensures converter { self.new.converter ≡ self.old.converter }
+    {
+        self.failures = self.failures.saturating_add(1);
+        DeviceFault
+    }
+
+    /// Moves what is given next into the buffer, as much as fits, and returns how much.
+    #[inline]
+    fn give(&mut self, buf: &mut [u8]) -> usize
+        ensures bound { result ≤ length buf.new }
+        ensures bytes { Consumes (remaining_of S.remaining self.old)
+            (remaining_of S.remaining self.new) (take result buf.new) }
+        ensures all { result < length buf.new → pending_of self.new.converter ≡ [] }
+        ensures failures { self.new.failures ≡ self.old.failures }
+    {
+        self.converter.give(buf)
+    }
+
+    /// Goes on where nothing is left to give.
+    #[inline]
+    fn step(&mut self) -> Step
+        requires { pending_of self.old.converter ≡ [] }
+        ensures kept { Keeps (remaining_of S.remaining self.old)
+            (remaining_of S.remaining self.new) }
+        ensures lacks { Lacks self.new.converter result }
+        ensures given { StillGiven self.new.converter result [] }
+        ensures failures { self.new.failures ≡ self.old.failures }
+    {
+        self.converter.step()
+    }
+
+    /// Reads the source into the buffer, where the recording is handed on as it is.
+    #[inline]
+    fn pass(&mut self, buf: &mut [u8]) -> Result<usize, DeviceFault>
+        requires given { pending_of self.old.converter ≡ [] }
+        requires read { unread_of self.old.converter ≡ [] }
+        requires untouched { self.old.converter.stage ≡ Untouched }
+        ensures bytes { ReadConsumes (remaining_of S.remaining self.old)
+            (remaining_of S.remaining self.new) result buf.new }
+        ensures bound { IfOk result (λ n. n ≤ length buf.new) }
+        ensures no_failure { OnOk result (self.new.failures ≡ self.old.failures) }
+        ensures fault { OnErr result (CountsFailure self.old.failures self.new.failures) }
+    {
+        match self.source.read(buf) {
+            Ok(came) => Ok(came),
+            Err(DeviceFault) => Err(self.count_failure()),
+        }
+    }
+
+    /// Reads on, or finds the end of the source.
+    #[inline]
+    fn refill(&mut self, needed: usize) -> Result<(), DeviceFault>
+        requires fits { needed ≤ MAX_BLOCK_LEN }
+        requires lacks { length (unread_of self.old.converter) < needed }
+        requires start { self.old.converter.stage ≡ Start → needed ≡ 4 }
+        requires given { pending_of self.old.converter ≡ [] }
+        ensures kept { Keeps (remaining_of S.remaining self.old)
+            (remaining_of S.remaining self.new) }
+        ensures no_failure { OnOk result (self.new.failures ≡ self.old.failures) }
+        ensures fault { OnErr result (CountsFailure self.old.failures self.new.failures) }
+    {
+        match self.converter.refill(&mut self.source, needed) {
+            Ok(0) => {
+                self.converter.end_here();
+                Ok(())
+            }
+            Ok(_) => Ok(()),
+            Err(DeviceFault) => Err(self.count_failure()),
+        }
+    }
+}
+
+impl<S: TapSource> TapSource for RecordingSource<S> {
+    ghost use Rattle.pcap_io.specs.Bytes.{known_bytes-are_bytes};
+    ghost use Rattle.pcapng.specs.Handed.{handed_known, remaining_of};
+
+    ghost remaining = { λ s. remaining_of S.remaining s };
+
+    ghost failures = { λ s. s.failures };
+
+    ghost gives_bytes = { λ s. known_bytes-are_bytes (handed_known s.converter (S.remaining s.source)) };
+
+    fn read(&mut self, buf: &mut [u8]) -> Result<usize, DeviceFault> {
+        if self.failures == u64::MAX {
+            return Err(DeviceFault);
+        }
+        let mut done = 0;
+        for _ in 0..u64::MAX {
+            done += self.give(&mut buf[done..]);
+            if done == buf.len() {
+                return Ok(done);
+            }
+            match self.converter.stage() {
+                Stage::Ended => return Ok(done),
+                Stage::Untouched if self.converter.is_read() => {
+                    return if done > 0 { Ok(done) } else { self.pass(buf) };
+                }
+                _ => {}
+            }
+            if let Step::Needs(needed) = self.step() {
+                if done > 0 {
+                    return Ok(done);
+                }
+                self.refill(needed)?;
+            }
+        }
+        // So many steps are never taken.
+        if done > 0 {
+            Ok(done)
+        } else {
+            Err(self.count_failure())
+        }
+    }
+}

@@ -1,0 +1,525 @@
+"""Recordings as pcapng, read by each command: what is read of them, and what is told of those that are wrong.
+
+Files are written here block by block after the IETF's draft of pcapng 1.0, and read by a slow reader over the whole list of
+blocks. It shares nothing with the product. Where dumpcap's tools are installed, files of theirs are read too.
+"""
+import os
+import random
+import shutil
+import struct
+import subprocess
+import tempfile
+
+import pairs
+from harness import EVERY, FAULT, FIRST_64, SUCCESS, PROGRAM, difference, frame, header, record, run, say
+from reference import HEADER, parse, record_of
+from watching import TABLE
+
+SECTION, INTERFACE, OLD_PACKET, SIMPLE, NAMES, STATISTICS, PACKET, CUSTOM = 0x0A0D0D0A, 1, 2, 3, 4, 5, 6, 0xBAD
+NAME, RESOLUTION, OFFSET, COMMENT = 2, 9, 14, 1
+MOST_CAPTURED, MOST_BLOCK, MOST_INTERFACES, LAST_SECOND = 262144, 1 << 20, 256, 1 << 32
+# The words of an ending's line: settled here, and nowhere else in these tests.
+REASONS = {
+    "blocklength": "a block's length is wrong",
+    "blocklengthsdiffer": "the two lengths of a block differ",
+    "blockbounds": "a packet or an option reaches beyond its block",
+    "unknowninterface": "a packet of an interface that isn't described",
+    "section": "a section of another version",
+    "simplepacket": "a packet without a timestamp",
+    "stamprange": "timestamp before 1970 or after 2106",
+    "severalinterfaces": "packets of several interfaces, and none is chosen",
+    "toomanyinterfaces": "too many interfaces",
+    "nosuchinterface": "the chosen interface isn't there",
+    "length": "captured length over 262144 bytes",
+    "stampback": "timestamp out of order",
+}
+
+
+class Blocks:
+    """A file that is written block by block, in a section's byte order."""
+
+    def __init__(self, order="<"):
+        self.order, self.out = order, []
+
+    def pack(self, form, *values):
+        return struct.pack(self.order + form, *values)
+
+    def block(self, kind, body, length=None, last=None):
+        body += bytes(-len(body) % 4)
+        length = len(body) + 12 if length is None else length
+        self.out.append(self.pack("II", kind, length) + body + self.pack("I", length if last is None else last))
+        return self
+
+    def options(self, *given, end=True):
+        packed = b"".join(self.pack("HH", code, len(value)) + value + bytes(-len(value) % 4) for code, value in given)
+        return packed + bytes(4) if given and end else packed
+
+    def section(self, major=1, minor=0, magic=0x1A2B3C4D, options=b"", **how):
+        return self.block(SECTION, self.pack("IHHq", magic, major, minor, -1) + options, **how)
+
+    def interface(self, name=None, resolution=None, offset=None, link_type=1, more=(), **how):
+        given = [*more]
+        if name is not None:
+            given.append((NAME, name.encode()))
+        if resolution is not None:
+            given.append((RESOLUTION, bytes([resolution])))
+        if offset is not None:
+            given.append((OFFSET, self.pack("q", offset)))
+        return self.block(INTERFACE, self.pack("HHI", link_type, 0, 0) + self.options(*given), **how)
+
+    def packet(self, ticks, data, interface=0, original=None, options=b"", captured=None, **how):
+        fields = self.pack("IIIII", interface, ticks >> 32 & 0xFFFFFFFF, ticks & 0xFFFFFFFF, len(data) if captured is None else captured, len(data) if original is None else original)
+        return self.block(PACKET, fields + data + bytes(-len(data) % 4) + options, **how)
+
+    def old_packet(self, ticks, data, interface=0, original=None):
+        fields = self.pack("HHIIII", interface, 7, ticks >> 32 & 0xFFFFFFFF, ticks & 0xFFFFFFFF, len(data), len(data) if original is None else original)
+        return self.block(OLD_PACKET, fields + data + bytes(-len(data) % 4))
+
+    def simple(self, data):
+        return self.block(SIMPLE, self.pack("I", len(data)) + data)
+
+    def bytes(self):
+        return b"".join(self.out)
+
+
+def nanoseconds(ticks, resolution, offset):
+    """A timestamp since 1970, cut down to nanoseconds."""
+    fine = 2 ** (resolution & 0x7F) if resolution & 0x80 else 10**resolution
+    return ticks * 10**9 // fine + offset * 10**9
+
+
+class Wrong(Exception):
+    """A block that ends the reading, with the reason's word."""
+
+
+def options_of(order, body):
+    """The options, up to their end."""
+    found, at = [], 0
+    while at + 4 <= len(body):
+        code, length = struct.unpack_from(order + "HH", body, at)
+        if code == 0:
+            return found
+        if at + 4 + length > len(body):
+            raise Wrong("blockbounds")
+        found.append((code, body[at + 4 : at + 4 + length]))
+        at += 4 + length + -length % 4
+    if at < len(body):
+        raise Wrong("blockbounds")
+    return found
+
+
+def first(options, code, size):
+    """The first option of a code, whose length is fixed where a size is given."""
+    found = [value for one, value in options if one == code]
+    if found and size is not None and any(len(value) != size for value in found):
+        raise Wrong("blockbounds")
+    return found[0] if found else None
+
+
+def interface_of(order, body):
+    """An interface's link type, name, resolution and offset."""
+    options = options_of(order, body[8:])
+    resolution, offset = first(options, RESOLUTION, 1), first(options, OFFSET, 8)
+    return {
+        "ethernet": struct.unpack_from(order + "H", body)[0] == 1,
+        "name": first(options, NAME, None),
+        "resolution": 6 if resolution is None else resolution[0],
+        "offset": 0 if offset is None else struct.unpack(order + "q", offset)[0],
+    }
+
+
+def blocks_of(data):
+    """Each block of a file, with its byte order. The last one may be a part, or wrong."""
+    at, order = 0, "<"
+    while at < len(data):
+        if len(data) - at < 8:
+            raise EOFError
+        if data[at : at + 4] == b"\x0a\x0d\x0d\x0a" and len(data) - at >= 12:
+            order = ">" if data[at + 8 : at + 12] == b"\x1a\x2b\x3c\x4d" else "<"
+        kind, length = struct.unpack_from(order + "II", data, at)
+        if length % 4 or length < 12:
+            raise Wrong("blocklength")
+        if len(data) - at < length:
+            raise EOFError
+        if struct.unpack_from(order + "I", data, at + length - 4)[0] != length:
+            raise Wrong("blocklengthsdiffer")
+        yield order, kind, data[at + 8 : at + length - 4]
+        at += length
+
+
+class Reader:
+    """Reads the frames of the chosen interface, one block after another."""
+
+    def __init__(self, choice):
+        self.choice, self.interfaces, self.frames, self.skipped, self.met, self.high = choice, [], [], 0, None, 0
+        self.was_described = choice is None
+
+    def chosen(self, number):
+        if self.choice is None:
+            if self.met is None:
+                self.met = number
+            elif self.met != number:
+                raise Wrong("severalinterfaces")
+            return True
+        if isinstance(self.choice, int):
+            return number == self.choice
+        names = [one["name"] for one in self.interfaces]
+        return self.choice.encode() in names and names.index(self.choice.encode()) == number
+
+    def take(self, order, number, high, low, captured, original, rest):
+        if number >= len(self.interfaces):
+            raise Wrong("unknowninterface")
+        if captured > MOST_CAPTURED:
+            raise Wrong("length")
+        if captured + -captured % 4 > len(rest):
+            raise Wrong("blockbounds")
+        options_of(order, rest[captured + -captured % 4 :])
+        one = self.interfaces[number]
+        if not one["ethernet"]:
+            # Of a chosen interface alone it is told that it gives nothing.
+            self.skipped += self.choice is None or self.chosen(number)
+            return
+        if not self.chosen(number):
+            return
+        stamp = nanoseconds(high << 32 | low, one["resolution"], one["offset"])
+        if not 0 <= stamp < LAST_SECOND * 10**9:
+            raise Wrong("stamprange")
+        if stamp < self.high:
+            raise Wrong("stampback")
+        self.high = stamp
+        self.frames.append((stamp, max(captured, original), rest[:captured]))
+
+    def pass_block(self, order, kind, body):
+        if kind == SECTION:
+            if struct.unpack_from(order + "H", body, 4)[0] != 1:
+                raise Wrong("section")
+            self.interfaces = []
+        elif kind == INTERFACE:
+            self.interfaces.append(interface_of(order, body))
+            number = len(self.interfaces) - 1
+            self.was_described = self.was_described or self.choice in (number, (self.interfaces[-1]["name"] or b"").decode())
+        elif kind == PACKET:
+            self.take(order, *struct.unpack_from(order + "IIIII", body), body[20:])
+        elif kind == OLD_PACKET:
+            number, _, *fields = struct.unpack_from(order + "HHIIII", body)
+            self.take(order, number, *fields, body[20:])
+        elif kind == SIMPLE:
+            raise Wrong("simplepacket")
+
+    def read(self, data):
+        """The frames, the ending in a ledger's words, and how many packets are not of Ethernet."""
+        try:
+            for order, kind, body in blocks_of(data):
+                self.pass_block(order, kind, body)
+        except EOFError:
+            return self.frames, f"cut {len(self.frames)}", self.skipped
+        except Wrong as wrong:
+            return self.frames, f"bad {len(self.frames)} {wrong}", self.skipped
+        ending = "clean" if self.was_described else "bad"
+        return self.frames, f"{ending} {len(self.frames)}" + ("" if self.was_described else " nosuchinterface"), self.skipped
+
+
+def note_of(ending, skipped, network=None):
+    """What standard error is told."""
+    who = "recording" if network is None else f"recording of network {network}"
+    lines = []
+    how, count, *reason = ending.split()
+    if how != "clean":
+        why = REASONS[reason[0]] if reason else "truncated within a record"
+        lines.append(f"afdxmon: note: {who} ends {how} after {count} frame{'' if count == '1' else 's'}: {why}")
+    if skipped:
+        lines.append(f"afdxmon: note: {who} has {skipped} packet{'' if skipped == 1 else 's'} not of Ethernet")
+    return "\n".join(lines)
+
+
+class Bench:
+    def __init__(self, directory):
+        self.directory = directory
+
+    def path(self, name):
+        return os.path.join(self.directory, name)
+
+    def put(self, name, data):
+        with open(self.path(name), "wb") as out:
+            out.write(data)
+        return self.path(name)
+
+    def captured(self, name, data, choice=None):
+        """`capture` of a file and of standard input writes what the slow reader reads, and notes how that ended."""
+        frames, ending, skipped = Reader(choice).read(data)
+        expected = HEADER + b"".join(record_of(*one) for one in frames)
+        path = self.put("in.pcapng", data)
+        suffix = "" if choice is None else f":{choice}"
+        told = note_of(ending, skipped)
+        fault = difference(run(["capture", "--code", EVERY, path + suffix], stdin=subprocess.DEVNULL, stdout=subprocess.PIPE), SUCCESS, told, expected)
+        stream = "/dev/stdin" + suffix if suffix else "-"
+        fault = fault or difference(run(["capture", "--code", EVERY, stream], input=data, stdout=subprocess.PIPE), SUCCESS, told, expected)
+        say(f"pcapng: {name}{suffix}", fault)
+
+    def refused(self, name, data, line, choice=""):
+        """A file that is refused, with its line; no output is made."""
+        path = self.put("in.pcapng", data)
+        out = self.path("refused.out")
+        ran = run(["capture", "--code", EVERY, path + choice, "-o", out], stdin=subprocess.DEVNULL, stdout=subprocess.PIPE)
+        fault = difference(ran, FAULT, line, b"")
+        if not fault and os.path.exists(out) and os.path.getsize(out):
+            fault = "an output was begun"
+        say(f"pcapng: {name}", fault)
+
+
+DATA = [frame(5, 60, 1), frame(5, 61, 2), frame(6, 62, 3), frame(6, 63, 4)]
+SECOND = 1_800_000_000
+
+
+def four(file, unit=10**6, **how):
+    """Four packets, a second apart."""
+    for i, data in enumerate(DATA):
+        file.packet((SECOND + i) * unit, data, **how)
+    return file
+
+
+def plain(order="<"):
+    return Blocks(order).section().interface("eth0", 9)
+
+
+def formats(bench):
+    """Byte orders, resolutions, offsets, options, blocks that aren't read."""
+    for order in "<>":
+        bench.captured(f"microseconds, {order}", four(Blocks(order).section().interface()).bytes())
+        bench.captured(f"nanoseconds, {order}", four(plain(order), 10**9).bytes())
+        for resolution in (0, 1, 3, 6, 7, 9):
+            bench.captured(f"resolution {resolution}, {order}", four(Blocks(order).section().interface("eth0", resolution), 10**resolution).bytes())
+        for resolution, ticks in ((10, 18_000_000_001_234_567_891), (12, 2**64 - 1), (18, 2**64 - 1), (19, 2**63), (20, 2**64 - 1), (28, 2**64 - 1), (29, 2**64 - 1), (127, 2**64 - 1)):
+            bench.captured(f"resolution {resolution}, {order}", Blocks(order).section().interface("eth0", resolution).packet(ticks, DATA[0]).bytes())
+        for power in (0, 1, 10, 20, 30, 31, 32, 34, 35, 52, 63, 64, 65, 94, 127):
+            ticks = min(2**64 - 1, (SECOND << power) + (1 << power) // 3) if power < 64 else 2**64 - 1
+            bench.captured(f"resolution 2^-{power}, {order}", Blocks(order).section().interface("eth0", 128 + power).packet(ticks, DATA[0]).bytes())
+        for offset in (-SECOND, -1, 0, 1, LAST_SECOND - SECOND - 4, LAST_SECOND - SECOND - 3, LAST_SECOND, -SECOND - 1, 2**63 - 1, -(2**63)):
+            bench.captured(f"offset {offset}, {order}", four(Blocks(order).section().interface("eth0", 6, offset)).bytes())
+        more = [(COMMENT, b"a comment"), (3, b"xyz"), (12, b"Linux"), (RESOLUTION, b"\x09"), (RESOLUTION, b"\x06"), (2988, b"12345")]
+        bench.captured(f"options, {order}", four(Blocks(order).section(options=Blocks(order).options((COMMENT, b"of a section"), (2, b"hardware"))).interface("eth0", more=more), 10**9).bytes())
+        file = plain(order).block(NAMES, bytes(8)).block(CUSTOM, bytes(40))
+        for i, data in enumerate(DATA):
+            file.packet((SECOND + i) * 10**9, data, options=file.options((COMMENT, b"packet %d" % i), (2, bytes(4)), end=i % 2 == 0)).block(STATISTICS, file.pack("III", 0, 0, 0))
+        bench.captured(f"blocks that aren't read, {order}", file.bytes())
+    bench.captured("the obsolete packet block", plain().old_packet(SECOND * 10**9, DATA[0]).old_packet(SECOND * 10**9 + 1, DATA[1], original=100).bytes())
+    bench.captured("a length on the wire", plain().packet(1, DATA[0], original=1000).packet(2, DATA[1], original=3).packet(3, b"", original=60).bytes())
+    bench.captured("version 1.2", four(Blocks().section(minor=2).interface()).bytes())
+    bench.captured("no interface", Blocks().section().bytes())
+    bench.captured("no packet", plain().bytes())
+
+
+def sections(bench):
+    """Sections number their interfaces anew, in byte orders of their own."""
+    two = four(Blocks("<").section().interface("eth0", 9), 10**9).bytes() + Blocks(">").section().interface("eth0").packet((SECOND + 5) * 10**6, DATA[0]).bytes()
+    bench.captured("two sections", two)
+    bench.captured("two sections", two, 0)
+    bench.captured("two sections", two, "eth0")
+    bench.captured("two sections", two, 1)
+    other = four(Blocks().section().interface("eth0", 9), 10**9).bytes() + Blocks().section().interface("lo", 9, link_type=113).interface("eth0", 9).packet((SECOND + 5) * 10**9, DATA[0], 1).bytes()
+    bench.captured("an interface of another number in each section", other, "eth0")
+    bench.captured("an interface of another number in each section", other, 0)
+    bench.captured("a packet before its section's interface", four(plain(), 10**9).section().packet(SECOND * 10**9 + 10**10, DATA[0]).bytes())
+
+
+def both_networks():
+    """Two Ethernet interfaces and one of another kind."""
+    file = Blocks().section().interface("eth0", 9).interface("usb", 9, link_type=220).interface("eth1", 9)
+    for i, data in enumerate(DATA):
+        file.packet((SECOND + i) * 10**9, data).packet((SECOND + i) * 10**9 + 5, b"usb", 1).packet((SECOND + i) * 10**9 + 1000, data, 2)
+    return file.bytes()
+
+
+def choices(bench):
+    """An interface by its number and its name; a path that is there as it stands wins."""
+    both = both_networks()
+    for choice in (0, 1, 2, 3, 65535, "eth0", "eth1", "usb", "eth", "eth00", "ETH0"):
+        bench.captured("interfaces", both, choice)
+    several = "afdxmon: interfaces RECORDING: 0 eth0, 2 eth1"
+    bench.refused("several interfaces", both, several)
+    one = Blocks().section().interface("eth0", 9).interface("eth1", 9)
+    for i, data in enumerate(DATA):
+        one.packet((SECOND + i) * 10**9, data, 1)
+    bench.captured("two interfaces, packets of one", one.bytes())
+    bench.captured("two interfaces, packets of one", one.bytes(), 0)
+    nameless = Blocks().section().interface(None, 9).interface(None, 9).packet(1, DATA[0]).packet(2, DATA[0], 1).bytes()
+    bench.refused("several interfaces without names", nameless, "afdxmon: interfaces RECORDING: 0, 1")
+    ran = run(["capture", "--code", EVERY, "-"], input=both, stdout=subprocess.PIPE)
+    frames, ending, skipped = Reader(None).read(both)
+    say("pcapng: several interfaces through a pipe", difference(ran, SUCCESS, note_of(ending, skipped), HEADER + b"".join(record_of(*frame) for frame in frames)))
+    literal = bench.put("x:1", four(plain(), 10**9).bytes())
+    bench.put("x", both)
+    ran = run(["capture", "--code", EVERY, literal], stdin=subprocess.DEVNULL, stdout=subprocess.PIPE)
+    say("pcapng: a path that is there as it stands", difference(ran, SUCCESS, "", HEADER + b"".join(record_of(*one) for one in Reader(None).read(four(plain(), 10**9).bytes())[0])))
+    ran = run(["capture", "--code", EVERY, bench.path("missing:0")], stdin=subprocess.DEVNULL, stdout=subprocess.PIPE)
+    say("pcapng: neither the path nor what stands before the colon", difference(ran, FAULT, "afdxmon: file RECORDING", b""))
+    recording = bench.put("plain.pcap", header() + record(5, DATA[0]))
+    ran = run(["capture", "--code", EVERY, recording + ":0"], stdin=subprocess.DEVNULL, stdout=subprocess.PIPE)
+    say("pcapng: an interface of a pcap file", difference(ran, SUCCESS, "", HEADER + record(5, DATA[0])))
+
+
+def wrong(bench):
+    """Each thing that may be wrong later than the first section header, after a good packet."""
+
+    def begun(order="<"):
+        return plain(order).packet(SECOND * 10**9, DATA[0])
+
+    later = SECOND * 10**9 + 1
+    for order in "<>":
+        for length in (0, 4, 8, 13, 14, 15, 2**32 - 1):
+            bench.captured(f"a block of {length} bytes, {order}", begun(order).block(CUSTOM, bytes(400), length).bytes())
+        bench.captured(f"another length at the end, {order}", begun(order).packet(later, DATA[1], last=96).bytes())
+        bench.captured(f"another length at the end of a block that isn't read, {order}", begun(order).block(CUSTOM, bytes(400), last=416).packet(later, DATA[1]).bytes())
+        bench.captured(f"captured bytes beyond the block, {order}", begun(order).packet(later, DATA[1], captured=65).bytes())
+        bench.captured(f"an option beyond the block, {order}", begun(order).packet(later, DATA[1], options=struct.pack(order + "HH", 1, 5) + bytes(4)).bytes())
+        bench.captured(f"an interface that isn't described, {order}", begun(order).packet(later, DATA[1], 1).bytes())
+        bench.captured(f"a section of version 2, {order}", begun(order).bytes() + Blocks(order).section(2).interface().bytes())
+        bench.captured(f"a simple packet, {order}", begun(order).simple(DATA[1]).bytes())
+        bench.captured(f"a timestamp before the one before it, {order}", begun(order).packet(later - 2, DATA[1]).bytes())
+        bench.captured(f"a resolution of two bytes, {order}", begun(order).interface(more=[(RESOLUTION, b"66")]).bytes())
+        bench.captured(f"an offset of four bytes, {order}", begun(order).interface(more=[(OFFSET, b"6666")]).bytes())
+    for size in (MOST_CAPTURED - 1, MOST_CAPTURED, MOST_CAPTURED + 1):
+        bench.captured(f"{size} captured bytes", begun().packet(later, bytes(size)).packet(later, DATA[0]).bytes())
+    bench.captured("a long block that isn't read", begun().block(CUSTOM, bytes(3 << 20)).packet(later, DATA[1]).bytes())
+    many = begun()
+    for _ in range(MOST_INTERFACES - 1):
+        many.interface()
+    bench.captured(f"{MOST_INTERFACES} interfaces", many.packet(later, DATA[1]).bytes())
+    say_too_many = many.interface().packet(later, DATA[1]).bytes()
+    path = bench.put("in.pcapng", say_too_many)
+    told = note_of("bad 2 toomanyinterfaces", 0)
+    frames = Reader(None).read(say_too_many)[0][:2]
+    expected = HEADER + b"".join(record_of(*one) for one in frames)
+    say(f"pcapng: {MOST_INTERFACES + 1} interfaces", difference(run(["capture", "--code", EVERY, path], stdin=subprocess.DEVNULL, stdout=subprocess.PIPE), SUCCESS, told, expected))
+
+
+def heads(bench):
+    """Each thing that may be wrong with the first section header: refused, and no output is begun."""
+    line = "afdxmon: watch 2 Header A {}"
+    whole = four(plain(), 10**9).bytes()
+    for length in (4, 8, 12, 27):
+        bench.refused(f"a head of {length} bytes", whole[:length], line.format("1 Short"))
+    for order in "<>":
+        rest = four(plain(order), 10**9).bytes()[28:]
+        bench.refused(f"another byte-order magic, {order}", Blocks(order).section(magic=0x1A2B3C4E).bytes() + rest, line.format("5 ByteOrderMagic"))
+        for version in (0, 2, 256):
+            bench.refused(f"version {version}, {order}", Blocks(order).section(version).bytes() + rest, line.format("6 SectionVersion"))
+        for length in (0, 12, 24, 27, 29, 30, MOST_BLOCK + 4):
+            bench.refused(f"a head that says {length} bytes, {order}", Blocks(order).section(length=length).bytes() + bytes(MOST_BLOCK), line.format("7 SectionLength"))
+        bench.refused(f"a head of two lengths, {order}", Blocks(order).section(last=32).bytes() + rest, line.format("8 SectionLengthsDiffer"))
+        bench.refused(f"a head's option beyond it, {order}", Blocks(order).section(options=struct.pack(order + "HH", 1, 9) + bytes(8)).bytes() + rest, line.format("9 SectionOption"))
+    bench.refused("the magic number of what is converted", b"pcng" + HEADER[4:], line.format("2 Magic"))
+    bench.refused("the other magic number of it", b"gncp" + HEADER[4:], line.format("2 Magic"))
+
+
+def cuts(bench):
+    """A file cut behind each byte."""
+    file = Blocks().section().interface("eth0", 9).packet(5, DATA[0], options=Blocks().options((COMMENT, b"one"))).block(CUSTOM, bytes(20)).packet(7, DATA[1]).bytes()
+    for length in range(28, len(file) + 1):
+        bench.captured(f"cut at byte {length}", file[:length])
+
+
+def ticks_of(stamp, resolution):
+    """The ticks of a timestamp that the resolution can say."""
+    return stamp * 2 ** (resolution & 0x7F) // 10**9 if resolution & 0x80 else stamp * 10**resolution // 10**9
+
+
+def as_blocks(chance, taps):
+    """Recordings as one pcapng file, an interface each, with what else may stand in one."""
+    order, resolution = chance.choice("<>"), chance.choice((9, 9, 9, 12))
+    offset = chance.choice((None, 0, 1_000_000, -5))
+    file = Blocks(order).section()
+    for i, _ in enumerate(taps):
+        file.interface(f"eth{i}", resolution, offset)
+    usb = len(taps)
+    file.interface("usb", link_type=220)
+    packets = [(at, i, frame) for i, frames in enumerate(taps) for at, frame in enumerate(frames)]
+    # Each recording keeps its order; the two are mixed by chance.
+    queues = [[one for one in packets if one[1] == i] for i, _ in enumerate(taps)]
+    while any(queues):
+        _, number, (stamp, original, data) = chance.choice([queue for queue in queues if queue]).pop(0)
+        ticks = ticks_of(stamp - (offset or 0) * 10**9, resolution)
+        if ticks < 0 or ticks >= 2**64:
+            return None
+        how = chance.choice(("packet", "packet", "packet", "commented", "old"))
+        if how == "old":
+            file.old_packet(ticks, data, number, original)
+        else:
+            file.packet(ticks, data, number, original, file.options((COMMENT, b"x" * chance.randrange(9))) if how == "commented" else b"")
+        if chance.random() < 0.1:
+            file.block(CUSTOM, chance.randbytes(4 * chance.randrange(9)))
+        if chance.random() < 0.05:
+            file.packet(chance.randrange(2**64), chance.randbytes(7), usb)
+    return file.bytes()
+
+
+def generated(bench):
+    """`watch` on one file of two interfaces writes what it writes on two pcap files."""
+    tried = 0
+    for seed in range(40):
+        chance = random.Random(1000 + seed)
+        config, code, a, b = pairs.pair(chance)
+        taps = [parse(given, 1 << 62)[0] for given in (a, b)]
+        file = as_blocks(chance, taps)
+        if file is None:
+            continue
+        tried += 1
+        for name, data in (("config", config.encode()), ("filter", code.encode()), ("both.pcapng", file)):
+            bench.put(name, data)
+        outs = {}
+        for way, names in (("pcap", ("a.pcap", "b.pcap")), ("pcapng", (bench.path("both.pcapng") + ":0", bench.path("both.pcapng") + ":eth1"))):
+            if way == "pcap":
+                names = [bench.put(name, HEADER + b"".join(record_of(*one) for one in frames)) for name, frames in zip(names, taps)]
+            words = ["watch", "--config", bench.path("config"), "--filter", bench.path("filter"), "--a", names[0], "--b", names[1]]
+            ran = run([*words, "--capture", bench.path("capture"), "--ledger", bench.path("ledger")], stdin=subprocess.DEVNULL, stdout=subprocess.PIPE)
+            with open(bench.path("capture"), "rb") as capture, open(bench.path("ledger"), "rb") as ledger:
+                outs[way] = ran.returncode, capture.read(), ledger.read()
+        say(f"pcapng: pair {seed} as one file", "" if outs["pcap"] == outs["pcapng"] else f"{[len(part) for part in outs['pcap'][1:]]}, {[len(part) for part in outs['pcapng'][1:]]}, statuses {outs['pcap'][0]}, {outs['pcapng'][0]}")
+        words = ["cut", "--ledger", bench.path("ledger"), "--a", bench.path("both.pcapng:0"), "--b", bench.path("both.pcapng:1"), "--verdict", "delivered"]
+        plain_words = [*words[:3], "--a", bench.path("a.pcap"), "--b", bench.path("b.pcap"), *words[7:]]
+        cut_of = [run(one, stdin=subprocess.DEVNULL, stdout=subprocess.PIPE).stdout for one in (words, plain_words)]
+        say(f"pcapng: cut of pair {seed}", "" if cut_of[0] == cut_of[1] and cut_of[0][:4] == HEADER[:4] else "they differ")
+    say("pcapng: pairs are tried", "" if tried >= 20 else f"{tried}")
+
+
+def other_commands(bench):
+    """`debug` reads pcapng, and notes what is left out; `watch` tells the interfaces of the network's file."""
+    both = bench.put("both.pcapng", both_networks())
+    ran = run(["debug", "--filter", bench.put("filter", FIRST_64.encode()), "--tap", both + ":eth1"], input=b"tally\n", stdout=subprocess.PIPE)
+    say("pcapng: debug", difference(ran, SUCCESS, "", b"frames 4\ntally accepted 4 rejected 0\n"))
+    bench.put("config", TABLE.encode())
+    ledger = bench.put("ledger", b"older")
+    for network, given in (("A", ["--a", both]), ("B", ["--b", both])):
+        ran = run(["watch", "--config", bench.path("config"), *given, "--ledger", ledger], stdin=subprocess.DEVNULL, stdout=subprocess.PIPE)
+        with open(ledger, "rb") as kept:
+            older = kept.read()
+        fault = difference(ran, FAULT, f"afdxmon: interfaces --{network.lower()}: 0 eth0, 2 eth1", b"")
+        say(f"pcapng: several interfaces of network {network}", fault or ("" if older == b"older" else "the ledger was touched"))
+    ran = run(["watch", "--config", bench.path("config"), "--a", both + ":0", "--b", both + ":1", "--ledger", "-"], stdin=subprocess.DEVNULL, stdout=subprocess.PIPE)
+    told = note_of("clean 0", 4, "B")
+    say("pcapng: packets that are not of Ethernet", difference(ran, SUCCESS, told))
+    ran = run(["watch", "--config", bench.path("config"), "--a", both + ":0", "--ledger", both], stdin=subprocess.DEVNULL, stdout=subprocess.PIPE)
+    say("pcapng: an output that is an input", difference(ran, FAULT, "afdxmon: file --ledger", b""))
+
+
+def tools(bench):
+    """Files of editcap and mergecap read as the pcap files that they come of."""
+    for tool in ("editcap", "mergecap"):
+        if not shutil.which(tool):
+            say(f"pcapng: {tool} is left out", "")
+            continue
+        taps = [HEADER + b"".join(record(SECOND * 10**9 + i * 1000 + shift, data) for i, data in enumerate(DATA * 9)) for shift in (0, 7)]
+        paths = [bench.put(f"{i}.pcap", data) for i, data in enumerate(taps)]
+        out = bench.path("out.pcapng")
+        command = [tool, "-F", "pcapng", paths[0], out] if tool == "editcap" else [tool, "-F", "pcapng", "-I", "none", "-w", out, *paths]
+        subprocess.run(command, check=True, capture_output=True, timeout=60)
+        for i, expected in enumerate(taps[:1] if tool == "editcap" else taps):
+            ran = run(["capture", "--code", EVERY, f"{out}:{i}"], stdin=subprocess.DEVNULL, stdout=subprocess.PIPE)
+            say(f"pcapng: interface {i} of {tool}", difference(ran, SUCCESS, "", expected))
+
+
+def cases():
+    with tempfile.TemporaryDirectory() as directory:
+        bench = Bench(directory)
+        for part in (formats, sections, choices, wrong, heads, cuts, other_commands, generated, tools):
+            part(bench)

@@ -1,0 +1,477 @@
+"""`afdxmon cut` as a program: packets and lines byte by byte, compared with a slow cut over whole lists.
+
+The slow cut takes a ledger's lines one by one, tries each option on each, and looks frames up in the parsed recordings.
+It shares nothing with the product. Ledgers come of `afdxmon watch` on the pairs of tests/pairs.py.
+
+A line's number counts the ledger's lines from 1, its head among them. Times of day are those of the day of the ledger's
+first frame.
+"""
+import datetime
+import os
+import random
+import re
+import subprocess
+import tempfile
+import threading
+
+import pairs
+from analyser import table_of
+from harness import EVERY, FAULT, SUCCESS, USAGE, PROGRAM, difference, frame, header, record, run, say
+from reference import HEADER, parse, record_of
+from streams import at_terminal
+from texts import TO_A_TERMINAL
+from watching import TABLE, tap
+
+# Every line that standard error may have: the words are settled here, and nowhere else in these tests.
+LINES = {
+    "head": "afdxmon: cut 1 Ledger at {} head",
+    "class": "afdxmon: cut 1 Ledger at {} class",
+    "mask": "afdxmon: cut 1 Ledger at {} mask",
+    "part": "afdxmon: cut 1 Ledger at {} newline",
+    "order": "afdxmon: cut 2 Order at {}",
+    "absent": "afdxmon: cut 3 Absent at {}",
+    "header": "afdxmon: cut 4 Header {} {}",
+    "read": "afdxmon: cut 5 Read {}",
+    "write": "afdxmon: cut 6 Write Output",
+    "memory": "afdxmon: cut 7 Memory",
+    "selection": "afdxmon: cut 8 Selection {} at {}",
+    "open": "afdxmon: file {}",
+    "aborted": "afdxmon: note: ledger ends without its total",
+}
+DISCARDED = set("cut runt oversize foreign unconfigured toolong excess out copy".split())
+GROUPS = {"discarded": DISCARDED, "delivered": {"deliver", "both"}}
+DAY = 86_400 * 10**9
+OPTIONS = ("link", "network", "verdict", "from", "to", "filters", "around")
+
+
+def moment(text, day):
+    """Nanoseconds since 1970. `day` is the midnight before the ledger's first frame."""
+    if text.isdigit():
+        return int(text)
+    whole, _, fraction = text.removesuffix("Z").partition(".")
+    nanoseconds = int(fraction.ljust(9, "0")) if fraction else 0
+    if not text.endswith("Z"):
+        hours, minutes, seconds = map(int, whole.split(":"))
+        return day + ((hours * 60 + minutes) * 60 + seconds) * 10**9 + nanoseconds
+    at = datetime.datetime.fromisoformat(whole + "+00:00")
+    return round((at - datetime.datetime.fromisoformat("1970-01-01T00:00:00+00:00")) / datetime.timedelta(seconds=1)) * 10**9 + nanoseconds
+
+
+def written(time):
+    """A moment as RFC 3339 has it, with nine digits."""
+    at = datetime.datetime.fromtimestamp(time // 10**9, datetime.timezone.utc)
+    return f"{at:%Y-%m-%dT%H:%M:%S}.{time % 10**9:09}Z"
+
+
+def links_of(text, config):
+    """The identifiers that a list of links means."""
+    found = set()
+    for item in text.split(","):
+        numbers = re.fullmatch(r"(\d+)(?:-(\d+))?", item)
+        if numbers:
+            found.update(range(int(numbers[1]), int(numbers[2] or numbers[1]) + 1))
+        else:
+            pattern = ".*".join(map(re.escape, item.split("*")))
+            found.update(link.id for link in table_of(config).links.values() if re.fullmatch(pattern, link.name))
+    return found
+
+
+def nameless(text, config):
+    """The first item of a list of links that is a name, and no link's."""
+    return next((at for at, item in enumerate(text.split(",")) if not item[0].isdigit() and not links_of(item, config)), None)
+
+
+def meets(fields, options, config, day):
+    """Does a frame's line meet each option?"""
+    words = set()
+    for word in options.get("verdict", "").split(","):
+        words |= GROUPS.get(word, {word})
+    time = int(fields[0])
+    return (
+        ("network" not in options or fields[1] == options["network"])
+        and ("link" not in options or fields[3] != "-" and int(fields[3]) in links_of(options["link"], config))
+        and ("verdict" not in options or bool(words & set(fields[5:9])))
+        and ("from" not in options or moment(options["from"], day) <= time)
+        and ("to" not in options or time <= moment(options["to"], day))
+        and ("filters" not in options or int(options["filters"], 16) & int(fields[10], 16) != 0)
+    )
+
+
+def frame_lines(ledger):
+    """The whole lines of frames, each with its newline."""
+    lines = ledger.decode("ascii").splitlines(keepends=True)[1:]
+    return [line for line in lines if line.endswith("\n") and line[0].isdigit()]
+
+
+def nearby(links, selected, around):
+    """Of each frame: is it selected, or at most so many frames of its link away from one that is?"""
+    ranks = [links[:at].count(link) for at, link in enumerate(links)]
+    taken = {(link, rank) for link, rank, one in zip(links, ranks, selected) if one}
+    return [one or link != "-" and any((link, rank + step) in taken for step in range(-around, around + 1)) for link, rank, one in zip(links, ranks, selected)]
+
+
+def chosen(ledger, options, config):
+    """The lines of the selected frames, and of those around them."""
+    lines = [line.split() for line in frame_lines(ledger)]
+    day = int(lines[0][0]) // DAY * DAY if lines else 0
+    selected = [meets(fields, options, config, day) for fields in lines]
+    if "around" in options:
+        selected = nearby([fields[3] for fields in lines], selected, min(int(options["around"]), len(lines)))
+    return [line for line, one in zip(frame_lines(ledger), selected) if one]
+
+
+def packets_of(lines, recordings):
+    """A capture of these lines' frames, whole. `recordings`: by network, what parse makes of them; other frames are left out."""
+    out = [HEADER]
+    for line in lines:
+        _, network, index = line.split()[:3]
+        if network in recordings:
+            out.append(record_of(*recordings[network][int(index)]))
+    return b"".join(out)
+
+
+class Bench:
+    """A directory with the files of one cut after another."""
+
+    def __init__(self, directory):
+        self.directory = directory
+
+    def path(self, name):
+        return os.path.join(self.directory, name)
+
+    def put(self, **contents):
+        for name, content in contents.items():
+            with open(self.path(name), "wb") as out:
+                out.write(content.encode() if isinstance(content, str) else content)
+
+    def read(self, name):
+        with open(self.path(name), "rb") as given:
+            return given.read()
+
+    def arguments(self, options=None, networks="ab", *flags):
+        """The arguments of a cut, with those of `options` that name a network's files or the output replaced."""
+        words = ["cut", "--ledger", self.path("ledger")]
+        for network in networks:
+            words += ["--" + network, self.path(network)]
+        for name, value in (options or {}).items():
+            words += ["--" + name, value]
+        if "*" in (options or {}).get("link", "") or re.search("[a-z]", (options or {}).get("link", "")):
+            words += ["--config", self.path("config")]
+        return [*words, *flags]
+
+    def cut(self, options=None, networks="ab", *flags, **how):
+        return run(self.arguments(options, networks, *flags), **{"stdin": subprocess.DEVNULL, "stdout": subprocess.PIPE, **how})
+
+    def watched(self, config, code, a, b):
+        """Lays a run's files, its ledger among them."""
+        self.put(config=config, filter=code, a=a, b=b)
+        given = [word for name in ("config", "filter", "a", "b", "ledger") for word in ("--" + name, self.path(name))]
+        subprocess.run([PROGRAM, "watch", *given, "--capture", self.path("kept")], check=True, capture_output=True, timeout=60)
+        return self.read("ledger")
+
+
+def recordings_of(a, b, networks="ab"):
+    """What the recordings hold, however late a timestamp comes."""
+    return {network.upper(): parse(given, 1 << 62)[0] for network, given in (("a", a), ("b", b)) if network in networks}
+
+
+def compared(bench, name, options, config, a, b, networks="ab", line=""):
+    """A cut that has to succeed, or ends at the first line of a network without a recording: its packets, and the lines without packets.
+    A name that no link has is refused."""
+    ledger = bench.read("ledger")
+    wrong = nameless(options["link"], config) if "link" in options else None
+    if wrong is not None:
+        told = LINES["selection"].format("link", wrong)
+        fault = difference(bench.cut(options, networks), FAULT, told, b"") or difference(bench.cut(options, "", "--ledger-only"), FAULT, told, b"")
+        return say(f"cut: {name}: a name that no link has", fault)
+    lines = chosen(ledger, options, config)
+    frames = frame_lines(ledger)
+    others = [at for at, one in enumerate(frames) if one.split()[1].lower() not in networks]
+    status, told = (FAULT, LINES["absent"].format(others[0] + 2)) if others else (SUCCESS, line)
+    before = [one for one in lines if one in frames[: others[0]]] if others else lines
+    fault = difference(bench.cut(options, networks), status, told, packets_of(before, recordings_of(a, b, networks)))
+    everything = "".join(chosen(ledger, options, config)).encode()
+    fault = fault or difference(bench.cut(options, "", "--ledger-only"), SUCCESS, line, everything)
+    say(f"cut: {name}: {' '.join(f'--{key} {value}' for key, value in options.items())}", fault)
+
+
+def times_of(chance, ledger):
+    """A frame's moment, one nanosecond before it, or one after it, as a person may write it."""
+    lines = frame_lines(ledger)
+    stamp = int(chance.choice(lines).split()[0]) + chance.choice((0, 0, -1, 1)) if lines else 0
+    stamp = max(0, stamp)
+    day = int(lines[0].split()[0]) // DAY * DAY if lines else 0
+    forms = [str(stamp), written(stamp)]
+    if 0 <= stamp - day < DAY:
+        forms.append(written(stamp)[11:29])
+        if stamp % 10**9 == 0:
+            forms.append(written(stamp)[11:19])
+    return chance.choice(forms)
+
+
+def some_options(chance, ledger, config):
+    """A selection by chance: each option alone or with others."""
+    words = sorted({word for line in frame_lines(ledger) for word in line.split()[5:9]} - {"-"} | set(GROUPS) | {"runt"})
+    names = [link.name for link in table_of(config).links.values()]
+    make = {
+        "link": lambda: chance.choice(("5", "6-8", "5,300", "0-65535", "9", "8-8,5", "link-*", "*5", "*-*0*", names[0], f"9,{names[-1]}")),
+        "network": lambda: chance.choice("AB"),
+        "verdict": lambda: ",".join(chance.sample(words, chance.choice((1, 1, 2, 3)))),
+        "from": lambda: times_of(chance, ledger),
+        "to": lambda: times_of(chance, ledger),
+        "filters": lambda: chance.choice(("01", "02", "06", "ff", "80", "fe")),
+        "around": lambda: chance.choice(("0", "1", "1", "2", "3", "5", "65535")),
+    }
+    return {name: make[name]() for name in chance.sample(OPTIONS, chance.choice((0, 1, 1, 2, 3)))}
+
+
+def generated(bench):
+    """Selections over small pairs: late, equal and missing timestamps, each class and verdict."""
+    used = set()
+    for seed in range(60):
+        chance = random.Random(seed)
+        config, code, a, b = pairs.pair(chance)
+        ledger = bench.watched(config, code, a, b)
+        for _ in range(3):
+            options = some_options(chance, ledger, config)
+            used.update(options)
+            compared(bench, f"pair {seed}", options, config, a, b)
+        network = chance.choice("ab")
+        compared(bench, f"pair {seed}, network {network.upper()}", {"network": network.upper()}, config, a, b, network)
+        alone = {"a": (a, HEADER), "b": (HEADER, b)}[network]
+        bench.watched(config, code, *alone)
+        compared(bench, f"pair {seed}, network {network.upper()} alone", some_options(chance, ledger, config), config, *alone, network)
+    say("cut: each option is tried", "" if used == set(OPTIONS) else f"without {set(OPTIONS) - used}")
+
+
+# Times of a day that begins at 10^18 - 10^18 % DAY, and a link of three frames on each network.
+NOON = 1_800_000_000 * 10**9 // DAY * DAY + DAY // 2
+
+
+def small():
+    """Six frames: on each network three of link 5, and of link 6 one on A alone, which no table has."""
+    a = tap((NOON, frame(5, 60, 1)), (NOON + 10**9, frame(6, 60, 1)), (NOON + 2 * 10**9, frame(5, 61, 2)), (NOON + 4 * 10**9, frame(5, 62, 3)))
+    b = tap((NOON, frame(5, 60, 1)), (NOON + 2 * 10**9 + 1, frame(5, 61, 2)), (NOON + 4 * 10**9, frame(5, 62, 3)))
+    return a, b
+
+
+def bounds(bench):
+    """Each option at its bounds, on frames of which each has its own time."""
+    a, b = small()
+    bench.watched(TABLE, EVERY, a, b)
+    two = NOON + 2 * 10**9
+    cases = [{}]
+    cases += [{end: text} for end in ("from", "to") for time in (two - 1, two, two + 1, two + 2) for text in (str(time), written(time), written(time)[11:29])]
+    cases += [{"from": "12:00:02", "to": "12:00:02"}, {"from": "00:00:00", "to": "23:59:59.999999999"}, {"from": "12:00:02.0", "to": "12:00:02.000000001"}]
+    cases += [{"from": str(two + 1), "to": str(two)}, {"from": "0", "to": str(2**32 * 10**9 - 1)}]
+    cases += [{"link": text} for text in ("5", "5-5", "4-5", "5-6", "6", "4", "7-65535", "0-4,6-65535", "brake", "br*", "*", "b*e", "br*ake", "*rak", "6,brake")]
+    cases += [{"network": "A"}, {"network": "B"}, {"verdict": "first"}, {"verdict": "next,unconfigured"}, {"verdict": "discarded"}, {"verdict": "delivered"}, {"verdict": "regular"}]
+    cases += [{"filters": "01"}, {"filters": "fe"}, {"filters": "03"}]
+    cases += [{"link": "5", "network": "B", "verdict": "copy", "from": str(two), "to": str(two + 1), "filters": "01"}]
+    cases += [{"around": text, **more} for text in ("0", "1", "2", "3", "4", "5", "6", "65534", "65535") for more in ({}, {"verdict": "first"}, {"from": str(two), "to": str(two)}, {"link": "6"})]
+    for options in cases:
+        compared(bench, "bounds", options, TABLE, a, b)
+
+
+def late(bench):
+    """A late frame stands earlier in the ledger than in its recording, which is read whole for it."""
+    a = tap((NOON, frame(5, 60, 1)), (NOON + 2000, frame(5, 60, 3)), (NOON + 1000, frame(5, 60, 2)), (NOON + 2000, frame(5, 60, 4)))
+    config = "late_us = 1\n" + TABLE
+    bench.watched(config, EVERY, a, HEADER)
+    for options in ({}, {"from": str(NOON + 1000)}, {"to": str(NOON + 1000)}, {"from": str(NOON + 2000)}):
+        compared(bench, "a late frame", options, config, a, HEADER)
+
+
+def truncated_frames(bench):
+    """Packets have the frame as recorded: a truncated one with its length on the wire, whatever a filter keeps of others."""
+    a = header() + record(NOON, frame(5, 60, 1)[:20], original=60) + record(NOON + 1, frame(5, 60, 2))
+    bench.watched(TABLE, "1,6 0 0 8,", a, HEADER)
+    for options in ({}, {"verdict": "cut"}, {"filters": "01"}):
+        compared(bench, "frames whole as recorded", options, TABLE, a, HEADER)
+
+
+def unfinished(bench):
+    """Ledgers of runs that were aborted: whole lines alone, or a part of the last one."""
+    a, b = small()
+    ledger = bench.watched(TABLE, EVERY, a, b)
+    lines = ledger.splitlines(keepends=True)
+    for count in (1, 2, 4, 8, len(lines) - 1):
+        bench.put(ledger=b"".join(lines[:count]))
+        compared(bench, f"{count} lines of a ledger", {}, TABLE, a, b, line=LINES["aborted"])
+    for lost in (1, 2, 30):
+        bench.put(ledger=b"".join(lines[:5])[:-lost])
+        before = b"".join(lines[:4])
+        told = LINES["part"].format(5)
+        say(f"cut: the last line without {lost} bytes", difference(bench.cut(), FAULT, told, packets_of(frame_lines(before), recordings_of(a, b)))
+            or difference(bench.cut(None, "", "--ledger-only"), FAULT, told, "".join(frame_lines(before)).encode()))
+
+
+def refused(bench, name, told, before, a, b, flags=()):
+    """A cut that a line ends: what stands before it is written."""
+    lines = frame_lines(before)
+    expected = "".join(lines).encode() if flags else packets_of(lines, recordings_of(a, b))
+    say(f"cut: {name}: {told}", difference(bench.cut(None, "ab", *flags), FAULT, told, expected))
+
+
+def other_recordings(bench):
+    """Lines that the recordings don't bear out, each with the line's number."""
+    a, b = small()
+    lines = bench.watched(TABLE, EVERY, a, b).splitlines(keepends=True)
+    head, third = lines[0], b"".join(lines[:3])
+
+    def changed(name, at, old, new, line, before):
+        bench.put(ledger=b"".join([*lines[:at], lines[at].replace(old, new, 1), *lines[at + 1 :]]))
+        refused(bench, name, LINES[line].format(at + 1), before, a, b)
+
+    changed("another index", 3, b" A 1 ", b" A 2 ", "absent", third)
+    changed("an index past the recording's end", 3, b" A 1 ", b" A 4 ", "absent", third)
+    changed("another timestamp", 3, str(NOON + 10**9).encode(), str(NOON + 10**9 + 1).encode(), "absent", third)
+    changed("another network", 3, b" A 1 ", b" B 1 ", "absent", third)
+    changed("an earlier timestamp", 3, str(NOON + 10**9).encode(), str(NOON - 1).encode(), "order", third)
+    changed("a line of other words", 3, b"unconfigured", b"unknown", "class", third)
+    changed("a line without its last field", 3, b" 01\n", b"\n", "mask", third)
+    changed("another version", 0, b"ledger 2", b"ledger 1", "head", head)
+    bench.put(ledger=b"".join([*lines[:3], lines[2], *lines[3:]]))
+    refused(bench, "a line twice", LINES["order"].format(4), third, a, b)
+    bench.put(ledger=b"".join(lines), a=b, b=a)
+    refused(bench, "networks swapped", LINES["absent"].format(4), third, b, a)
+    bench.put(a=tap((NOON, frame(5, 60, 1))), b=b)
+    refused(bench, "another recording", LINES["absent"].format(4), third, tap((NOON, frame(5, 60, 1))), b)
+    bench.put(a=a, ledger=b"")
+    compared(bench, "an empty ledger", {}, TABLE, a, b, line=LINES["aborted"])
+    for network in "AB":
+        bench.put(ledger=b"".join(lines), a=a, b=b)
+        bench.put(**{network.lower(): header()[:23]})
+        say(f"cut: recording {network} is short", difference(bench.cut(), FAULT, LINES["header"].format(network, "1 Short"), b""))
+
+
+def streams(bench):
+    """Files through pipes, `-` for each of them, and both ways to name the output."""
+    a, b = small()
+    ledger = bench.watched(TABLE, EVERY, a, b)
+    packets = packets_of(frame_lines(ledger), recordings_of(a, b))
+    words = bench.arguments()
+    for option, name in (("--ledger", "ledger"), ("--a", "a"), ("--b", "b")):
+        at = words.index(option) + 1
+        through = [*words[:at], "-", *words[at + 1 :]]
+        say(f"cut: {option} -", difference(run(through, input=bench.read(name), stdout=subprocess.PIPE), SUCCESS, "", packets))
+        pipe = bench.path("pipe")
+        os.mkfifo(pipe)
+        pourer = threading.Thread(target=pour, args=(pipe, bench.read(name)), daemon=True)
+        pourer.start()
+        say(f"cut: {option} through a pipe", difference(run([*words[:at], pipe, *words[at + 1 :]], stdin=subprocess.DEVNULL, stdout=subprocess.PIPE), SUCCESS, "", packets))
+        os.remove(pipe)
+    for flag in ("-o", "--output"):
+        bench.put(out=b"older")
+        fault = difference(bench.cut(None, "ab", flag, bench.path("out")), SUCCESS, "", b"")
+        say(f"cut: {flag} FILE", fault or ("" if bench.read("out") == packets else "the file differs"))
+        say(f"cut: {flag} -", difference(bench.cut(None, "ab", flag, "-"), SUCCESS, "", packets))
+    say("cut: lines with recordings", difference(bench.cut({"network": "A"}, "ab", "--ledger-only"), SUCCESS, "", "".join(chosen(ledger, {"network": "A"}, TABLE)).encode()))
+
+
+def ledger_of_a_pipe(bench):
+    """Frames around others need the ledger twice: one that comes through a pipe is refused before anything is written."""
+    a, b = small()
+    ledger = bench.watched(TABLE, EVERY, a, b)
+    words = [*bench.arguments({"around": "1"}), "-o", bench.path("out")]
+    at = words.index("--ledger") + 1
+    told = LINES["selection"].format("around", 0)
+    bench.put(out=b"older")
+    pipe = bench.path("pipe")
+    os.mkfifo(pipe)
+    pourer = threading.Thread(target=pour, args=(pipe, ledger), daemon=True)
+    for name, path in (("-", "-"), ("a pipe", pipe)):
+        if path == pipe:
+            pourer.start()
+        fault = difference(run([*words[:at], path, *words[at + 1 :]], input=ledger, stdout=subprocess.PIPE), FAULT, told, b"")
+        say(f"cut: --around with the ledger of {name}", fault or ("" if bench.read("out") == b"older" else "the output was touched"))
+    os.remove(pipe)
+    words[words.index("--around") + 1] = "0"
+    fault = difference(run([*words[:at], "-", *words[at + 1 :]], input=ledger, stdout=subprocess.PIPE), SUCCESS, "", b"")
+    say("cut: --around 0 reads the ledger once", fault or ("" if bench.read("out") == packets_of(frame_lines(ledger), recordings_of(a, b)) else "the file differs"))
+
+
+def pour(path, given):
+    try:
+        with open(path, "wb") as out:
+            out.write(given)
+    except BrokenPipeError:
+        pass
+
+
+def usage(bench):
+    """Refused options: status 2 and the option in the text; of a selection status 1 and the item. Nothing is written."""
+    a, b = small()
+    bench.watched(TABLE, EVERY, a, b)
+    whole = bench.arguments()
+    cases = [("no ledger", ["cut", "--a", bench.path("a")], "--ledger"), ("no recording", whole[:3], "--a, --b")]
+    cases += [(f"--{name} twice", [*whole, f"--{name}", value, f"--{name}", value], f"--{name}") for name, value in
+              (("link", "5"), ("network", "A"), ("verdict", "out"), ("from", "1"), ("to", "1"), ("filters", "01"), ("around", "1"))]
+    cases += [(f"--around {text!r}", [*whole, f"--around={text}"], "--around") for text in ("65536", "-1", "", "1.5", "one")]
+    cases += [(f"--network {text!r}", [*whole, f"--network={text}"], "--network") for text in ("C", "a", "AB", "")]
+    wrong = [("link", text) for text in ("5-4", "65536", "5,", ",5", "5--6", "", "brake", "5-")]
+    wrong += [("verdict", text) for text in ("exces", "out,", "", "A", "out copy", "-")]
+    wrong += [("filters", text) for text in ("", "0", "100", "0g", "+1", "00")]
+    wrong += [(end, text) for end in ("from", "to") for text in ("24:00:00", "12:00", "12:60:00", "12:00:00.", "12:00:00.1234567890", "1969-12-31T23:59:59Z",
+              "2027-02-29T00:00:00Z", "2106-02-07T06:28:16Z", str(2**32 * 10**9), "-1", "+1", "noon", "2027-01-15T08:00:12", "2027-01-15T08:00:12+01:00", "")]
+    for name, arguments, mentioned in cases:
+        ran = run(arguments, stdin=subprocess.DEVNULL, stdout=subprocess.PIPE)
+        say(f"cut: {name}", difference(ran, USAGE, lambda told: mentioned in told, b""))
+    texts = [(name, [*whole, f"--{name}={text}"], 1 if text in ("5,", "out,") else 0) for name, text in wrong]
+    texts += [("link", [*whole, "--config", bench.path("config"), "--link", "5,flaps"], 1)]
+    for name, arguments, item in texts:
+        ran = run(arguments, stdin=subprocess.DEVNULL, stdout=subprocess.PIPE)
+        say(f"cut: {arguments[-1]}", difference(ran, FAULT, LINES["selection"].format(name, item), b""))
+    found = at_terminal(whole)
+    say("cut: packets never go to a terminal", "" if found == (USAGE, "", TO_A_TERMINAL + "\n") else f"{found!r}"[:300])
+    found = at_terminal([*whole, "--ledger-only"])
+    lines = "".join(frame_lines(bench.read("ledger")))
+    say("cut: lines go to a terminal", "" if found == (SUCCESS, lines, "") else f"{found!r}"[:300])
+
+
+def devices(bench):
+    """Files that can't be opened, read or written."""
+    a, b = small()
+    bench.watched(TABLE, EVERY, a, b)
+    whole = bench.arguments()
+    for option, of in (("--ledger", "Ledger"), ("--a", "A"), ("--b", "B")):
+        at = whole.index(option) + 1
+        for path, line in ((bench.path("missing"), LINES["open"].format(option)), (bench.directory, LINES["read"].format(of)), ("/proc/self/mem", LINES["read"].format(of))):
+            # The capture is begun before the ledger is read.
+            begun = header() if of == "Ledger" and os.path.exists(path) else b""
+            ran = run([*whole[:at], path, *whole[at + 1 :]], stdin=subprocess.DEVNULL, stdout=subprocess.PIPE)
+            say(f"cut: {option} {os.path.basename(path)}", difference(ran, FAULT, line, begun))
+    for flags in ((), ("--ledger-only",)):
+        with open("/dev/full", "wb") as full:
+            say(f"cut: a full disk {' '.join(flags)}", difference(bench.cut(None, "ab", *flags, stdout=full), FAULT, LINES["write"]))
+        say(f"cut: -o /dev/full {' '.join(flags)}", difference(bench.cut(None, "ab", *flags, "-o", "/dev/full"), FAULT, LINES["write"], b""))
+
+
+def a_million(bench, frames=1_000_000):
+    """A ledger of a million lines and its recordings, in closed form: every 1000th frame on A, and all lines of B."""
+    stamps = range(NOON, NOON + frames // 2 * 10**6, 10**6)
+    packets = [record(stamp, frame(5, 60, i % 255 + 1)) for i, stamp in enumerate(stamps)]
+    recording = header() + b"".join(packets)
+    lines = []
+    for i, stamp in enumerate(stamps):
+        judged = f"{i} 5 {i % 255 + 1} regular within {'next' if i else 'first'}"
+        verdict = "deliver 60 01" if i % 1000 == 0 else "deliver - 00"
+        lines += [f"{stamp} A {judged} {verdict}\n", f"{stamp} B {judged} copy - 00\n"]
+    bench.put(a=recording, b=recording, ledger=("afdx-ledger 2\n" + "".join(lines)).encode() + b"total frames %d accepted 0\n" % frames)
+    ran = bench.cut({"filters": "01"})
+    say(f"cut: {frames} lines, one of a thousand", difference(ran, SUCCESS, "", header() + b"".join(packets[::1000])))
+    ran = bench.cut({"verdict": "copy"})
+    say(f"cut: {frames} lines, all of a network", difference(ran, SUCCESS, "", recording))
+    near = {at + step for at in range(0, frames, 2000) for step in range(-3, 4)}
+    ran = bench.cut({"filters": "01", "around": "3"}, "", "--ledger-only")
+    expected = "".join(line for at, line in enumerate(lines) if at in near).encode()
+    say(f"cut: {frames} lines, three around one of a thousand", difference(ran, SUCCESS, "", expected))
+    ran = bench.cut({"from": str(stamps[-1])}, "", "--ledger-only")
+    say(f"cut: {frames} lines, the last ones", difference(ran, SUCCESS, "", "".join(lines[-2:]).encode()))
+
+
+def cases():
+    with tempfile.TemporaryDirectory() as directory:
+        bench = Bench(directory)
+        for part in (bounds, late, truncated_frames, unfinished, other_recordings, streams, ledger_of_a_pipe, usage, devices, generated, a_million):
+            part(bench)
