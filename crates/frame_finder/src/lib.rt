@@ -14,7 +14,5 @@
 mod finder;
 mod passed;
 mod place;
-#[cfg(test)]
-mod tests;
 
 pub use finder::{FindFault, FrameFinder};

@@ -30,10 +30,6 @@ mod lines;
 mod number;
 mod order;
 mod reader;
-#[cfg(test)]
-mod reader_tests;
-#[cfg(test)]
-mod tests;
 mod words;
 
 pub use bounds::{BLOCK_LEN, MOST_LINES};

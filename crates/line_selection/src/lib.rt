@@ -9,19 +9,13 @@
 
 mod chooser;
 mod link_list;
-#[cfg(test)]
-mod link_list_tests;
 mod link_runs;
 mod link_set;
 mod mask;
 mod moment;
-#[cfg(test)]
-mod neighbour_tests;
 mod neighbours;
 mod pattern;
 mod selection;
-#[cfg(test)]
-mod tests;
 mod word;
 mod words;
 

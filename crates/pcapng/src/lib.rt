@@ -23,8 +23,6 @@ mod interface;
 mod options;
 mod section;
 mod source;
-#[cfg(test)]
-mod tests;
 mod text;
 
 pub use block::MAX_BLOCK_LEN;

@@ -42,8 +42,6 @@ mod protocol;
 mod reply;
 mod share;
 mod task;
-#[cfg(test)]
-mod tests;
 
 pub use chunk::MAX_CHUNK;
 pub use fault::PoolFault;

@@ -1,0 +1,164 @@
+//! Calls that allocate return the right answer, or say that they are out of memory.
+//!
+//! The script `tests/allocations.sh` has each allocation in them fail in turn. A test `refusal_..` then
+//! passes by either answer, and a test `ample_..` by the right one alone, so it tells whether an
+//! allocation failed. With ample memory both have to pass.
+
+use analyser::{Fault, capture_over, fault_line};
+use bpf_isa::{NumericFault, Packed, read_numeric, write_numeric};
+use bpf_loader::LoadFault;
+use pcap_io::{MemSink, MemSource, OutSink, Script};
+use std::process::Abort;
+use test_support::{FIRST_RUN, ONE_LINK, SOUND, WIDE};
+
+/// The instructions of the first run's filter.
+const WORDS: [Packed; 4] = [
+    Packed {
+        code: 40,
+        jt: 0,
+        jf: 0,
+        k: 4,
+    },
+    Packed {
+        code: 21,
+        jt: 0,
+        jf: 1,
+        k: 5,
+    },
+    Packed {
+        code: 6,
+        jt: 0,
+        jf: 0,
+        k: u32::MAX,
+    },
+    Packed {
+        code: 6,
+        jt: 0,
+        jf: 0,
+        k: 0,
+    },
+];
+
+/// Reads a filter. Answers whether there was the memory, as all here.
+fn reads_a_filter(rt: &(impl Abort + AllocGlobal)) -> bool {
+    match read_numeric(rt.alloc(), ONE_LINK) {
+        Ok(words) => {
+            assert_eq!(rt; words.as_slice(), WORDS.as_slice());
+            true
+        }
+        Err(fault) => {
+            assert_eq!(rt; fault, NumericFault::Memory);
+            false
+        }
+    }
+}
+
+/// Writes a filter.
+fn writes_a_filter(rt: &(impl Abort + AllocGlobal)) -> bool {
+    let Ok(text) = write_numeric(rt.alloc(), &WORDS) else {
+        return false;
+    };
+    assert_eq!(rt; text.as_str(), ONE_LINK);
+    true
+}
+
+/// Makes a sink, and writes to it, which takes no memory.
+fn makes_a_sink(rt: &(impl Abort + AllocGlobal)) -> bool {
+    let Ok(mut sink) = MemSink::new(rt.alloc(), Script { most: 5, ..SOUND }) else {
+        return false;
+    };
+    assert!(rt; sink.taken().is_empty());
+    assert_eq!(rt; sink.write(b"sixfold"), Ok(5));
+    assert_eq!(rt; sink.taken(), b"sixfo".as_slice());
+    true
+}
+
+/// Makes the line of a fault.
+fn makes_a_line(rt: &(impl Abort + AllocGlobal)) -> bool {
+    let fault = Fault::Load {
+        fault: LoadFault::Unstored { at: 2, word: 0 },
+        filter: None,
+    };
+    let Ok(line) = fault_line(rt.alloc(), &fault) else {
+        return false;
+    };
+    assert_eq!(rt; line.as_str(), "afdxmon: load 9 Unstored at 2 word 0");
+    true
+}
+
+/// Copies the first run. Where there was no memory, what is written is a prefix of the capture.
+fn copies_the_first_run(rt: &(impl Abort + AllocGlobal)) -> bool {
+    let alloc = rt.alloc();
+    let (Ok(bytes), Ok(sink)) = (
+        Vec::from_slice(alloc, &FIRST_RUN),
+        MemSink::new(alloc, WIDE),
+    ) else {
+        return false;
+    };
+    let ran = capture_over(alloc, ONE_LINK, MemSource::new(bytes, SOUND), sink);
+    if ran.status == 0 {
+        assert!(rt; ran.line.is_none());
+        assert_eq!(rt; ran.sink.taken(), &FIRST_RUN[..100]);
+        return true;
+    }
+    assert_eq!(rt; ran.status, 1);
+    assert!(rt; FIRST_RUN[..100].starts_with(ran.sink.taken()));
+    if let Some(line) = &ran.line {
+        let line = line.as_str();
+        assert!(rt;
+            line == "afdxmon: watch 7 Memory" || line == "afdxmon: numeric 6 Memory",
+            "{line}"
+        );
+    }
+    false
+}
+
+#[test]
+fn refusal_in_reading_a_filter(rt: HostRuntime) {
+    reads_a_filter(&rt);
+}
+
+#[test]
+fn refusal_in_writing_a_filter(rt: HostRuntime) {
+    writes_a_filter(&rt);
+}
+
+#[test]
+fn refusal_in_making_a_sink(rt: HostRuntime) {
+    makes_a_sink(&rt);
+}
+
+#[test]
+fn refusal_in_making_a_line(rt: HostRuntime) {
+    makes_a_line(&rt);
+}
+
+#[test]
+fn refusal_in_the_first_run(rt: HostRuntime) {
+    copies_the_first_run(&rt);
+}
+
+#[test]
+fn ample_for_reading_a_filter(rt: HostRuntime) {
+    assert!(rt; reads_a_filter(&rt));
+}
+
+#[test]
+fn ample_for_writing_a_filter(rt: HostRuntime) {
+    assert!(rt; writes_a_filter(&rt));
+}
+
+#[test]
+fn ample_for_making_a_sink(rt: HostRuntime) {
+    assert!(rt; makes_a_sink(&rt));
+}
+
+#[test]
+fn ample_for_making_a_line(rt: HostRuntime) {
+    assert!(rt; makes_a_line(&rt));
+}
+
+#[test]
+fn ample_for_the_first_run(rt: HostRuntime) {
+    assert!(rt; copies_the_first_run(&rt));
+}

@@ -1,0 +1,143 @@
+//! Sessions with each allocation failing in turn (`tests/allocations.sh`). A test `refusal_..` then
+//! passes by either result, and a test `ample_..` by the right one alone. A command that was refused is
+//! given again, and then answers as if nothing had happened.
+
+use afdx_frame::{Network, Stamp, TapFrame};
+use bpf_debugger::{Command, DebugFault, NewRefused, Reply, Session, render};
+use bpf_isa::{Outcome, Packed, State};
+use bpf_loader::Program;
+use std::process::Abort;
+
+const START: &str = "at 0 pc 0 A 0 X 0 M 0 0 0 0 0 0 0 0 0 0 0 0 0 0 0 0\n";
+
+/// `add #1`, 39 times, and `ret a`.
+fn words(rt: &impl AllocGlobal) -> Option<Vec<Packed>> {
+    let mut words = Vec::new(rt.alloc());
+    for index in 0..40 {
+        let code = if index == 39 { 0x16 } else { 0x04 };
+        let word = Packed {
+            code,
+            jt: 0,
+            jf: 0,
+            k: u32::from(index != 39),
+        };
+        words.push(word).ok()?;
+    }
+    Some(words)
+}
+
+/// A program, and the bytes of one frame.
+fn given(rt: &impl AllocGlobal) -> Option<(Program, Vec<TapFrame>)> {
+    let program = Program::load(words(rt)?).ok()?;
+    let bytes = Vec::from_slice(rt.alloc(), &[0; 60]).ok()?;
+    let frame = TapFrame::new(Network::A, 0, Stamp(0), 60, bytes).ok()?;
+    let mut frames = Vec::new(rt.alloc());
+    frames.push(frame).ok()?;
+    Some((program, frames))
+}
+
+/// A session, and whether there was the memory at the first time.
+fn begun(rt: &(impl Abort + AllocGlobal)) -> Option<(Session, bool)> {
+    let (program, frames) = given(rt)?;
+    match Session::new(rt.alloc(), program, frames) {
+        Ok(session) => Some((session, true)),
+        Err(NewRefused { program, frames }) => {
+            assert_eq!(rt; program.len(), 40);
+            assert_eq!(rt; frames.len(), 1);
+            let session = Session::new(rt.alloc(), program, frames).ok()?;
+            Some((session, false))
+        }
+    }
+}
+
+fn entry(m: usize) -> Reply {
+    let shown = match m {
+        40 => Outcome::Done(39),
+        _ => Outcome::On(State {
+            place: m,
+            a: u32::try_from(m).unwrap_or(0),
+            ..State::start()
+        }),
+    };
+    Reply::At { m, shown }
+}
+
+/// Gives a command, and again where there was no memory; says whether there was at the first time.
+fn replies(rt: &impl Abort, session: &mut Session, command: Command, right: Reply) -> bool {
+    let first = session.command(command);
+    if first == Err(DebugFault::Memory) {
+        assert_eq!(rt; session.command(command), Ok(right), "{command:?}, again");
+        return false;
+    }
+    assert_eq!(rt; first, Ok(right), "{command:?}");
+    true
+}
+
+/// Walks, and says whether there was the memory for each command.
+fn walks(rt: &(impl Abort + AllocGlobal)) -> bool {
+    let Some((mut session, mut ample)) = begun(rt) else {
+        return false;
+    };
+    for (command, m) in [
+        (Command::Select(0), 0),
+        (Command::Step(5), 5),
+        (Command::Step(-2), 3),
+        (Command::Cont, 40),
+        (Command::Step(-1), 39),
+        (Command::Step(-50), 0),
+        (Command::Cont, 40),
+    ] {
+        ample &= replies(rt, &mut session, command, entry(m));
+    }
+    ample
+}
+
+/// The listing, given again where there was no memory; and whether there was at the first time.
+fn listed(rt: &impl Abort, session: &mut Session) -> Option<(Reply, bool)> {
+    match session.command(Command::Disassemble) {
+        Ok(reply) => Some((reply, true)),
+        Err(fault) => {
+            assert_eq!(rt; fault, DebugFault::Memory);
+            let reply = session.command(Command::Disassemble).ok()?;
+            Some((reply, false))
+        }
+    }
+}
+
+/// Lists the program and writes replies, and says whether there was the memory.
+fn tells(rt: &(impl Abort + AllocGlobal)) -> bool {
+    let Some((mut session, ample)) = begun(rt) else {
+        return false;
+    };
+    let Some((listing, first)) = listed(rt, &mut session) else {
+        assert!(rt; false, "no listing at the second time");
+        return false;
+    };
+    let (Ok(lines), Ok(line)) = (render(rt.alloc(), &listing), render(rt.alloc(), &entry(0))) else {
+        return false;
+    };
+    assert!(rt; lines.as_str().starts_with("L0: add #1\nL1: add #1\n"));
+    assert!(rt; lines.as_str().ends_with("\nL39: ret a\n"));
+    assert_eq!(rt; line.as_str(), START);
+    ample && first
+}
+
+#[test]
+fn refusal_in_a_walk(rt: HostRuntime) {
+    walks(&rt);
+}
+
+#[test]
+fn ample_for_a_walk(rt: HostRuntime) {
+    assert!(rt; walks(&rt));
+}
+
+#[test]
+fn refusal_in_telling(rt: HostRuntime) {
+    tells(&rt);
+}
+
+#[test]
+fn ample_for_telling(rt: HostRuntime) {
+    assert!(rt; tells(&rt));
+}

@@ -1,0 +1,159 @@
+//! Reading frames that share blocks, and making packets in memory: each call does what it should, or says
+//! that it is out of memory and leaves what stood there.
+//!
+//! The script `tests/allocations.sh` has each allocation in them fail in turn. A test `refusal_..` then
+//! passes by either answer, and a test `ample_..` by the right one alone.
+
+use crate::recording::copies::push_record;
+use afdx_frame::{FrameBytes, Network, Stamp, TapFrame};
+use pcap_io::{Ending, Item, MemSource, ReadFault, TapReader, append_packet};
+use std::alloc::Global;
+use std::process::Abort;
+use std::sync::Arc;
+use test_support::{HEADER, SOUND, frame};
+
+/// A recording of eight frames of 100 bytes, each of bytes of its own value.
+fn recording(alloc: Global) -> Option<Vec<u8>> {
+    let mut bytes = Vec::from_slice(alloc, &HEADER).ok()?;
+    for place in 0..8u8 {
+        push_record(&mut bytes, usize::from(place), 100, place).ok()?;
+    }
+    Some(bytes)
+}
+
+/// The frames hold their own values.
+fn are_whole(rt: &impl Abort, frames: &[TapFrame]) {
+    for (place, frame) in frames.iter().enumerate() {
+        let bytes = frame.view().bytes();
+        assert_eq!(rt; bytes.len(), 100);
+        assert_eq!(rt; bytes[0], place.to_le_bytes()[0]);
+        assert_eq!(rt; bytes[98], place.to_le_bytes()[0]);
+    }
+}
+
+/// Reads frames and holds them all, in blocks of three packets. Where there was no memory for a frame, the
+/// reader has failed, and the frames before stand. Returns whether there was the memory, as all here.
+fn holds_frames(rt: &(impl Abort + AllocGlobal)) -> bool {
+    let alloc = rt.alloc();
+    let mut frames = Vec::new(alloc);
+    if frames.reserve(8).is_err() {
+        return false;
+    }
+    let Some(bytes) = recording(alloc) else {
+        return false;
+    };
+    let Ok(reader) = TapReader::open(MemSource::new(bytes, SOUND), Network::A, 1 << 32, 0) else {
+        panic!(rt; "no reader of a recording")
+    };
+    let mut reader = reader.with_block_len(348);
+    for _ in 0..9 {
+        match reader.next(alloc) {
+            Ok(Item::Frame(frame)) => {
+                if frames.push(frame).is_err() {
+                    return false;
+                }
+            }
+            Ok(Item::End(ending)) => {
+                assert_eq!(rt; ending, Ending::Clean(8));
+                assert_eq!(rt; frames.len(), 8);
+            }
+            Err(fault) => {
+                assert_eq!(rt; fault, ReadFault::Memory);
+                assert!(rt; matches!(reader.next(alloc), Err(ReadFault::Failed)));
+                are_whole(rt, &frames);
+                return false;
+            }
+        }
+    }
+    are_whole(rt, &frames);
+    true
+}
+
+/// Makes a block, and a frame that shares it, which takes no memory itself.
+fn shares_a_block(rt: &(impl Abort + AllocGlobal)) -> bool {
+    let alloc = rt.alloc();
+    let Ok(bytes) = frame(alloc, 5, 60, 1) else {
+        return false;
+    };
+    let to = bytes.len();
+    let Ok(block) = Arc::new(alloc, bytes) else {
+        return false;
+    };
+    let Ok(part) = FrameBytes::part(&block, 0, to) else {
+        panic!(rt; "there is no room for a second owner")
+    };
+    let Some(shared) = TapFrame::sharing(Network::A, 0, Stamp(1), 60, part) else {
+        panic!(rt; "out of bounds")
+    };
+    assert_eq!(rt; shared.view().bytes().len(), 60);
+    true
+}
+
+/// Appends a packet of two bytes twice. Where there was no memory for one, the bytes are as before.
+fn appends_packets(rt: &(impl Abort + AllocGlobal)) -> bool {
+    let alloc = rt.alloc();
+    let Ok(captured) = Vec::from_slice(alloc, &[9, 9]) else {
+        return false;
+    };
+    let Ok(frame) = TapFrame::new(Network::A, 0, Stamp(258), 2, captured) else {
+        panic!(rt; "out of bounds")
+    };
+    let Ok(mut bytes) = Vec::from_slice(alloc, b"before") else {
+        return false;
+    };
+    for len in [6, 24, 42] {
+        assert_eq!(rt; bytes.len(), len);
+        assert!(rt; bytes.starts_with(b"before"));
+        if append_packet(&mut bytes, &frame, 2).is_err() {
+            assert_eq!(rt; bytes.len(), len);
+            assert!(rt; bytes.starts_with(b"before"));
+            return false;
+        }
+        assert!(rt; bytes.ends_with(&[2, 1, 0, 0, 2, 0, 0, 0, 2, 0, 0, 0, 9, 9]));
+    }
+    appends_apart(rt, &frame)
+}
+
+/// Appends packets to bytes of their own. These are more allocations than the reader makes, which goes on
+/// without some of its own: the script ends where none was missed.
+fn appends_apart(rt: &(impl Abort + AllocGlobal), frame: &TapFrame) -> bool {
+    for _ in 0..30 {
+        let mut bytes = Vec::new(rt.alloc());
+        let captured = frame.view().bytes().len() as u32;
+        if append_packet(&mut bytes, frame, captured).is_err() {
+            assert!(rt; bytes.is_empty());
+            return false;
+        }
+    }
+    true
+}
+
+#[test]
+fn refusal_in_holding_frames(rt: HostRuntime) {
+    holds_frames(&rt);
+}
+
+#[test]
+fn refusal_in_sharing_a_block(rt: HostRuntime) {
+    shares_a_block(&rt);
+}
+
+#[test]
+fn refusal_in_appending_packets(rt: HostRuntime) {
+    appends_packets(&rt);
+}
+
+#[test]
+fn ample_for_holding_frames(rt: HostRuntime) {
+    assert!(rt; holds_frames(&rt));
+}
+
+#[test]
+fn ample_for_sharing_a_block(rt: HostRuntime) {
+    assert!(rt; shares_a_block(&rt));
+}
+
+#[test]
+fn ample_for_appending_packets(rt: HostRuntime) {
+    assert!(rt; appends_packets(&rt));
+}

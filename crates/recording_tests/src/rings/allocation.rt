@@ -1,0 +1,78 @@
+//! Calls of a ring that allocate do what they should, or say that they are out of memory.
+//!
+//! The script `tests/allocations.sh` has each allocation in them fail in turn. A test `refusal_..`
+//! then passes by either answer, and a test `ample_..` by the right one alone.
+
+use crate::rings::{Open, Taken, recording, take_most};
+use afdx_frame::Network;
+use pcap_io::{Ending, MemSource, ReadFault, TapReader};
+use std::process::Abort;
+use std::sync::Wait;
+use tap_queue::{RingLost, TapItem, feed, tap_ring};
+use test_support::SOUND;
+
+/// Makes rings, and leaves each. Returns whether there was the memory, as all here. These are more
+/// allocations than a ring that is fed makes, which goes on without some of its own: the script ends where
+/// none was missed.
+fn makes_rings(rt: &(impl Abort + Wait + AllocGlobal)) -> bool {
+    for _ in 0..16 {
+        let Ok((put, mut end)) = tap_ring(rt.alloc(), Network::A, 0) else {
+            return false;
+        };
+        drop(put);
+        assert!(rt; matches!(end.take(rt), Err(RingLost)));
+    }
+    true
+}
+
+/// Feeds a ring with a recording of three frames, takes them, and settles. Where there was no
+/// memory for a frame, the reader failed there, and that is settled too.
+fn feeds_a_ring(rt: &(impl Abort + Wait + AllocGlobal)) -> bool {
+    let alloc = rt.alloc();
+    let Ok(bytes) = recording(alloc, &[1, 2, 3], 60) else {
+        return false;
+    };
+    let Ok(reader) = TapReader::open(MemSource::new(bytes, SOUND), Network::A, 1 << 32, 0) else {
+        panic!(rt; "no reader of a recording")
+    };
+    let Ok((put, end)) = tap_ring(alloc, Network::A, 0) else {
+        return false;
+    };
+    let fed = feed(rt, alloc, reader, put, &Open);
+    let Ok(Taken { items, end }) = take_most(rt, alloc, end, usize::MAX) else {
+        return false;
+    };
+    assert!(rt; end.settle(fed).is_ok());
+    match items.last() {
+        Some(TapItem::End(ending)) => {
+            assert_eq!(rt; *ending, Ending::Clean(3));
+            assert_eq!(rt; items.len(), 4);
+            true
+        }
+        Some(TapItem::Failed(fault)) => {
+            assert_eq!(rt; *fault, ReadFault::Memory);
+            false
+        }
+        _ => panic!(rt; "the last item is a frame"),
+    }
+}
+
+#[test]
+fn refusal_in_making_rings(rt: HostRuntime) {
+    makes_rings(&rt);
+}
+
+#[test]
+fn ample_for_making_rings(rt: HostRuntime) {
+    assert!(rt; makes_rings(&rt));
+}
+
+#[test]
+fn refusal_in_feeding_a_ring(rt: HostRuntime) {
+    feeds_a_ring(&rt);
+}
+
+#[test]
+fn ample_for_feeding_a_ring(rt: HostRuntime) {
+    assert!(rt; feeds_a_ring(&rt));
+}

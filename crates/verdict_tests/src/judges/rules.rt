@@ -1,0 +1,76 @@
+//! The worked examples of policing, integrity checking and redundancy management.
+
+use afdx_frame::{Network, Stamp, VlId};
+use integrity::{Check, Integrity};
+use policing::{Account, Policing};
+use redundancy::{Pair, Redundancy};
+use std::test::Fail;
+use test_support::TABLE;
+use vl_config::Config;
+
+#[test]
+fn an_account_to_its_last_byte(rt: HostRuntime) -> Result<(), Fail> {
+    let config = Config::read(rt.alloc(), TABLE)?;
+    let link = config.link(VlId(5)).ok_or("no link 5")?;
+    let mut account = Account::full(link);
+    let begins_full = account.judge(Stamp(0), 200);
+    let a_nanosecond_early = account.judge(Stamp(999_999), 200);
+    let just_in_time = account.judge(Stamp(1_000_000), 200);
+    let full_again = account.judge(Stamp(1_001_000_000), 200);
+    let not_past_the_cap = account.judge(Stamp(1_001_000_000), 200);
+    assert_eq!(rt; begins_full, Policing::Within);
+    assert_eq!(rt; a_nanosecond_early, Policing::Excess);
+    assert_eq!(rt; just_in_time, Policing::Within);
+    assert_eq!(rt; full_again, Policing::Within);
+    assert_eq!(rt; not_past_the_cap, Policing::Excess);
+    Ok(())
+}
+
+#[test]
+fn numbers_around_the_wrap(rt: HostRuntime) {
+    let mut check = Check::new();
+    for (number, verdict) in [
+        (254, Integrity::First),
+        (255, Integrity::Next),
+        (2, Integrity::Skip),
+        (5, Integrity::Out),
+        (6, Integrity::Next),
+        (0, Integrity::Reset),
+        (2, Integrity::Skip),
+        (2, Integrity::Out),
+    ] {
+        let found = check.judge(true, number);
+        assert_eq!(rt; found, verdict, "number {number}");
+        assert_eq!(rt; found.is_valid(), verdict != Integrity::Out);
+    }
+    assert_eq!(rt; check.judge(false, 9), Integrity::Off);
+    assert_eq!(rt; check.judge(true, 10), Integrity::Next);
+}
+
+#[test]
+fn copies_at_the_skews_bound(rt: HostRuntime) {
+    let skew = 1_000_000;
+    let mut pair = Pair::new();
+    let first = pair.judge(true, skew, Network::A, 0, Stamp(0));
+    let at_the_bound = pair.judge(true, skew, Network::B, 0, Stamp(1_000_000));
+    let on_the_same_network = pair.judge(true, skew, Network::A, 0, Stamp(1_000_001));
+    let past_the_bound = pair.judge(true, skew, Network::B, 0, Stamp(2_000_002));
+    assert_eq!(rt; first, Redundancy::Deliver);
+    assert_eq!(rt; at_the_bound, Redundancy::Copy);
+    assert_eq!(rt; on_the_same_network, Redundancy::Deliver);
+    assert_eq!(rt; past_the_bound, Redundancy::Deliver);
+}
+
+#[test]
+fn number_zero_twice_on_one_network(rt: HostRuntime) {
+    let skew = 1_000_000;
+    let mut pair = Pair::new();
+    let first = pair.judge(true, skew, Network::A, 0, Stamp(0));
+    let second = pair.judge(true, skew, Network::A, 0, Stamp(100));
+    let off = pair.judge(false, skew, Network::B, 0, Stamp(100));
+    let after_both = pair.judge(true, skew, Network::A, 0, Stamp(100));
+    assert_eq!(rt; first, Redundancy::Deliver);
+    assert_eq!(rt; second, Redundancy::Deliver);
+    assert_eq!(rt; off, Redundancy::Both);
+    assert_eq!(rt; after_both, Redundancy::Copy);
+}
