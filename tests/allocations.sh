@@ -3,21 +3,22 @@
 #
 #   tests/allocations.sh [PART..]      parts as `merge`; all of them by default
 #
-# Runs the tests of crates/system_tests/src/*/allocation.rt with their first allocation failing, then with their second,
+# Runs the tests of crates/*_tests/src/*/allocation.rt with their first allocation failing, then with their second,
 # and so on, until a run in which none fails. A test `refusal_..` has to pass each time; a test `ample_..` fails where an
 # allocation of its call failed, and so counts them.
 set -euo pipefail
 
-cd "$(dirname "$0")/../crates/system_tests"
+cd "$(dirname "$0")/../crates"
 # The largest of the tests makes far fewer allocations.
 bound=120
 
-# The tests of one file.
+# The tests of one part, in the crate that has it.
 fail_each_allocation() {
-    local tests=$1 n said passed ample failed
+    local part=$1 tests="$1::allocation::" file n said passed ample failed
+    file=$(compgen -G "*_tests/src/$part/allocation.rt") || { printf 'allocations: FAILED, there is no part %s\n' "$part"; exit 1; }
     for ((n = 1; n <= bound; n++)); do
         # The status says that tests failed, as the ample ones do: the lines below decide.
-        said=$(rt try --test --fail-alloc "$n" -- "$tests" 2>&1) || true
+        said=$(cd "${file%%/*}" && rt try --test --fail-alloc "$n" -- "$tests" 2>&1) || true
         passed=$(grep -c "^test ${tests}refusal_.* \.\.\. ok\$" <<< "$said" || true)
         ample=$(grep -c "^test ${tests}ample_.* \.\.\. ok\$" <<< "$said" || true)
         failed=$(grep -c "^test ${tests}ample_.* \.\.\. FAILED\$" <<< "$said" || true)
@@ -39,11 +40,11 @@ fail_each_allocation() {
 
 parts=("$@")
 if [ "${#parts[@]}" -eq 0 ]; then
-    for file in src/*/allocation.rt; do
+    for file in *_tests/src/*/allocation.rt; do
         parts+=("$(basename "$(dirname "$file")")")
     done
 fi
 for part in "${parts[@]}"; do
-    fail_each_allocation "$part::allocation::"
+    fail_each_allocation "$part"
 done
 printf 'allocations: all passed\n'
