@@ -27,13 +27,13 @@ use Rattle.run_outcome.specs.Recording.{IsRecording, LeavesUnread}
 use Rattle.round_output.specs.Filters.{capture_by}
 use Rattle.round_output.specs.Outputs.{SinkFails, StopsWriting, effect_of}
 use Rattle.tap_merge.specs.Rings.{AreFirst, EndsWith, RingsFault, StopsTaking, WhereFailed}
-use Rattle.watch_run.specs.Running.{AbortsBegun, AbortsRunning, FailsAmong, HasCutSafe, HasMergedFailed, HasWholeRounds, IsRunningFault, LosesRing, StopsRunning, WroteSafe}
+use Rattle.watch_run.specs.Running.{AbortsBegun, AbortsRunning, FailsAmong, HasCutSafe, HasMergedFailed, HasWholeRounds, LosesRing, StopsRunning, WroteSafe}
 use Rattle.tap_merge.specs.Threads.{IsLeft, IsSettled, IsStarted}
 use Rattle.run_outcome.specs.Fault.{MayFail}
 use Rattle.tap_merge.specs.Taps.{HasRead, ReadsPart}
 use Rattle.run_outcome.specs.Device.{SourceMembers, AppendsSome, SinkView, SourceView, source_at}
 use Rattle.run_outcome.specs.Recording.{IsReadPart, most_frames}
-use Rattle.watch_run.specs.Watch.{HasWholes, StopsRun}
+use Rattle.watch_run.specs.Watch.{HasWholes, IsRunFault, StopsRun}
 use Rattle.run_outcome.specs.Opening.{WatchDevices, watch_devices}
 use Rattle.round_output.specs.Filters.{lines_by}
 use Rattle.run_outcome.specs.declared.fault.Output.TheVariants as output
@@ -338,7 +338,7 @@ running_aborts fault ps vl_table before a b after_a after_b capture ledger more_
     back_b : MayFail before.b.failures after_b.failures
     back_b = may_fail_back B vl_table.late before.b after_b given_b settled_b
 
-    aborts : (f : WatchFault) → FailsAmong f before (watch_devices after_a after_b capture ledger) → IsRunningFault f →
+    aborts : (f : WatchFault) → FailsAmong f before (watch_devices after_a after_b capture ledger) → IsRunFault f →
         HasWholes f ps vl_table (s.cut ++ stopped.rest) before.capture before.ledger capture ledger →
         WhereFailed f (WroteSafe f ps vl_table (frames_in given_a) (frames_in given_b) before (watch_devices after_a after_b capture ledger)) →
         AbortsRunning f ps vl_table before (watch_devices after_a after_b capture ledger)

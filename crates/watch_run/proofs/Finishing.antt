@@ -16,7 +16,7 @@ use Rattle.verdict_ledger.specs.declared.totals.Totals.{Totals}
 use Rattle.vl_config.specs.Document.{VlTable}
 use Rattle.round_output.specs.Outputs.{IsFinished, SinkFails, StopsFinishing}
 use Rattle.tap_merge.specs.Rings.{EndsWith, HasEnding, HasTaken, WhereFailed}
-use Rattle.watch_run.specs.Running.{AbortsBegun, FailsAmong, IsRunning, IsRunningFault, StopsRunning}
+use Rattle.watch_run.specs.Running.{AbortsBegun, FailsAmong, IsRunning, StopsRunning}
 use Rattle.run_outcome.specs.Device.{SinkMembers, SinkView, SourceView, sink_at}
 use Rattle.run_outcome.specs.Opening.{FailsOnly, WatchDevices, watch_devices}
 use Rattle.watch_run.specs.Watch.{IsRunFault, IsWatched}
@@ -65,12 +65,12 @@ finishes ps vl_table before after rings cut end_a end_b totals settled_a settled
     (settled_a.run.ended end_a (ending_taken rings.end_a end_a rings.merger.a (taken_items rings.a) h.ended_a is_a))
     (settled_b.run.ended end_b (ending_taken rings.end_b end_b rings.merger.b (taken_items rings.b) h.ended_b is_b)) h.follows none f number
 
-among : (f : WatchFault) (before after : WatchDevices) → FailsOnly f before after → IsRunFault f → FailsAmong f before after × IsRunningFault f
-among (watch.Read A) before after (a, b, c, l) run = ((a, inl b, c, l), tt)
-among (watch.Read B) before after (a, b, c, l) run = ((inl a, b, c, l), tt)
-among (watch.Write output.Capture) before after (a, b, c, l) run = ((inl a, inl b, c, l), tt)
-among (watch.Write output.Ledger) before after (a, b, c, l) run = ((inl a, inl b, c, l), tt)
-among watch.Memory before after (a, b, c, l) run = ((inl a, inl b, c, l), tt)
+among : (f : WatchFault) (before after : WatchDevices) → FailsOnly f before after → IsRunFault f → FailsAmong f before after
+among (watch.Read A) before after (a, b, c, l) run = (a, inl b, c, l)
+among (watch.Read B) before after (a, b, c, l) run = (inl a, b, c, l)
+among (watch.Write output.Capture) before after (a, b, c, l) run = (inl a, inl b, c, l)
+among (watch.Write output.Ledger) before after (a, b, c, l) run = (inl a, inl b, c, l)
+among watch.Memory before after (a, b, c, l) run = (inl a, inl b, c, l)
 among watch.Spawn before after h run = absurd run
 among watch.Workers before after h run = absurd run
 among (watch.Header n f) before after h run = absurd run
@@ -78,15 +78,15 @@ among watch.RingLost before after h run = absurd run
 among watch.Filters before after h run = absurd run
 
 -- the end of a ledger is no source's
-no_read : (P : Type 0) (c c' l l' : ℕ) (f : WatchFault) → IsRunningFault f → SinkFails f c c' l l' → WhereFailed f P
-no_read P c c' l l' (watch.Read network) run fails = absurd fails
-no_read P c c' l l' (watch.Write out) run fails = tt
-no_read P c c' l l' watch.Memory run fails = tt
-no_read P c c' l l' watch.RingLost run fails = tt
-no_read P c c' l l' watch.Workers run fails = tt
-no_read P c c' l l' (watch.Header network fault) run fails = tt
-no_read P c c' l l' watch.Spawn run fails = tt
-no_read P c c' l l' watch.Filters run fails = tt
+no_read : (P : Type 0) (c c' l l' : ℕ) (f : WatchFault) → SinkFails f c c' l l' → WhereFailed f P
+no_read P c c' l l' (watch.Read network) fails = absurd fails
+no_read P c c' l l' (watch.Write out) fails = tt
+no_read P c c' l l' watch.Memory fails = tt
+no_read P c c' l l' watch.RingLost fails = tt
+no_read P c c' l l' watch.Workers fails = tt
+no_read P c c' l l' (watch.Header network fault) fails = tt
+no_read P c c' l l' watch.Spawn fails = tt
+no_read P c c' l l' watch.Filters fails = tt
 
 pub finish_aborts : (fault : WatchFault) (ps : List (List Packed)) (vl_table : VlTable) (before : WatchDevices) (rings : Rings) (a b : SourceView) (capture ledger : SinkView)
     (cut : List Frame) (end_a end_b : Ending) →
@@ -95,16 +95,13 @@ pub finish_aborts : (fault : WatchFault) (ps : List (List Packed)) (vl_table : V
     StopsFinishing fault ps vl_table before.capture before.ledger capture ledger cut end_a end_b →
     AbortsBegun fault ps vl_table before (Some a) (Some b) capture ledger
 finish_aborts fault ps vl_table before rings a b capture ledger cut end_a end_b settled_a settled_b h is_a is_b none s =
-    inl (record { fails = f.0; run = f.1; stops = aborts.stops; safe = no_read _ _ _ _ _ fault f.1 s.fails })
+    inl (record { fails = among fault before (watch_devices a b capture ledger) aborts.fails aborts.run; run = aborts.run; stops = aborts.stops; safe = no_read _ _ _ _ _ fault s.fails })
   where
     aborts : StopsAtEnd fault ps vl_table before (watch_devices a b capture ledger) end_a end_b
     aborts = stopped_at_the_end fault ps vl_table before (watch_devices a b capture ledger) (frames_in (taken_items rings.a)) (frames_in (taken_items rings.b)) cut end_a end_b rings.merger
         settled_a.reading settled_b.reading settled_a.ahead settled_b.ahead (settled_return vl_table.late before (watch_devices a b capture ledger) rings settled_a settled_b)
         (settled_a.run.ended end_a (ending_taken rings.end_a end_a rings.merger.a (taken_items rings.a) h.ended_a is_a))
         (settled_b.run.ended end_b (ending_taken rings.end_b end_b rings.merger.b (taken_items rings.b) h.ended_b is_b)) h.follows none s
-
-    f : FailsAmong fault before (watch_devices a b capture ledger) × IsRunningFault fault
-    f = among fault before (watch_devices a b capture ledger) aborts.fails aborts.run
 
 -- ---- a ring was lost at the end
 

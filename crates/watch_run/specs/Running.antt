@@ -24,7 +24,7 @@ use Rattle.run_outcome.specs.Device.{SinkMembers, AppendsSome, SinkView, SourceV
 use Rattle.run_outcome.specs.Recording.{WasOpened}
 use Rattle.run_outcome.specs.Fault.{MayFail, CaptureSink, Fails, LedgerSink, SourceA, SourceB, names}
 use Rattle.run_outcome.specs.Opening.{AbortsAtOpening, WatchDevices, watch_devices}
-use Rattle.watch_run.specs.Watch.{AbortsRun, StopsRun}
+use Rattle.watch_run.specs.Watch.{AbortsRun, IsRunFault, StopsRun}
 use Rattle.round_output.specs.Round.{IsFilterCount, IsWorkerCount}
 use Rattle.round_output.specs.Filters.{lines_by}
 use Rattle.run_outcome.specs.declared.fault.WatchFault.{WatchFault}
@@ -114,13 +114,6 @@ FailsAmong fault before after =
     MayFailWhere (names fault SourceA) before.a.failures after.a.failures × MayFailWhere (names fault SourceB) before.b.failures after.b.failures
     × Fails fault CaptureSink before.capture.failures after.capture.failures × Fails fault LedgerSink before.ledger.failures after.ledger.failures
 
--- the faults of a run whose threads were started and whose sources came back
-abbrev pub IsRunningFault : WatchFault → Type 0
-IsRunningFault (watch.Read network) = ⊤
-IsRunningFault (watch.Write out) = ⊤
-IsRunningFault watch.Memory = ⊤
-IsRunningFault fault = ⊥
-
 -- both sources came back, and this holds of them
 abbrev pub BothBack : Option SourceView → Option SourceView → (SourceView → SourceView → Type 0) → Type 0
 BothBack (Some a) (Some b) P = P a b
@@ -153,7 +146,7 @@ pub record WroteSafe (fault : WatchFault) (ps : List (List Packed)) (vl_table : 
 -- why a run was aborted whose sources came back, and what it leaves
 pub record AbortsRunning (fault : WatchFault) (ps : List (List Packed)) (vl_table : VlTable) (before after : WatchDevices) : Type 0 where
   pub fails : FailsAmong fault before after
-  pub run : IsRunningFault fault
+  pub run : IsRunFault fault
   pub stops : StopsRun fault ps vl_table before after
   pub safe : WhereFailed fault (WroteSafe fault ps vl_table stops.frames_a stops.frames_b before after)
 

@@ -83,9 +83,9 @@ pub record StopsRun (fault : WatchFault) (ps : List (List Packed)) (vl_table : V
 
 -- the faults of a run that has begun
 abbrev pub IsRunFault : WatchFault → Type 0
-IsRunFault (watch.Read network) = Unit {0}
-IsRunFault (watch.Write out) = Unit {0}
-IsRunFault watch.Memory = Unit {0}
+IsRunFault (watch.Read network) = ⊤
+IsRunFault (watch.Write out) = ⊤
+IsRunFault watch.Memory = ⊤
 IsRunFault fault = ⊥
 
 -- why a run that had begun was aborted, and what it leaves
