@@ -439,7 +439,7 @@ fn tells_header_faults(rt: HostRuntime) -> Result<(), Fail> {
 }
 
 #[test]
-fn tells_reasons(rt: HostRuntime) -> Result<(), Fail> {
+fn tells_reasons_of_packets(rt: HostRuntime) -> Result<(), Fail> {
     let (alloc, any) = (rt.alloc(), Choice::Any);
     for (at, value, reason) in [
         (4, 35, BadReason::BlockLength),
@@ -462,6 +462,12 @@ fn tells_reasons(rt: HostRuntime) -> Result<(), Fail> {
             bad,
         )?;
     }
+    Ok(())
+}
+
+#[test]
+fn tells_reasons_of_other_blocks(rt: HostRuntime) -> Result<(), Fail> {
+    let (alloc, any) = (rt.alloc(), Choice::Any);
     for (at, value, reason) in [(8, 0, BadReason::Section), (12, 2, BadReason::Section)] {
         let section = changed(alloc, LITTLE, at, value)?;
         holds(

@@ -131,49 +131,51 @@ fn asm_is_taken(rt: HostRuntime) -> Result<(), Fail> {
     Ok(())
 }
 
+/// Words that are no command with its arguments.
+const REFUSED: [&[&str]; 25] = [
+    &[],
+    &["afdxmon"],
+    &["afdxmon", "help"],
+    &["afdxmon", "--help"],
+    &["afdxmon", "-h"],
+    &["afdxmon", "help", "capture"],
+    &["afdxmon", "record"],
+    &["afdxmon", "capture"],
+    &["afdxmon", "capture", "--help"],
+    &["afdxmon", "capture", "--code"],
+    &["afdxmon", "capture", "--code", "-1"],
+    &["afdxmon", "capture", "--code", "--code"],
+    &["afdxmon", "capture", "--code", "0,", "--code", "0,"],
+    &["afdxmon", "capture", "--code", "0,", "more", "words"],
+    &["afdxmon", "capture", "--code", "0,", "--filter", "0,"],
+    &["afdxmon", "capture", "--filter", "0,", "--source", "0,"],
+    &["afdxmon", "capture", "more"],
+    &["afdxmon", "debug", "--tap", "t"],
+    &["afdxmon", "debug", "--tap", "t", "--code", "0,"],
+    &[
+        "afdxmon", "debug", "--tap", "t", "--filter", "f", "--source", "s",
+    ],
+    &["afdxmon", "watch", "--config", "t", "--ledger", "l"],
+    &[
+        "afdxmon",
+        "watch",
+        "--config",
+        "t",
+        "--ledger",
+        "l",
+        "--a",
+        "a",
+        "--capture",
+        "c",
+    ],
+    &["afdxmon", "watch", "--config", "t", "--a", "a"],
+    &["afdxmon", "asm", "source"],
+    &["afdxmon", "asm", "--code", "0,"],
+];
+
 #[test]
 fn other_words_are_refused(rt: HostRuntime) -> Result<(), Fail> {
-    let cases: [&[&str]; 25] = [
-        &[],
-        &["afdxmon"],
-        &["afdxmon", "help"],
-        &["afdxmon", "--help"],
-        &["afdxmon", "-h"],
-        &["afdxmon", "help", "capture"],
-        &["afdxmon", "record"],
-        &["afdxmon", "capture"],
-        &["afdxmon", "capture", "--help"],
-        &["afdxmon", "capture", "--code"],
-        &["afdxmon", "capture", "--code", "-1"],
-        &["afdxmon", "capture", "--code", "--code"],
-        &["afdxmon", "capture", "--code", "0,", "--code", "0,"],
-        &["afdxmon", "capture", "--code", "0,", "more", "words"],
-        &["afdxmon", "capture", "--code", "0,", "--filter", "0,"],
-        &["afdxmon", "capture", "--filter", "0,", "--source", "0,"],
-        &["afdxmon", "capture", "more"],
-        &["afdxmon", "debug", "--tap", "t"],
-        &["afdxmon", "debug", "--tap", "t", "--code", "0,"],
-        &[
-            "afdxmon", "debug", "--tap", "t", "--filter", "f", "--source", "s",
-        ],
-        &["afdxmon", "watch", "--config", "t", "--ledger", "l"],
-        &[
-            "afdxmon",
-            "watch",
-            "--config",
-            "t",
-            "--ledger",
-            "l",
-            "--a",
-            "a",
-            "--capture",
-            "c",
-        ],
-        &["afdxmon", "watch", "--config", "t", "--a", "a"],
-        &["afdxmon", "asm", "source"],
-        &["afdxmon", "asm", "--code", "0,"],
-    ];
-    for texts in cases {
+    for texts in REFUSED {
         let words = words(rt.alloc(), texts)?;
         assert!(rt; read_arguments(rt.alloc(), &words).is_err(), "{texts:?}");
     }

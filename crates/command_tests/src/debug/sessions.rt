@@ -12,7 +12,8 @@ const STORING: &str = "5,0 0 0 7,2 0 0 3,97 0 0 3,135 0 0 0,22 0 0 0,";
 
 /// The debugger's walk.
 const WALK: &str =
-    "step +1\nselect 0\nstep +3\nstep -2\nstep +2\nstep -9\nbreakpoint 2\ncont\ncont\ntally\nselect 1\nbreakpoint 5\nquit\n";
+    "step +1\nselect 0\nstep +3\nstep -2\nstep +2\nstep -9\nbreakpoint 2\ncont\ncont\n\
+    tally\nselect 1\nbreakpoint 5\nquit\n";
 
 const PRINTED: &str = "\
 frames 1

@@ -140,6 +140,15 @@ pub fn table_of(alloc: Global, late: bool) -> Result<String, AllocError> {
     Ok(table)
 }
 
+/// The devices where one network's source fails, and how often each has failed then.
+fn scripts_of(failing: Network, fails: Script) -> (Scripts, [u64; 4]) {
+    let sound = roomy(ROOM);
+    match failing {
+        Network::A => (Scripts { a: fails, ..sound }, [1, 0, 0, 0]),
+        Network::B => (Scripts { b: fails, ..sound }, [0, 1, 0, 0]),
+    }
+}
+
 /// The source of one network fails after the frames that it gives.
 fn leaves_safe<R: Threads + Wait + Sync + Abort + AllocGlobal>(
     rt: &R,
@@ -161,26 +170,10 @@ fn leaves_safe<R: Threads + Wait + Sync + Abort + AllocGlobal>(
     let most = failed
         .len()
         .saturating_sub(if given.late { 40 } else { PACKET });
-    let fails = Script { most, ..SOUND };
-    let (a, b, scripts, failures) = match failing {
-        Network::A => (
-            &failed,
-            &whole,
-            Scripts {
-                a: fails,
-                ..roomy(ROOM)
-            },
-            [1, 0, 0, 0],
-        ),
-        Network::B => (
-            &whole,
-            &failed,
-            Scripts {
-                b: fails,
-                ..roomy(ROOM)
-            },
-            [0, 1, 0, 0],
-        ),
+    let (scripts, failures) = scripts_of(failing, Script { most, ..SOUND });
+    let (a, b) = match failing {
+        Network::A => (&failed, &whole),
+        Network::B => (&whole, &failed),
     };
     let table = table_of(alloc, given.late)?;
     let run_of = Given {

@@ -61,6 +61,38 @@ fn frames_of(alloc: Global) -> Result<Vec<(TapFrame, Accepted)>, Fail> {
     Ok(frames)
 }
 
+/// The ledger of those frames.
+const EACH_WORD: &str = "afdx-ledger 2\n\
+    0 A 0 - - cut - - - - 00\n\
+    1 A 1 - - runt - - - - 00\n\
+    2 A 2 - - oversize - - - - 00\n\
+    3 A 3 - - foreign - - - - 00\n\
+    4 A 4 7 9 unconfigured - - - - 00\n\
+    5 A 5 5 1 toolong - - - - 00\n\
+    1000000 A 6 5 1 regular within first deliver - 00\n\
+    1000001 A 7 5 2 regular excess - - - 00\n\
+    3000000 A 8 5 0 regular within reset deliver - 00\n\
+    5000000 A 9 5 1 regular within next deliver - 00\n\
+    7000000 A 10 5 3 regular within skip deliver - 00\n\
+    7000500 B 0 5 3 regular within first copy 60 af\n\
+    9000000 A 11 5 9 regular within out - - 00\n\
+    9000001 A 12 6 9 regular within off both - 00\n\
+    9000002 A 13 - - runt - - - - 00\n\
+    link 5 brake frames 8 toolong 1 excess 1 out 1 copy 1 delivered 4\n\
+    link 6 flaps frames 1 toolong 0 excess 0 out 0 copy 0 delivered 1\n\
+    filter 0 accepted 1\n\
+    filter 1 accepted 1\n\
+    filter 2 accepted 1\n\
+    filter 3 accepted 1\n\
+    filter 4 accepted 0\n\
+    filter 5 accepted 1\n\
+    filter 6 accepted 0\n\
+    filter 7 accepted 1\n\
+    tap A bad 14 length\n\
+    tap B bad 1 toomany\n\
+    total frames 15 accepted 1 cut 1 runt 2 oversize 1 foreign 1 unconfigured 1 toolong 1 \
+    excess 1 out 1 copy 1 delivered 5\n";
+
 #[test]
 fn each_word_and_each_dash(rt: HostRuntime) -> Result<(), Fail> {
     let frames = frames_of(rt.alloc())?;
@@ -78,37 +110,7 @@ fn each_word_and_each_dash(rt: HostRuntime) -> Result<(), Fail> {
         Ending::Bad(1, BadReason::TooMany),
         sink,
     )?;
-    let text = "afdx-ledger 2\n\
-        0 A 0 - - cut - - - - 00\n\
-        1 A 1 - - runt - - - - 00\n\
-        2 A 2 - - oversize - - - - 00\n\
-        3 A 3 - - foreign - - - - 00\n\
-        4 A 4 7 9 unconfigured - - - - 00\n\
-        5 A 5 5 1 toolong - - - - 00\n\
-        1000000 A 6 5 1 regular within first deliver - 00\n\
-        1000001 A 7 5 2 regular excess - - - 00\n\
-        3000000 A 8 5 0 regular within reset deliver - 00\n\
-        5000000 A 9 5 1 regular within next deliver - 00\n\
-        7000000 A 10 5 3 regular within skip deliver - 00\n\
-        7000500 B 0 5 3 regular within first copy 60 af\n\
-        9000000 A 11 5 9 regular within out - - 00\n\
-        9000001 A 12 6 9 regular within off both - 00\n\
-        9000002 A 13 - - runt - - - - 00\n\
-        link 5 brake frames 8 toolong 1 excess 1 out 1 copy 1 delivered 4\n\
-        link 6 flaps frames 1 toolong 0 excess 0 out 0 copy 0 delivered 1\n\
-        filter 0 accepted 1\n\
-        filter 1 accepted 1\n\
-        filter 2 accepted 1\n\
-        filter 3 accepted 1\n\
-        filter 4 accepted 0\n\
-        filter 5 accepted 1\n\
-        filter 6 accepted 0\n\
-        filter 7 accepted 1\n\
-        tap A bad 14 length\n\
-        tap B bad 1 toomany\n\
-        total frames 15 accepted 1 cut 1 runt 2 oversize 1 foreign 1 unconfigured 1 toolong 1 \
-        excess 1 out 1 copy 1 delivered 5\n";
-    assert_eq!(rt; sink.taken(), text.as_bytes());
+    assert_eq!(rt; sink.taken(), EACH_WORD.as_bytes());
     assert_eq!(rt; totals.filters, [1, 1, 1, 1, 0, 1, 0, 1]);
     Ok(())
 }

@@ -243,6 +243,11 @@ fn words_from_text(rt: HostRuntime) -> Result<(), Fail> {
         let named = read_words(rt.alloc(), text)?;
         assert_eq!(rt; named.as_slice(), [word].as_slice(), "{text}");
     }
+    Ok(())
+}
+
+#[test]
+fn groups_of_words(rt: HostRuntime) -> Result<(), Fail> {
     let discarded = [
         Word::Class(Class::Cut),
         Word::Class(Class::Runt),
