@@ -81,6 +81,16 @@ def nameless(text, config):
     return next((at for at, item in enumerate(text.split(",")) if not item[0].isdigit() and not links_of(item, config)), None)
 
 
+def refused_option(options, config):
+    """The first option that is refused, and the item of its text. Of two times of one kind --to isn't the earlier one."""
+    wrong = nameless(options["link"], config) if "link" in options else None
+    if wrong is not None:
+        return "link", wrong
+    ends = [options[end] for end in ("from", "to") if end in options]
+    kinds = {":" in text and "T" not in text for text in ends}
+    return ("to", 0) if len(ends) == 2 and len(kinds) == 1 and moment(ends[1], 0) < moment(ends[0], 0) else None
+
+
 def meets(fields, options, config, day):
     """Does a frame's line meet each option?"""
     words = set()
@@ -177,13 +187,13 @@ def recordings_of(a, b, networks="ab"):
 
 def compared(bench, name, options, config, a, b, networks="ab", line=""):
     """A cut that has to succeed, or ends at the first line of a network without a recording: its packets, and the lines without packets.
-    A name that no link has is refused."""
+    A name that no link has is refused, and a span that ends before it begins."""
     ledger = bench.read("ledger")
-    wrong = nameless(options["link"], config) if "link" in options else None
-    if wrong is not None:
-        told = LINES["selection"].format("link", wrong)
+    wrong = refused_option(options, config)
+    if wrong:
+        told = LINES["selection"].format(*wrong)
         fault = difference(bench.cut(options, networks), FAULT, told, b"") or difference(bench.cut(options, "", "--ledger-only"), FAULT, told, b"")
-        return say(f"cut: {name}: a name that no link has", fault)
+        return say(f"cut: {name}: --{wrong[0]} is refused", fault)
     lines = chosen(ledger, options, config)
     frames = frame_lines(ledger)
     others = [at for at, one in enumerate(frames) if one.split()[1].lower() not in networks]
@@ -264,6 +274,7 @@ def bounds(bench):
     cases += [{end: text} for end in ("from", "to") for time in (two - 1, two, two + 1, two + 2) for text in (str(time), written(time), written(time)[11:29])]
     cases += [{"from": "12:00:02", "to": "12:00:02"}, {"from": "00:00:00", "to": "23:59:59.999999999"}, {"from": "12:00:02.0", "to": "12:00:02.000000001"}]
     cases += [{"from": str(two + 1), "to": str(two)}, {"from": "0", "to": str(2**32 * 10**9 - 1)}]
+    cases += [{"from": first, "to": last} for first in (written(two + 1), "12:00:02.000000001") for last in (written(two), "12:00:02", str(two))]
     cases += [{"link": text} for text in ("5", "5-5", "4-5", "5-6", "6", "4", "7-65535", "0-4,6-65535", "brake", "br*", "*", "b*e", "br*ake", "*rak", "6,brake")]
     cases += [{"network": "A"}, {"network": "B"}, {"verdict": "first"}, {"verdict": "next,unconfigured"}, {"verdict": "discarded"}, {"verdict": "delivered"}, {"verdict": "regular"}]
     cases += [{"filters": "01"}, {"filters": "fe"}, {"filters": "03"}]

@@ -323,8 +323,11 @@ fn selection_advice(option: SelectionOption) -> &'static str {
         SelectionOption::Verdict => {
             "--verdict needs words of a ledger's fields 6 to 9, 'discarded' or 'delivered'"
         }
-        SelectionOption::From | SelectionOption::To => {
+        SelectionOption::From => {
             "a time is 2027-01-15T08:00:12.119534506Z, 08:00:12.1195, or nanoseconds since 1970"
+        }
+        SelectionOption::To => {
+            "a time is as 08:00:12.1195, with a date before it as 2027-01-15T08:00:12Z, or nanoseconds since 1970, and no earlier than --from"
         }
         SelectionOption::Filters => "--filters needs a mask: 01 to ff",
         SelectionOption::Around => "--around reads the ledger twice: name a file of it, no pipe",

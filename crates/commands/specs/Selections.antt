@@ -1,5 +1,5 @@
 -- What the options of `cut` select, by their texts (this project's profile).
-use Rattle.std.specs.Prelude.{◌≡◌, ◌⊎◌, ◌↔◌, ℕ, true, List, Option, None, Some, Result, Ok, Err, flat_map, option_map, if◌then◌else◌, ⊤}
+use Rattle.std.specs.Prelude.{◌≡◌, ◌⊎◌, ◌↔◌, ℕ, Bool, true, false, nat_lt, List, Option, None, Some, Result, Ok, Err, flat_map, option_map, if◌then◌else◌, ⊤}
 use Rattle.std.specs.List.{All}
 use Rattle.std.specs.Str.{bytes_eq}
 use Rattle.std.specs.Prelude.{codes}
@@ -67,6 +67,20 @@ abbrev pub moment_of : SelectionOption → Option (List ℕ) → Result (Option 
 moment_of option None = Ok None
 moment_of option (Some text) = moment_or_fault option (option_map moment_said (moment_in text))
 
+-- the end of a span lies before its start: of two moments of one kind the later one stands first
+abbrev pub ends_before : Option Moment → Option Moment → Bool
+ends_before (Some (moments.At from)) (Some (moments.At to)) = nat_lt to.0 from.0
+ends_before (Some (moments.OfDay from)) (Some (moments.OfDay to)) = nat_lt to from
+ends_before _ _ = false
+
+-- the first of both texts that is no moment, or the second one, whose moment lies before that of the first
+abbrev pub IsSpanFault : Option (List ℕ) → Option (List ℕ) → Fault → Type 0
+IsSpanFault from_text to_text f =
+    (moment_of options.From from_text ≡ Err f)
+    ⊎ ((moment_of options.To to_text ≡ Err f)
+    ⊎ ((f ≡ fault.Selection options.To 0) × ((from to : Option Moment) × (Ok from ≡ moment_of options.From from_text)
+    × (Ok to ≡ moment_of options.To to_text) × (ends_before from to ≡ true))))
+
 -- the mask that the text writes, if it is given
 abbrev pub IsMask : Option (List ℕ) → Option ℕ → Type 0
 IsMask None mask = mask ≡ None
@@ -85,5 +99,4 @@ IsSelectionFault vl_table given f =
     IsLinksFault vl_table given.link f
     ⊎ (((set : Option LinkSet) × AreLinks vl_table given.link set)
     × (IsWordsFault given.verdict f
-    ⊎ ((moment_of options.From given.from ≡ Err f)
-    ⊎ ((moment_of options.To given.to ≡ Err f) ⊎ IsMaskFault given.filters f))))
+    ⊎ (IsSpanFault given.from given.to f ⊎ IsMaskFault given.filters f)))

@@ -1,10 +1,10 @@
 //! What selects lines of a ledger, from the texts of the options.
-ghost use Rattle.std.specs.Prelude.{◌≡◌, IfErr, IfOk, Ok, option_map};
+ghost use Rattle.std.specs.Prelude.{◌≡◌, IfErr, IfOk, Ok, false, option_map};
 ghost use Rattle.std.specs.Option.{option_copied};
 ghost use Rattle.command_line.specs.Arguments.{cut_words, text_of};
 ghost use Rattle.command_line.specs.declared.fault.Fault.TheVariants as faults;
 ghost use Rattle.command_line.specs.declared.fault.SelectionOption.TheVariants as options;
-ghost use Rattle.commands.specs.Selections.{AreLinks, IsLinksFault, IsMask, IsMaskFault, IsSelectionFault, IsWordsFault, moment_of, network_in, words_in};
+ghost use Rattle.commands.specs.Selections.{AreLinks, IsLinksFault, IsMask, IsMaskFault, IsSelectionFault, IsSpanFault, IsWordsFault, ends_before, moment_of, network_in, words_in};
 
 use afdx_frame::{Network, Stamp};
 use command_line::{CutArguments, Fault, MomentText, SelectionOption, read_moment};
@@ -87,6 +87,33 @@ fn moment_of(option: SelectionOption, text: Option<&str>) -> Result<Option<Momen
     }
 }
 
+/// Whether the end of a span lies before its start: of two moments of one kind the later one stands first.
+fn ends_before(from: Option<Moment>, to: Option<Moment>) -> bool
+    ensures { result ≡ ends_before from to }
+{
+    match (from, to) {
+        (Some(Moment::At(from)), Some(Moment::At(to))) => to.0 < from.0,
+        (Some(Moment::OfDay(from)), Some(Moment::OfDay(to))) => to < from,
+        _ => false,
+    }
+}
+
+/// The moments of `--from` and `--to`, of which the first isn't the later one.
+fn span_of(from: Option<&str>, to: Option<&str>) -> Result<(Option<Moment>, Option<Moment>), Fault>
+    ensures span { IfOk result (λ span. (Ok span.0 ≡ moment_of options.From (option_map text_of from.entry))
+        × (Ok span.1 ≡ moment_of options.To (option_map text_of to.entry))
+        × (ends_before span.0 span.1 ≡ false)) }
+    ensures fault { IfErr result
+        (IsSpanFault (option_map text_of from.entry) (option_map text_of to.entry)) }
+{
+    let from = moment_of(SelectionOption::From, from)?;
+    let to = moment_of(SelectionOption::To, to)?;
+    if ends_before(from, to) {
+        return Err(wrong(SelectionOption::To, 0));
+    }
+    Ok((from, to))
+}
+
 /// The mask of `--filters`.
 fn filters_of(text: Option<&str>) -> Result<Option<u8>, Fault>
     ensures mask { IfOk result (IsMask (option_map text_of text.entry)) }
@@ -106,7 +133,8 @@ fn filters_of(text: Option<&str>) -> Result<Option<u8>, Fault>
 /// # Errors
 ///
 /// `Selection` of the first option, in the order of `--link`, `--verdict`, `--from`, `--to` and
-/// `--filters`, whose text has a wrong item; `Cut(Memory)` for the links or the words.
+/// `--filters`, whose text has a wrong item, or of `--to` where it lies before `--from`; `Cut(Memory)` for the
+/// links or the words.
 pub fn selection_of(
     alloc: Global,
     given: &CutArguments<'_>,
@@ -122,17 +150,21 @@ pub fn selection_of(
         ≡ moment_of options.From (option_map text_of given.now.from)) }
     ensures to { IfOk result (λ selection. Ok selection.to
         ≡ moment_of options.To (option_map text_of given.now.to)) }
+    ensures span { IfOk result (λ selection. ends_before selection.from selection.to ≡ false) }
     ensures filters { IfOk result (λ selection. IsMask
         (option_map text_of given.now.filters) selection.filters) }
     ensures fault { IfErr result
         (IsSelectionFault (option_copied config.entry) (cut_words given.now)) }
 {
+    let links = links_of(alloc, given.link, config)?;
+    let words = words_of(alloc, given.verdict)?;
+    let (from, to) = span_of(given.from, given.to)?;
     Ok(Selection {
-        links: links_of(alloc, given.link, config)?,
+        links,
         network: network_of(given.network),
-        words: words_of(alloc, given.verdict)?,
-        from: moment_of(SelectionOption::From, given.from)?,
-        to: moment_of(SelectionOption::To, given.to)?,
+        words,
+        from,
+        to,
         filters: filters_of(given.filters)?,
     })
 }
