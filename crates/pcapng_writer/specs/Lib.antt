@@ -1,0 +1,5 @@
+pub mod Blocks
+pub mod Comment
+pub mod Laws
+pub mod Parts
+pub mod Stepping
