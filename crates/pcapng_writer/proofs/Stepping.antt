@@ -1,11 +1,10 @@
 -- How blocks are stepped over, and what a packet's reads back as.
-use Rattle.std.proofs.Common.{◌≡◌, ℕ, zero, suc, ◌+◌, ◌-◌, ◌*◌, ◌/◌, ◌%◌, ◌<◌, ◌≤◌, ◌^◌, List, [], ◌∷◌, ◌++◌, length, take, drop, Option, Some, None, IfSome, lit<, refl, sym, ap, ◌∙◌, subst, arith, append_assoc, length-append}
-use Rattle.std.proofs.lemmas.List.{drop_at, take_at, drop-drop, length-take-le}
+use Rattle.std.proofs.Common.{◌≡◌, ℕ, suc, ◌+◌, ◌-◌, ◌%◌, ◌<◌, ◌≤◌, ◌^◌, List, [], ◌∷◌, ◌++◌, length, take, drop, Option, Some, None, IfSome, lit<, refl, sym, ap, ◌∙◌, subst, arith, append_assoc, length-append}
+use Rattle.std.proofs.lemmas.List.{drop_at, drop-drop, length-take-le}
 use Rattle.std.specs.List.{flat_map}
 use Rattle.byteorder.specs.Endian.{little_bytes, little_number}
 use Rattle.byteorder.specs.Numbers.{little_number-reads_back}
-use Rattle.afdx_frame.specs.Frame.{Frame, IsFrame}
-use Rattle.pcapng_writer.specs.Blocks.{Written, block_bytes, capture_bytes, descriptions_of, end_of_options, head_bytes, interface_description, name_option, option_bytes, packet_block, packet_body, packet_options, padded, padding_len, section_header, written_block}
+use Rattle.pcapng_writer.specs.Blocks.{Written, block_bytes, capture_bytes, descriptions_of, end_of_options, interface_description, name_option, option_bytes, packet_block, packet_body, packet_options, padded, padding_len, section_header, written_block}
 use Rattle.pcapng_writer.specs.Stepping.{AreBlocks, AreWritable, BeginsWithBlock, IsWritable, count_of}
 use Rattle.pcapng_writer.specs.declared.comment.TheConstants.{MAX_COMMENT_LEN}
 use Rattle.pcapng_writer.specs.declared.interfaces.Interfaces.{Interfaces}
@@ -44,9 +43,9 @@ begins kind body more aligned fits =
       whole = omega (arith, block_len kind body, length-append (block_bytes kind body) more);
       aligned = omega (arith, aligned);
       first = ap (little_number 4) (append_assoc (little_bytes 4 len) (body ++ little_bytes 4 len) more)
-        ∙ little_number-reads_back 4 len ((body ++ little_bytes 4 len) ++ more) fits;
+          ∙ little_number-reads_back 4 len ((body ++ little_bytes 4 len) ++ more) fits;
       again = ap (λ (n : ℕ). little_number 4 (drop n (block_bytes kind body ++ more))) place
-        ∙ ap (little_number 4) (tail_is kind len body more) ∙ little_number-reads_back 4 len more fits;
+          ∙ ap (little_number 4) (tail_is kind len body more) ∙ little_number-reads_back 4 len more fits;
     }
 
 pub passed : (kind : ℕ) (body more : List ℕ) → drop (12 + length body) (block_bytes kind body ++ more) ≡ more
@@ -105,13 +104,15 @@ one_interface name n more aligned fits rest = more_blocks 1 n (interface_body na
 described : (interfaces : Interfaces) (n : ℕ) (more : List ℕ) → AreBlocks n more → AreBlocks (count_of interfaces + n) (descriptions_of interfaces ++ more)
 unfolding descriptions_of
 described One n more rest =
-    subst (λ (k : ℕ). AreBlocks k (interface_description None ++ more)) (omega arith) (one_interface None n more refl (lit< tt) rest)
+    let count : suc n ≡ 1 + n = omega arith in
+    subst (λ (k : ℕ). AreBlocks k (interface_description None ++ more)) count (one_interface None n more refl (lit< tt) rest)
 described Networks n more rest =
     let a : List ℕ = interface_description (Some (65 ∷ [])) in
     let b : List ℕ = interface_description (Some (66 ∷ [])) in
     let second = one_interface (Some (66 ∷ [])) n more refl (lit< tt) rest in
     let both : AreBlocks (suc (suc n)) (a ++ (b ++ more)) = one_interface (Some (65 ∷ [])) (suc n) (b ++ more) refl (lit< tt) second in
-    subst (λ (k : ℕ). AreBlocks k ((a ++ b) ++ more)) (omega arith) (subst (λ (x : List ℕ). AreBlocks (suc (suc n)) x) (sym (append_assoc a b more)) both)
+    let count : suc (suc n) ≡ 2 + n = omega arith in
+    subst (λ (k : ℕ). AreBlocks k ((a ++ b) ++ more)) count (subst (λ (x : List ℕ). AreBlocks (suc (suc n)) x) (sym (append_assoc a b more)) both)
 
 pub whole_capture : (interfaces : Interfaces) (packets : List Written) → AreWritable packets
     → AreBlocks (1 + (count_of interfaces + length packets)) (capture_bytes interfaces packets)
@@ -120,5 +121,6 @@ whole_capture interfaces packets can =
     let more : List ℕ = flat_map (written_block interfaces) packets in
     let rest = described interfaces (length packets) more (packets_are_blocks interfaces packets can) in
     let all = more_blocks 0x0a0d0d0a (count_of interfaces + length packets) section_body (descriptions_of interfaces ++ more) refl (lit< tt) rest in
-    subst (λ (k : ℕ). AreBlocks k (capture_bytes interfaces packets)) (omega arith)
+    let count : suc (count_of interfaces + length packets) ≡ 1 + (count_of interfaces + length packets) = omega arith in
+    subst (λ (k : ℕ). AreBlocks k (capture_bytes interfaces packets)) count
     (subst (λ (x : List ℕ). AreBlocks (suc (count_of interfaces + length packets)) x) (sym (append_assoc section_header (descriptions_of interfaces) more)) all)

@@ -1,8 +1,8 @@
 -- How a reader steps over blocks, and what it finds in a packet's (draft-ietf-opsawg-pcapng, version 1.0).
-use Rattle.std.specs.Prelude.{◌≡◌, ℕ, zero, suc, ◌+◌, ◌-◌, ◌*◌, ◌%◌, ◌^◌, ◌<◌, ◌≤◌, List, [], ◌∷◌, length, take, drop, Option, IfSome, ⊤}
+use Rattle.std.specs.Prelude.{◌≡◌, ℕ, zero, suc, ◌+◌, ◌-◌, ◌*◌, ◌%◌, ◌^◌, ◌<◌, ◌≤◌, List, [], ◌∷◌, length, take, drop, IfSome, ⊤}
 use Rattle.byteorder.specs.Endian.{little_number}
 use Rattle.afdx_frame.specs.Frame.{Frame, IsFrame}
-use Rattle.pcapng_writer.specs.Blocks.{Written, interface_of, padding_len}
+use Rattle.pcapng_writer.specs.Blocks.{Written, padding_len}
 use Rattle.pcapng_writer.specs.declared.comment.TheConstants.{MAX_COMMENT_LEN}
 use Rattle.pcapng_writer.specs.declared.interfaces.Interfaces.{Interfaces}
 use Rattle.pcapng_writer.specs.declared.interfaces.Interfaces.TheVariants.{One, Networks}

@@ -1,5 +1,5 @@
-use Rattle.std.proofs.Common.{◌≡◌, ◌++◌, List, ℕ, ap, ◌∙◌}
-use Rattle.pcapng_writer.specs.Blocks.{descriptions_of, head_bytes, section_header}
+use Rattle.std.proofs.Common.{◌++◌, List, ℕ, ap, ◌∙◌}
+use Rattle.pcapng_writer.specs.Blocks.{descriptions_of, section_header}
 use Rattle.pcapng_writer.proofs.Joining.{joined_two}
 use Rattle.pcapng_writer.proofs.head.append_head.Goals as goal
 
