@@ -15,6 +15,7 @@ ghost use Rattle.cut_run.specs.Lines.{Choice};
 ghost use Rattle.cut_run.specs.declared.fault.CutFault.TheVariants as faults;
 
 use crate::fault::{CutFault, CutSource};
+use crate::observer::LineObserver;
 use crate::recordings::{Recordings, Unopened};
 use afdx_frame::TapFrame;
 use ledger_text::{Found, FrameLine, LedgerLine, LedgerReader, LinesRefused, ReadFault};
@@ -72,8 +73,9 @@ pub(crate) fn ledger_fault(fault: ReadFault) -> CutFault
 impl<S: TapSource, T: TapSource, W: OutSink> Taking<S, T, W> {
     /// Writes the frame of the ledger's next line, if it is taken.
     #[inline]
-    fn write_taken(
+    fn write_taken<O: LineObserver>(
         &mut self,
+        observer: &O,
         selection: &Selection,
         line: &FrameLine,
         frame: &TapFrame,
@@ -92,14 +94,16 @@ impl<S: TapSource, T: TapSource, W: OutSink> Taking<S, T, W> {
             return Ok(());
         }
         let whole = frame.view().bytes().len() as u32;
+        observer.writes(line);
         self.output.put(frame, whole).map_err(|_| CutFault::Write)
     }
 
     /// Finds the frame of the ledger's next line, whose number this is, and writes it, if the line is taken.
     #[inline]
-    fn cut_line(
+    fn cut_line<O: LineObserver>(
         &mut self,
         alloc: Global,
+        observer: &O,
         selection: &Selection,
         line: &FrameLine,
         number: u64,
@@ -118,7 +122,7 @@ impl<S: TapSource, T: TapSource, W: OutSink> Taking<S, T, W> {
         ensures going { OnOk result (has_failed self.new.output ≡ false) }
     {
         let frame = self.recordings.find(alloc, line, number)?;
-        self.write_taken(selection, line, &frame)
+        self.write_taken(observer, selection, line, &frame)
     }
 
     /// The sources and the sink.
@@ -142,8 +146,9 @@ impl<S: TapSource, T: TapSource, W: OutSink> Taking<S, T, W> {
 }
 
 /// Cuts up to the ledger's end.
-fn cut_lines<L: TapSource, S: TapSource, T: TapSource, W: OutSink>(
+fn cut_lines<L: TapSource, S: TapSource, T: TapSource, W: OutSink, O: LineObserver>(
     alloc: Global,
+    observer: &O,
     selection: &Selection,
     ledger: &mut LedgerReader<L>,
     taking: &mut Taking<S, T, W>,
@@ -163,7 +168,7 @@ fn cut_lines<L: TapSource, S: TapSource, T: TapSource, W: OutSink>(
     loop {
         match ledger.advance() {
             Ok(Found::Line(LedgerLine::Frame(line))) => {
-                taking.cut_line(alloc, selection, &line, ledger.number())?;
+                taking.cut_line(alloc, observer, selection, &line, ledger.number())?;
             }
             Ok(Found::Line(LedgerLine::Head)) => {}
             Ok(Found::Line(LedgerLine::Counts(_))) => {}
@@ -191,7 +196,7 @@ fn refused<L, S, T, W>(fault: CutFault, ledger: L, a: S, b: T, output: W) -> Cut
 /// ledger's order. Each line of a frame is checked against its network's recording, taken or not.
 ///
 /// With neighbours, which [`neighbours_of`](crate::neighbours_of) has found by the same selection, the lines
-/// near selected ones are taken too.
+/// near selected ones are taken too. `observer` is told the line of each packet before it is written.
 ///
 /// One pass over all three files. It allocates a block for each of them, and room for the frames
 /// that a recording with late timestamps has before those that the ledger names earlier. All devices
@@ -202,7 +207,7 @@ fn refused<L, S, T, W>(fault: CutFault, ledger: L, a: S, b: T, output: W) -> Cut
 /// `Header` or `Read` if a recording can't be opened, and then nothing was written. Later the output has
 /// the whole capture of the frames up to the fault: `Ledger`, `Order` and `Absent` name the first
 /// wrong line. After `Write` it has a prefix of that.
-pub fn cut_frames<L: TapSource, S: TapSource, T: TapSource, W: OutSink>(
+pub fn cut_frames<L: TapSource, S: TapSource, T: TapSource, W: OutSink, O: LineObserver>(
     alloc: Global,
     selection: &Selection,
     neighbours: Option<Neighbours>,
@@ -210,6 +215,7 @@ pub fn cut_frames<L: TapSource, S: TapSource, T: TapSource, W: OutSink>(
     a: S,
     b: T,
     output: W,
+    observer: &O,
 ) -> CutRun<L, S, T, W>
     ensures { (around : Option Around) → AreNoted selection.now around neighbours
         → IsCutRun (record { selection = selection.now; around = around }) result.outcome
@@ -240,7 +246,7 @@ pub fn cut_frames<L: TapSource, S: TapSource, T: TapSource, W: OutSink>(
         output,
         chooser: Chooser::new(neighbours),
     };
-    let outcome = cut_lines(alloc, selection, &mut ledger, &mut taking);
+    let outcome = cut_lines(alloc, observer, selection, &mut ledger, &mut taking);
     let (a, b, output) = taking.into_devices();
     CutRun {
         outcome,

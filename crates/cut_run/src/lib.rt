@@ -7,10 +7,12 @@
 mod cut;
 mod fault;
 mod noting;
+mod observer;
 mod print;
 mod recordings;
 
 pub use cut::{CutEnding, CutRun, cut_frames};
 pub use fault::{CutFault, CutSource};
 pub use noting::{NeighboursRun, neighbours_of};
+pub use observer::{LineObserver, NoObserver};
 pub use print::{LinesRun, print_lines};
