@@ -4,6 +4,8 @@
 //! it ended. What a command does stands in that crate, with its contract.
 #![tactic(auto)]
 
+mod annotated;
+mod captures;
 mod files;
 mod interface;
 mod live;
@@ -23,8 +25,10 @@ use analyser::{
     load_filters, neighbours_of, print_lines, read_arguments, read_config, read_file, read_tap,
     run_asm, run_session, selection_of,
 };
+use annotated::Joining;
 use bpf_debugger::DebugFault;
 use bpf_loader::Program;
+use captures::{CaptureOutput, CutObserver};
 use files::{refuse_closed, refuse_shared, refuse_shared_cut, refuse_shared_output};
 use interface::{Choices, Skipped, choose, interfaces_of};
 use live::{Blocks, LiveInput, Watcher};
@@ -178,6 +182,17 @@ fn create(rt: &HostRuntime, path: &str, file: FileOption) -> Result<Blocks, Faul
     }
 }
 
+/// What writes a capture to an output.
+fn capture_output<'a>(
+    rt: &HostRuntime,
+    output: Blocks,
+    is_pcapng: bool,
+    joining: Joining,
+    config: Option<&'a Config>,
+) -> Result<CaptureOutput<'a>, Fault> {
+    CaptureOutput::new(rt.alloc(), output, is_pcapng, joining, config).map_err(|_| NO_RUN)
+}
+
 /// Opens the capture and the ledger, if neither is another file of the run.
 fn open_outputs(rt: &HostRuntime, given: &WatchArguments<'_>) -> Result<(Blocks, Blocks), Fault> {
     refuse_shared(rt, given)?;
@@ -246,6 +261,7 @@ fn capture(
     };
     let source = ReadSource::new(LiveInput::new(recording, live));
     let source = recording_of(rt, source, choice)?;
+    let output = capture_output(rt, output, given.pcapng, Joining::Recording, None)?;
     let CaptureRun {
         outcome,
         source,
@@ -340,8 +356,14 @@ fn cut_lines(rt: &HostRuntime, files: CutDevices<'_>, is_checked: bool) -> Ended
     }
 }
 
-/// Writes the frames of the lines that the selection takes.
-fn cut_packets(rt: &HostRuntime, files: CutDevices<'_>) -> Ended {
+/// Writes the frames of the lines that the selection takes. A pcapng file has their verdicts, with the links'
+/// names in a table.
+fn cut_packets(
+    rt: &HostRuntime,
+    files: CutDevices<'_>,
+    is_pcapng: bool,
+    config: Option<&Config>,
+) -> Result<Ended, Refused> {
     let CutDevices {
         selection,
         neighbours,
@@ -350,13 +372,24 @@ fn cut_packets(rt: &HostRuntime, files: CutDevices<'_>) -> Ended {
         b,
         sink,
     } = files;
-    let run = cut_frames(rt.alloc(), selection, neighbours, ledger, a, b, sink);
+    let output = capture_output(rt, sink.into_writer(), is_pcapng, Joining::Told, config)?;
+    let observer = CutObserver(output.annotated().map_err(|_| NO_RUN)?);
+    let run = cut_frames(
+        rt.alloc(),
+        selection,
+        neighbours,
+        ledger,
+        a,
+        b,
+        WriteSink::new(output),
+        &observer,
+    );
     let flushed = run.output.into_writer().flush().is_ok();
-    Ended {
+    Ok(Ended {
         exit: Exit::of_cut(run.outcome.map_err(Fault::Cut), flushed),
         worst: None,
         skipped: Skipped::two(run.a.skipped(), run.b.skipped()),
-    }
+    })
 }
 
 /// The lines around those that are selected, where such are asked for. The ledger is read for that.
@@ -411,11 +444,11 @@ fn cut(rt: &HostRuntime, given: &CutArguments<'_>, choices: Choices) -> Result<E
         b: recording_of(rt, live_source(rt, b, &output)?, choices.b)?,
         sink: WriteSink::new(output),
     };
-    Ok(if given.ledger_only {
-        cut_lines(rt, files, given.a.is_some() || given.b.is_some())
+    if given.ledger_only {
+        Ok(cut_lines(rt, files, given.a.is_some() || given.b.is_some()))
     } else {
-        cut_packets(rt, files)
-    })
+        cut_packets(rt, files, given.pcapng, config.as_ref())
+    }
 }
 
 /// How a command ended, of `watch` the worst links, if they are to be told, and how many packets that are
@@ -438,16 +471,16 @@ impl From<Exit> for Ended {
 }
 
 /// The capture of `watch`.
-type CaptureSink = WriteSink<Blocks>;
+type CaptureSink<'a> = WriteSink<CaptureOutput<'a>>;
 
 /// The ledger of `watch`.
-type LedgerSink = WriteSink<LedgerWriter>;
+type LedgerSink<'a> = WriteSink<LedgerWriter<'a>>;
 
 /// How a run over two recordings ended, whose outputs are handed to the system.
 fn settle<S: TapSource + Drop>(
     run: Result<
-        Watched<RecordingSource<S>, RecordingSource<S>, CaptureSink, LedgerSink>,
-        WatchRefused<RecordingSource<S>, RecordingSource<S>, CaptureSink, LedgerSink>,
+        Watched<RecordingSource<S>, RecordingSource<S>, CaptureSink<'_>, LedgerSink<'_>>,
+        WatchRefused<RecordingSource<S>, RecordingSource<S>, CaptureSink<'_>, LedgerSink<'_>>,
     >,
 ) -> Ended {
     let (outcome, skipped, capture, ledger) = match run {
@@ -521,6 +554,14 @@ fn watch_networks<R: Threads + Wait + Sync>(
     let a = ReadSource::new(Recording::with_pauses(rt, a, Network::A, shown, pauses));
     let b = ReadSource::new(Recording::with_pauses(rt, b, Network::B, shown, pauses));
     let watcher = Watcher::new(rt, *given, outputs, shown, pauses, analysis.told);
+    let capture = capture_output(
+        rt,
+        capture,
+        given.pcapng,
+        Joining::Ledger,
+        Some(analysis.config),
+    )?;
+    let annotated = capture.annotated().map_err(|_| NO_RUN)?;
     let run = analyser::watch(
         threads,
         rt.alloc(),
@@ -530,7 +571,11 @@ fn watch_networks<R: Threads + Wait + Sync>(
         recording_of(rt, a, choices.a)?,
         recording_of(rt, b, choices.b)?,
         WriteSink::new(capture),
-        WriteSink::new(LedgerWriter::new(ledger, worst_links(rt, given))),
+        WriteSink::new(LedgerWriter::new(
+            ledger,
+            worst_links(rt, given),
+            annotated,
+        )),
         &watcher,
     );
     if let Some(progress) = &progress {

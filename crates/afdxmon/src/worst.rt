@@ -1,5 +1,6 @@
 //! The virtual links with the most discards, for a person at a terminal: read off the lines of the links as
 //! they are written to the ledger, so that the counts are the ledger's.
+use crate::annotated::Annotated;
 use crate::live::Blocks;
 use std::alloc::{AllocError, Global};
 use std::fmt::{Display, Formatter};
@@ -155,17 +156,27 @@ impl Display for WorstLinks {
     }
 }
 
-/// A ledger that is written, of which the worst links are told, or aren't.
+/// A ledger that is written, of which the worst links are told, or aren't, and whose verdicts a capture may have.
 #[derive(Drop)]
-pub struct LedgerWriter {
+pub struct LedgerWriter<'a> {
     blocks: Blocks,
     worst: Option<WorstLinks>,
+    capture: Option<Annotated<'a>>,
 }
 
-impl LedgerWriter {
-    /// A ledger whose bytes go on to `blocks`; no links are told where `worst` is None.
-    pub fn new(blocks: Blocks, worst: Option<WorstLinks>) -> LedgerWriter {
-        LedgerWriter { blocks, worst }
+impl<'a> LedgerWriter<'a> {
+    /// A ledger whose bytes go on to `blocks`; no links are told where `worst` is None, and no capture has its
+    /// verdicts where `capture` is None.
+    pub fn new(
+        blocks: Blocks,
+        worst: Option<WorstLinks>,
+        capture: Option<Annotated<'a>>,
+    ) -> LedgerWriter<'a> {
+        LedgerWriter {
+            blocks,
+            worst,
+            capture,
+        }
     }
 
     /// The links that were found; None where they aren't told, or there was no memory for them.
@@ -180,10 +191,13 @@ impl LedgerWriter {
                 self.worst = None;
             }
         }
+        if let Some(capture) = &self.capture {
+            capture.pass(bytes);
+        }
     }
 }
 
-impl Write for LedgerWriter {
+impl Write for LedgerWriter<'_> {
     fn write(&mut self, bytes: &[u8]) -> io::Result<usize> {
         let count = self.blocks.write(bytes)?;
         if let Some(written) = bytes.get(..count) {

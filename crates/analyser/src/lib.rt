@@ -30,8 +30,8 @@ pub use commands::{
     source_means_its_program,
 };
 pub use cut_run::{
-    CutEnding, CutFault, CutRun, CutSource, LinesRun, NeighboursRun, cut_frames, neighbours_of,
-    print_lines,
+    CutEnding, CutFault, CutRun, CutSource, LineObserver, LinesRun, NeighboursRun, cut_frames,
+    neighbours_of, print_lines,
 };
 pub use line_selection::{Neighbours, Selection};
 pub use run_outcome::{Output, WatchFault, WatchRefused};

@@ -1,0 +1,262 @@
+//! Captures as pcapng: what a command writes as pcap becomes blocks, and each packet of `watch` and of `cut` gets
+//! the verdict of its line in the ledger as a comment.
+use crate::live::Blocks;
+use afdx_frame::{LentFrame, Network, Stamp};
+use analyser::LineObserver;
+use ledger_text::{FrameLine, read_frame};
+use pcapng_writer::{Comment, Interfaces, append_head, append_packet};
+use std::alloc::{AllocError, Global};
+use std::io;
+use std::io::{ErrorKind, Write};
+use std::sync::{Arc, Mutex};
+use verdict_comment::append_comment;
+use vl_config::Config;
+
+/// How many bytes a pcap file's header has.
+const FILE_HEADER: usize = 24;
+
+/// How many bytes the header of a pcap file's packet has.
+const PACKET_HEADER: usize = 16;
+
+/// Which line of a ledger a packet belongs to.
+#[derive(Clone, Copy)]
+pub enum Joining {
+    /// None: the packets are those of one recording.
+    Recording,
+    /// That which is told before the packet.
+    Told,
+    /// The first that comes after the packet, with bytes kept, and isn't another packet's.
+    Ledger,
+}
+
+/// The little-endian number of four bytes.
+fn u32_at(bytes: &[u8], at: usize) -> Option<u32> {
+    let [a, b, c, d] = bytes.get(at..at.saturating_add(4))? else {
+        return None;
+    };
+    Some(u32::from_le_bytes([*a, *b, *c, *d]))
+}
+
+/// The frame of the first packet, and how many bytes the packet has. None: it hasn't come whole.
+fn first_packet(bytes: &[u8], network: Network) -> Option<(LentFrame<'_>, usize)> {
+    let end = PACKET_HEADER.saturating_add(u32_at(bytes, 8)? as usize);
+    let captured = bytes.get(PACKET_HEADER..end)?;
+    let stamp = u64::from(u32_at(bytes, 0)?) * 1_000_000_000 + u64::from(u32_at(bytes, 4)?);
+    let frame = LentFrame::new(network, 0, Stamp(stamp), u32_at(bytes, 12)?, captured)?;
+    Some((frame, end))
+}
+
+/// What joins packets with lines, and writes them.
+#[derive(Drop)]
+struct Annotator<'a> {
+    blocks: Blocks,
+    joining: Joining,
+    config: Option<&'a Config>,
+    /// How many bytes of the pcap file's header are still to come.
+    header_left: usize,
+    /// The packets that came and weren't written, from an index on.
+    packets: Vec<u8>,
+    from: usize,
+    /// The line that was told last.
+    told: Option<FrameLine>,
+    /// What came of a line of the ledger.
+    line: Vec<u8>,
+    /// A packet's comment and its block.
+    text: Vec<u8>,
+    block: Vec<u8>,
+    failed: bool,
+}
+
+impl Annotator<'_> {
+    /// The interfaces that the capture has.
+    fn interfaces(&self) -> Interfaces {
+        match self.joining {
+            Joining::Recording => Interfaces::One,
+            Joining::Told | Joining::Ledger => Interfaces::Networks,
+        }
+    }
+
+    /// Writes what a capture begins with.
+    fn begin(&mut self) -> io::Result<()> {
+        let interfaces = self.interfaces();
+        self.block.clear();
+        append_head(&mut self.block, interfaces)?;
+        self.blocks.write_all(&self.block)
+    }
+
+    /// Makes the block of the first packet, and says how many bytes that had. None: it hasn't come whole.
+    fn fill_block(&mut self, line: Option<FrameLine>) -> Result<Option<usize>, AllocError> {
+        let interfaces = self.interfaces();
+        self.text.clear();
+        if let Some(line) = &line {
+            append_comment(&mut self.text, self.config, line)?;
+        }
+        let (network, comment) = match line {
+            Some(line) => (line.network, Comment::new(&self.text)),
+            None => (Network::A, None),
+        };
+        let packets = self.packets.get(self.from..).unwrap_or(&[]);
+        let Some((frame, len)) = first_packet(packets, network) else {
+            return Ok(None);
+        };
+        self.block.clear();
+        let kept = frame.view().bytes().len() as u32;
+        append_packet(&mut self.block, interfaces, &frame, kept, comment)?;
+        Ok(Some(len))
+    }
+
+    /// Writes the first packet with the verdict of its line. Has it come whole?
+    fn write_first(&mut self, line: Option<FrameLine>) -> io::Result<bool> {
+        let Some(len) = self.fill_block(line)? else {
+            return Ok(false);
+        };
+        self.from = self.from.saturating_add(len);
+        if self.from >= self.packets.len() {
+            self.packets.clear();
+            self.from = 0;
+        }
+        self.blocks.write_all(&self.block)?;
+        Ok(true)
+    }
+
+    /// Takes the next bytes of the pcap file.
+    fn take(&mut self, bytes: &[u8]) -> io::Result<()> {
+        let skipped = self.header_left.min(bytes.len());
+        if skipped > 0 && self.header_left == FILE_HEADER {
+            self.begin()?;
+        }
+        self.header_left = self.header_left.saturating_sub(skipped);
+        self.packets.extend_from_slice(bytes.get(skipped..).unwrap_or(&[]))?;
+        if let Joining::Ledger = self.joining {
+            return Ok(());
+        }
+        // Each turn but the last writes a packet.
+        for _ in 0..u64::MAX {
+            if self.packets.is_empty() || !self.write_first(self.told)? {
+                break;
+            }
+        }
+        Ok(())
+    }
+
+    /// Takes the line of the ledger that has come. The head and the lines of counts are none of frames.
+    fn end_line(&mut self) -> io::Result<()> {
+        let found = read_frame(&self.line);
+        self.line.clear();
+        match found {
+            Ok(line) if line.kept.is_some() => {
+                self.write_first(Some(line))?;
+                Ok(())
+            }
+            Ok(_) | Err(_) => Ok(()),
+        }
+    }
+
+    /// Takes the next bytes of the ledger.
+    fn pass(&mut self, bytes: &[u8]) -> io::Result<()> {
+        let mut rest = bytes;
+        // Each turn but the last takes a line.
+        for _ in 0..u64::MAX {
+            let Some(at) = rest.iter().position(|byte| *byte == b'\n') else {
+                break;
+            };
+            self.line.extend_from_slice(rest.get(..at).unwrap_or(&[]))?;
+            self.end_line()?;
+            rest = rest.get(at.saturating_add(1)..).unwrap_or(&[]);
+        }
+        self.line.extend_from_slice(rest)?;
+        Ok(())
+    }
+}
+
+/// A capture that is written as pcapng. It is shared with who tells it of the ledger's lines on the same
+/// thread.
+#[derive(Drop)]
+pub struct Annotated<'a> {
+    shared: Arc<Mutex<Annotator<'a>>, Global>,
+}
+
+/// The capture can't be written any more, or another thread is writing, which none does.
+fn is_lost() -> io::Error {
+    io::Error::from(ErrorKind::BrokenPipe)
+}
+
+impl<'a> Annotated<'a> {
+    /// Nothing was written yet. The links' names are those of a table.
+    pub fn new(
+        alloc: Global,
+        blocks: Blocks,
+        joining: Joining,
+        config: Option<&'a Config>,
+    ) -> Result<Annotated<'a>, AllocError> {
+        let annotator = Annotator {
+            blocks,
+            joining,
+            config,
+            header_left: FILE_HEADER,
+            packets: Vec::new(alloc),
+            from: 0,
+            told: None,
+            line: Vec::new(alloc),
+            text: Vec::new(alloc),
+            block: Vec::new(alloc),
+            failed: false,
+        };
+        match Arc::new(alloc, Mutex::new(annotator)) {
+            Ok(shared) => Ok(Annotated { shared }),
+            Err(_) => Err(AllocError),
+        }
+    }
+
+    /// The same capture.
+    pub fn share(&self) -> Result<Annotated<'a>, AllocError> {
+        Ok(Annotated {
+            shared: Arc::try_clone(&self.shared)?,
+        })
+    }
+
+    /// Takes what was written to the ledger. A fault is told to the next that writes packets.
+    pub fn pass(&self, bytes: &[u8]) {
+        if let Some(mut annotator) = self.shared.try_lock() {
+            if !annotator.failed && annotator.pass(bytes).is_err() {
+                annotator.failed = true;
+            }
+        }
+    }
+}
+
+impl LineObserver for Annotated<'_> {
+    fn writes(&self, line: &FrameLine) {
+        if let Some(mut annotator) = self.shared.try_lock() {
+            annotator.told = Some(*line);
+        }
+    }
+}
+
+impl Write for Annotated<'_> {
+    fn write(&mut self, bytes: &[u8]) -> io::Result<usize> {
+        let Some(mut annotator) = self.shared.try_lock() else {
+            return Err(is_lost());
+        };
+        if annotator.failed {
+            return Err(is_lost());
+        }
+        match annotator.take(bytes) {
+            Ok(()) => Ok(bytes.len()),
+            Err(error) => {
+                annotator.failed = true;
+                Err(error)
+            }
+        }
+    }
+
+    fn flush(&mut self) -> io::Result<()> {
+        let Some(mut annotator) = self.shared.try_lock() else {
+            return Err(is_lost());
+        };
+        if annotator.failed {
+            return Err(is_lost());
+        }
+        annotator.blocks.flush()
+    }
+}
