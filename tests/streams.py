@@ -263,6 +263,15 @@ def misuse(files):
         ("capture", ["--code", EVERY, "--filter", "f", "--source", "f"], "TwoFilters"),
         ("debug", ["--tap", "t"], "NoFilter"),
         ("debug", ["--tap", "t", "--filter", "f", "--source", "f"], "TwoFilters"),
+        ("watch", ["--config", "t", "--ledger", "l", "--a", "a", "--pcapng"], "Uncaptured"),
+        ("watch", ["--config", "t", "--ledger", "l", "--a", "a", "--filter", "f", "--pcapng"], "Uncaptured"),
+        ("watch", ["--config", "t", "--ledger", "l", "--pcapng"], "NoRecording"),
+        ("watch", ["--config", "t", "--ledger", "l", "--a", "a", "--capture", "c", "--pcapng"], "Unfiltered"),
+        ("cut", ["--ledger", "l", "--ledger-only", "--pcapng"], "NoPackets"),
+        ("cut", ["--ledger", "l", "--a", "a", "--ledger-only", "--pcapng", "--network", "C"], "NoPackets"),
+        ("cut", ["--ledger", "l", "--pcapng"], "NoRecording"),
+        ("links", [], "NoRecording"),
+        ("links", ["--constant", "0x03000000"], "NoRecording"),
     ):
         whole = usage_error(command, MISUSE[name])
         ran = run([command, *more], input=b"", stdout=subprocess.PIPE)

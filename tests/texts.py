@@ -67,6 +67,10 @@ ADVICE = {
     "watch 4 Write capture": "the capture can't be written: is the disk full, or the pipe closed?",
     "watch 4 Write ledger": "the ledger can't be written: is the disk full, or the pipe closed?",
     "watch 7": NO_MEMORY,
+    "links 1 Constant": "--constant is a number of 32 bits, as 0x03000000 or 50331648",
+    "report 1 Ledger": "a line of no frame's form: was the ledger changed?",
+    "report 3 Read Ledger": "the ledger can't be read: is it a file or a pipe?",
+    "report 4": NO_MEMORY,
 }
 # What a table may have at each key.
 ALLOWED = {
@@ -134,6 +138,8 @@ ABOUT = {
     "watch": "Judges the frames of two recordings, and writes those that a filter accepts",
     "debug": "Steps through a filter on the frames of a recording, by commands from standard input",
     "cut": "Copies the frames of two recordings that a ledger's lines select",
+    "links": "Prints a draft of the table of virtual links that recordings have",
+    "report": "Writes an HTML page on what a ledger says, or its numbers",
 }
 # What each command's help says after the line of what it does.
 HELP = {
@@ -148,6 +154,7 @@ Options:
       --filter <FILE>  The filter in the numeric form, as `afdxmon asm` prints it
       --source <FILE>  The filter's source, as `afdxmon asm` reads it
   -o, --output <FILE>  The capture to write, a nanosecond pcap file [default: -]
+      --pcapng         Write the capture as pcapng
   -h, --help           Print help
 
 One of --code, --filter and --source gives the filter. '-' is standard input, or standard output.
@@ -176,6 +183,7 @@ Options:
       --ledger <FILE>   The ledger of verdicts to write
       --workers <N>     The number of workers, 1 to 8 [default: 2]
       --quiet           Leave out progress and summary at a terminal
+      --pcapng          Write the capture as pcapng, with verdicts as packet comments
   -h, --help            Print help
 
 A network whose recording isn't given has no frames. Without --filter no frame is accepted, and
@@ -215,6 +223,7 @@ Options:
       --filters <MASK>  A mask of filters in hexadecimal: '06' is what filter 1 or 2 accepts
       --around <N>      Take N frames of the same link before and after each selected one too [default: 0]
       --ledger-only     Print the ledger's lines of the selected frames in place of packets
+      --pcapng          Write the capture as pcapng, with verdicts as packet comments
   -o, --output <FILE>   The nanosecond pcap file to write, or the text file of lines [default: -]
   -h, --help            Print help
 
@@ -225,6 +234,38 @@ UTC, or nanoseconds since 1970. '-' is standard input, or standard output.
 
 Example: keep the frames that policing discarded
   afdxmon cut --ledger flight.ledger --a a.pcap --b b.pcap --verdict excess -o excess.pcap
+""",
+    "links": r"""
+Usage: afdxmon links [OPTIONS] <--a <FILE>|--b <FILE>>
+
+Options:
+      --a <FILE>           The recording of network A, a pcap or pcapng file
+      --b <FILE>           The recording of network B, a pcap or pcapng file
+      --constant <NUMBER>  The constant field of the links' frames, as 0x03000000
+  -h, --help               Print help
+
+The draft says what was seen and not what was specified: check it against the ICD. Without --constant
+the draft has the most common constant field with bits 24 and 25 set. '-' is standard input.
+
+Example: a table from two recordings, and a run with it
+  afdxmon links --a a.pcap --b b.pcap > draft.toml
+  afdxmon watch --config draft.toml --a a.pcap --b b.pcap --ledger verdicts.ledger
+""",
+    "report": r"""
+Usage: afdxmon report [OPTIONS] --config <FILE> --ledger <FILE>
+
+Options:
+      --config <FILE>  The table of virtual links, a TOML document
+      --ledger <FILE>  The ledger of verdicts, as `afdxmon watch` writes it
+      --json           Write the page's numbers as JSON in place of the page
+  -o, --output <FILE>  The page to write, or the JSON text [default: -]
+  -h, --help           Print help
+
+The page is one file without scripts and links. Without -o a terminal is shown the first part as text.
+'-' is standard input, or standard output.
+
+Example: a page on a run
+  afdxmon report --config flight.toml --ledger verdicts.ledger -o report.html
 """,
 }
 PROGRAM_HELP = (
@@ -249,6 +290,8 @@ MISUSE = {
     "TwoFilters": "more than one filter is given",
     "NoRecording": "no recording is given: --a, --b or both name one",
     "Unfiltered": "--capture needs --filter, which says what frames it is to have",
+    "Uncaptured": "--pcapng needs --capture: it says how the capture is written",
+    "NoPackets": "--pcapng says how packets are written, and --ledger-only leaves them out",
 }
 
 
