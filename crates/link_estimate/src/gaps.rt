@@ -125,7 +125,7 @@ fn bucket_of(units: u64) -> Bucket
             part: units,
         };
     }
-    let shift = units.ilog2() - 5;
+    let shift = (units / 32).ilog2();
     Bucket {
         shift,
         part: units >> shift,

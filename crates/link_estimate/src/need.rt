@@ -18,7 +18,7 @@ const CLASSES: usize = 19;
 #[derive(Debug, Drop)]
 pub struct Need {
     bag: u64,
-    now: u64,
+    newest: u64,
     greatest: u64,
     at: Stamp,
     classes: [u32; 19],
@@ -32,7 +32,7 @@ impl Model for Need {
 
     ghost view = { λ need. record {
       bag = need.bag;
-      now = need.now;
+      newest = need.newest;
       greatest = need.greatest;
     } };
 
@@ -48,7 +48,7 @@ impl Need {
     {
         Need {
             bag,
-            now: 0,
+            newest: 0,
             greatest: 0,
             at: Stamp(0),
             classes: [0; CLASSES],
@@ -62,12 +62,12 @@ impl Need {
         ensures after { (gaps : List ℕ) → length gaps < 2 ^ 32 → StandsAfter self.old gaps
             → StandsAfter self.new (gap ∷ gaps) }
     {
-        self.now = self.now.saturating_add(self.bag).saturating_sub(gap);
-        if self.greatest < self.now {
-            self.greatest = self.now;
+        self.newest = self.newest.saturating_add(self.bag).saturating_sub(gap);
+        if self.greatest < self.newest {
+            self.greatest = self.newest;
             self.at = stamp;
         }
-        let class = class_of(self.now);
+        let class = class_of(self.newest);
         self.classes[class] = self.classes[class].saturating_add(1);
     }
 
@@ -97,7 +97,11 @@ impl Need {
         for class in (1..CLASSES).rev() {
             above = above.saturating_add(u64::from(self.classes[class]));
             if above > spared {
-                return if class + 1 < CLASSES { Some(1 << class) } else { None };
+                return if class + 1 < CLASSES {
+                    Some(1 << class)
+                } else {
+                    None
+                };
             }
         }
         Some(1)
