@@ -1,0 +1,122 @@
+//! The copies of frames that both networks bring.
+
+ghost use Rattle.std.specs.Prelude.{◌≡◌};
+
+use afdx_frame::{Network, Stamp};
+
+/// A second, the greatest SkewMax of a table, in nanoseconds.
+const MAX_SKEW: u64 = 1_000_000_000;
+/// How many frames of the other network may have come since the first copy: half of a cycle of the 255 numbers.
+const MOST_SINCE: u64 = 127;
+
+/// The frame that came last with a sequence number.
+#[derive(Clone, Copy, Debug)]
+struct Arrival {
+    network: Network,
+    stamp: Stamp,
+    /// Its index among the link's frames on its network.
+    index: u64,
+}
+
+/// The copies among the frames of one link on both networks. A frame is the copy of the last one with its
+/// sequence number, where that came on the other network, at most a second before, is one of the last 128 of
+/// the link there, and has no copy yet.
+#[derive(Debug, Drop)]
+pub struct Copies {
+    latest: [Option<Arrival>; 256],
+    seen_a: u64,
+    seen_b: u64,
+    count: u64,
+    greatest_skew: u64,
+}
+
+impl Copies {
+    /// Of no frame.
+    pub fn new() -> Copies {
+        Copies {
+            latest: [None; 256],
+            seen_a: 0,
+            seen_b: 0,
+            count: 0,
+            greatest_skew: 0,
+        }
+    }
+
+    /// Counts the frame with this number.
+    #[inline(always)]
+    pub fn see(&mut self, network: Network, number: u8, stamp: Stamp) {
+        let index = self.pass(network);
+        let others = self.seen(other(network));
+        let place = usize::from(number);
+        match skew_of(self.latest[place], network, others, stamp) {
+            Some(skew) => {
+                self.latest[place] = None;
+                self.count = self.count.saturating_add(1);
+                self.greatest_skew = self.greatest_skew.max(skew);
+            }
+            None => {
+                self.latest[place] = Some(Arrival {
+                    network,
+                    stamp,
+                    index,
+                });
+            }
+        }
+    }
+
+    /// The index of the next frame on a network, which is counted.
+    #[inline(always)]
+    fn pass(&mut self, network: Network) -> u64 {
+        let seen = match network {
+            Network::A => &mut self.seen_a,
+            Network::B => &mut self.seen_b,
+        };
+        let index = *seen;
+        *seen = index.saturating_add(1);
+        index
+    }
+
+    #[inline(always)]
+    fn seen(&self, network: Network) -> u64 {
+        match network {
+            Network::A => self.seen_a,
+            Network::B => self.seen_b,
+        }
+    }
+
+    /// How many frames are copies.
+    pub fn count(&self) -> u64
+        ensures { result ≡ self.now.count }
+    {
+        self.count
+    }
+
+    /// The greatest time between a frame and its copy, in nanoseconds.
+    pub fn greatest_skew(&self) -> u64
+        ensures { result ≡ self.now.greatest_skew }
+    {
+        self.greatest_skew
+    }
+}
+
+#[inline(always)]
+fn other(network: Network) -> Network {
+    match network {
+        Network::A => Network::B,
+        Network::B => Network::A,
+    }
+}
+
+/// How much later than the last frame of its number a copy came. None: it is no copy. `others` is how many
+/// frames of the link have come on the other network.
+#[inline(always)]
+fn skew_of(latest: Option<Arrival>, network: Network, others: u64, stamp: Stamp) -> Option<u64> {
+    let arrival = latest?;
+    let skew = stamp.0.saturating_sub(arrival.stamp.0);
+    let since = others.saturating_sub(arrival.index);
+    if arrival.network != network && skew <= MAX_SKEW && since <= MOST_SINCE + 1 {
+        Some(skew)
+    } else {
+        None
+    }
+}

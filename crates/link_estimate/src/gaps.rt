@@ -1,0 +1,150 @@
+//! The gaps between frames, by a histogram of fixed size.
+
+ghost use Rattle.std.specs.Prelude.{◌≡◌, ◌<◌, ◌≤◌, ◌+◌};
+ghost use Rattle.link_estimate.specs.Bucket.{IsBucketOf};
+
+/// The unit of the histogram is 2^11 ns, some two microseconds.
+const UNIT_BITS: u32 = 11;
+/// Gaps of so many units, 2^30 ns, or more stand in one bucket, the last.
+const MOST_UNITS: u64 = 1 << 19;
+/// The buckets: 64 of one unit, 32 for each further power of 2, and the last.
+const BUCKETS: usize = 481;
+
+/// From one time up to another, in nanoseconds: the upper end is left out.
+#[derive(Clone, Copy, Debug)]
+pub struct Range {
+    pub from: u64,
+    pub to: u64,
+}
+
+/// The gaps between a link's frames on one network, in nanoseconds: their least, their greatest, and how
+/// many there are in each bucket. A bucket is no wider than 2048 ns or a thirty-second of its gaps.
+#[derive(Debug, Drop)]
+pub struct Gaps {
+    count: u64,
+    least: u64,
+    greatest: u64,
+    counts: [u32; 481],
+}
+
+/// The place of a bucket: its gaps, in units, divided by 2^shift are all `part`.
+#[derive(Clone, Copy)]
+struct Bucket {
+    shift: u32,
+    part: u64,
+}
+
+impl Gaps {
+    /// No gap.
+    pub fn new() -> Gaps {
+        Gaps {
+            count: 0,
+            least: u64::MAX,
+            greatest: 0,
+            counts: [0; BUCKETS],
+        }
+    }
+
+    /// Counts a gap.
+    #[inline(always)]
+    pub fn step(&mut self, gap: u64)
+        ensures least { self.new.least ≤ gap }
+        ensures greatest { gap ≤ self.new.greatest }
+    {
+        self.count = self.count.saturating_add(1);
+        self.least = self.least.min(gap);
+        self.greatest = self.greatest.max(gap);
+        let index = index_of(gap >> UNIT_BITS);
+        self.counts[index] = self.counts[index].saturating_add(1);
+    }
+
+    /// How many gaps there are.
+    pub fn count(&self) -> u64
+        ensures { result ≡ self.now.count }
+    {
+        self.count
+    }
+
+    /// The least gap. 2^64 - 1 where there is none.
+    pub fn least(&self) -> u64
+        ensures { result ≡ self.now.least }
+    {
+        self.least
+    }
+
+    /// The greatest gap. 0 where there is none.
+    pub fn greatest(&self) -> u64
+        ensures { result ≡ self.now.greatest }
+    {
+        self.greatest
+    }
+
+    /// The bucket of the median: of n gaps in rising order that at (n - 1) / 2, from 0. None where there is
+    /// no gap.
+    pub fn median(&self) -> Option<Range> {
+        if self.count == 0 {
+            return None;
+        }
+        let rank = (self.count - 1) / 2;
+        let mut below = 0u64;
+        for index in 0..BUCKETS - 1 {
+            below = below.saturating_add(u64::from(self.counts[index]));
+            if below > rank {
+                return Some(range_at(index));
+            }
+        }
+        Some(Range {
+            from: MOST_UNITS << UNIT_BITS,
+            to: u64::MAX,
+        })
+    }
+}
+
+/// The index of the bucket of a gap of so many units.
+#[inline(always)]
+fn index_of(units: u64) -> usize
+    ensures { result < 481 }
+{
+    if units >= MOST_UNITS {
+        return BUCKETS - 1;
+    }
+    let Bucket { shift, part } = bucket_of(units);
+    shift as usize * 32 + part as usize
+}
+
+/// The bucket of a gap of so many units.
+#[inline(always)]
+fn bucket_of(units: u64) -> Bucket
+    requires { units < 524288 }
+    ensures bucket { IsBucketOf units result.shift result.part }
+    ensures bound { result.shift ≤ 13 }
+{
+    if units < 64 {
+        return Bucket {
+            shift: 0,
+            part: units,
+        };
+    }
+    let shift = (units / 32).ilog2();
+    Bucket {
+        shift,
+        part: units >> shift,
+    }
+}
+
+/// The gaps of the bucket at an index.
+fn range_at(index: usize) -> Range
+    requires { index < 480 }
+{
+    let (shift, part) = if index < 64 {
+        (0u32, index as u64)
+    } else {
+        (index as u32 / 32 - 1, 32 + index as u64 % 32)
+    };
+    let from = part << shift;
+    let to = (part + 1) << shift;
+    Range {
+        from: from << UNIT_BITS,
+        to: to << UNIT_BITS,
+    }
+}

@@ -1,0 +1,116 @@
+//! The links of one constant field.
+
+ghost use Rattle.std.specs.Prelude.{◌≡◌, ◌≤◌, IfOk, vec_len};
+
+use afdx_frame::{LentFrame, Network, Stamp, VL_ID_COUNT, VlId};
+use link_estimate::{Arrivals, Copies};
+use std::alloc::{AllocError, Global};
+
+/// The most links of a table.
+pub const MAX_LINKS: usize = 4096;
+
+/// No link yet.
+const NO_LINK: u16 = u16::MAX;
+
+/// What the frames of one link say of it.
+#[derive(Debug, Drop)]
+pub struct LinkSurvey {
+    pub id: VlId,
+    /// On network A.
+    pub a: Arrivals,
+    /// On network B.
+    pub b: Arrivals,
+    /// Of both networks.
+    pub copies: Copies,
+}
+
+/// The links of one constant field, by their identifiers.
+#[derive(Debug, Drop)]
+pub struct Links {
+    /// The place of each identifier's link.
+    places: Vec<u16>,
+    links: Vec<LinkSurvey>,
+    /// Frames of links beyond the most.
+    refused: u64,
+    ghost complete: { vec_len places ≡ 65536 },
+}
+
+impl LinkSurvey {
+    #[inline(never)]
+    fn new(id: VlId) -> LinkSurvey {
+        LinkSurvey {
+            id,
+            a: Arrivals::new(),
+            b: Arrivals::new(),
+            copies: Copies::new(),
+        }
+    }
+
+    #[inline(always)]
+    fn see(&mut self, network: Network, stamp: Stamp, len: u32, number: u8) {
+        match network {
+            Network::A => self.a.see(stamp, len, number),
+            Network::B => self.b.see(stamp, len, number),
+        }
+        self.copies.see(network, number, stamp);
+    }
+}
+
+impl Links {
+    /// No link.
+    pub fn new(alloc: Global) -> Result<Links, AllocError> {
+        Ok(Links {
+            places: vec![in alloc; NO_LINK; VL_ID_COUNT]?,
+            links: Vec::new(alloc),
+            refused: 0,
+        })
+    }
+
+    /// Counts a frame of a link: it allocates at the link's first frame alone.
+    ///
+    /// # Errors
+    ///
+    /// `AllocError` if there is no memory for a new link.
+    #[inline]
+    pub fn see(
+        &mut self,
+        id: VlId,
+        network: Network,
+        stamp: Stamp,
+        len: u32,
+        number: u8,
+    ) -> Result<(), AllocError> {
+        let place = usize::from(self.places[usize::from(id.0)]);
+        if place < self.links.len() {
+            self.links[place].see(network, stamp, len, number);
+            return Ok(());
+        }
+        if self.links.len() >= MAX_LINKS {
+            self.refused = self.refused.saturating_add(1);
+            return Ok(());
+        }
+        let mut link = LinkSurvey::new(id);
+        link.see(network, stamp, len, number);
+        self.places[usize::from(id.0)] = self.links.len() as u16;
+        self.links.push(link)?;
+        Ok(())
+    }
+
+    /// The link of an identifier.
+    pub fn link(&self, id: VlId) -> Option<&LinkSurvey> {
+        let place = usize::from(self.places[usize::from(id.0)]);
+        self.links.get(place)
+    }
+
+    /// How many links there are.
+    pub fn count(&self) -> usize {
+        self.links.len()
+    }
+
+    /// How many frames were of links beyond the first [`MAX_LINKS`].
+    pub fn refused(&self) -> u64
+        ensures { result ≡ self.now.refused }
+    {
+        self.refused
+    }
+}

@@ -1,0 +1,142 @@
+//! What recordings say of a network: its constant field and its links.
+
+ghost use Rattle.std.specs.Prelude.{◌≡◌};
+
+use crate::links::Links;
+use afdx_frame::{Network, TapFrame, VlId};
+use std::alloc::{AllocError, Global};
+
+/// How many constant fields are kept.
+pub const MAX_CONSTANTS: usize = 8;
+
+/// The bits that a constant field has set: a group address, locally administered (IEEE 802.3).
+const GROUP_BITS: u32 = 0x0300_0000;
+/// An Ethernet frame's lengths without its frame check sequence, in bytes (IEEE 802.3).
+const LEAST_LENGTH: u32 = 60;
+
+const GREATEST_LENGTH: u32 = 1514;
+
+/// The frames of one constant field.
+#[derive(Debug, Drop)]
+pub struct Field {
+    pub constant: u32,
+    pub frames: u64,
+    pub links: Links,
+}
+
+/// What was seen of a network.
+#[derive(Debug, Drop)]
+pub struct Survey {
+    wanted: Option<u32>,
+    fields: Vec<Field>,
+    /// Frames of other constant fields.
+    others: u64,
+    /// Frames that weren't recorded whole, or are no Ethernet frames.
+    unusable: u64,
+}
+
+impl Survey {
+    /// Of no frame. With `wanted` the frames of that constant field alone are looked at.
+    pub fn new(alloc: Global, wanted: Option<u32>) -> Survey {
+        Survey {
+            wanted,
+            fields: Vec::new(alloc),
+            others: 0,
+            unusable: 0,
+        }
+    }
+
+    /// Counts a frame.
+    ///
+    /// # Errors
+    ///
+    /// `AllocError` if there is no memory for a new constant field or a new link.
+    #[inline]
+    pub fn see(&mut self, alloc: Global, frame: &TapFrame) -> Result<(), AllocError> {
+        let view = frame.view();
+        let whole = frame.whole();
+        let (Some(constant), Some(id), Some(number)) = (view.constant(), view.vl(), view.sequence())
+        else {
+            self.unusable = self.unusable.saturating_add(1);
+            return Ok(());
+        };
+        if view.bytes().len() < whole as usize || whole < LEAST_LENGTH || whole > GREATEST_LENGTH {
+            self.unusable = self.unusable.saturating_add(1);
+            return Ok(());
+        }
+        let Some(place) = self.place_of(alloc, constant)? else {
+            self.others = self.others.saturating_add(1);
+            return Ok(());
+        };
+        match self.fields.get_mut(place) {
+            Some(field) => {
+                field.frames = field.frames.saturating_add(1);
+                field
+                    .links
+                    .see(id, frame.network(), frame.stamp(), whole, number)
+            }
+            None => Ok(()),
+        }
+    }
+
+    /// The place of a constant field, which is made at its first frame. None: it isn't kept.
+    #[inline]
+    fn place_of(&mut self, alloc: Global, constant: u32) -> Result<Option<usize>, AllocError> {
+        for place in 0..self.fields.len() {
+            if self.fields[place].constant == constant {
+                return Ok(Some(place));
+            }
+        }
+        if !self.is_kept(constant) || self.fields.len() >= MAX_CONSTANTS {
+            return Ok(None);
+        }
+        let place = self.fields.len();
+        self.fields.push(Field {
+            constant,
+            frames: 0,
+            links: Links::new(alloc)?,
+        })?;
+        Ok(Some(place))
+    }
+
+    fn is_kept(&self, constant: u32) -> bool {
+        match self.wanted {
+            Some(wanted) => constant == wanted,
+            None => constant & GROUP_BITS == GROUP_BITS,
+        }
+    }
+
+    /// The constant field that most frames have, the first seen of several. None: no frame has one.
+    pub fn main_field(&self) -> Option<&Field> {
+        let mut main: Option<&Field> = None;
+        for field in &self.fields {
+            let more = match main {
+                Some(best) => field.frames > best.frames,
+                None => true,
+            };
+            if more {
+                main = Some(field);
+            }
+        }
+        main
+    }
+
+    /// The constant fields that were kept, in the order of their first frames.
+    pub fn fields(&self) -> &[Field] {
+        self.fields.as_slice()
+    }
+
+    /// How many frames had a constant field that wasn't kept.
+    pub fn others(&self) -> u64
+        ensures { result ≡ self.now.others }
+    {
+        self.others
+    }
+
+    /// How many frames weren't recorded whole, or are below 60 or above 1514 bytes.
+    pub fn unusable(&self) -> u64
+        ensures { result ≡ self.now.unusable }
+    {
+        self.unusable
+    }
+}
