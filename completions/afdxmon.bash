@@ -33,19 +33,19 @@ _afdxmon() {
                 --network) _afdxmon_words 'A B' "$current"; return ;;
                 --verdict) _afdxmon_words "$verdicts" "$current"; return ;;
                 --code | --link | --from | --to | --filters | --around) return ;;
-                --quiet | --ledger-only | --help) ;;
+                --quiet | --pcapng | --ledger-only | --help) ;;
                 -o | --*) _afdxmon_files "$current"; return ;;
             esac
             ;;
     esac
     case ${COMP_WORDS[1]}:$current in
         watch:-*)
-            _afdxmon_words '--config --filter --a --b --capture --ledger --workers --quiet -h --help' "$current"
+            _afdxmon_words '--config --filter --a --b --capture --ledger --workers --quiet --pcapng -h --help' "$current"
             ;;
-        capture:-*) _afdxmon_words '--code --filter --source -o --output -h --help' "$current" ;;
+        capture:-*) _afdxmon_words '--code --filter --source --pcapng -o --output -h --help' "$current" ;;
         debug:-*) _afdxmon_words '--filter --source --tap -h --help' "$current" ;;
         cut:-*)
-            _afdxmon_words '--ledger --a --b --config --link --network --verdict --from --to --filters --around --ledger-only -o --output -h --help' "$current"
+            _afdxmon_words '--ledger --a --b --config --link --network --verdict --from --to --filters --around --ledger-only --pcapng -o --output -h --help' "$current"
             ;;
         asm:-*) _afdxmon_words '-h --help' "$current" ;;
         help:*) _afdxmon_words 'watch capture debug cut asm help' "$current" ;;

@@ -481,10 +481,10 @@ type CaptureSink<'a> = WriteSink<CaptureOutput<'a>>;
 type LedgerSink<'a> = WriteSink<LedgerWriter<'a>>;
 
 /// How a run over two recordings ended, whose outputs are handed to the system.
-fn settle<S: TapSource + Drop>(
+fn settle<'a, S: TapSource + Drop>(
     run: Result<
-        Watched<RecordingSource<S>, RecordingSource<S>, CaptureSink<'_>, LedgerSink<'_>>,
-        WatchRefused<RecordingSource<S>, RecordingSource<S>, CaptureSink<'_>, LedgerSink<'_>>,
+        Watched<RecordingSource<S>, RecordingSource<S>, CaptureSink<'a>, LedgerSink<'a>>,
+        WatchRefused<RecordingSource<S>, RecordingSource<S>, CaptureSink<'a>, LedgerSink<'a>>,
     >,
 ) -> Ended {
     let (outcome, skipped, capture, ledger) = match run {
