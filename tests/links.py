@@ -222,7 +222,7 @@ def judged(work, name, text, a, b):
     with open(config, "w", encoding="utf-8") as file:
         file.write(text)
     ran, ledger = ledger_of(work, config, a, b)
-    lines = [line for line in ledger.splitlines() if not line.startswith(("vl ", "total"))]
+    lines = [line for line in ledger.splitlines() if line[:1].isdigit()]
     allowed = {"excess"} if "more than a table allows" in text else set()
     several = {"foreign"} if "constant field" in text else set()
     found = {word for line in lines for word in line.split()} & WRONG - allowed - several
