@@ -1,0 +1,249 @@
+"""`afdxmon links` as a program: its drafts byte by byte, compared with estimates over whole lists of frames.
+
+The estimates share nothing with the product: jitter is the greatest over all windows of frames, the median stands in
+the sorted gaps, and a copy is looked for among all earlier frames. A run of `watch` with each draft follows.
+"""
+import os
+import random
+import re
+import struct
+import subprocess
+import tempfile
+
+from harness import FAULT, SUCCESS, difference, frame, header, record, run, say
+from reference import parse
+
+MS = 10**6
+BAGS = [MS << power for power in range(8)]
+GROUP = 0x03000000
+START = 1_700_000_000 * 10**9
+HEAD = """\
+# A draft of the table of virtual links: what was seen in recordings, and not what was specified.
+# Check each value against the ICD.
+"""
+ENDINGS = {
+    "clean": "# Network {}: {} frames.\n",
+    "cut": "# Network {}: {} frames, then the recording is truncated.\n",
+    "bad": "# Network {}: {} frames, then a packet that can't be read.\n",
+}
+WRONG = {"foreign", "unconfigured", "toolong", "excess"}
+
+
+def bucket(gap):
+    """From where up to where the gaps reach that share a bucket with this one."""
+    units = gap >> 11
+    if units >= 1 << 19:
+        return 1 << 30, 1 << 64
+    shift = max(units.bit_length() - 6, 0)
+    return units >> shift << shift << 11, ((units >> shift) + 1) << shift << 11
+
+
+def needs_of(stamps, bag):
+    """What each frame but the first needs: the greatest over the windows that it ends."""
+    return [max((j - i) * bag - (stamps[j] - stamps[i]) for i in range(j + 1)) for j in range(1, len(stamps))]
+
+
+class Side:
+    """The frames of a link on one network."""
+
+    def __init__(self, frames):
+        self.stamps = [stamp for stamp, _, _ in frames]
+        self.numbers = [number for _, _, number in frames]
+        self.size = max((length for _, length, _ in frames), default=0)
+        self.gaps = [after - before for before, after in zip(self.stamps, self.stamps[1:])]
+        steps = list(zip(self.numbers, self.numbers[1:]))
+        self.follow = sum(after == before % 255 + 1 for before, after in steps)
+        self.others = len(steps) - self.follow
+        self.median = bucket(sorted(self.gaps)[(len(self.gaps) - 1) // 2]) if self.gaps else None
+
+    def bag(self):
+        if not self.median:
+            return BAGS[-1]
+        return max([bag for bag in BAGS if bag // 21 * 20 < self.median[1]], default=BAGS[0])
+
+    def seen(self, network):
+        if not self.stamps:
+            return f"# {network}: no frame.\n"
+        text = f"# {network}: {len(self.stamps)} frames; of their numbers {self.follow} follow, {self.others} don't.\n"
+        if self.gaps:
+            reach = f"{min(self.gaps) // 1000} to {max(self.gaps) // 1000} us, median from {self.median[0] // 1000} us"
+            text += f"# {network}: intervals {reach}.\n"
+        return text
+
+    def needed(self, network, bag):
+        needs = needs_of(self.stamps, bag)
+        most = -(-max(needs, default=0) // 1000)
+        if not most:
+            return 0, ""
+        at = self.stamps[1 + needs.index(max(needs))]
+        text = f"# {network}: a jitter of {most} us is needed first at {at // 10**9} s {at % 10**9} ns"
+        text += ", more than a table allows" if most > 100_000 else ""
+        enough = [p for p in range(18) if sum(need // 1000 >= 1 << p for need in needs) <= len(self.stamps) // 1000]
+        text += f"; all but 0.1 per cent of the frames need less than {1 << enough[0]} us" if enough else ""
+        return most, text + ".\n"
+
+
+def copies_of(frames):
+    """The skews of the copies among a link's frames, (network, stamp, number) in order."""
+    skews, copies = [], set()
+    for at, (network, stamp, number) in enumerate(frames):
+        before = next((k for k in reversed(range(at)) if frames[k][2] == number), None)
+        if before is None or before in copies or frames[before][0] == network:
+            continue
+        since = sum(frames[k][0] != network for k in range(before, at))
+        if since <= 128 and stamp - frames[before][1] <= 10**9:
+            copies.add(at)
+            skews.append(stamp - frames[before][1])
+    return skews
+
+
+def link_text(link, frames):
+    sides = [Side([(stamp, length, number) for on, stamp, length, number in frames if on == network]) for network in "AB"]
+    bag = min(side.bag() for side in sides)
+    text = "\n[[link]]\n" + sides[0].seen("A") + sides[1].seen("B")
+    needs = [side.needed(network, bag) for network, side in zip("AB", sides)]
+    skews = copies_of([(on, stamp, number) for on, stamp, _, number in frames])
+    fewer = min(len(side.stamps) for side in sides)
+    both = fewer > 0 and len(skews) * 2 >= fewer
+    size = max(side.size for side in sides) + 4
+    text += needs[0][1] + needs[1][1] + f"# {len(skews)} frames came on both networks.\n"
+    values = {
+        "id": link,
+        "name": f'"vl_{link}"',
+        "bag_ms": bag // MS,
+        "jitter_us": min(max(needs[0][0], needs[1][0]), 100_000),
+        "smax": max(size + size % 2, 64),
+        "integrity": str(sum(s.follow for s in sides) >= sum(s.others for s in sides)).lower(),
+        "redundancy": str(both).lower(),
+        "skew_us": min(-(-max(skews) // 1000), 10**6) if both else 0,
+    }
+    return text + "".join(f"{key} = {value}\n" for key, value in values.items())
+
+
+def draft(a, b, wanted=None):
+    """The draft of two recordings, each bytes or None."""
+    text, frames, unusable = HEAD, [], 0
+    for network, recording in (("A", a), ("B", b)):
+        if recording is None:
+            continue
+        found, ending = parse(recording)
+        kind, count = ending.split()[:2]
+        text += ENDINGS[kind].format(network, count)
+        frames += [(stamp, network, k, length, data) for k, (stamp, length, data) in enumerate(found)]
+    fields = {}
+    strays = 0
+    for stamp, network, _, length, data in sorted(frames, key=lambda f: f[:3]):
+        if len(data) < 6 or len(data) < length or not 60 <= length <= 1514:
+            unusable += 1
+            continue
+        constant, link = struct.unpack_from(">IH", data)
+        kept = constant == wanted if wanted is not None else constant & GROUP == GROUP
+        if constant not in fields and (not kept or len(fields) >= 8):
+            strays += 1
+            continue
+        fields.setdefault(constant, []).append((link, network, stamp, length, data[-1]))
+    text += f"# {unusable} frames weren't recorded whole, or aren't of 60 to 1514 bytes.\n" if unusable else ""
+    if not fields:
+        return text + "# No frame has a constant field with bits 24 and 25 set.\nconstant = 50331648\n"
+    main = max(fields, key=lambda constant: len(fields[constant]))
+    for constant, of in fields.items():
+        text += f"# Another constant field: {constant}, in {len(of)} frames.\n" if constant != main else ""
+    text += f"# {strays} frames have further constant fields.\n" if strays else ""
+    text += f"\nconstant = {main}  # {len(fields[main])} frames\n"
+    links = {}
+    for link, network, stamp, length, number in fields[main]:
+        links.setdefault(link, []).append((network, stamp, length, number))
+    return text + "".join(link_text(link, links[link]) for link in sorted(links))
+
+
+# ---- recordings of known tables
+
+
+def sent(chance, links, cycles, loss=0.0, burst=0.0, reset=0.0, skew=50_000):
+    """The recordings of both networks: each link sends by its BAG, and its frames may be lost, late or renumbered."""
+    frames = {"A": [], "B": []}
+    for link, bag, size in links:
+        number, at = chance.randrange(256), START + chance.randrange(bag)
+        for _ in range(cycles):
+            number = 0 if chance.random() < reset else number % 255 + 1
+            at += 0 if chance.random() < burst else bag
+            moment = at + chance.randrange(200_000)
+            for network in "AB":
+                if chance.random() >= loss:
+                    frames[network].append((moment + chance.randrange(skew), frame(link, size, number)))
+    return [header() + b"".join(record(*each) for each in sorted(frames[network])) for network in "AB"]
+
+
+def table(chance, count):
+    ids = chance.sample(range(65536), count)
+    return [(link, chance.choice(BAGS), chance.randrange(60, 1515)) for link in ids]
+
+
+def pairs():
+    chance = random.Random(11)
+    for count, cycles in ((1, 1), (1, 300), (2, 150), (63, 40), (4096, 3)):
+        yield f"{count} links, {cycles} frames each", sent(chance, table(chance, count), cycles)
+    few = table(chance, 5)
+    for name, how in (
+        ("losses", {"loss": 0.1}),
+        ("bursts", {"burst": 0.02}),
+        ("resets", {"reset": 0.05}),
+        ("copies far apart", {"skew": 3_000_000}),
+        ("all of these", {"loss": 0.05, "burst": 0.01, "reset": 0.01, "skew": 900_000}),
+    ):
+        yield name, sent(chance, few, 200, **how)
+    a, b = sent(chance, few, 100)
+    other = header() + b"".join(record(START + k, b"\x07" + frame(5, 80, 1)[1:]) for k in range(20))
+    yield "networks swapped", (b, a)
+    yield "one recording for both networks", (a, a)
+    yield "network A alone", (a, None)
+    yield "network B alone", (None, b)
+    yield "an empty recording", (a, header())
+    yield "no frame at all", (header(), header())
+    yield "another constant field", (a, other + b"".join(record(START + 30, b"\x00" + frame(5, 80, 1)[1:]) for _ in range(3)))
+    yield "a recording that is cut short", (a[: len(a) // 2 + 3], b)
+    yield "frames cut, short and long", (
+        a, header() + b"".join(record(START + k, frame(9, size, k), original=1600) for k, size in enumerate((60, 1514, 1600, 40)))
+    )
+
+
+def ledger_of(work, config, a, b):
+    paths = {"config": config, "a": os.path.join(work, "a"), "b": os.path.join(work, "b")}
+    given = [word for key, path in paths.items() if key == "config" or (a, b)["ab".index(key)] is not None for word in (f"--{key}", path)]
+    ledger = os.path.join(work, "ledger")
+    ran = run(["watch", *given, "--ledger", ledger], stdout=subprocess.PIPE)
+    with open(ledger, encoding="utf-8") as file:
+        return ran, file.read()
+
+
+def judged(work, name, text, a, b):
+    """`watch` with the draft: no verdict that the draft rules out."""
+    config = os.path.join(work, "draft.toml")
+    with open(config, "w", encoding="utf-8") as file:
+        file.write(text)
+    ran, ledger = ledger_of(work, config, a, b)
+    lines = [line for line in ledger.splitlines() if line[:1].isdigit()]
+    allowed = {"excess"} if "more than a table allows" in text else set()
+    several = {"foreign"} if "constant field" in text else set()
+    found = {word for line in lines for word in line.split()} & WRONG - allowed - several
+    say(f"links: watch with the draft, {name}", f"status {ran.returncode}" if ran.returncode else " ".join(sorted(found)))
+
+
+def cases():
+    with tempfile.TemporaryDirectory() as work:
+        for name, (a, b) in pairs():
+            given = []
+            for option, recording in (("a", a), ("b", b)):
+                if recording is not None:
+                    path = os.path.join(work, option)
+                    with open(path, "wb") as file:
+                        file.write(recording)
+                    given += [f"--{option}", path]
+            ran = run(["links", *given], stdout=subprocess.PIPE)
+            text = draft(a, b)
+            early = re.search("truncated|can't be read", text)
+            note = (lambda told: told.startswith("afdxmon: note: ")) if early else ""
+            say(f"links: {name}", difference(ran, SUCCESS, note, text.encode()))
+            judged(work, name, text, a, b)
+        ran = run(["links", "--a", os.path.join(work, "a"), "--constant", "5"], stdout=subprocess.PIPE)
+        say("links: a constant field without the group bits", difference(ran, FAULT, lambda told: told.startswith("afdxmon: links 1 Constant"), b""))
