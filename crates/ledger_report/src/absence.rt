@@ -93,30 +93,35 @@ impl Absences {
             from: stamp,
             to: stamp,
         };
-        match self.run {
-            Some(mut run) if run.network == network => {
-                if run.before == before {
-                    run.group.lines = run.group.lines.saturating_add(1);
-                    run.group.to = stamp;
-                } else {
-                    run.settle(networks);
-                    run.group = one;
-                    run.before = before;
-                }
-                self.run = Some(run);
-            }
-            held => {
-                if let Some(mut run) = held {
-                    run.settle(networks);
-                    self.keep(run);
-                }
-                self.run = Some(Run {
-                    network,
-                    counted: none,
-                    group: one,
-                    before,
-                });
-            }
+        let Some(held) = self.run else {
+            self.run = Some(Run {
+                network,
+                counted: none,
+                group: one,
+                before,
+            });
+            return;
+        };
+        let mut run = held;
+        if run.network == network && run.before == before {
+            run.group.lines = run.group.lines.saturating_add(1);
+            run.group.to = stamp;
+            self.run = Some(run);
+            return;
+        }
+        run.settle(networks);
+        if run.network == network {
+            run.group = one;
+            run.before = before;
+            self.run = Some(run);
+        } else {
+            self.keep(run);
+            self.run = Some(Run {
+                network,
+                counted: none,
+                group: one,
+                before,
+            });
         }
     }
 

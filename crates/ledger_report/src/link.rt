@@ -371,12 +371,20 @@ impl LinkReport {
             }
             Fate::Open => {
                 let bin = bin_of(start, width, delivery.place.stamp);
-                let lane = self.lanes.of_mut(delivery.network);
-                let (twin, own) = match delivery.network {
-                    Network::A => (&networks.b, &mut networks.a),
-                    Network::B => (&networks.a, &mut networks.b),
-                };
-                lane.note_alone(delivery.place, bin, delivery.before, twin, own)
+                let place = delivery.place;
+                let before = delivery.before;
+                match delivery.network {
+                    Network::A => {
+                        self.lanes
+                            .a
+                            .note_alone(place, bin, before, &networks.b, &mut networks.a)
+                    }
+                    Network::B => {
+                        self.lanes
+                            .b
+                            .note_alone(place, bin, before, &networks.a, &mut networks.b)
+                    }
+                }
             }
         }
     }

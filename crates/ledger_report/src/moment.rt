@@ -11,6 +11,14 @@ pub struct Place {
     pub number: u32,
 }
 
+impl Place {
+    /// Does it stand before another place of its network?
+    #[inline]
+    pub fn is_before(self, other: Place) -> bool {
+        self.stamp < other.stamp || (self.stamp == other.stamp && self.number < other.number)
+    }
+}
+
 /// A line's network and place, and the bin of its timestamp.
 #[derive(Clone, Copy, Debug)]
 pub struct Moment {

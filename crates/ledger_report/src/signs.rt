@@ -35,6 +35,34 @@ pub struct Mark {
     pub bins: Series,
 }
 
+/// The earlier of two places.
+fn earlier(held: Option<Place>, place: Place) -> Place {
+    match held {
+        Some(held) => {
+            if held.is_before(place) {
+                held
+            } else {
+                place
+            }
+        }
+        None => place,
+    }
+}
+
+/// The later of two places.
+fn later(held: Option<Place>, place: Place) -> Place {
+    match held {
+        Some(held) => {
+            if held.is_before(place) {
+                place
+            } else {
+                held
+            }
+        }
+        None => place,
+    }
+}
+
 impl Mark {
     fn new(alloc: Global) -> Mark {
         Mark {
@@ -47,14 +75,8 @@ impl Mark {
 
     /// Moves the first and the last place so that both of these are within.
     fn reach(&mut self, first: Place, last: Place) {
-        match self.first {
-            Some(held) if held <= first => {}
-            _ => self.first = Some(first),
-        }
-        match self.last {
-            Some(held) if last <= held => {}
-            _ => self.last = Some(last),
-        }
+        self.first = Some(earlier(self.first, first));
+        self.last = Some(later(self.last, last));
     }
 
     pub(crate) fn hit(&mut self, bin: usize, place: Place, amount: u64) -> Result<(), AllocError> {
