@@ -2,8 +2,8 @@
 //! told of the others.
 use afdx_frame::Network;
 use analyser::{
-    CaptureArguments, CutArguments, DebugArguments, Exit, Invocation, SkippedNote, WatchArguments,
-    is_standard,
+    CaptureArguments, CutArguments, DebugArguments, Exit, Invocation, LinksArguments, SkippedNote,
+    WatchArguments, is_standard,
 };
 use pcap_io::{BadReason, Ending, Found, ReadSource, TapReader};
 use pcapng::{Choice, Interface, InterfaceName, RecordingSource};
@@ -59,43 +59,57 @@ fn chosen_if<'a>(rt: &HostRuntime, path: Option<&'a str>) -> (Option<&'a str>, C
     }
 }
 
+/// The paths of the recordings of two networks, and what is read of them.
+fn chosen_of_both<'a>(
+    rt: &HostRuntime,
+    a: Option<&'a str>,
+    b: Option<&'a str>,
+) -> (Option<&'a str>, Option<&'a str>, Choices) {
+    let (a, choice_of_a) = chosen_if(rt, a);
+    let (b, choice_of_b) = chosen_if(rt, b);
+    let choices = Choices {
+        a: choice_of_a,
+        b: choice_of_b,
+    };
+    (a, b, choices)
+}
+
+/// What a command reads of its one recording, and nothing of another.
+fn of_one(choice: Choice) -> Choices {
+    Choices {
+        a: choice,
+        b: Choice::Any,
+    }
+}
+
 /// A command whose recordings are named by their paths alone, and what it reads of them.
 pub fn choose<'a>(rt: &HostRuntime, command: Invocation<'a>) -> (Invocation<'a>, Choices) {
-    let (mut a, mut b) = (Choice::Any, Choice::Any);
-    let command = match command {
+    match command {
         Invocation::Capture(given) => {
             let (recording, choice) = chosen_in(rt, given.recording);
-            a = choice;
-            Invocation::Capture(CaptureArguments { recording, ..given })
+            let given = CaptureArguments { recording, ..given };
+            (Invocation::Capture(given), of_one(choice))
         }
         Invocation::Debug(given) => {
             let (tap, choice) = chosen_in(rt, given.tap);
-            a = choice;
-            Invocation::Debug(DebugArguments { tap, ..given })
+            let given = DebugArguments { tap, ..given };
+            (Invocation::Debug(given), of_one(choice))
         }
         Invocation::Watch(given) => {
-            let (of_a, choice_of_a) = chosen_if(rt, given.a);
-            let (of_b, choice_of_b) = chosen_if(rt, given.b);
-            (a, b) = (choice_of_a, choice_of_b);
-            Invocation::Watch(WatchArguments {
-                a: of_a,
-                b: of_b,
-                ..given
-            })
+            let (a, b, choices) = chosen_of_both(rt, given.a, given.b);
+            let given = WatchArguments { a, b, ..given };
+            (Invocation::Watch(given), choices)
         }
         Invocation::Cut(given) => {
-            let (of_a, choice_of_a) = chosen_if(rt, given.a);
-            let (of_b, choice_of_b) = chosen_if(rt, given.b);
-            (a, b) = (choice_of_a, choice_of_b);
-            Invocation::Cut(CutArguments {
-                a: of_a,
-                b: of_b,
-                ..given
-            })
+            let (a, b, choices) = chosen_of_both(rt, given.a, given.b);
+            (Invocation::Cut(CutArguments { a, b, ..given }), choices)
         }
-        Invocation::Asm => Invocation::Asm,
-    };
-    (command, Choices { a, b })
+        Invocation::Links(given) => {
+            let (a, b, choices) = chosen_of_both(rt, given.a, given.b);
+            (Invocation::Links(LinksArguments { a, b, ..given }), choices)
+        }
+        Invocation::Asm | Invocation::Report(_) => (command, of_one(Choice::Any)),
+    }
 }
 
 /// How many packets of a command's recordings are not of Ethernet.

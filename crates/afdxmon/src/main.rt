@@ -6,10 +6,12 @@
 
 mod files;
 mod interface;
+mod links;
 mod live;
 mod packets;
 mod pauses;
 mod progress;
+mod report;
 mod streams;
 mod telling;
 mod worst;
@@ -27,11 +29,13 @@ use bpf_debugger::DebugFault;
 use bpf_loader::Program;
 use files::{refuse_closed, refuse_shared, refuse_shared_cut, refuse_shared_output};
 use interface::{Choices, Skipped, choose, interfaces_of};
+use links::links;
 use live::{Blocks, LiveInput, Watcher};
 use pauses::Pauses;
 use pcap_io::{ReadSource, TapSource, WriteSink};
 use pcapng::{Choice, RecordingSource};
 use progress::{Progress, Recording};
+use report::report;
 use std::alloc::Global;
 use std::io::{BufRead, BufReader, BufWriter, ErrorKind, IsTerminal, Write};
 use std::process::ExitCode;
@@ -720,6 +724,8 @@ fn run<R: Threads + Wait + Sync>(
         Invocation::Capture(given) => capture(rt, &given, choices.a),
         Invocation::Debug(given) => debug(rt, &given, choices.a),
         Invocation::Cut(given) => cut(rt, &given, choices),
+        Invocation::Links(given) => links(rt, &given, choices),
+        Invocation::Report(given) => report(rt, &given),
     }
 }
 

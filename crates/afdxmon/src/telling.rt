@@ -75,6 +75,11 @@ fn given<'a>(command: Invocation<'a>, file: FileOption) -> Option<&'a str> {
         (Invocation::Cut(given), FileOption::B) => given.b,
         (Invocation::Cut(given), FileOption::Config) => given.config,
         (Invocation::Cut(given), FileOption::Output) => Some(given.output),
+        (Invocation::Links(given), FileOption::A) => given.a,
+        (Invocation::Links(given), FileOption::B) => given.b,
+        (Invocation::Report(given), FileOption::Config) => Some(given.config),
+        (Invocation::Report(given), FileOption::Ledger) => Some(given.ledger),
+        (Invocation::Report(given), FileOption::Output) => Some(given.output),
         _ => None,
     }
 }
@@ -85,9 +90,10 @@ fn path_of<'a>(command: Invocation<'a>, file: FileOption) -> Option<&'a str> {
     if is_standard(path) { None } else { Some(path) }
 }
 
-/// Is it a ledger, which `cut` reads?
+/// Is it a ledger, which `cut` or `report` reads?
 fn is_ledger_read(command: Invocation<'_>, file: FileOption) -> bool {
-    matches!((command, file), (Invocation::Cut(_), FileOption::Ledger))
+    let reads = matches!(command, Invocation::Cut(_) | Invocation::Report(_));
+    reads && file == FileOption::Ledger
 }
 
 /// What a person knows a file by: its path, or the stream or option that is in its place.
@@ -110,7 +116,11 @@ fn code_of<'a>(command: Invocation<'a>) -> Option<&'a str> {
     let filter = match command {
         Invocation::Capture(given) => given.filter,
         Invocation::Debug(given) => given.filter,
-        Invocation::Asm | Invocation::Watch(_) | Invocation::Cut(_) => return None,
+        Invocation::Asm
+        | Invocation::Watch(_)
+        | Invocation::Cut(_)
+        | Invocation::Links(_)
+        | Invocation::Report(_) => return None,
     };
     match filter {
         FilterArgument::Code(code) => Some(code),
@@ -123,7 +133,11 @@ fn source_of<'a>(command: Invocation<'a>) -> Option<&'a str> {
     let filter = match command {
         Invocation::Capture(given) => given.filter,
         Invocation::Debug(given) => given.filter,
-        Invocation::Asm | Invocation::Watch(_) | Invocation::Cut(_) => return None,
+        Invocation::Asm
+        | Invocation::Watch(_)
+        | Invocation::Cut(_)
+        | Invocation::Links(_)
+        | Invocation::Report(_) => return None,
     };
     match filter {
         FilterArgument::Source(path) => Some(path),

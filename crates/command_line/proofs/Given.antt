@@ -10,15 +10,16 @@ use Rattle.clap.specs.Words.{Text, first_value, one_text, rows_of}
 use Rattle.clap.specs.declared.parser.matches.Found.{Found}
 use Rattle.clap.proofs.WalkLemmas.{first_value-rows, one_text-rows}
 use Rattle.command_line.specs.declared.misuse.Misuse.{Misuse}
-use Rattle.command_line.specs.Arguments.{FilterWords, are_digits, capture_in, capture_with, cut_in, cut_with, debug_in, debug_with, filter_in, flag_in, is_numeral, number_in, one_filter, watch_in, watch_with}
+use Rattle.command_line.specs.Arguments.{FilterWords, are_digits, capture_in, capture_with, cut_in, cut_with, debug_in, debug_with, filter_in, flag_in, is_numeral, links_in, number_in, one_filter, report_in, report_with, watch_in, watch_with}
 
 -- ---- the texts
 
-pub watch_is : (f : Found) (config filter a b capture ledger : Option Text) (workers : Option ℕ) (quiet : Option Bool) →
+pub watch_is : (f : Found) (config filter a b capture ledger : Option Text) (workers : Option ℕ) (quiet pcapng : Option Bool) →
     config ≡ first_value f (codes "config") → filter ≡ first_value f (codes "filter") → a ≡ first_value f (codes "a") → b ≡ first_value f (codes "b") →
     capture ≡ first_value f (codes "capture") → ledger ≡ first_value f (codes "ledger") → workers ≡ option_and_then (number_in 8) (one_text f (codes "workers")) →
-    quiet ≡ option_and_then flag_in (one_text f (codes "quiet")) → watch_with config filter a b capture ledger workers quiet ≡ watch_in (rows_of f)
-watch_is f config filter a b capture ledger workers quiet e1 e2 e3 e4 e5 e6 e7 e8 = cc (
+    quiet ≡ option_and_then flag_in (one_text f (codes "quiet")) → pcapng ≡ option_and_then flag_in (one_text f (codes "pcapng")) →
+    watch_with config filter a b capture ledger workers quiet pcapng ≡ watch_in (rows_of f)
+watch_is f config filter a b capture ledger workers quiet pcapng e1 e2 e3 e4 e5 e6 e7 e8 e9 = cc (
   e1 ∙ first_value-rows f (codes "config"),
   e2 ∙ first_value-rows f (codes "filter"),
   e3 ∙ first_value-rows f (codes "a"),
@@ -27,6 +28,7 @@ watch_is f config filter a b capture ledger workers quiet e1 e2 e3 e4 e5 e6 e7 e
   e6 ∙ first_value-rows f (codes "ledger"),
   e7 ∙ ap (option_and_then (number_in 8)) (one_text-rows f (codes "workers")),
   e8 ∙ ap (option_and_then flag_in) (one_text-rows f (codes "quiet")),
+  e9 ∙ ap (option_and_then flag_in) (one_text-rows f (codes "pcapng")),
 )
 
 pub filter_is : (f : Found) (code filter source : Option Text) → code ≡ first_value f (codes "code") → filter ≡ first_value f (codes "filter") →
@@ -34,22 +36,29 @@ pub filter_is : (f : Found) (code filter source : Option Text) → code ≡ firs
 filter_is f code filter source e1 e2 e3 =
     cc (e1 ∙ first_value-rows f (codes "code"), e2 ∙ first_value-rows f (codes "filter"), e3 ∙ first_value-rows f (codes "source"))
 
-pub capture_is : (f : Found) (filter : Result FilterWords Misuse) (recording output : Option Text) → filter ≡ filter_in (rows_of f) →
-    recording ≡ first_value f (codes "recording") → output ≡ first_value f (codes "output") → capture_with filter recording output ≡ capture_in (rows_of f)
-capture_is f filter recording output e1 e2 e3 = cc (e1, e2 ∙ first_value-rows f (codes "recording"), e3 ∙ first_value-rows f (codes "output"))
+pub capture_is : (f : Found) (filter : Result FilterWords Misuse) (recording output : Option Text) (pcapng : Option Bool) → filter ≡ filter_in (rows_of f) →
+    recording ≡ first_value f (codes "recording") → output ≡ first_value f (codes "output") →
+    pcapng ≡ option_and_then flag_in (one_text f (codes "pcapng")) → capture_with filter recording output pcapng ≡ capture_in (rows_of f)
+capture_is f filter recording output pcapng e1 e2 e3 e4 = cc (
+  e1,
+  e2 ∙ first_value-rows f (codes "recording"),
+  e3 ∙ first_value-rows f (codes "output"),
+  e4 ∙ ap (option_and_then flag_in) (one_text-rows f (codes "pcapng")),
+)
 
 pub debug_is : (f : Found) (filter : Result FilterWords Misuse) (tap : Option Text) → filter ≡ filter_in (rows_of f) → tap ≡ first_value f (codes "tap") →
     debug_with filter tap ≡ debug_in (rows_of f)
 debug_is f filter tap e1 e2 = cc (e1, e2 ∙ first_value-rows f (codes "tap"))
 
-pub cut_is : (f : Found) (ledger a b config link network verdict from to filters : Option Text) (around : Option ℕ) (ledger_only : Option Bool) (output : Option Text) →
+pub cut_is : (f : Found) (ledger a b config link network verdict from to filters : Option Text) (around : Option ℕ) (ledger_only pcapng : Option Bool) (output : Option Text) →
     ledger ≡ first_value f (codes "ledger") → a ≡ first_value f (codes "a") → b ≡ first_value f (codes "b") → config ≡ first_value f (codes "config") →
     link ≡ first_value f (codes "link") → network ≡ first_value f (codes "network") → verdict ≡ first_value f (codes "verdict") → from ≡ first_value f (codes "from") →
     to ≡ first_value f (codes "to") → filters ≡ first_value f (codes "filters") →
     around ≡ option_and_then (number_in 16) (one_text f (codes "around")) →
-    ledger_only ≡ option_and_then flag_in (one_text f (codes "ledger-only")) → output ≡ first_value f (codes "output") →
-    cut_with ledger a b config link network verdict from to filters around ledger_only output ≡ cut_in (rows_of f)
-cut_is f ledger a b config link network verdict from to filters around ledger_only output e1 e2 e3 e4 e5 e6 e7 e8 e9 e10 e11 e12 e13 = cc (
+    ledger_only ≡ option_and_then flag_in (one_text f (codes "ledger-only")) →
+    pcapng ≡ option_and_then flag_in (one_text f (codes "pcapng")) → output ≡ first_value f (codes "output") →
+    cut_with ledger a b config link network verdict from to filters around ledger_only pcapng output ≡ cut_in (rows_of f)
+cut_is f ledger a b config link network verdict from to filters around ledger_only pcapng output e1 e2 e3 e4 e5 e6 e7 e8 e9 e10 e11 e12 e13 e14 = cc (
   e1 ∙ first_value-rows f (codes "ledger"),
   e2 ∙ first_value-rows f (codes "a"),
   e3 ∙ first_value-rows f (codes "b"),
@@ -62,7 +71,22 @@ cut_is f ledger a b config link network verdict from to filters around ledger_on
   e10 ∙ first_value-rows f (codes "filters"),
   e11 ∙ ap (option_and_then (number_in 16)) (one_text-rows f (codes "around")),
   e12 ∙ ap (option_and_then flag_in) (one_text-rows f (codes "ledger-only")),
-  e13 ∙ first_value-rows f (codes "output"),
+  e13 ∙ ap (option_and_then flag_in) (one_text-rows f (codes "pcapng")),
+  e14 ∙ first_value-rows f (codes "output"),
+)
+
+pub links_is : (f : Found) (a b constant : Option Text) → a ≡ first_value f (codes "a") → b ≡ first_value f (codes "b") → constant ≡ first_value f (codes "constant") →
+    record { a = a; b = b; constant = constant } ≡ links_in (rows_of f)
+links_is f a b constant e1 e2 e3 = cc (e1 ∙ first_value-rows f (codes "a"), e2 ∙ first_value-rows f (codes "b"), e3 ∙ first_value-rows f (codes "constant"))
+
+pub report_is : (f : Found) (config ledger : Option Text) (json : Option Bool) (output : Option Text) → config ≡ first_value f (codes "config") →
+    ledger ≡ first_value f (codes "ledger") → json ≡ option_and_then flag_in (one_text f (codes "json")) → output ≡ first_value f (codes "output") →
+    report_with config ledger json output ≡ report_in (rows_of f)
+report_is f config ledger json output e1 e2 e3 e4 = cc (
+  e1 ∙ first_value-rows f (codes "config"),
+  e2 ∙ first_value-rows f (codes "ledger"),
+  e3 ∙ ap (option_and_then flag_in) (one_text-rows f (codes "json")),
+  e4 ∙ first_value-rows f (codes "output"),
 )
 
 -- ---- the number

@@ -1,10 +1,8 @@
 -- How arguments are refused: by clap's rules, and then by the command's own.
-use Rattle.std.proofs.Common.{◌≡◌, ◌∙◌, List, [], ◌∷◌, Result, Ok, Err, ap, inl, inr, sym, subst}
-use Rattle.std.specs.Result.{IfOk}
-use Rattle.clap.specs.Kinds.{HasKind, IsAmong, Kinds, or_else}
-use Rattle.clap.specs.Values.{kind_of}
+use Rattle.std.proofs.Common.{◌≡◌, ◌∙◌, [], ◌∷◌, Result, Ok, Err, ap, inl, inr, sym, subst}
+use Rattle.clap.specs.Kinds.{HasKind, Kinds, or_else}
 use Rattle.clap.specs.declared.error.Error.{Error}
-use Rattle.command_line.specs.Arguments.{misuse_kind, misuse_kinds}
+use Rattle.command_line.specs.Arguments.{misuse_kinds}
 use Rattle.command_line.specs.declared.misuse.Misuse.{Misuse}
 
 -- an error of the first kinds is one of both

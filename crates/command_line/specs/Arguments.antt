@@ -1,6 +1,7 @@
 -- The command-line arguments (this project's profile), as clap reads them, and what the commands ask of them besides: `capture` and
 -- `debug` take one filter, `watch` at least one recording, and a capture only with a filter; `cut` takes a network's letter, and at
--- least one recording unless it prints the ledger's lines alone.
+-- least one recording unless it prints the ledger's lines alone; `links` takes at least one recording. A capture's format is given only
+-- where packets are written.
 use Rattle.std.specs.Prelude.{◌≡◌, ℕ, pos, nat_lt, Bool, true, false, ◌^◌, ◌&&◌, ◌||◌, not, List, [], ◌∷◌, length, Option, Some, None, is_some, Result, Ok, Err, codes, option_and_then, if◌then◌else◌}
 use Rattle.std.specs.Char.{digit_value}
 use Rattle.std.specs.Str.Parse.{digits_value, without_leading_plus}
@@ -23,6 +24,8 @@ use Rattle.command_line.specs.declared.arguments.FilterArgument.{FilterArgument}
 use Rattle.command_line.specs.declared.arguments.FilterArgument.TheVariants as given
 use Rattle.command_line.specs.declared.arguments.Invocation.{Invocation}
 use Rattle.command_line.specs.declared.arguments.Invocation.TheVariants as words
+use Rattle.command_line.specs.declared.arguments.LinksArguments.{LinksArguments}
+use Rattle.command_line.specs.declared.arguments.ReportArguments.{ReportArguments}
 use Rattle.command_line.specs.declared.arguments.WatchArguments.{WatchArguments}
 use Rattle.command_line.specs.declared.misuse.Misuse.{Misuse}
 use Rattle.command_line.specs.declared.misuse.Misuse.TheVariants as misuse
@@ -32,6 +35,10 @@ use Rattle.command_line.specs.declared.misuse.Misuse.TheVariants as misuse
 -- an option with a value
 abbrev pub option_rule : Text → Bool → Rule
 option_rule name required = record (new_rule name) { long = Some name; value_names = 1; action = Some Set; required = required }
+
+-- an option without a value, false where it isn't given
+abbrev pub flag_rule : Text → Rule
+flag_rule name = record (new_rule name) { long = Some name; action = Some SetTrue }
 
 -- where the capture is written: standard output where it isn't given
 abbrev pub output_rule : Rule
@@ -44,9 +51,12 @@ recording_rule = record (new_rule (codes "recording")) { value_names = 1; action
 abbrev pub with_option : Text → Bool → App → App
 with_option name required app = with_rule app (option_rule name required)
 
+-- a filter, in one of three ways
+abbrev pub capture_filter : App → App
+capture_filter app = with_option (codes "source") false (with_option (codes "filter") false (with_option (codes "code") false app))
+
 unfoldable pub capture_app : App
-capture_app =
-    with_rule (with_rule (with_option (codes "source") false (with_option (codes "filter") false (with_option (codes "code") false (new_app (codes "capture"))))) output_rule) recording_rule
+capture_app = with_rule (with_rule (with_rule (capture_filter (new_app (codes "capture"))) output_rule) (flag_rule (codes "pcapng"))) recording_rule
 
 -- the program's own command, which has a version and requires a subcommand
 abbrev pub program_app : App
@@ -61,23 +71,15 @@ asm_app = new_app (codes "asm")
 abbrev pub workers_rule : Rule
 workers_rule = record (option_rule (codes "workers") false) { defaults = codes "2" ∷ []; parser = Some (Signed (pos 0) (pos 255)) }
 
--- a flag, false where it isn't given
-abbrev pub quiet_rule : Rule
-quiet_rule = record (new_rule (codes "quiet")) { long = Some (codes "quiet"); action = Some SetTrue }
-
 abbrev pub watch_files : App → App
 watch_files app =
     with_option (codes "ledger") true (with_option (codes "capture") false (with_option (codes "b") false (with_option (codes "a") false (with_option (codes "filter") false (with_option (codes "config") true app)))))
 
 unfoldable pub watch_app : App
-watch_app = with_rule (with_rule (watch_files (new_app (codes "watch"))) workers_rule) quiet_rule
+watch_app = with_rule (with_rule (with_rule (watch_files (new_app (codes "watch"))) workers_rule) (flag_rule (codes "quiet"))) (flag_rule (codes "pcapng"))
 
 unfoldable pub debug_app : App
 debug_app = with_option (codes "tap") true (with_option (codes "source") false (with_option (codes "filter") false (new_app (codes "debug"))))
-
--- a flag: the ledger's lines in place of packets
-abbrev pub ledger_only_rule : Rule
-ledger_only_rule = record (new_rule (codes "ledger-only")) { long = Some (codes "ledger-only"); action = Some SetTrue }
 
 -- the ledger, its recordings and the table of its names
 abbrev pub cut_files : App → App
@@ -93,11 +95,23 @@ abbrev pub around_rule : Rule
 around_rule = record (option_rule (codes "around") false) { defaults = codes "0" ∷ []; parser = Some (Signed (pos 0) (pos 65535)) }
 
 unfoldable pub cut_app : App
-cut_app = with_rule (with_rule (with_rule (cut_selection (cut_files (new_app (codes "cut")))) around_rule) ledger_only_rule) output_rule
+cut_app =
+    with_rule (with_rule (with_rule (with_rule (cut_selection (cut_files (new_app (codes "cut")))) around_rule) (flag_rule (codes "ledger-only"))) (flag_rule (codes "pcapng"))) output_rule
+
+unfoldable pub links_app : App
+links_app = with_option (codes "constant") false (with_option (codes "b") false (with_option (codes "a") false (new_app (codes "links"))))
+
+unfoldable pub report_app : App
+report_app =
+    with_rule (with_rule (with_option (codes "ledger") true (with_option (codes "config") true (new_app (codes "report")))) (flag_rule (codes "json"))) output_rule
+
+-- those between
+abbrev pub judging : App → App
+judging app = with_subcommand (with_subcommand (with_subcommand app watch_app.top) debug_app.top) cut_app.top
 
 unfoldable pub afdxmon_app : App
 afdxmon_app =
-    with_subcommand (with_subcommand (with_subcommand (with_subcommand (with_subcommand program_app capture_app.top) asm_app.top) watch_app.top) debug_app.top) cut_app.top
+    with_subcommand (with_subcommand (judging (with_subcommand (with_subcommand program_app capture_app.top) asm_app.top)) links_app.top) report_app.top
 
 -- the command is that of capture
 abbrev pub IsCapture : Command → Type 0
@@ -119,6 +133,14 @@ IsDebug c = (app_of c ≡ debug_app) × ((out-Command c).has_globals ≡ false)
 abbrev pub IsCut : Command → Type 0
 IsCut c = (app_of c ≡ cut_app) × ((out-Command c).has_globals ≡ false)
 
+-- the command is that of links
+abbrev pub IsLinks : Command → Type 0
+IsLinks c = (app_of c ≡ links_app) × ((out-Command c).has_globals ≡ false)
+
+-- the command is that of report
+abbrev pub IsReport : Command → Type 0
+IsReport c = (app_of c ≡ report_app) × ((out-Command c).has_globals ≡ false)
+
 -- ---- what arguments ask for
 
 -- a filter: a text in the numeric form, a file in that form, or a file of a filter's source
@@ -127,13 +149,14 @@ pub data FilterWords : Type 0 where
   NumericFile : Text → FilterWords
   SourceFile : Text → FilterWords
 
--- a filter, and the files of a capture
+-- a filter, the files of a capture, and whether it is written as pcapng
 pub record CaptureWords : Type 0 where
   pub filter : FilterWords
   pub recording : Text
   pub output : Text
+  pub pcapng : Bool
 
--- the files of a run over two recordings, its number of workers, and whether its summary is left out
+-- the files of a run over two recordings, its number of workers, whether its summary is left out, and whether its capture is pcapng
 pub record WatchWords : Type 0 where
   pub config : Text
   pub filter : Option Text
@@ -143,6 +166,7 @@ pub record WatchWords : Type 0 where
   pub ledger : Text
   pub workers : ℕ
   pub quiet : Bool
+  pub pcapng : Bool
 
 -- a filter, and the recording of a session
 pub record DebugWords : Type 0 where
@@ -163,6 +187,20 @@ pub record CutWords : Type 0 where
   pub filters : Option Text
   pub around : ℕ
   pub ledger_only : Bool
+  pub pcapng : Bool
+  pub output : Text
+
+-- recordings, and the constant field of the links that are drafted from them
+pub record LinksWords : Type 0 where
+  pub a : Option Text
+  pub b : Option Text
+  pub constant : Option Text
+
+-- a table and a ledger, and what is written of them
+pub record ReportWords : Type 0 where
+  pub config : Text
+  pub ledger : Text
+  pub json : Bool
   pub output : Text
 
 pub data Meant : Type 0 where
@@ -171,6 +209,8 @@ pub data Meant : Type 0 where
   Watches : WatchWords → Meant
   Debugs : DebugWords → Meant
   Cuts : CutWords → Meant
+  Drafts : LinksWords → Meant
+  Reports : ReportWords → Meant
 
 abbrev pub are_digits : Text → Bool
 are_digits [] = true
@@ -214,32 +254,35 @@ one_filter _ _ _ = Err misuse.TwoFilters
 abbrev pub filter_in : List Row → Result FilterWords Misuse
 filter_in rows = one_filter (first_of (codes "code") rows) (first_of (codes "filter") rows) (first_of (codes "source") rows)
 
-abbrev pub capture_with : Result FilterWords Misuse → Option Text → Option Text → Result CaptureWords Misuse
-capture_with (Ok filter) (Some recording) (Some output) = Ok (record { filter = filter; recording = recording; output = output })
-capture_with (Err m) _ _ = Err m
-capture_with _ _ _ = Err misuse.Incomplete
+abbrev pub capture_with : Result FilterWords Misuse → Option Text → Option Text → Option Bool → Result CaptureWords Misuse
+capture_with (Ok filter) (Some recording) (Some output) (Some pcapng) =
+    Ok (record { filter = filter; recording = recording; output = output; pcapng = pcapng })
+capture_with (Err m) _ _ _ = Err m
+capture_with _ _ _ _ = Err misuse.Incomplete
 
 -- what the arguments of capture give
 abbrev pub capture_in : List Row → Result CaptureWords Misuse
-capture_in rows = capture_with (filter_in rows) (first_of (codes "recording") rows) (first_of (codes "output") rows)
+capture_in rows =
+    capture_with (filter_in rows) (first_of (codes "recording") rows) (first_of (codes "output") rows) (option_and_then flag_in (one_of (codes "pcapng") rows))
 
-abbrev pub watch_with : Option Text → Option Text → Option Text → Option Text → Option Text → Option Text → Option ℕ → Option Bool → Option WatchWords
-watch_with (Some config) filter a b capture (Some ledger) (Some workers) (Some quiet) =
-    Some (record { config = config; filter = filter; a = a; b = b; capture = capture; ledger = ledger; workers = workers; quiet = quiet })
-watch_with _ _ _ _ _ _ _ _ = None
+abbrev pub watch_with : Option Text → Option Text → Option Text → Option Text → Option Text → Option Text → Option ℕ → Option Bool → Option Bool → Option WatchWords
+watch_with (Some config) filter a b capture (Some ledger) (Some workers) (Some quiet) (Some pcapng) =
+    Some (record { config = config; filter = filter; a = a; b = b; capture = capture; ledger = ledger; workers = workers; quiet = quiet; pcapng = pcapng })
+watch_with _ _ _ _ _ _ _ _ _ = None
 
 -- what the options of watch give
 abbrev pub watch_in : List Row → Option WatchWords
 watch_in rows =
     watch_with (first_of (codes "config") rows) (first_of (codes "filter") rows) (first_of (codes "a") rows) (first_of (codes "b") rows)
     (first_of (codes "capture") rows) (first_of (codes "ledger") rows) (option_and_then (number_in 8) (one_of (codes "workers") rows))
-    (option_and_then flag_in (one_of (codes "quiet") rows))
+    (option_and_then flag_in (one_of (codes "quiet") rows)) (option_and_then flag_in (one_of (codes "pcapng") rows))
 
--- there is a recording, and a capture has its filter
+-- there is a recording, a capture has its filter, and there is a capture whose format is given
 abbrev pub checked : WatchWords → Result WatchWords Misuse
 checked w =
     if not (is_some w.a) && not (is_some w.b) then Err misuse.NoRecording
-    else if is_some w.capture && not (is_some w.filter) then Err misuse.Unfiltered else Ok w
+    else if is_some w.capture && not (is_some w.filter) then Err misuse.Unfiltered
+    else if w.pcapng && not (is_some w.capture) then Err misuse.Uncaptured else Ok w
 
 abbrev pub debug_with : Result FilterWords Misuse → Option Text → Result DebugWords Misuse
 debug_with (Ok filter) (Some tap) = Ok (record { filter = filter; tap = tap })
@@ -251,8 +294,8 @@ abbrev pub debug_in : List Row → Result DebugWords Misuse
 debug_in rows = debug_with (filter_in rows) (first_of (codes "tap") rows)
 
 abbrev pub cut_with : Option Text → Option Text → Option Text → Option Text → Option Text → Option Text → Option Text → Option Text → Option Text → Option Text →
-    Option ℕ → Option Bool → Option Text → Option CutWords
-cut_with (Some ledger) a b config link network verdict from to filters (Some around) (Some ledger_only) (Some output) =
+    Option ℕ → Option Bool → Option Bool → Option Text → Option CutWords
+cut_with (Some ledger) a b config link network verdict from to filters (Some around) (Some ledger_only) (Some pcapng) (Some output) =
     Some (record {
       ledger = ledger;
       a = a;
@@ -266,26 +309,46 @@ cut_with (Some ledger) a b config link network verdict from to filters (Some aro
       filters = filters;
       around = around;
       ledger_only = ledger_only;
+      pcapng = pcapng;
       output = output;
     })
-cut_with _ _ _ _ _ _ _ _ _ _ _ _ _ = None
+cut_with _ _ _ _ _ _ _ _ _ _ _ _ _ _ = None
 
 -- what the options of cut give
 abbrev pub cut_in : List Row → Option CutWords
 cut_in rows =
     cut_with (first_of (codes "ledger") rows) (first_of (codes "a") rows) (first_of (codes "b") rows) (first_of (codes "config") rows) (first_of (codes "link") rows)
     (first_of (codes "network") rows) (first_of (codes "verdict") rows) (first_of (codes "from") rows) (first_of (codes "to") rows) (first_of (codes "filters") rows)
-    (option_and_then (number_in 16) (one_of (codes "around") rows)) (option_and_then flag_in (one_of (codes "ledger-only") rows)) (first_of (codes "output") rows)
+    (option_and_then (number_in 16) (one_of (codes "around") rows)) (option_and_then flag_in (one_of (codes "ledger-only") rows))
+    (option_and_then flag_in (one_of (codes "pcapng") rows)) (first_of (codes "output") rows)
 
 -- the text is a network's letter
 abbrev pub is_network : Text → Bool
 is_network text = bytes_eq text (codes "A") || bytes_eq text (codes "B")
 
--- packets have a recording to come from, and a network is A or B
+-- packets have a recording to come from, there are packets whose format is given, and a network is A or B
 abbrev pub checked_cut : CutWords → Result CutWords Misuse
 checked_cut w =
     if not w.ledger_only && (not (is_some w.a) && not (is_some w.b)) then Err misuse.NoRecording
+    else if w.ledger_only && w.pcapng then Err misuse.NoPackets
     else if option_map_or is_network w.network true then Ok w else Err misuse.NoNetwork
+
+-- what the options of links give
+abbrev pub links_in : List Row → LinksWords
+links_in rows = record { a = first_of (codes "a") rows; b = first_of (codes "b") rows; constant = first_of (codes "constant") rows }
+
+-- there is a recording
+abbrev pub checked_links : LinksWords → Result LinksWords Misuse
+checked_links w = if not (is_some w.a) && not (is_some w.b) then Err misuse.NoRecording else Ok w
+
+abbrev pub report_with : Option Text → Option Text → Option Bool → Option Text → Option ReportWords
+report_with (Some config) (Some ledger) (Some json) (Some output) = Some (record { config = config; ledger = ledger; json = json; output = output })
+report_with _ _ _ _ = None
+
+-- what the options of report give
+abbrev pub report_in : List Row → Option ReportWords
+report_in rows =
+    report_with (first_of (codes "config") rows) (first_of (codes "ledger") rows) (option_and_then flag_in (one_of (codes "json") rows)) (first_of (codes "output") rows)
 
 -- by the subcommand that was met and what it was given
 abbrev pub meant_in : Option (Text × List Row) → Result Meant Misuse
@@ -295,7 +358,9 @@ meant_in (Some met) =
     else if bytes_eq met.0 (codes "asm") then Ok Assembles
     else if bytes_eq met.0 (codes "watch") then mapped Watches (and_then checked (required (watch_in met.1)))
     else if bytes_eq met.0 (codes "debug") then mapped Debugs (debug_in met.1)
-    else if bytes_eq met.0 (codes "cut") then mapped Cuts (and_then checked_cut (required (cut_in met.1))) else Err misuse.Incomplete
+    else if bytes_eq met.0 (codes "cut") then mapped Cuts (and_then checked_cut (required (cut_in met.1)))
+    else if bytes_eq met.0 (codes "links") then mapped Drafts (checked_links (links_in met.1))
+    else if bytes_eq met.0 (codes "report") then mapped Reports (required (report_in met.1)) else Err misuse.Incomplete
 
 -- by the arguments, the program's name first
 abbrev pub meant_asked : List Text → Result Meant Misuse
@@ -310,6 +375,8 @@ misuse_kind misuse.NoFilter = kind.MissingRequiredArgument
 misuse_kind misuse.NoRecording = kind.MissingRequiredArgument
 misuse_kind misuse.Unfiltered = kind.MissingRequiredArgument
 misuse_kind misuse.NoNetwork = kind.InvalidValue
+misuse_kind misuse.Uncaptured = kind.MissingRequiredArgument
+misuse_kind misuse.NoPackets = kind.ArgumentConflict
 misuse_kind misuse.Incomplete = kind.MissingRequiredArgument
 
 abbrev pub misuse_kinds : {X : Type 0} → Result X Misuse → Kinds
@@ -331,7 +398,7 @@ filter_words (given.Numeric path) = NumericFile path.now
 filter_words (given.Source path) = SourceFile path.now
 
 abbrev pub capture_words : CaptureArguments → CaptureWords
-capture_words c = record { filter = filter_words c.filter; recording = c.recording.now; output = c.output.now }
+capture_words c = record { filter = filter_words c.filter; recording = c.recording.now; output = c.output.now; pcapng = c.pcapng }
 
 abbrev pub watch_words : WatchArguments → WatchWords
 watch_words w = record {
@@ -343,6 +410,7 @@ watch_words w = record {
   ledger = w.ledger.now;
   workers = w.workers;
   quiet = w.quiet;
+  pcapng = w.pcapng;
 }
 
 abbrev pub debug_words : DebugArguments → DebugWords
@@ -362,8 +430,15 @@ cut_words c = record {
   filters = option_map text_of c.filters;
   around = c.around;
   ledger_only = c.ledger_only;
+  pcapng = c.pcapng;
   output = c.output.now;
 }
+
+abbrev pub links_words : LinksArguments → LinksWords
+links_words l = record { a = option_map text_of l.a; b = option_map text_of l.b; constant = option_map text_of l.constant }
+
+abbrev pub report_words : ReportArguments → ReportWords
+report_words r = record { config = r.config.now; ledger = r.ledger.now; json = r.json; output = r.output.now }
 
 abbrev pub meant_by : Invocation → Meant
 meant_by (words.Capture c) = Captures (capture_words c)
@@ -371,3 +446,5 @@ meant_by words.Asm = Assembles
 meant_by (words.Watch w) = Watches (watch_words w)
 meant_by (words.Debug d) = Debugs (debug_words d)
 meant_by (words.Cut c) = Cuts (cut_words c)
+meant_by (words.Links l) = Drafts (links_words l)
+meant_by (words.Report r) = Reports (report_words r)

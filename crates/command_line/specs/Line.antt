@@ -27,6 +27,10 @@ use Rattle.cut_run.specs.declared.fault.CutFault.{CutFault}
 use Rattle.cut_run.specs.declared.fault.CutFault.TheVariants as cut
 use Rattle.cut_run.specs.declared.fault.CutSource.{CutSource}
 use Rattle.cut_run.specs.declared.fault.CutSource.TheVariants as source
+use Rattle.command_line.specs.declared.fault.Contradiction.{Contradiction}
+use Rattle.command_line.specs.declared.fault.Contradiction.TheVariants as contradiction
+use Rattle.command_line.specs.declared.fault.ReportFault.{ReportFault}
+use Rattle.command_line.specs.declared.fault.ReportFault.TheVariants as report
 use Rattle.command_line.specs.declared.fault.SelectionOption.{SelectionOption}
 use Rattle.command_line.specs.declared.fault.SelectionOption.TheVariants as selection
 use Rattle.command_line.specs.declared.fault.FileOption.{FileOption}
@@ -168,6 +172,18 @@ cut_part (cut.Read from) = codes "5 Read " ++ source_part from
 cut_part cut.Write = codes "6 Write Output"
 cut_part cut.Memory = codes "7 Memory"
 
+-- what the lines before a line, or the table, contradict
+abbrev pub contradiction_part : Contradiction → List ℕ
+contradiction_part contradiction.Link = codes "link"
+contradiction_part contradiction.Copy = codes "copy"
+contradiction_part contradiction.Counts = codes "counts"
+
+abbrev pub report_part : ReportFault → List ℕ
+report_part (report.Ledger at f) = codes "1 Ledger at " ++ decimal at ++ codes " " ++ line_fault_part f
+report_part (report.Contradiction at found) = codes "2 Contradiction at " ++ decimal at ++ codes " " ++ contradiction_part found
+report_part report.Read = codes "3 Read Ledger"
+report_part report.Memory = codes "4 Memory"
+
 -- the option whose text selects nothing
 abbrev pub selection_part : SelectionOption → List ℕ
 selection_part selection.Link = codes "link"
@@ -195,3 +211,5 @@ line_of (fault.Debug f) = codes "afdxmon: debug " ++ debug_part f
 line_of (fault.Cut f) = codes "afdxmon: cut " ++ cut_part f
 line_of (fault.Selection option item) = codes "afdxmon: cut 8 Selection " ++ selection_part option ++ codes " at " ++ decimal item
 line_of (fault.Interfaces f) = codes "afdxmon: interfaces " ++ file_part f
+line_of (fault.Report f) = codes "afdxmon: report " ++ report_part f
+line_of fault.Constant = codes "afdxmon: links 1 Constant"

@@ -10,6 +10,8 @@ use Rattle.cut_run.specs.declared.fault.CutFault.{CutFault}
 use Rattle.cut_run.specs.declared.fault.CutFault.TheVariants as cut
 use Rattle.cut_run.specs.declared.fault.CutSource.{CutSource}
 use Rattle.cut_run.specs.declared.fault.CutSource.TheVariants as source
+use Rattle.command_line.specs.declared.fault.ReportFault.{ReportFault}
+use Rattle.command_line.specs.declared.fault.ReportFault.TheVariants as report
 use Rattle.command_line.specs.declared.fault.FileOption.{FileOption}
 use Rattle.command_line.specs.declared.fault.FileOption.TheVariants as file
 use Rattle.command_line.specs.declared.fault.Fault.{Fault}
@@ -53,6 +55,13 @@ file_of_cut (cut.Read from) = Some (file_of_source from)
 file_of_cut cut.Write = Some file.Output
 file_of_cut cut.Memory = None
 
+-- the ledger, whose line it is or which can't be read
+abbrev pub file_of_report : ReportFault → Option FileOption
+file_of_report (report.Ledger at f) = Some file.Ledger
+file_of_report (report.Contradiction at found) = Some file.Ledger
+file_of_report report.Read = Some file.Ledger
+file_of_report report.Memory = None
+
 abbrev pub file_of : Fault → Option FileOption
 file_of (fault.File f) = Some f
 file_of (fault.Shared output other) = Some output
@@ -66,3 +75,5 @@ file_of (fault.Debug f) = None
 file_of (fault.Cut f) = file_of_cut f
 file_of (fault.Selection option item) = None
 file_of (fault.Interfaces f) = Some f
+file_of (fault.Report f) = file_of_report f
+file_of fault.Constant = None

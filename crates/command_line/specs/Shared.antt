@@ -10,6 +10,7 @@ use Rattle.command_line.specs.declared.shared.CutFiles.{CutFiles}
 use Rattle.command_line.specs.declared.shared.Inode.{Inode}
 use Rattle.command_line.specs.declared.shared.Named.{Named}
 use Rattle.command_line.specs.declared.shared.Named.TheVariants as named
+use Rattle.command_line.specs.declared.shared.ReportFiles.{ReportFiles}
 use Rattle.command_line.specs.declared.shared.WatchFiles.{WatchFiles}
 
 -- the same number on the same device
@@ -74,3 +75,11 @@ cut_inputs files = (file.Ledger, files.ledger) ∷ (file.A, files.a) ∷ (file.B
 -- the output of cut is none of its inputs; else the first that it is
 abbrev pub cut_answer : CutFiles → Result (Unit {0}) Fault
 cut_answer files = output_answer (find (λ other. is_one_file files.output other.1) (cut_inputs files))
+
+-- what the output of report must not be, with the option that names it
+abbrev pub report_inputs : ReportFiles → List (FileOption × Named)
+report_inputs files = (file.Config, files.config) ∷ (file.Ledger, files.ledger) ∷ []
+
+-- the output of report is none of its inputs; else the first that it is
+abbrev pub report_answer : ReportFiles → Result (Unit {0}) Fault
+report_answer files = output_answer (find (λ other. is_one_file files.output other.1) (report_inputs files))

@@ -12,6 +12,8 @@ use Rattle.command_line.specs.declared.arguments.FilterArgument.{FilterArgument}
 use Rattle.command_line.specs.declared.arguments.FilterArgument.TheVariants as given
 use Rattle.command_line.specs.declared.arguments.Invocation.{Invocation}
 use Rattle.command_line.specs.declared.arguments.Invocation.TheVariants as words
+use Rattle.command_line.specs.declared.arguments.LinksArguments.{LinksArguments}
+use Rattle.command_line.specs.declared.arguments.ReportArguments.{ReportArguments}
 use Rattle.command_line.specs.declared.arguments.WatchArguments.{WatchArguments}
 use Rattle.command_line.specs.declared.fault.Fault.{Fault}
 use Rattle.command_line.specs.declared.fault.Fault.TheVariants as fault
@@ -73,6 +75,12 @@ abbrev pub cut_inputs : CutArguments → List Stream
 cut_inputs c =
     stream_of file.Ledger (is_standard c.ledger.now) ∷ stream_of file.A (given_if c.a) ∷ stream_of file.B (given_if c.b) ∷ stream_of file.Config (given_if c.config) ∷ []
 
+abbrev pub links_inputs : LinksArguments → List Stream
+links_inputs l = stream_of file.A (given_if l.a) ∷ stream_of file.B (given_if l.b) ∷ []
+
+abbrev pub report_inputs : ReportArguments → List Stream
+report_inputs r = stream_of file.Config (is_standard r.config.now) ∷ stream_of file.Ledger (is_standard r.ledger.now) ∷ []
+
 -- at most one file is standard input, and at most one standard output; else the second one and the first
 abbrev pub one_each : Invocation → Result (Unit {0}) Fault
 one_each (words.Capture c) = second_answer (capture_inputs c)
@@ -80,3 +88,5 @@ one_each words.Asm = Ok tt
 one_each (words.Watch w) = first_fault (second_answer (watch_inputs w)) (second_answer (watch_outputs w))
 one_each (words.Debug d) = second_answer (debug_inputs d)
 one_each (words.Cut c) = second_answer (cut_inputs c)
+one_each (words.Links l) = second_answer (links_inputs l)
+one_each (words.Report r) = second_answer (report_inputs r)

@@ -2,7 +2,7 @@
 ghost use Rattle.std.specs.Prelude.{◌≡◌, [], false, true, map, IfOk, IfErr, option_map, string_bytes, Ok};
 ghost use Rattle.clap.specs.Words.{FailsBy, app_of, found_of, kind_of, rows_of, rule_of, subcommand_rows_of, takes};
 ghost use Rattle.clap.specs.declared.error.kind.ErrorKind.TheVariants.{OutOfMemory};
-ghost use Rattle.command_line.specs.Arguments.{IsAsm, IsCapture, IsCut, IsDebug, IsWatch, afdxmon_app, around_rule, capture_in, capture_words, checked, checked_cut, cut_in, cut_words, debug_in, debug_words, filter_in, filter_words, is_network, kinds_asked, ledger_only_rule, mapped, meant_asked, meant_by, meant_in, misuse_kind, misuse_kinds, one_filter, option_rule, output_rule, program_app, quiet_rule, recording_rule, text_of, watch_in, watch_words, workers_rule};
+ghost use Rattle.command_line.specs.Arguments.{IsAsm, IsCapture, IsCut, IsDebug, IsLinks, IsReport, IsWatch, afdxmon_app, around_rule, capture_in, capture_words, checked, checked_cut, checked_links, cut_in, cut_words, debug_in, debug_words, filter_in, filter_words, flag_rule, is_network, kinds_asked, links_in, links_words, mapped, meant_asked, meant_by, meant_in, misuse_kind, misuse_kinds, one_filter, option_rule, output_rule, program_app, recording_rule, report_in, report_words, text_of, watch_in, watch_words, workers_rule};
 
 use crate::misuse::Misuse;
 use clap::{Arg, ArgAction, ArgMatches, Command, Error};
@@ -21,6 +21,10 @@ pub enum Invocation<'a> {
     Debug(DebugArguments<'a>),
     /// Copy the frames of two recordings that a selection of their ledger's lines names.
     Cut(CutArguments<'a>),
+    /// Draft a table of virtual links from what recordings have.
+    Links(LinksArguments<'a>),
+    /// Write a page on what a ledger says.
+    Report(ReportArguments<'a>),
 }
 
 /// A filter, by how it is given.
@@ -42,6 +46,8 @@ pub struct CaptureArguments<'a> {
     pub recording: &'a str,
     /// The capture that is written.
     pub output: &'a str,
+    /// Is the capture a pcapng file?
+    pub pcapng: bool,
 }
 
 /// The files of a run over two recordings, its number of workers, and what it tells. `-` is standard input
@@ -65,6 +71,8 @@ pub struct WatchArguments<'a> {
     pub workers: u8,
     /// Is a terminal to be told of faults and notes alone?
     pub quiet: bool,
+    /// Is the capture a pcapng file, whose packets have their verdicts as comments?
+    pub pcapng: bool,
 }
 
 /// A filter, which is never given by its text, and the recording of a session.
@@ -103,7 +111,35 @@ pub struct CutArguments<'a> {
     pub around: u16,
     /// Are the ledger's lines printed in place of packets?
     pub ledger_only: bool,
+    /// Are the packets written as a pcapng file, with their verdicts as comments?
+    pub pcapng: bool,
     /// Where packets or lines are written.
+    pub output: &'a str,
+}
+
+/// The recordings from which a table is drafted. `-` is standard input.
+#[derive(Clone, Copy, Debug, PartialEq, Eq)]
+pub struct LinksArguments<'a> {
+    /// The recording of network A. One of the two is given.
+    pub a: Option<&'a str>,
+    /// The recording of network B.
+    pub b: Option<&'a str>,
+    /// The text of the constant field that the links' frames have, a number of 32 bits. Without it the
+    /// draft has the most common one.
+    pub constant: Option<&'a str>,
+}
+
+/// A table and a ledger, and the page or the numbers that are written of them. `-` is standard input or
+/// output.
+#[derive(Clone, Copy, Debug, PartialEq, Eq)]
+pub struct ReportArguments<'a> {
+    /// The table of virtual links, a TOML document.
+    pub config: &'a str,
+    /// The ledger.
+    pub ledger: &'a str,
+    /// Are the numbers written as JSON in place of a page?
+    pub json: bool,
+    /// Where the page or the numbers are written.
     pub output: &'a str,
 }
 
@@ -120,6 +156,10 @@ const A_HELP: &str = "The recording of network A, a pcap or pcapng file";
 const B_HELP: &str = "The recording of network B, a pcap or pcapng file";
 
 const OUTPUT_HELP: &str = "The capture to write, a nanosecond pcap file";
+
+const TABLE_HELP: &str = "The table of virtual links, a TOML document";
+
+const COMMENTED_HELP: &str = "Write the capture as pcapng, with verdicts as packet comments";
 
 /// An option with a value.
 fn option<'a>(
@@ -138,6 +178,17 @@ fn option<'a>(
         .help(help)
         .required(required)
         .action(ArgAction::Set)
+}
+
+/// An option without a value, which says yes where it is given.
+fn flag<'a>(alloc: Global, name: &'a str, help: &'a str) -> Arg<'a>
+    ensures rule { rule_of result ≡ flag_rule name.now }
+    ensures local { result.global ≡ false }
+{
+    Arg::new(alloc, name)
+        .long(name)
+        .help(help)
+        .action(ArgAction::SetTrue)
 }
 
 /// The option that names the file that is written.
@@ -190,6 +241,7 @@ fn capture_command<'a>(alloc: Global) -> Result<Command<'a>, AllocError>
         .arg(option(alloc, "filter", "FILE", NUMERIC_HELP, false))?
         .arg(option(alloc, "source", "FILE", SOURCE_HELP, false))?
         .arg(output_option(alloc, OUTPUT_HELP))?
+        .arg(flag(alloc, "pcapng", "Write the capture as pcapng"))?
         .arg(recording_word(alloc))
 }
 
@@ -235,27 +287,17 @@ fn workers_option<'a>(alloc: Global) -> Arg<'a>
     .default_value("2")
 }
 
-/// The option that leaves out progress and summary.
-fn quiet_option<'a>(alloc: Global) -> Arg<'a>
-    ensures rule { rule_of result ≡ quiet_rule }
-    ensures local { result.global ≡ false }
-{
-    Arg::new(alloc, "quiet")
-        .long("quiet")
-        .help("Leave out progress and summary at a terminal")
-        .action(ArgAction::SetTrue)
-}
+const QUIET_HELP: &str = "Leave out progress and summary at a terminal";
 
 /// The command `watch`.
 fn watch_command<'a>(alloc: Global) -> Result<Command<'a>, AllocError>
     ensures { IfOk result IsWatch }
 {
-    let config = "The table of virtual links, a TOML document";
     Command::new(alloc, "watch")
         .about("Judges the frames of two recordings, and writes those that a filter accepts")
         .override_usage(WATCH_USAGE)
         .after_help(WATCH_EXAMPLE)
-        .arg(option(alloc, "config", "FILE", config, true))?
+        .arg(option(alloc, "config", "FILE", TABLE_HELP, true))?
         .arg(option(alloc, "filter", "FILE", NUMERIC_HELP, false))?
         .arg(option(alloc, "a", "FILE", A_HELP, false))?
         .arg(option(alloc, "b", "FILE", B_HELP, false))?
@@ -268,7 +310,8 @@ fn watch_command<'a>(alloc: Global) -> Result<Command<'a>, AllocError>
             true,
         ))?
         .arg(workers_option(alloc))?
-        .arg(quiet_option(alloc))
+        .arg(flag(alloc, "quiet", QUIET_HELP))?
+        .arg(flag(alloc, "pcapng", COMMENTED_HELP))
 }
 
 const DEBUG_USAGE: &str = "\
@@ -326,16 +369,7 @@ fn around_option<'a>(alloc: Global) -> Arg<'a>
         .default_value("0")
 }
 
-/// The option that prints lines in place of packets.
-fn ledger_only_option<'a>(alloc: Global) -> Arg<'a>
-    ensures rule { rule_of result ≡ ledger_only_rule }
-    ensures local { result.global ≡ false }
-{
-    Arg::new(alloc, "ledger-only")
-        .long("ledger-only")
-        .help("Print the ledger's lines of the selected frames in place of packets")
-        .action(ArgAction::SetTrue)
-}
+const LINES_HELP: &str = "Print the ledger's lines of the selected frames in place of packets";
 
 /// The command `cut`.
 fn cut_command<'a>(alloc: Global) -> Result<Command<'a>, AllocError>
@@ -367,8 +401,67 @@ fn cut_command<'a>(alloc: Global) -> Result<Command<'a>, AllocError>
         .arg(option(alloc, "to", "TIME", "The last moment", false))?
         .arg(option(alloc, "filters", "MASK", filters, false))?
         .arg(around_option(alloc))?
-        .arg(ledger_only_option(alloc))?
+        .arg(flag(alloc, "ledger-only", LINES_HELP))?
+        .arg(flag(alloc, "pcapng", COMMENTED_HELP))?
         .arg(output_option(alloc, output))
+}
+
+const LINKS_USAGE: &str = "\
+afdxmon links [OPTIONS] <--a <FILE>|--b <FILE>>";
+
+/// What stands after the options in the help of `links`.
+const LINKS_EXAMPLE: &str = "\
+The draft says what was seen and not what was specified: check it against the ICD. Without --constant
+the draft has the most common constant field with bits 24 and 25 set. '-' is standard input.
+
+Example: a table from two recordings, and a run with it
+  afdxmon links --a a.pcap --b b.pcap > draft.toml
+  afdxmon watch --config draft.toml --a a.pcap --b b.pcap --ledger verdicts.ledger";
+
+/// The command `links`.
+fn links_command<'a>(alloc: Global) -> Result<Command<'a>, AllocError>
+    ensures { IfOk result IsLinks }
+{
+    let constant = "The constant field of the links' frames, as 0x03000000";
+    Command::new(alloc, "links")
+        .about("Prints a draft of the table of virtual links that recordings have")
+        .override_usage(LINKS_USAGE)
+        .after_help(LINKS_EXAMPLE)
+        .arg(option(alloc, "a", "FILE", A_HELP, false))?
+        .arg(option(alloc, "b", "FILE", B_HELP, false))?
+        .arg(option(alloc, "constant", "NUMBER", constant, false))
+}
+
+const REPORT_USAGE: &str = "\
+afdxmon report [OPTIONS] --config <FILE> --ledger <FILE>";
+
+/// What stands after the options in the help of `report`.
+const REPORT_EXAMPLE: &str = "\
+The page is one file without scripts and links. Without -o a terminal is shown the first part as text.
+'-' is standard input, or standard output.
+
+Example: a page on a run
+  afdxmon report --config flight.toml --ledger verdicts.ledger -o report.html";
+
+/// The command `report`.
+fn report_command<'a>(alloc: Global) -> Result<Command<'a>, AllocError>
+    ensures { IfOk result IsReport }
+{
+    let json = "Write the page's numbers as JSON in place of the page";
+    Command::new(alloc, "report")
+        .about("Writes an HTML page on what a ledger says, or its numbers")
+        .override_usage(REPORT_USAGE)
+        .after_help(REPORT_EXAMPLE)
+        .arg(option(alloc, "config", "FILE", TABLE_HELP, true))?
+        .arg(option(
+            alloc,
+            "ledger",
+            "FILE",
+            "The ledger of verdicts, as `afdxmon watch` writes it",
+            true,
+        ))?
+        .arg(flag(alloc, "json", json))?
+        .arg(output_option(alloc, "The page to write, or the JSON text"))
 }
 
 /// The program's own command, before its subcommands.
@@ -390,7 +483,9 @@ fn whole_command<'a>(alloc: Global) -> Result<Command<'a>, AllocError>
         .subcommand(asm_command(alloc))?
         .subcommand(watch_command(alloc)?)?
         .subcommand(debug_command(alloc)?)?
-        .subcommand(cut_command(alloc)?)
+        .subcommand(cut_command(alloc)?)?
+        .subcommand(links_command(alloc)?)?
+        .subcommand(report_command(alloc)?)
 }
 
 /// The one filter that is given by its text, as a file in the numeric form or as a source.
@@ -434,10 +529,14 @@ fn capture_arguments<'a>(given: &ArgMatches<'a>) -> Result<CaptureArguments<'a>,
     let Some(output) = given.get_str("output") else {
         return Err(Misuse::Incomplete);
     };
+    let Some(pcapng) = given.get_one::<bool>("pcapng") else {
+        return Err(Misuse::Incomplete);
+    };
     Ok(CaptureArguments {
         filter,
         recording,
         output,
+        pcapng,
     })
 }
 
@@ -454,10 +553,12 @@ fn watch_arguments<'a>(given: &ArgMatches<'a>) -> Option<WatchArguments<'a>>
         ledger: given.get_str("ledger")?,
         workers: given.get_one::<u8>("workers")?,
         quiet: given.get_one::<bool>("quiet")?,
+        pcapng: given.get_one::<bool>("pcapng")?,
     })
 }
 
-/// Refuses a run without a recording, and one that writes a capture without a filter.
+/// Refuses a run without a recording, one that writes a capture without a filter, and a format of a capture
+/// that isn't written.
 fn checked(given: WatchArguments<'_>) -> Result<WatchArguments<'_>, Misuse>
     ensures { mapped watch_words result ≡ checked (watch_words given.entry) }
 {
@@ -466,6 +567,9 @@ fn checked(given: WatchArguments<'_>) -> Result<WatchArguments<'_>, Misuse>
     }
     if given.capture.is_some() && given.filter.is_none() {
         return Err(Misuse::Unfiltered);
+    }
+    if given.pcapng && given.capture.is_none() {
+        return Err(Misuse::Uncaptured);
     }
     Ok(given)
 }
@@ -498,6 +602,7 @@ fn cut_arguments<'a>(options: &ArgMatches<'a>) -> Option<CutArguments<'a>>
         filters: options.get_str("filters"),
         around: options.get_one::<u16>("around")?,
         ledger_only: options.get_one::<bool>("ledger-only")?,
+        pcapng: options.get_one::<bool>("pcapng")?,
         output: options.get_str("output")?,
     })
 }
@@ -509,17 +614,54 @@ fn is_network(text: &str) -> bool
     text == "A" || text == "B"
 }
 
-/// Refuses packets without a recording, and a network that is neither A nor B.
+/// Refuses packets without a recording, a format of packets where none are written, and a network that is
+/// neither A nor B.
 fn checked_cut(given: CutArguments<'_>) -> Result<CutArguments<'_>, Misuse>
     ensures { mapped cut_words result ≡ checked_cut (cut_words given.entry) }
 {
     if !given.ledger_only && given.a.is_none() && given.b.is_none() {
         return Err(Misuse::NoRecording);
     }
+    if given.ledger_only && given.pcapng {
+        return Err(Misuse::NoPackets);
+    }
     match given.network {
         Some(network) if !is_network(network) => Err(Misuse::NoNetwork),
         _ => Ok(given),
     }
+}
+
+/// What the options of `links` give.
+fn links_arguments<'a>(given: &ArgMatches<'a>) -> LinksArguments<'a>
+    ensures { links_words result ≡ links_in (rows_of (found_of given.now)) }
+{
+    LinksArguments {
+        a: given.get_str("a"),
+        b: given.get_str("b"),
+        constant: given.get_str("constant"),
+    }
+}
+
+/// Refuses a draft of no recording.
+fn checked_links(given: LinksArguments<'_>) -> Result<LinksArguments<'_>, Misuse>
+    ensures { mapped links_words result ≡ checked_links (links_words given.entry) }
+{
+    if given.a.is_none() && given.b.is_none() {
+        return Err(Misuse::NoRecording);
+    }
+    Ok(given)
+}
+
+/// What the options of `report` give.
+fn report_arguments<'a>(given: &ArgMatches<'a>) -> Option<ReportArguments<'a>>
+    ensures { option_map report_words result ≡ report_in (rows_of (found_of given.now)) }
+{
+    Some(ReportArguments {
+        config: given.get_str("config")?,
+        ledger: given.get_str("ledger")?,
+        json: given.get_one::<bool>("json")?,
+        output: given.get_str("output")?,
+    })
 }
 
 /// What the matches of a command line ask for.
@@ -550,6 +692,15 @@ fn arguments_of<'a>(matches: &ArgMatches<'a>) -> Result<Invocation<'a>, Misuse>
         };
         return Ok(Invocation::Cut(checked_cut(given)?));
     }
+    if name == "links" {
+        return Ok(Invocation::Links(checked_links(links_arguments(given))?));
+    }
+    if name == "report" {
+        let Some(given) = report_arguments(given) else {
+            return Err(Misuse::Incomplete);
+        };
+        return Ok(Invocation::Report(given));
+    }
     Err(Misuse::Incomplete)
 }
 
@@ -562,6 +713,7 @@ fn refusal(alloc: Global, command: Option<&str>, misuse: Misuse) -> Result<Error
         Some("watch") => watch_command(alloc)?,
         Some("debug") => debug_command(alloc)?,
         Some("cut") => cut_command(alloc)?,
+        Some("links") => links_command(alloc)?,
         _ => whole_command(alloc)?,
     };
     command.error(misuse.kind(), misuse.message())

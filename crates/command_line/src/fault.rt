@@ -1,6 +1,6 @@
 //! Why a command was aborted, and the line that says so.
 ghost use Rattle.std.specs.Prelude.{◌≡◌, IfOk, string_bytes};
-ghost use Rattle.command_line.specs.Line.{debug_part, field_part, file_part, header_part, line_fault_part, line_of, network_part, selection_part, source_part};
+ghost use Rattle.command_line.specs.Line.{debug_part, field_part, contradiction_part, file_part, header_part, line_fault_part, line_of, network_part, selection_part, source_part};
 
 use afdx_frame::Network;
 use bpf_asm::AsmFault;
@@ -47,6 +47,35 @@ pub enum SelectionOption {
     Around,
 }
 
+/// What a ledger's line says that the lines before it, or the table, contradict.
+#[derive(Clone, Copy, Debug, PartialEq, Eq)]
+pub enum Contradiction {
+    /// A frame's line is of a link that the table doesn't have, and says that it has.
+    Link,
+    /// A copy's line has no delivery before it, on the other network, of which it is the copy.
+    Copy,
+    /// A line of counts differs from what the frames' lines before it say.
+    Counts,
+}
+
+/// Why a report of a ledger is aborted. Lines are counted from 1.
+#[derive(Clone, Copy, Debug, PartialEq, Eq)]
+pub enum ReportFault {
+    /// A line that no ledger has there.
+    Ledger {
+        line: u64,
+        fault: LineFault,
+    },
+    /// A line of a ledger's form that contradicts the lines before it, or the table.
+    Contradiction {
+        line: u64,
+        found: Contradiction,
+    },
+    /// The ledger can't be read.
+    Read,
+    Memory,
+}
+
 /// A fault that the program reports by a line. A numeric text or a program may be that of a numbered
 /// filter of the table; that of the command line has no number.
 #[derive(Clone, Copy, Debug)]
@@ -87,6 +116,9 @@ pub enum Fault {
     },
     /// A pcapng file with packets of more than one Ethernet interface, of which none is chosen.
     Interfaces(FileOption),
+    Report(ReportFault),
+    /// A text that isn't the constant field of a draft's links.
+    Constant,
 }
 
 /// Where a fault of the table is: a link, or the top table.
@@ -392,6 +424,42 @@ impl Display for CutPart {
     }
 }
 
+fn contradiction_name(found: Contradiction) -> &'static str
+    ensures { result.now ≡ contradiction_part found }
+{
+    match found {
+        Contradiction::Link => "link",
+        Contradiction::Copy => "copy",
+        Contradiction::Counts => "counts",
+    }
+}
+
+/// The number and name of a report's fault, and what it concerns.
+#[derive(Clone, Copy)]
+struct ReportPart(ReportFault);
+
+impl Display for ReportPart {
+    ghost use Rattle.std.specs.Prelude.{Some};
+    ghost use Rattle.command_line.specs.Line.{report_part};
+
+    ghost output = { λ part. Some (report_part part.0) };
+
+    fn fmt<W: fmt::Write>(&self, f: &mut Formatter<W>) -> fmt::Result {
+        match self.0 {
+            ReportFault::Ledger { line, fault } => {
+                let fault = line_fault_name(fault);
+                write!(f, "1 Ledger at {line} {fault}")
+            }
+            ReportFault::Contradiction { line, found } => {
+                let found = contradiction_name(found);
+                write!(f, "2 Contradiction at {line} {found}")
+            }
+            ReportFault::Read => f.write_str("3 Read Ledger"),
+            ReportFault::Memory => f.write_str("4 Memory"),
+        }
+    }
+}
+
 fn selection_name(option: SelectionOption) -> &'static str
     ensures { result.now ≡ selection_part option }
 {
@@ -472,6 +540,11 @@ impl Display for Fault {
                 let file = file_name(file);
                 write!(f, "afdxmon: interfaces {file}")
             }
+            Fault::Report(fault) => {
+                let fault = ReportPart(fault);
+                write!(f, "afdxmon: report {fault}")
+            }
+            Fault::Constant => f.write_str("afdxmon: links 1 Constant"),
         }
     }
 }

@@ -17,18 +17,18 @@ mod standard;
 mod summary;
 
 pub use arguments::{
-    CaptureArguments, CutArguments, DebugArguments, FilterArgument, Invocation, WatchArguments,
-    read_arguments,
+    CaptureArguments, CutArguments, DebugArguments, FilterArgument, Invocation, LinksArguments,
+    ReportArguments, WatchArguments, read_arguments,
 };
 pub use caret::{Caret, Place, caret_at, place_at};
 pub use exit::{Exit, TO_A_TERMINAL, USAGE, WITHOUT_TOTAL};
-pub use fault::{Fault, FileOption, SelectionOption, fault_line};
+pub use fault::{Contradiction, Fault, FileOption, ReportFault, SelectionOption, fault_line};
 pub use meaning::{EndingAdvice, HEAD_LEN, advice, header_advice, numeric_advice};
 pub use message::{Note, SkippedNote, TapNote};
 pub use misuse::Misuse;
 pub use moment::{MomentText, read_moment};
 pub use place::file_of;
 pub use refused::{Written, load_offset, numeric_offset, source_offset, written_as};
-pub use shared::{CaptureFiles, CutFiles, Inode, Named, WatchFiles};
+pub use shared::{CaptureFiles, CutFiles, Inode, Named, ReportFiles, WatchFiles};
 pub use standard::is_standard;
 pub use summary::{Hint, Summary, hint_of};

@@ -1,7 +1,7 @@
 //! What a fault line or a note means and what to do, in plain words, for a person at a terminal. The texts
 //! stand alone: an installed program has no documents beside it.
 
-use crate::fault::{Fault, FileOption, SelectionOption};
+use crate::fault::{Contradiction, Fault, FileOption, ReportFault, SelectionOption};
 use crate::refused::Written;
 use bpf_asm::AsmFault;
 use bpf_debugger::DebugFault;
@@ -334,6 +334,23 @@ fn selection_advice(option: SelectionOption) -> &'static str {
     }
 }
 
+fn contradiction_advice(found: Contradiction) -> &'static str {
+    match found {
+        Contradiction::Link => "a link that the table doesn't have: is it the table of the run?",
+        Contradiction::Copy => "a copy without its delivery before it: was the ledger changed?",
+        Contradiction::Counts => "counts that its frames' lines don't give: was the ledger changed?",
+    }
+}
+
+fn report_advice(fault: ReportFault) -> &'static str {
+    match fault {
+        ReportFault::Ledger { fault, .. } => line_advice(fault),
+        ReportFault::Contradiction { found, .. } => contradiction_advice(found),
+        ReportFault::Read => "the ledger can't be read: is it a file or a pipe?",
+        ReportFault::Memory => OUT_OF_MEMORY,
+    }
+}
+
 /// What a fault line means and what to do, in plain words, for a person at a terminal.
 pub fn advice(fault: &Fault) -> &'static str {
     match *fault {
@@ -349,5 +366,7 @@ pub fn advice(fault: &Fault) -> &'static str {
         Fault::Cut(fault) => cut_advice(fault),
         Fault::Selection { option, .. } => selection_advice(option),
         Fault::Interfaces(_) => CHOOSE_INTERFACE,
+        Fault::Report(fault) => report_advice(fault),
+        Fault::Constant => "--constant is a number of 32 bits, as 0x03000000 or 50331648",
     }
 }

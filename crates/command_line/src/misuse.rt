@@ -17,6 +17,10 @@ pub enum Misuse {
     Unfiltered,
     /// A network is given that is neither A nor B.
     NoNetwork,
+    /// A capture's format is given, and no capture is written.
+    Uncaptured,
+    /// A format of packets is given, and lines are printed in their place.
+    NoPackets,
     /// An argument isn't there that clap requires or has a default for. This is not met.
     Incomplete,
 }
@@ -27,11 +31,13 @@ impl Misuse {
         ensures { result ≡ misuse_kind self }
     {
         match self {
-            Misuse::TwoFilters => ErrorKind::ArgumentConflict,
+            Misuse::TwoFilters | Misuse::NoPackets => ErrorKind::ArgumentConflict,
             Misuse::NoNetwork => ErrorKind::InvalidValue,
-            Misuse::NoFilter | Misuse::NoRecording | Misuse::Unfiltered | Misuse::Incomplete => {
-                ErrorKind::MissingRequiredArgument
-            }
+            Misuse::NoFilter
+            | Misuse::NoRecording
+            | Misuse::Unfiltered
+            | Misuse::Uncaptured
+            | Misuse::Incomplete => ErrorKind::MissingRequiredArgument,
         }
     }
 
@@ -43,6 +49,8 @@ impl Misuse {
             Misuse::NoRecording => "no recording is given: --a, --b or both name one",
             Misuse::Unfiltered => "--capture needs --filter, which says what frames it is to have",
             Misuse::NoNetwork => "--network is A or B",
+            Misuse::Uncaptured => "--pcapng needs --capture: it says how the capture is written",
+            Misuse::NoPackets => "--pcapng says how packets are written, and --ledger-only leaves them out",
             Misuse::Incomplete => "a required argument is missing",
         }
     }

@@ -1,8 +1,8 @@
 //! Which file a fault is of, for a person who is told its path.
 ghost use Rattle.std.specs.Prelude.{◌≡◌};
-ghost use Rattle.command_line.specs.Place.{file_of, file_of_cut, file_of_source, input_of, output_of, refused_filter};
+ghost use Rattle.command_line.specs.Place.{file_of, file_of_cut, file_of_report, file_of_source, input_of, output_of, refused_filter};
 
-use crate::fault::{Fault, FileOption};
+use crate::fault::{Fault, FileOption, ReportFault};
 use afdx_frame::Network;
 use cut_run::{CutFault, CutSource};
 use run_outcome::{Output, WatchFault};
@@ -59,6 +59,18 @@ fn cut_file(fault: CutFault) -> Option<FileOption>
     }
 }
 
+/// The file of a report's fault, which is the ledger.
+fn report_file(fault: ReportFault) -> Option<FileOption>
+    ensures { result ≡ file_of_report fault }
+{
+    match fault {
+        ReportFault::Ledger { .. } | ReportFault::Contradiction { .. } | ReportFault::Read => {
+            Some(FileOption::Ledger)
+        }
+        ReportFault::Memory => None,
+    }
+}
+
 /// The file that a fault is of. `A` is the one recording of `capture` and `debug` too. None: the fault is
 /// of no file.
 pub fn file_of(fault: &Fault) -> Option<FileOption>
@@ -84,7 +96,9 @@ pub fn file_of(fault: &Fault) -> Option<FileOption>
             | WatchFault::Filters,
         )
         | Fault::Debug(_)
-        | Fault::Selection { .. } => None,
+        | Fault::Selection { .. }
+        | Fault::Constant => None,
         Fault::Cut(fault) => cut_file(fault),
+        Fault::Report(fault) => report_file(fault),
     }
 }

@@ -1,6 +1,6 @@
 //! Which output is a file that another option names too.
 ghost use Rattle.std.specs.Prelude.{◌≡◌};
-ghost use Rattle.command_line.specs.Shared.{capture_answer, cut_answer, is_one_file, named_by, shared_answer, twin_of};
+ghost use Rattle.command_line.specs.Shared.{capture_answer, cut_answer, is_one_file, named_by, report_answer, shared_answer, twin_of};
 
 use crate::fault::{Fault, FileOption};
 
@@ -182,6 +182,37 @@ impl CutFiles<'_> {
             FileOption::B
         } else if self.output.is_one_file(&self.config) {
             FileOption::Config
+        } else {
+            return Ok(());
+        };
+        Err(Fault::Shared {
+            output: FileOption::Output,
+            other,
+        })
+    }
+}
+
+/// What the options of `report` name.
+#[derive(Clone, Copy, Debug, PartialEq, Eq)]
+pub struct ReportFiles<'a> {
+    pub config: Named<'a>,
+    pub ledger: Named<'a>,
+    pub output: Named<'a>,
+}
+
+impl ReportFiles<'_> {
+    /// Refuses an output that is the table or the ledger: writing it would destroy what stands there.
+    ///
+    /// # Errors
+    ///
+    /// `Fault::Shared`, with the first of them that is its file too.
+    pub fn refuse_shared(&self) -> Result<(), Fault>
+        ensures { result ≡ report_answer self.now }
+    {
+        let other = if self.output.is_one_file(&self.config) {
+            FileOption::Config
+        } else if self.output.is_one_file(&self.ledger) {
+            FileOption::Ledger
         } else {
             return Ok(());
         };

@@ -136,6 +136,14 @@ impl Invocation<'_> {
                 stream_if(FileOption::B, given.b),
                 stream_if(FileOption::Config, given.config),
             ]),
+            Invocation::Links(given) => refuse_second(&[
+                stream_if(FileOption::A, given.a),
+                stream_if(FileOption::B, given.b),
+            ]),
+            Invocation::Report(given) => refuse_second(&[
+                stream_of(FileOption::Config, given.config),
+                stream_of(FileOption::Ledger, given.ledger),
+            ]),
         }
     }
 }

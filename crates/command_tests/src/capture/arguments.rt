@@ -25,6 +25,7 @@ fn captured(
         filter,
         recording,
         output,
+        pcapng: false,
     })
 }
 
@@ -98,6 +99,7 @@ fn runs_are_taken(rt: HostRuntime) -> Result<(), Fail> {
         ledger: "l",
         workers: 8,
         quiet: false,
+        pcapng: false,
     };
     assert_eq!(rt;
         read_arguments(rt.alloc(), &words)?,

@@ -1,12 +1,12 @@
-use Rattle.std.proofs.Common.{◌≡◌, codes, false, refl}
+use Rattle.std.proofs.Common.{◌≡◌, codes, refl}
 use Rattle.clap.specs.Words.{App, new_app, with_rule}
 use Rattle.command_line.proofs.Building.{Is, last, one_more}
-use Rattle.command_line.specs.Arguments.{capture_app, output_rule, recording_rule, with_option}
+use Rattle.command_line.specs.Arguments.{capture_app, capture_filter, flag_rule, output_rule, recording_rule}
 use Rattle.command_line.proofs.arguments.capture_command.Goals as goal
 
 -- up to the recording
 abbrev options : App
-options = with_rule (with_option (codes "source") false (with_option (codes "filter") false (with_option (codes "code") false (new_app (codes "capture"))))) output_rule
+options = with_rule (with_rule (capture_filter (new_app (codes "capture"))) output_rule) (flag_rule (codes "pcapng"))
 
 capture_is : capture_app ≡ with_rule options recording_rule
 unfolding capture_app
@@ -20,4 +20,5 @@ returns c =
     let filter = one_more _ _ _ _ _ code c.in_ok-arg-2.ensures c.option-2.ensures.rule c.option-2.ensures.local in
     let source = one_more _ _ _ _ _ filter c.in_ok-arg-3.ensures c.option-3.ensures.rule c.option-3.ensures.local in
     let output = one_more _ _ _ _ _ source c.in_ok-arg-4.ensures c.output_option.ensures.rule c.output_option.ensures.local in
-    last _ _ c.arg-5.result options capture_app recording_rule output c.arg-5.ensures c.recording_word.ensures.rule c.recording_word.ensures.local capture_is
+    let pcapng = one_more _ _ _ _ _ output c.in_ok-arg-5.ensures c.flag.ensures.rule c.flag.ensures.local in
+    last _ _ c.arg-6.result options capture_app recording_rule pcapng c.arg-6.ensures c.recording_word.ensures.rule c.recording_word.ensures.local capture_is

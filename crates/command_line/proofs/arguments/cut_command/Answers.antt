@@ -1,12 +1,12 @@
 use Rattle.std.proofs.Common.{◌≡◌, codes, refl}
 use Rattle.clap.specs.Words.{App, new_app, with_rule}
 use Rattle.command_line.proofs.Building.{Is, last, one_more}
-use Rattle.command_line.specs.Arguments.{around_rule, cut_app, cut_files, cut_selection, ledger_only_rule, output_rule}
+use Rattle.command_line.specs.Arguments.{around_rule, cut_app, cut_files, cut_selection, flag_rule, output_rule}
 use Rattle.command_line.proofs.arguments.cut_command.Goals as goal
 
 -- up to the output
 abbrev options : App
-options = with_rule (with_rule (cut_selection (cut_files (new_app (codes "cut")))) around_rule) ledger_only_rule
+options = with_rule (with_rule (with_rule (cut_selection (cut_files (new_app (codes "cut")))) around_rule) (flag_rule (codes "ledger-only"))) (flag_rule (codes "pcapng"))
 
 cut_is : cut_app ≡ with_rule options output_rule
 unfolding cut_app
@@ -27,5 +27,6 @@ returns c =
     let to = one_more _ _ _ _ _ from c.in_ok-arg-9.ensures c.option-9.ensures.rule c.option-9.ensures.local in
     let filters = one_more _ _ _ _ _ to c.in_ok-arg-10.ensures c.option-10.ensures.rule c.option-10.ensures.local in
     let around = one_more _ _ _ _ _ filters c.in_ok-arg-11.ensures c.around_option.ensures.rule c.around_option.ensures.local in
-    let lines = one_more _ _ _ _ _ around c.in_ok-arg-12.ensures c.ledger_only_option.ensures.rule c.ledger_only_option.ensures.local in
-    last _ _ c.arg-13.result options cut_app output_rule lines c.arg-13.ensures c.output_option.ensures.rule c.output_option.ensures.local cut_is
+    let lines = one_more _ _ _ _ _ around c.in_ok-arg-12.ensures c.flag.ensures.rule c.flag.ensures.local in
+    let pcapng = one_more _ _ _ _ _ lines c.in_ok-arg-13.ensures c.flag-2.ensures.rule c.flag-2.ensures.local in
+    last _ _ c.arg-14.result options cut_app output_rule pcapng c.arg-14.ensures c.output_option.ensures.rule c.output_option.ensures.local cut_is

@@ -1,14 +1,14 @@
 use Rattle.std.proofs.Common.{◌≡◌, codes, refl}
 use Rattle.clap.specs.Words.{App, new_app, with_rule}
 use Rattle.command_line.proofs.Building.{Is, last, one_more}
-use Rattle.command_line.specs.Arguments.{quiet_rule, watch_app, watch_files, workers_rule}
+use Rattle.command_line.specs.Arguments.{flag_rule, watch_app, watch_files, workers_rule}
 use Rattle.command_line.proofs.arguments.watch_command.Goals as goal
 
--- up to the flag
+-- up to the last flag
 abbrev options : App
-options = with_rule (watch_files (new_app (codes "watch"))) workers_rule
+options = with_rule (with_rule (watch_files (new_app (codes "watch"))) workers_rule) (flag_rule (codes "quiet"))
 
-watch_is : watch_app ≡ with_rule options quiet_rule
+watch_is : watch_app ≡ with_rule options (flag_rule (codes "pcapng"))
 unfolding watch_app
 watch_is = refl
 
@@ -23,4 +23,5 @@ returns c =
     let capture = one_more _ _ _ _ _ b c.in_ok-arg-5.ensures c.option-5.ensures.rule c.option-5.ensures.local in
     let ledger = one_more _ _ _ _ _ capture c.in_ok-arg-6.ensures c.option-6.ensures.rule c.option-6.ensures.local in
     let workers = one_more _ _ _ _ _ ledger c.in_ok-arg-7.ensures c.workers_option.ensures.rule c.workers_option.ensures.local in
-    last _ _ c.arg-8.result options watch_app quiet_rule workers c.arg-8.ensures c.quiet_option.ensures.rule c.quiet_option.ensures.local watch_is
+    let quiet = one_more _ _ _ _ _ workers c.in_ok-arg-8.ensures c.flag.ensures.rule c.flag.ensures.local in
+    last _ _ c.arg-9.result options watch_app (flag_rule (codes "pcapng")) quiet c.arg-9.ensures c.flag-2.ensures.rule c.flag-2.ensures.local watch_is

@@ -1,4 +1,4 @@
-use Rattle.std.proofs.Common.{◌≡◌, ◌∙◌, ap, option_and_then}
+use Rattle.std.proofs.Common.{◌∙◌, ap, option_and_then}
 use Rattle.command_line.specs.Moment.{within}
 use Rattle.command_line.proofs.Given.{no_number, number_is}
 use Rattle.command_line.proofs.moment.read_nanoseconds.Goals as goal
