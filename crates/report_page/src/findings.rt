@@ -12,6 +12,7 @@ use std::fmt::Write;
 use vl_config::Link;
 
 /// The sentences so far.
+#[derive(Drop)]
 pub struct Findings<'a> {
     out: &'a mut String,
     count: usize,

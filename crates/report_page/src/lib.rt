@@ -2,6 +2,7 @@
 //!
 //! - [`page_of`]: one HTML page with no script and no link out, which prints on A4.
 //! - [`summary_of`]: at most [`SUMMARY_LINES`] lines: what to look at first.
+//! - [`has_sizes`]: whether the ledger tells the sizes of frames.
 //! - [`json_of`]: the same numbers as one JSON object; docs/REPORT-JSON.md has its members.
 #![tactic(auto)]
 
@@ -13,6 +14,7 @@ mod legend;
 mod numbers;
 mod page;
 mod ranks;
+mod sizes;
 mod strips;
 mod style;
 mod summary;
@@ -23,4 +25,5 @@ mod view;
 
 pub use json::json_of;
 pub use page::page_of;
+pub use sizes::has_sizes;
 pub use summary::{SUMMARY_LINES, summary_of};
