@@ -131,22 +131,35 @@ def lost_on_both(ledger, link, lanes):
     if not link["integrity"]:
         return 0
     both = 0
-    events = {n: [(l.at, l.sequence, None) for l in lanes[n]]
-              + [(l.at, x, l.stamp) for l, xs in losses(ledger, lanes[n]) for x in xs] for n in "AB"}
+    lost = {n: losses(ledger, lanes[n]) for n in "AB"}
+    events = {n: {x: [] for x in range(256)} for n in "AB"}
     for n in "AB":
-        for l, xs in losses(ledger, lanes[n]):
+        for l in lanes[n]:
+            events[n][l.sequence].append((l.at, None))
+        for l, xs in lost[n]:
             for x in xs:
-                last = max((e for e in events[OTHER[n]] if e[0] < l.at and e[1] == x), key=lambda e: e[0], default=None)
-                both += last is not None and last[2] is not None and l.stamp - last[2] <= WINDOW_BAGS * link["bag"]
+                events[n][x].append((l.at, l.stamp))
+    for n in "AB":
+        for l, xs in lost[n]:
+            for x in xs:
+                last = max((e for e in events[OTHER[n]][x] if e[0] < l.at), key=lambda e: e[0], default=None)
+                both += last is not None and last[1] is not None and l.stamp - last[1] <= WINDOW_BAGS * link["bag"]
     return both
+
+
+def numbers_of(seen):
+    """The lines by their sequence numbers."""
+    by = [[] for _ in range(256)]
+    for l in seen:
+        by[l.sequence].append(l)
+    return by
 
 
 def fates(ledger, link, seen):
     """What became of each line `deliver`: a list of (fate, line), and of the skews of late ones."""
     said, late_skews = [], []
     window = WINDOW_BAGS * link["bag"]
-    for q in range(256):
-        of = [l for l in seen if l.sequence == q]
+    for of in numbers_of(seen):
         delivers = [l for l in of if l.redundancy == "deliver"]
         late, named = set(), {}
         for i, d in enumerate(delivers):
@@ -170,10 +183,10 @@ def fates(ledger, link, seen):
 
 
 def skews(seen):
-    said = []
+    said, by = [], numbers_of(seen)
     for l in seen:
         if l.redundancy == "copy":
-            d = max((d for d in seen if d.at < l.at and d.sequence == l.sequence and d.redundancy == "deliver"), key=lambda d: d.at)
+            d = max((d for d in by[l.sequence] if d.at < l.at and d.redundancy == "deliver"), key=lambda d: d.at)
             said.append(l.stamp - d.stamp)
     return said
 
