@@ -127,23 +127,28 @@ def losses(ledger, lane):
 
 
 def lost_on_both(ledger, link, lanes):
-    """The numbers lost on a network whose latest event on the other is a loss too, at most 127 BAG before."""
+    """The losses of a number that stand after one on the other network, at most 127 BAG before, since when the number was
+    neither seen nor counted there."""
     if not link["integrity"]:
         return 0
-    both = 0
-    lost = {n: losses(ledger, lanes[n]) for n in "AB"}
-    events = {n: {x: [] for x in range(256)} for n in "AB"}
+    events = {x: [] for x in range(256)}
     for n in "AB":
         for l in lanes[n]:
-            events[n][l.sequence].append((l.at, None))
-        for l, xs in lost[n]:
+            events[l.sequence].append((l.at, n, "seen", l.stamp))
+        for l, xs in losses(ledger, lanes[n]):
             for x in xs:
-                events[n][x].append((l.at, l.stamp))
-    for n in "AB":
-        for l, xs in lost[n]:
-            for x in xs:
-                last = max((e for e in events[OTHER[n]][x] if e[0] < l.at), key=lambda e: e[0], default=None)
-                both += last is not None and last[1] is not None and l.stamp - last[1] <= WINDOW_BAGS * link["bag"]
+                events[x].append((l.at, n, "lost", l.stamp))
+    both = 0
+    for of in events.values():
+        lost = {"A": None, "B": None}
+        for _, n, kind, stamp in sorted(of):
+            lost[n] = None
+            if kind == "lost":
+                if lost[OTHER[n]] is not None and stamp - lost[OTHER[n]] <= WINDOW_BAGS * link["bag"]:
+                    both += 1
+                    lost[OTHER[n]] = None
+                else:
+                    lost[n] = stamp
     return both
 
 

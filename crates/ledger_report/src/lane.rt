@@ -154,23 +154,36 @@ impl Lane {
         }
     }
 
-    /// When this number was lost, if it wasn't seen since.
-    fn lost_when(&self, number: u8) -> Option<u64> {
-        match self.lost_at.get(usize::from(number)) {
-            Some(lost) => *lost,
-            None => None,
+    /// Takes the loss of this number at most `window` before: one that is not seen since, nor taken before.
+    fn take_loss(&mut self, number: u8, stamp: u64, window: u64) -> bool {
+        match self.lost_at.get_mut(usize::from(number)) {
+            Some(lost) => match *lost {
+                Some(when) if stamp.saturating_sub(when) <= window => {
+                    *lost = None;
+                    true
+                }
+                _ => false,
+            },
+            None => false,
+        }
+    }
+
+    /// Sets when this number was lost, or that it needs no other loss.
+    fn set_lost(&mut self, number: u8, when: Option<u64>) {
+        if let Some(held) = self.lost_at.get_mut(usize::from(number)) {
+            *held = when;
         }
     }
 
     /// Notes that the numbers after `previous` are lost, and says how many of them the other lane lost too, at
-    /// most `window` before.
+    /// most `window` before. Each loss counts with one of the other lane at most.
     pub(crate) fn lose(
         &mut self,
         previous: u8,
         lost: u8,
         stamp: u64,
         window: u64,
-        other: &Lane,
+        other: &mut Lane,
     ) -> Result<u64, AllocError> {
         if self.lost_at.is_empty() {
             self.lost_at.resize(NUMBERS, None)?;
@@ -179,13 +192,11 @@ impl Lane {
         let mut both = 0u64;
         for _ in 0..lost {
             number = following(number);
-            if let Some(held) = self.lost_at.get_mut(usize::from(number)) {
-                *held = Some(stamp);
-            }
-            if let Some(when) = other.lost_when(number) {
-                if stamp.saturating_sub(when) <= window {
-                    both = both.saturating_add(1);
-                }
+            if other.take_loss(number, stamp, window) {
+                self.set_lost(number, None);
+                both = both.saturating_add(1);
+            } else {
+                self.set_lost(number, Some(stamp));
             }
         }
         Ok(both)

@@ -256,8 +256,8 @@ impl LinkReport {
         let stamp = at.place.stamp;
         let lanes = &mut self.lanes;
         let both = match at.network {
-            Network::A => lanes.a.lose(previous, lost, stamp, window, &lanes.b)?,
-            Network::B => lanes.b.lose(previous, lost, stamp, window, &lanes.a)?,
+            Network::A => lanes.a.lose(previous, lost, stamp, window, &mut lanes.b)?,
+            Network::B => lanes.b.lose(previous, lost, stamp, window, &mut lanes.a)?,
         };
         if both > 0 {
             self.lost_both = self.lost_both.saturating_add(both);
