@@ -1,7 +1,7 @@
 //! That no output is another file of its command, and that the standard streams are there.
 use analyser::{
     CaptureArguments, CaptureFiles, CutArguments, CutFiles, Fault, FileOption, FilterArgument,
-    Inode, Named, WatchArguments, WatchFiles, is_standard,
+    Inode, Named, ReportArguments, ReportFiles, WatchArguments, WatchFiles, is_standard,
 };
 use std::fs::Metadata;
 use std::io::{ErrorKind, Read, Write};
@@ -117,6 +117,16 @@ pub fn refuse_shared_cut(rt: &HostRuntime, given: &CutArguments<'_>) -> Result<(
         a: input_if(rt, given.a),
         b: input_if(rt, given.b),
         config: input_if(rt, given.config),
+        output: output(rt, given.output),
+    };
+    files.refuse_shared()
+}
+
+/// Refuses an output of `report` that is its table or its ledger.
+pub fn refuse_shared_report(rt: &HostRuntime, given: &ReportArguments<'_>) -> Result<(), Fault> {
+    let files = ReportFiles {
+        config: input(rt, given.config),
+        ledger: input(rt, given.ledger),
         output: output(rt, given.output),
     };
     files.refuse_shared()

@@ -1,0 +1,136 @@
+//! Blocks of a link's lines that are all on one network.
+
+use crate::bounds::ABSENT_LINES;
+use crate::network::NetworkReport;
+use crate::sides::{Sides, other};
+use afdx_frame::Network;
+
+/// A block of lines of a link that are all on one network while the other was alive.
+#[derive(Clone, Copy, Debug, PartialEq, Eq)]
+pub struct Absence {
+    /// How many lines.
+    pub lines: u64,
+    /// The timestamps of the first and the last.
+    pub from: u64,
+    pub to: u64,
+}
+
+/// The block that the link's latest lines belong to.
+#[derive(Clone, Copy, Debug)]
+struct Run {
+    network: Network,
+    counted: Absence,
+    /// The lines since the other network's last line, of which so many stand before.
+    group: Absence,
+    before: u64,
+}
+
+impl Run {
+    /// Counts the latest lines, where the other network was alive around them.
+    fn settle(&mut self, networks: &Sides<NetworkReport>) {
+        if networks.of(other(self.network)).covers(self.before) != Some(true) {
+            return;
+        }
+        if self.counted.lines == 0 {
+            self.counted.from = self.group.from;
+        }
+        self.counted.lines = self.counted.lines.saturating_add(self.group.lines);
+        self.counted.to = self.group.to;
+    }
+}
+
+/// The absences of a link.
+#[derive(Debug, Drop)]
+pub struct Absences {
+    run: Option<Run>,
+    /// The longest from each network.
+    longest: Sides<Option<Absence>>,
+}
+
+impl Absences {
+    pub(crate) fn new() -> Absences {
+        Absences {
+            run: None,
+            longest: Sides { a: None, b: None },
+        }
+    }
+
+    /// The longest absence from a network, if one is long enough to be told.
+    pub(crate) fn longest(&self, network: Network) -> Option<Absence> {
+        *self.longest.of(network)
+    }
+
+    /// The absence that lasts to the end, and the network that the link is absent from.
+    pub(crate) fn last(&self) -> Option<(Network, Absence)> {
+        match self.run {
+            Some(run) => Some((other(run.network), run.counted)),
+            None => None,
+        }
+    }
+
+    fn keep(&mut self, run: Run) {
+        let longest = self.longest.of_mut(other(run.network));
+        let most = match longest {
+            Some(absence) => absence.lines,
+            None => 0,
+        };
+        if run.counted.lines >= ABSENT_LINES && run.counted.lines > most {
+            *longest = Some(run.counted);
+        }
+    }
+
+    /// Notes a line of the link.
+    #[inline]
+    pub(crate) fn note(&mut self, network: Network, stamp: u64, networks: &Sides<NetworkReport>) {
+        let before = networks.of(other(network)).frames;
+        let one = Absence {
+            lines: 1,
+            from: stamp,
+            to: stamp,
+        };
+        let none = Absence {
+            lines: 0,
+            from: stamp,
+            to: stamp,
+        };
+        let Some(held) = self.run else {
+            self.run = Some(Run {
+                network,
+                counted: none,
+                group: one,
+                before,
+            });
+            return;
+        };
+        let mut run = held;
+        if run.network == network && run.before == before {
+            run.group.lines = run.group.lines.saturating_add(1);
+            run.group.to = stamp;
+            self.run = Some(run);
+            return;
+        }
+        run.settle(networks);
+        if run.network == network {
+            run.group = one;
+            run.before = before;
+            self.run = Some(run);
+        } else {
+            self.keep(run);
+            self.run = Some(Run {
+                network,
+                counted: none,
+                group: one,
+                before,
+            });
+        }
+    }
+
+    /// Ends the last block.
+    pub(crate) fn end(&mut self, networks: &Sides<NetworkReport>) {
+        if let Some(mut run) = self.run {
+            run.settle(networks);
+            self.run = Some(run);
+            self.keep(run);
+        }
+    }
+}

@@ -1,0 +1,42 @@
+//! The numbers of a report: what a ledger of version 2 says of each virtual link and of each network.
+//!
+//! [`read_report`] reads a ledger once, line by line, and keeps numbers alone: its memory is bounded by the
+//! table's links, and no line allocates but for the first hits of each series. docs/REPORT.md defines
+//! every number over the list of lines.
+//!
+//! ```text
+//! let report = read_report(alloc, &config, source)?;
+//! let lost = report.links[0].lanes.a.signs.of(Sign::Lost).count;
+//! ```
+#![tactic(auto)]
+
+mod absence;
+mod bounds;
+mod counts;
+mod counts_lines;
+mod fault;
+mod lane;
+mod link;
+mod median;
+mod moment;
+mod network;
+mod pairing;
+mod report;
+mod series;
+mod sides;
+mod signs;
+mod statistics;
+
+pub use absence::Absence;
+pub use bounds::{ABSENT_LINES, BINS, FIRST_WIDTH, MOST_SILENCES, SILENT_LINES, STOPPED_LINES, WINDOW_BAGS};
+pub use counts::{Counts, FrameCounts};
+pub use counts_lines::{TapEnd, TapEnding};
+pub use fault::{ReportFault, WrongLine};
+pub use lane::Lane;
+pub use link::{Fates, LinkReport};
+pub use moment::Place;
+pub use network::{NetworkReport, Silence};
+pub use report::{OutsideLink, Report, read_report};
+pub use series::Series;
+pub use sides::Sides;
+pub use signs::{Mark, Sign, Signs};

@@ -1,0 +1,429 @@
+//! A link on both networks.
+
+use crate::absence::{Absence, Absences};
+use crate::bounds::WINDOW_BAGS;
+use crate::fault::{Refusal, WrongLine};
+use crate::lane::{Lane, is_loss};
+use crate::median::Classes;
+use crate::moment::{Moment, Place};
+use crate::network::NetworkReport;
+use crate::pairing::{Delivery, Fate, Pairing};
+use crate::series::{Merge, Series};
+use crate::sides::{Sides, other};
+use crate::signs::Sign;
+use crate::statistics::{bin_of, rule_of};
+use afdx_frame::{Network, VlId};
+use integrity::Integrity;
+use ledger_text::FrameLine;
+use redundancy::Redundancy;
+use std::alloc::{AllocError, Global};
+use vl_config::Link;
+
+/// How many deliveries of a link ended how. Each has one fate, so their sum is the count of lines `deliver`.
+#[derive(Clone, Copy, Debug, PartialEq, Eq)]
+pub struct Fates {
+    /// A copy came from the other network.
+    pub paired: u64,
+    /// It was the second of its number, beyond SkewMax.
+    pub late: u64,
+    /// Its second came beyond SkewMax.
+    pub first: u64,
+    /// The other network brought it, and it was discarded there.
+    pub met: u64,
+    /// None of these, and the other network was silent or not recorded.
+    pub uncovered: u64,
+    /// None of these: missing on the other network, which was alive.
+    pub alone: u64,
+}
+
+/// What the lines of one link say.
+#[derive(Debug, Drop)]
+pub struct LinkReport {
+    pub id: VlId,
+    /// BAG, jitter and SkewMax in nanoseconds, Smax in bytes, from the table.
+    pub bag: u64,
+    pub jitter: u64,
+    pub skew_max: u64,
+    pub smax: u32,
+    pub integrity: bool,
+    pub redundancy: bool,
+    pub lanes: Sides<Lane>,
+    /// Lines `deliver`, and what became of them.
+    pub deliveries: u64,
+    pub fates: Fates,
+    /// Lines `copy`: the sum and the greatest of their skews, and the median, rounded down to its five leading
+    /// binary digits.
+    pub copies: u64,
+    pub skew_sum: u64,
+    pub skew_greatest: u64,
+    pub skew_median: u64,
+    /// The greatest skew of a second delivery beyond SkewMax.
+    pub late_greatest: u64,
+    /// The greatest skews of copies and of late deliveries by time, by the network of the second.
+    pub skews: Sides<Series>,
+    pub late_skews: Sides<Series>,
+    /// Numbers lost on both networks.
+    pub lost_both: u64,
+    pub first_lost_both: Option<(Network, Place)>,
+    /// The longest absence from each network.
+    pub absences: Sides<Option<Absence>>,
+    /// The absence that lasts to the end, and the network that the link is absent from.
+    pub stopped: Option<(Network, Absence)>,
+    classes: Classes,
+    pairing: Pairing,
+    runs: Absences,
+}
+
+impl LinkReport {
+    pub(crate) fn new(alloc: Global, link: &Link) -> Result<LinkReport, AllocError> {
+        Ok(LinkReport {
+            id: link.id,
+            bag: link.bag,
+            jitter: link.jitter,
+            skew_max: link.skew,
+            smax: link.smax,
+            integrity: link.integrity,
+            redundancy: link.redundancy,
+            lanes: Sides {
+                a: Lane::new(alloc)?,
+                b: Lane::new(alloc)?,
+            },
+            deliveries: 0,
+            fates: Fates {
+                paired: 0,
+                late: 0,
+                first: 0,
+                met: 0,
+                uncovered: 0,
+                alone: 0,
+            },
+            copies: 0,
+            skew_sum: 0,
+            skew_greatest: 0,
+            skew_median: 0,
+            late_greatest: 0,
+            skews: Sides {
+                a: Series::new(alloc, Merge::Greatest),
+                b: Series::new(alloc, Merge::Greatest),
+            },
+            late_skews: Sides {
+                a: Series::new(alloc, Merge::Greatest),
+                b: Series::new(alloc, Merge::Greatest),
+            },
+            lost_both: 0,
+            first_lost_both: None,
+            absences: Sides { a: None, b: None },
+            stopped: None,
+            classes: Classes::new(alloc),
+            pairing: Pairing::new(alloc),
+            runs: Absences::new(),
+        })
+    }
+
+    /// The time in which a number is taken for the same frame.
+    fn window(&self) -> u64 {
+        self.bag.saturating_mul(WINDOW_BAGS)
+    }
+
+    /// Notes a line of class `toolong` or `regular`, its network's latest.
+    pub(crate) fn note(
+        &mut self,
+        line: &FrameLine,
+        number: u8,
+        at: &Moment,
+        start: u64,
+        width: u64,
+        networks: &mut Sides<NetworkReport>,
+    ) -> Result<(), Refusal> {
+        self.check_words(line)?;
+        let rule = rule_of(line);
+        let after_silence = self
+            .lanes
+            .of(at.network)
+            .is_after_silence(networks.of(at.network));
+        self.note_lane(line, rule, at, after_silence, networks)?;
+        if self.integrity {
+            self.note_number(number, at, after_silence, networks)?;
+        }
+        if rule.is_some() && self.redundancy {
+            let window = self.window();
+            self.pairing
+                .discard(number, at.network, at.place.stamp, window)?;
+        }
+        self.runs.note(at.network, at.place.stamp, networks);
+        match line.redundancy {
+            Some(Redundancy::Copy) => self.note_copy(number, at, networks),
+            Some(Redundancy::Deliver) => self.note_delivery(number, at, start, width, networks),
+            Some(Redundancy::Both) | None => Ok(()),
+        }
+    }
+
+    /// Does the line say that integrity checking and redundancy management are off where the table does?
+    #[inline]
+    fn check_words(&self, line: &FrameLine) -> Result<(), Refusal> {
+        let integrity = match line.integrity {
+            Some(integrity) => (integrity == Integrity::Off) != self.integrity,
+            None => true,
+        };
+        let redundancy = match line.redundancy {
+            Some(redundancy) => (redundancy == Redundancy::Both) != self.redundancy,
+            None => true,
+        };
+        if integrity && redundancy {
+            Ok(())
+        } else {
+            Err(Refusal::Wrong(WrongLine::Off))
+        }
+    }
+
+    /// Notes interval, bytes and rule of the line.
+    #[inline]
+    fn note_lane(
+        &mut self,
+        line: &FrameLine,
+        rule: Option<Sign>,
+        at: &Moment,
+        after_silence: bool,
+        networks: &mut Sides<NetworkReport>,
+    ) -> Result<(), AllocError> {
+        let least = self.bag.saturating_sub(self.jitter);
+        let lane = self.lanes.of_mut(at.network);
+        if lane.frames > 0 && !after_silence {
+            lane.note_interval(at, least, rule == Some(Sign::Excess))?;
+        }
+        lane.note_line(at, line.kept, networks.of(at.network))?;
+        match rule {
+            Some(Sign::Out) if after_silence => {
+                lane.out_after_silence = lane.out_after_silence.saturating_add(1);
+                Ok(())
+            }
+            Some(rule) => lane.signs.hit(rule, at.bin, at.place, 1),
+            None => Ok(()),
+        }
+    }
+
+    /// Notes what the sequence number says against the one before.
+    #[inline]
+    fn note_number(
+        &mut self,
+        number: u8,
+        at: &Moment,
+        after_silence: bool,
+        networks: &mut Sides<NetworkReport>,
+    ) -> Result<(), AllocError> {
+        let Some((previous, distance)) = self.lanes.of_mut(at.network).take_number(number) else {
+            return Ok(());
+        };
+        if number == 0 {
+            self.note_sign(Sign::Reset, at, 1, networks)
+        } else if distance == 0 {
+            self.note_sign(Sign::Repeat, at, 1, networks)
+        } else if !is_loss(distance) {
+            Ok(())
+        } else if after_silence {
+            let lane = self.lanes.of_mut(at.network);
+            lane.lost_after_silence = lane
+                .lost_after_silence
+                .saturating_add(u64::from(distance) - 1);
+            Ok(())
+        } else {
+            self.note_loss(previous, distance - 1, at)?;
+            self.note_sign(Sign::Lost, at, u64::from(distance) - 1, networks)
+        }
+    }
+
+    /// Counts a sign for the lane and its network.
+    fn note_sign(
+        &mut self,
+        sign: Sign,
+        at: &Moment,
+        amount: u64,
+        networks: &mut Sides<NetworkReport>,
+    ) -> Result<(), AllocError> {
+        self.lanes
+            .of_mut(at.network)
+            .signs
+            .hit(sign, at.bin, at.place, amount)?;
+        networks
+            .of_mut(at.network)
+            .signs
+            .hit(sign, at.bin, at.place, amount)
+    }
+
+    /// Notes that so many numbers are lost, and counts those that the other network lost too.
+    fn note_loss(&mut self, previous: u8, lost: u8, at: &Moment) -> Result<(), AllocError> {
+        let window = self.window();
+        let stamp = at.place.stamp;
+        let lanes = &mut self.lanes;
+        let both = match at.network {
+            Network::A => lanes.a.lose(previous, lost, stamp, window, &mut lanes.b)?,
+            Network::B => lanes.b.lose(previous, lost, stamp, window, &mut lanes.a)?,
+        };
+        if both > 0 {
+            self.lost_both = self.lost_both.saturating_add(both);
+            if self.first_lost_both.is_none() {
+                self.first_lost_both = Some((at.network, at.place));
+            }
+        }
+        Ok(())
+    }
+
+    /// Notes a copy, whose delivery stands before on the other network.
+    #[inline]
+    fn note_copy(
+        &mut self,
+        number: u8,
+        at: &Moment,
+        networks: &mut Sides<NetworkReport>,
+    ) -> Result<(), Refusal> {
+        let mut delivery = match self.pairing.latest(number) {
+            Some(delivery) if delivery.network != at.network => delivery,
+            _ => return Err(Refusal::Wrong(WrongLine::Copy)),
+        };
+        let skew = at.place.stamp.saturating_sub(delivery.place.stamp);
+        if skew > self.skew_max {
+            return Err(Refusal::Wrong(WrongLine::Skew));
+        }
+        if matches!(delivery.fate, Fate::Open | Fate::Met) {
+            delivery.fate = Fate::Paired;
+            self.fates.paired = self.fates.paired.saturating_add(1);
+            self.pairing.set(number, delivery)?;
+        }
+        self.copies = self.copies.saturating_add(1);
+        self.skew_sum = self.skew_sum.saturating_add(skew);
+        self.skew_greatest = self.skew_greatest.max(skew);
+        self.classes.add(skew)?;
+        self.skews.of_mut(at.network).put(at.bin, skew)?;
+        networks.of_mut(at.network).skews.put(at.bin, skew)?;
+        Ok(())
+    }
+
+    /// Notes a delivery, and settles the one of its number before.
+    #[inline]
+    fn note_delivery(
+        &mut self,
+        number: u8,
+        at: &Moment,
+        start: u64,
+        width: u64,
+        networks: &mut Sides<NetworkReport>,
+    ) -> Result<(), Refusal> {
+        self.deliveries = self.deliveries.saturating_add(1);
+        let window = self.window();
+        let stamp = at.place.stamp;
+        let mut fate = if self
+            .pairing
+            .was_discarded(number, at.network, stamp, window)
+        {
+            Fate::Met
+        } else {
+            Fate::Open
+        };
+        if let Some(before) = self.pairing.latest(number) {
+            let skew = stamp.saturating_sub(before.place.stamp);
+            let late = before.fate == Fate::Open && before.network != at.network && skew <= window;
+            if late {
+                fate = Fate::Late;
+                self.note_late(skew, at, networks)?;
+            } else {
+                self.settle(before, start, width, networks)?;
+            }
+        }
+        self.pairing.set(
+            number,
+            Delivery {
+                network: at.network,
+                place: at.place,
+                before: networks.of(other(at.network)).frames,
+                fate,
+            },
+        )?;
+        Ok(())
+    }
+
+    /// Notes the second delivery of a number, beyond SkewMax.
+    fn note_late(
+        &mut self,
+        skew: u64,
+        at: &Moment,
+        networks: &mut Sides<NetworkReport>,
+    ) -> Result<(), AllocError> {
+        self.fates.late = self.fates.late.saturating_add(1);
+        self.fates.first = self.fates.first.saturating_add(1);
+        self.late_greatest = self.late_greatest.max(skew);
+        self.late_skews.of_mut(at.network).put(at.bin, skew)?;
+        self.note_sign(Sign::Late, at, 1, networks)
+    }
+
+    /// Says what became of a delivery that no later line of its number can pair.
+    fn settle(
+        &mut self,
+        delivery: Delivery,
+        start: u64,
+        width: u64,
+        networks: &mut Sides<NetworkReport>,
+    ) -> Result<(), AllocError> {
+        match delivery.fate {
+            Fate::Late | Fate::Paired => Ok(()),
+            Fate::Met => {
+                self.fates.met = self.fates.met.saturating_add(1);
+                Ok(())
+            }
+            Fate::Open => {
+                let bin = bin_of(start, width, delivery.place.stamp);
+                let place = delivery.place;
+                let before = delivery.before;
+                match delivery.network {
+                    Network::A => {
+                        self.lanes
+                            .a
+                            .note_alone(place, bin, before, &networks.b, &mut networks.a)
+                    }
+                    Network::B => {
+                        self.lanes
+                            .b
+                            .note_alone(place, bin, before, &networks.a, &mut networks.b)
+                    }
+                }
+            }
+        }
+    }
+
+    /// Settles what is left once the ledger has ended.
+    pub(crate) fn end(
+        &mut self,
+        start: u64,
+        width: u64,
+        networks: &mut Sides<NetworkReport>,
+    ) -> Result<(), AllocError> {
+        for number in 0..=255u8 {
+            if let Some(delivery) = self.pairing.latest(number) {
+                self.settle(delivery, start, width, networks)?;
+            }
+        }
+        self.lanes.a.settle_held(&networks.b, &mut networks.a)?;
+        self.lanes.b.settle_held(&networks.a, &mut networks.b)?;
+        self.lanes.a.drop_held();
+        self.lanes.b.drop_held();
+        self.fates.uncovered = self.lanes.a.uncovered.saturating_add(self.lanes.b.uncovered);
+        let alone = self.lanes.a.signs.of(Sign::Alone).count;
+        self.fates.alone = alone.saturating_add(self.lanes.b.signs.of(Sign::Alone).count);
+        self.runs.end(networks);
+        self.absences = Sides {
+            a: self.runs.longest(Network::A),
+            b: self.runs.longest(Network::B),
+        };
+        self.stopped = self.runs.last();
+        self.skew_median = self.classes.median(self.copies);
+        Ok(())
+    }
+
+    pub(crate) fn fold(&mut self) {
+        self.lanes.a.fold();
+        self.lanes.b.fold();
+        self.skews.a.fold();
+        self.skews.b.fold();
+        self.late_skews.a.fold();
+        self.late_skews.b.fold();
+    }
+}

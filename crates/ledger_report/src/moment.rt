@@ -1,0 +1,28 @@
+//! Where a line stands.
+
+use afdx_frame::Network;
+
+/// A frame's place in its network's recording.
+#[derive(Clone, Copy, Debug, PartialEq, Eq, PartialOrd, Ord)]
+pub struct Place {
+    /// When it came, in nanoseconds since 1970.
+    pub stamp: u64,
+    /// Its index, from 0.
+    pub number: u32,
+}
+
+impl Place {
+    /// Does it stand before another place of its network?
+    #[inline]
+    pub fn is_before(self, other: Place) -> bool {
+        self.stamp < other.stamp || (self.stamp == other.stamp && self.number < other.number)
+    }
+}
+
+/// A line's network and place, and the bin of its timestamp.
+#[derive(Clone, Copy, Debug)]
+pub struct Moment {
+    pub network: Network,
+    pub place: Place,
+    pub bin: usize,
+}

@@ -1,0 +1,105 @@
+//! What became of each delivery: whether the other network brought its number too.
+
+use crate::bounds::NUMBERS;
+use crate::moment::Place;
+use crate::sides::{Sides, other};
+use afdx_frame::Network;
+use std::alloc::{AllocError, Global};
+
+/// What is known of a delivery so far.
+#[derive(Clone, Copy, Debug, PartialEq, Eq)]
+pub enum Fate {
+    /// Nothing.
+    Open,
+    /// It was itself the second of its number, beyond SkewMax.
+    Late,
+    /// A copy came.
+    Paired,
+    /// The other network brought it, and it was discarded there.
+    Met,
+}
+
+/// The latest delivery of a sequence number.
+#[derive(Clone, Copy, Debug)]
+pub struct Delivery {
+    pub network: Network,
+    pub place: Place,
+    /// How many lines of the other network stand before.
+    pub before: u64,
+    pub fate: Fate,
+}
+
+/// The latest delivery of each sequence number of a link, and its latest discarded line on each network.
+#[derive(Debug, Drop)]
+pub struct Pairing {
+    deliveries: Vec<Option<Delivery>>,
+    discarded: Vec<Sides<Option<u64>>>,
+}
+
+impl Pairing {
+    pub(crate) fn new(alloc: Global) -> Pairing {
+        Pairing {
+            deliveries: Vec::new(alloc),
+            discarded: Vec::new(alloc),
+        }
+    }
+
+    /// The latest delivery of a number.
+    #[inline]
+    pub(crate) fn latest(&self, number: u8) -> Option<Delivery> {
+        match self.deliveries.get(usize::from(number)) {
+            Some(delivery) => *delivery,
+            None => None,
+        }
+    }
+
+    /// Sets the latest delivery of a number.
+    #[inline]
+    pub(crate) fn set(&mut self, number: u8, delivery: Delivery) -> Result<(), AllocError> {
+        if self.deliveries.is_empty() {
+            self.deliveries.resize(NUMBERS, None)?;
+        }
+        if let Some(held) = self.deliveries.get_mut(usize::from(number)) {
+            *held = Some(delivery);
+        }
+        Ok(())
+    }
+
+    /// Notes a line that came and was discarded. Its twin isn't alone, if it came within the window.
+    pub(crate) fn discard(
+        &mut self,
+        number: u8,
+        network: Network,
+        stamp: u64,
+        window: u64,
+    ) -> Result<(), AllocError> {
+        if self.discarded.is_empty() {
+            for _ in 0..NUMBERS {
+                self.discarded.push(Sides { a: None, b: None })?;
+            }
+        }
+        if let Some(held) = self.discarded.get_mut(usize::from(number)) {
+            *held.of_mut(network) = Some(stamp);
+        }
+        if let Some(mut delivery) = self.latest(number) {
+            let soon = stamp.saturating_sub(delivery.place.stamp) <= window;
+            if delivery.fate == Fate::Open && delivery.network != network && soon {
+                delivery.fate = Fate::Met;
+                self.set(number, delivery)?;
+            }
+        }
+        Ok(())
+    }
+
+    /// Was this number discarded on the other network within the window before?
+    #[inline]
+    pub(crate) fn was_discarded(&self, number: u8, network: Network, stamp: u64, window: u64) -> bool {
+        match self.discarded.get(usize::from(number)) {
+            Some(held) => match held.of(other(network)) {
+                Some(when) => stamp.saturating_sub(*when) <= window,
+                None => false,
+            },
+            None => false,
+        }
+    }
+}

@@ -1,0 +1,187 @@
+//! From a ledger to its report.
+
+use crate::counts::FrameCounts;
+use crate::counts_lines::{CountsLines, TapEnding};
+use crate::fault::{Refusal, ReportFault, WrongLine};
+use crate::link::LinkReport;
+use crate::moment::Place;
+use crate::network::NetworkReport;
+use crate::sides::Sides;
+use crate::statistics::Statistics;
+use afdx_frame::{Network, VlId};
+use ledger_text::{Found, LedgerLine, LedgerReader, LinesRefused, ReadFault};
+use pcap_io::TapSource;
+use std::alloc::{AllocError, Global};
+use vl_config::Config;
+
+/// The frames of a link that the table doesn't have.
+#[derive(Clone, Copy, Debug, PartialEq, Eq)]
+pub struct OutsideLink {
+    /// How many; the rest is of no use where there is none.
+    pub frames: u64,
+    /// The network and the place of the first.
+    pub network: Network,
+    pub first: Place,
+}
+
+impl OutsideLink {
+    pub(crate) fn none() -> OutsideLink {
+        OutsideLink {
+            frames: 0,
+            network: Network::A,
+            first: Place {
+                stamp: 0,
+                number: 0,
+            },
+        }
+    }
+}
+
+/// What a ledger says.
+#[derive(Debug, Drop)]
+pub struct Report {
+    /// The timestamps of the first line and the last; 0 where there is none.
+    pub start: u64,
+    pub end: u64,
+    /// The width of a bin, in nanoseconds.
+    pub width: u64,
+    pub networks: Sides<NetworkReport>,
+    /// One for each link of the table, in its order.
+    pub links: Vec<LinkReport>,
+    /// By identifier, the links outside the table; none where there is no such frame.
+    pub outside: Vec<OutsideLink>,
+    /// The counts of lines by their words.
+    pub counts: FrameCounts,
+    /// How the recordings end, where the ledger says so.
+    pub endings: Sides<Option<TapEnding>>,
+    /// Does the ledger have its last line?
+    pub whole: bool,
+}
+
+impl Report {
+    /// The links outside the table that have a frame.
+    pub fn outside_link(&self, id: VlId) -> Option<OutsideLink> {
+        match self.outside.get(usize::from(id.0)) {
+            Some(link) if link.frames > 0 => Some(*link),
+            _ => None,
+        }
+    }
+}
+
+/// The fault of a line that isn't noted.
+fn line_fault(line: u64, refusal: Refusal) -> ReportFault {
+    match refusal {
+        Refusal::Wrong(wrong) => ReportFault::Line { line, wrong },
+        Refusal::Memory => ReportFault::Memory,
+    }
+}
+
+/// The fault of a reader that doesn't go on.
+fn read_fault(fault: ReadFault) -> ReportFault {
+    match fault {
+        ReadFault::Line { number, fault } => ReportFault::Line {
+            line: number,
+            wrong: WrongLine::Text(fault),
+        },
+        ReadFault::Device | ReadFault::Failed => ReportFault::Read,
+    }
+}
+
+/// What was read so far.
+#[derive(Drop)]
+struct Reading {
+    counts: FrameCounts,
+    statistics: Statistics,
+    lines: CountsLines,
+}
+
+/// Reads up to the ledger's end.
+fn read_lines<S: TapSource>(
+    alloc: Global,
+    config: &Config,
+    ledger: &mut LedgerReader<S>,
+    reading: &mut Reading,
+) -> Result<(), ReportFault> {
+    for _ in 0..u64::MAX {
+        match ledger.advance() {
+            Ok(Found::Line(LedgerLine::Frame(frame))) => {
+                reading.counts.count(&frame);
+                if let Err(refusal) = reading.statistics.note(&frame) {
+                    return Err(line_fault(ledger.number(), refusal));
+                }
+            }
+            Ok(Found::Line(LedgerLine::Head)) => {}
+            Ok(Found::Line(LedgerLine::Counts(kind))) => {
+                let taken =
+                    reading
+                        .lines
+                        .take(alloc, config, &reading.counts, kind, ledger.line());
+                if let Err(refusal) = taken {
+                    return Err(line_fault(ledger.number(), refusal));
+                }
+            }
+            Ok(Found::Complete | Found::Incomplete) => return Ok(()),
+            Err(fault) => return Err(read_fault(fault)),
+        }
+    }
+    Ok(())
+}
+
+/// Reads a ledger, and makes its report against the table that it was judged by.
+///
+/// One pass, numbers alone: the memory is bounded by the table's links, some 30 KB each, whatever the ledger's
+/// length.
+///
+/// # Errors
+///
+/// `Line` names the first line that is none of a ledger, or contradicts the table or the lines before it; `Read`
+/// says that the source failed.
+pub fn read_report<S: TapSource + Drop>(
+    alloc: Global,
+    config: &Config,
+    source: S,
+) -> Result<Report, ReportFault> {
+    let mut ledger = match LedgerReader::new(alloc, source) {
+        Ok(ledger) => ledger,
+        Err(LinesRefused { source: _ }) => return Err(ReportFault::Memory),
+    };
+    let mut reading = match Reading::new(alloc, config) {
+        Ok(reading) => reading,
+        Err(AllocError) => return Err(ReportFault::Memory),
+    };
+    read_lines(alloc, config, &mut ledger, &mut reading)?;
+    match reading.statistics.end() {
+        Ok(()) => Ok(reading.into_report()),
+        Err(AllocError) => Err(ReportFault::Memory),
+    }
+}
+
+impl Reading {
+    fn new(alloc: Global, config: &Config) -> Result<Reading, AllocError> {
+        Ok(Reading {
+            counts: FrameCounts::new(alloc)?,
+            statistics: Statistics::new(alloc, config)?,
+            lines: CountsLines::new(alloc),
+        })
+    }
+
+    fn into_report(self) -> Report {
+        let Reading {
+            counts,
+            statistics,
+            lines,
+        } = self;
+        let end = statistics.end_stamp();
+        Report {
+            start: statistics.start,
+            end,
+            width: statistics.width,
+            networks: statistics.networks,
+            links: statistics.links,
+            outside: statistics.outside,
+            counts,
+            endings: lines.endings,
+            whole: lines.whole,
+        }
+    }
+}

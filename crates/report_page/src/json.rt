@@ -1,0 +1,408 @@
+//! The report as JSON.
+
+use crate::ranks::{level_of, level_word, signs_of};
+use crate::view::{letter_of, text, word_of};
+use afdx_frame::{Network, VlId};
+use ledger_report::{
+    Absence, Counts, Lane, LinkReport, NetworkReport, Place, Report, Sign, Signs, Silence, TapEnd,
+    TapEnding,
+};
+use serde::Serialize;
+use serde_json::Error;
+use std::alloc::{AllocError, Global};
+use std::fmt::Write;
+use vl_config::{Config, Link};
+
+/// A timestamp as a decimal string: it may need more than 53 bits.
+#[derive(Debug, Drop, Serialize)]
+struct JsonPlace {
+    stamp: String,
+    number: u32,
+}
+
+#[derive(Debug, Drop, Serialize)]
+struct JsonSign {
+    sign: &'static str,
+    count: u64,
+    first: Option<JsonPlace>,
+    last: Option<JsonPlace>,
+}
+
+#[derive(Debug, Drop, Serialize)]
+struct JsonAbsence {
+    lines: u64,
+    from: String,
+    to: String,
+}
+
+#[derive(Debug, Drop, Serialize)]
+struct JsonLane {
+    frames: u64,
+    bytes: u64,
+    least: Option<u64>,
+    greatest: Option<u64>,
+    interval_sum: u64,
+    intervals: u64,
+    excess_lead: u64,
+    lost_after_silence: u64,
+    out_after_silence: u64,
+    uncovered: u64,
+    absence: Option<JsonAbsence>,
+    signs: Vec<JsonSign>,
+}
+
+#[derive(Debug, Drop, Serialize)]
+struct JsonFates {
+    paired: u64,
+    late: u64,
+    first: u64,
+    met: u64,
+    uncovered: u64,
+    alone: u64,
+}
+
+#[derive(Debug, Drop, Serialize)]
+struct JsonCounts {
+    frames: u64,
+    accepted: u64,
+    cut: u64,
+    runt: u64,
+    oversize: u64,
+    foreign: u64,
+    unconfigured: u64,
+    toolong: u64,
+    excess: u64,
+    out: u64,
+    copy: u64,
+    delivered: u64,
+}
+
+#[derive(Debug, Drop, Serialize)]
+struct JsonLink<'a> {
+    id: u16,
+    name: &'a str,
+    level: &'static str,
+    signs: u64,
+    counts: JsonCounts,
+    deliveries: u64,
+    fates: JsonFates,
+    copies: u64,
+    skew_sum: u64,
+    skew_greatest: u64,
+    skew_median: u64,
+    late_greatest: u64,
+    lost_both: u64,
+    a: JsonLane,
+    b: JsonLane,
+}
+
+#[derive(Debug, Drop, Serialize)]
+struct JsonSilence {
+    after: u64,
+    from: String,
+    to: String,
+    lines: u64,
+}
+
+#[derive(Debug, Drop, Serialize)]
+struct JsonEnding<'a> {
+    end: &'static str,
+    frames: u64,
+    reason: &'a str,
+}
+
+#[derive(Debug, Drop, Serialize)]
+struct JsonNetwork<'a> {
+    frames: u64,
+    first: Option<String>,
+    last: Option<String>,
+    bytes: u64,
+    counts: JsonCounts,
+    silences: Vec<JsonSilence>,
+    more_silences: u64,
+    ending: Option<JsonEnding<'a>>,
+    signs: Vec<JsonSign>,
+}
+
+#[derive(Debug, Drop, Serialize)]
+struct JsonOutside {
+    id: u16,
+    frames: u64,
+    network: &'static str,
+    first: JsonPlace,
+}
+
+#[derive(Debug, Drop, Serialize)]
+struct JsonReport<'a> {
+    version: u8,
+    whole: bool,
+    sizes: bool,
+    start: Option<String>,
+    end: Option<String>,
+    width: u64,
+    counts: JsonCounts,
+    filters: Vec<u64>,
+    a: JsonNetwork<'a>,
+    b: JsonNetwork<'a>,
+    links: Vec<JsonLink<'a>>,
+    outside: Vec<JsonOutside>,
+}
+
+fn stamp_of(alloc: Global, stamp: u64) -> Result<String, AllocError> {
+    let mut out = text(alloc)?;
+    write!(out, "{stamp}")?;
+    Ok(out)
+}
+
+fn place_of(alloc: Global, place: Place) -> Result<JsonPlace, AllocError> {
+    Ok(JsonPlace {
+        stamp: stamp_of(alloc, place.stamp)?,
+        number: place.number,
+    })
+}
+
+fn place_if(alloc: Global, place: Option<Place>) -> Result<Option<JsonPlace>, AllocError> {
+    match place {
+        Some(place) => Ok(Some(place_of(alloc, place)?)),
+        None => Ok(None),
+    }
+}
+
+/// All signs, in the order in which they are told.
+const SIGNS: [Sign; 14] = [
+    Sign::Cut,
+    Sign::Runt,
+    Sign::Oversize,
+    Sign::Foreign,
+    Sign::Unconfigured,
+    Sign::TooLong,
+    Sign::Excess,
+    Sign::Out,
+    Sign::Lost,
+    Sign::Repeat,
+    Sign::Reset,
+    Sign::Alone,
+    Sign::Late,
+    Sign::Early,
+];
+
+/// The signs that occur.
+fn signs_in(alloc: Global, signs: &Signs) -> Result<Vec<JsonSign>, AllocError> {
+    let mut list = Vec::new(alloc);
+    for sign in SIGNS {
+        let mark = signs.of(sign);
+        if mark.count > 0 {
+            list.push(JsonSign {
+                sign: word_of(sign),
+                count: mark.count,
+                first: place_if(alloc, mark.first)?,
+                last: place_if(alloc, mark.last)?,
+            })?;
+        }
+    }
+    Ok(list)
+}
+
+fn absence_of(alloc: Global, absence: &Option<Absence>) -> Result<Option<JsonAbsence>, AllocError> {
+    match absence {
+        Some(absence) => Ok(Some(JsonAbsence {
+            lines: absence.lines,
+            from: stamp_of(alloc, absence.from)?,
+            to: stamp_of(alloc, absence.to)?,
+        })),
+        None => Ok(None),
+    }
+}
+
+fn lane_of(alloc: Global, lane: &Lane, absence: &Option<Absence>) -> Result<JsonLane, AllocError> {
+    let some = lane.intervals > 0;
+    Ok(JsonLane {
+        frames: lane.frames,
+        bytes: lane.bytes,
+        least: if some { Some(lane.least) } else { None },
+        greatest: if some { Some(lane.greatest) } else { None },
+        interval_sum: lane.interval_sum,
+        intervals: lane.intervals,
+        excess_lead: lane.excess_lead,
+        lost_after_silence: lane.lost_after_silence,
+        out_after_silence: lane.out_after_silence,
+        uncovered: lane.uncovered,
+        absence: absence_of(alloc, absence)?,
+        signs: signs_in(alloc, &lane.signs)?,
+    })
+}
+
+fn counts_of(counts: Counts) -> JsonCounts {
+    JsonCounts {
+        frames: counts.frames,
+        accepted: counts.accepted,
+        cut: counts.cut,
+        runt: counts.runt,
+        oversize: counts.oversize,
+        foreign: counts.foreign,
+        unconfigured: counts.unconfigured,
+        toolong: counts.toolong,
+        excess: counts.excess,
+        out: counts.out,
+        copy: counts.copy,
+        delivered: counts.delivered,
+    }
+}
+
+fn link_of<'a>(
+    alloc: Global,
+    report: &Report,
+    link: &LinkReport,
+    configured: &'a Link,
+) -> Result<JsonLink<'a>, AllocError> {
+    Ok(JsonLink {
+        id: configured.id.0,
+        name: configured.name.as_str(),
+        level: level_word(level_of(report, link)),
+        signs: signs_of(link),
+        counts: counts_of(report.counts.link(configured.id)),
+        deliveries: link.deliveries,
+        fates: JsonFates {
+            paired: link.fates.paired,
+            late: link.fates.late,
+            first: link.fates.first,
+            met: link.fates.met,
+            uncovered: link.fates.uncovered,
+            alone: link.fates.alone,
+        },
+        copies: link.copies,
+        skew_sum: link.skew_sum,
+        skew_greatest: link.skew_greatest,
+        skew_median: link.skew_median,
+        late_greatest: link.late_greatest,
+        lost_both: link.lost_both,
+        a: lane_of(alloc, &link.lanes.a, &link.absences.a)?,
+        b: lane_of(alloc, &link.lanes.b, &link.absences.b)?,
+    })
+}
+
+fn silences_of(alloc: Global, silences: &[Silence]) -> Result<Vec<JsonSilence>, AllocError> {
+    let mut list = Vec::new(alloc);
+    for silence in silences {
+        list.push(JsonSilence {
+            after: silence.after,
+            from: stamp_of(alloc, silence.from)?,
+            to: stamp_of(alloc, silence.to)?,
+            lines: silence.lines,
+        })?;
+    }
+    Ok(list)
+}
+
+fn ending_of(ending: &Option<TapEnding>) -> Option<JsonEnding<'_>> {
+    match ending {
+        Some(ending) => Some(JsonEnding {
+            end: match ending.end {
+                TapEnd::Clean => "clean",
+                TapEnd::Cut => "cut",
+                TapEnd::Bad => "bad",
+            },
+            frames: ending.frames,
+            reason: ending.reason.as_str(),
+        }),
+        None => None,
+    }
+}
+
+fn network_of<'a>(
+    alloc: Global,
+    report: &'a Report,
+    network: Network,
+    side: &NetworkReport,
+) -> Result<JsonNetwork<'a>, AllocError> {
+    let some = side.frames > 0;
+    Ok(JsonNetwork {
+        frames: side.frames,
+        first: stamp_if(alloc, some, side.first)?,
+        last: stamp_if(alloc, some, side.last)?,
+        bytes: side.bytes,
+        counts: counts_of(report.counts.network(network)),
+        silences: silences_of(alloc, side.silences.as_slice())?,
+        more_silences: side.more_silences,
+        ending: ending_of(report.endings.of(network)),
+        signs: signs_in(alloc, &side.signs)?,
+    })
+}
+
+fn stamp_if(alloc: Global, some: bool, stamp: u64) -> Result<Option<String>, AllocError> {
+    if some {
+        Ok(Some(stamp_of(alloc, stamp)?))
+    } else {
+        Ok(None)
+    }
+}
+
+fn outside_of(alloc: Global, report: &Report) -> Result<Vec<JsonOutside>, AllocError> {
+    let mut list = Vec::new(alloc);
+    for id in 0..=u16::MAX {
+        if let Some(link) = report.outside_link(VlId(id)) {
+            list.push(JsonOutside {
+                id,
+                frames: link.frames,
+                network: letter_of(link.network),
+                first: place_of(alloc, link.first)?,
+            })?;
+        }
+    }
+    Ok(list)
+}
+
+fn links_of<'a>(
+    alloc: Global,
+    report: &Report,
+    config: &'a Config,
+) -> Result<Vec<JsonLink<'a>>, AllocError> {
+    let mut list = Vec::with_capacity(alloc, config.links().len())?;
+    for (link, configured) in report.links.iter().zip(config.links().iter()) {
+        list.push(link_of(alloc, report, link, configured)?)?;
+    }
+    Ok(list)
+}
+
+fn report_of<'a>(
+    alloc: Global,
+    report: &'a Report,
+    config: &'a Config,
+    sizes: bool,
+) -> Result<JsonReport<'a>, AllocError> {
+    let some = report.counts.all().frames > 0;
+    let filters = config.filters().len().saturating_add(1);
+    let mut accepted = Vec::new(alloc);
+    for count in report.counts.filters().iter().take(filters) {
+        accepted.push(*count)?;
+    }
+    Ok(JsonReport {
+        version: 1,
+        whole: report.whole,
+        sizes,
+        start: stamp_if(alloc, some, report.start)?,
+        end: stamp_if(alloc, some, report.end)?,
+        width: report.width,
+        counts: counts_of(report.counts.all()),
+        filters: accepted,
+        a: network_of(alloc, report, Network::A, &report.networks.a)?,
+        b: network_of(alloc, report, Network::B, &report.networks.b)?,
+        links: links_of(alloc, report, config)?,
+        outside: outside_of(alloc, report)?,
+    })
+}
+
+/// The report's numbers as one JSON object. Timestamps are decimal strings.
+///
+/// # Errors
+///
+/// The system is out of memory.
+pub fn json_of(
+    alloc: Global,
+    report: &Report,
+    config: &Config,
+    sizes: bool,
+) -> Result<String, Error> {
+    let json = report_of(alloc, report, config, sizes)?;
+    serde_json::to_string(alloc, &json)
+}

@@ -1,0 +1,126 @@
+//! How bad each link is.
+
+use crate::view::{counts_of, sum};
+use afdx_frame::Network;
+use ledger_report::{LinkReport, Report, Sign};
+use std::alloc::{AllocError, Global};
+
+/// A link is in trouble with so many signs,
+pub const TROUBLE_SIGNS: u64 = 3;
+/// and one in so many of its frames.
+pub const TROUBLE_SHARE: u64 = 1000;
+
+/// How bad a link is, the worst first.
+#[derive(Clone, Copy, Debug, PartialEq, Eq)]
+pub enum Level {
+    Trouble,
+    Notice,
+    Silent,
+    Clean,
+}
+
+/// Where a link stands.
+#[derive(Clone, Copy, Debug)]
+pub struct Rank {
+    pub index: usize,
+    pub level: Level,
+    pub signs: u64,
+}
+
+/// The signs that count against a link.
+pub const TROUBLES: [Sign; 6] = [
+    Sign::TooLong,
+    Sign::Excess,
+    Sign::Out,
+    Sign::Lost,
+    Sign::Late,
+    Sign::Alone,
+];
+
+/// How many signs a link has.
+pub fn signs_of(link: &LinkReport) -> u64 {
+    let mut signs = 0u64;
+    for sign in TROUBLES {
+        signs = signs.saturating_add(sum(&counts_of(link, sign)));
+    }
+    signs
+}
+
+/// How many lines a link has.
+pub fn frames_of(link: &LinkReport) -> u64 {
+    link.lanes.a.frames.saturating_add(link.lanes.b.frames)
+}
+
+/// Has the link lines, but none on this network, which has some?
+pub fn is_never_on(report: &Report, link: &LinkReport, network: Network) -> bool {
+    frames_of(link) > 0
+        && link.lanes.of(network).frames == 0
+        && report.networks.of(network).frames > 0
+}
+
+/// How bad a link is.
+pub fn level_of(report: &Report, link: &LinkReport) -> Level {
+    let frames = frames_of(link);
+    let signs = signs_of(link);
+    let never = is_never_on(report, link, Network::A) || is_never_on(report, link, Network::B);
+    let many = signs >= TROUBLE_SIGNS && signs.saturating_mul(TROUBLE_SHARE) >= frames;
+    if frames == 0 {
+        Level::Silent
+    } else if never || many {
+        Level::Trouble
+    } else if signs > 0 || sum(&counts_of(link, Sign::Reset)) > 0 {
+        Level::Notice
+    } else {
+        Level::Clean
+    }
+}
+
+/// The word of a level.
+pub fn level_word(level: Level) -> &'static str {
+    match level {
+        Level::Trouble => "trouble",
+        Level::Notice => "notice",
+        Level::Silent => "silent",
+        Level::Clean => "clean",
+    }
+}
+
+/// The mark of a level: they differ in shape.
+pub fn level_mark(level: Level) -> &'static str {
+    match level {
+        Level::Trouble => {
+            r#"<svg class="mk t" viewBox="0 0 10 10"><path d="M5 0 10 9.4H0z"/></svg>"#
+        }
+        Level::Notice => {
+            r#"<svg class="mk n" viewBox="0 0 10 10"><path d="M5 0 10 5 5 10 0 5z"/></svg>"#
+        }
+        Level::Silent => r#"<svg class="mk s" viewBox="0 0 10 10"><path d="M1 1h8v8h-8z"/></svg>"#,
+        Level::Clean => {
+            r#"<svg class="mk c" viewBox="0 0 10 10"><circle cx="5" cy="5" r="3.4"/></svg>"#
+        }
+    }
+}
+
+/// The order of a table: by level, then the most signs first, then by identifier.
+fn key_of(rank: &Rank) -> (u8, u64, usize) {
+    (rank.level as u8, u64::MAX - rank.signs, rank.index)
+}
+
+/// The links, worst first.
+pub fn ranks_of(alloc: Global, report: &Report) -> Result<Vec<Rank>, AllocError> {
+    let mut ranks = Vec::with_capacity(alloc, report.links.len())?;
+    for (index, link) in report.links.iter().enumerate() {
+        ranks.push(Rank {
+            index,
+            level: level_of(report, link),
+            signs: signs_of(link),
+        })?;
+    }
+    ranks.sort_by_key(key_of)?;
+    Ok(ranks)
+}
+
+/// How many links have a level.
+pub fn count_of(ranks: &[Rank], level: Level) -> u64 {
+    ranks.iter().filter(|rank| rank.level == level).count() as u64
+}

@@ -1,0 +1,29 @@
+//! Whether a ledger tells the sizes of frames.
+
+use vl_config::Config;
+
+/// The least number of bytes to keep that takes every frame whole: the largest capture length of libpcap.
+const WHOLE: u64 = 262_144;
+
+/// The code of the instruction `ret #k`.
+const RETURN: &str = "6";
+
+/// Is this filter, in the numeric form, one `ret #k` that takes every frame whole?
+fn takes_whole(filter: &str) -> bool {
+    let mut parts = filter.split(',');
+    let count = parts.next().unwrap_or("").trim();
+    let mut fields = parts.next().unwrap_or("").split_whitespace();
+    let code = fields.next().unwrap_or("");
+    let _true = fields.next();
+    let _false = fields.next();
+    let kept = match fields.next().unwrap_or("").parse::<u64>() {
+        Ok(kept) => kept,
+        Err(_) => 0,
+    };
+    count == "1" && code == RETURN && kept >= WHOLE
+}
+
+/// Does a filter of the table take every frame whole, so that the bytes kept are those of the frames?
+pub fn has_sizes(config: &Config) -> bool {
+    config.filters().iter().any(|filter| takes_whole(filter))
+}

@@ -1,0 +1,237 @@
+"""`afdxmon report` as a program: its numbers against a slow counter over the whole list of lines, its page, its faults.
+
+Ledgers come of `afdxmon watch` on recordings that are made here: traffic of some links with losses, bursts, resets, silences
+of a network, late copies, frames outside the table.
+"""
+import json
+import os
+import random
+import shutil
+import subprocess
+import tempfile
+import xml.etree.ElementTree as tree
+
+import report_reference
+from harness import FAULT, PROGRAM, SUCCESS, ended, frame, header, record, run, say
+
+CONSTANT = "constant = 50331648\n"
+WHOLE, HALF = "1,6 0 0 262144,", "1,6 0 0 64,"
+LIMIT = 1_200_000
+
+
+def table_of(links, filters=()):
+    text = CONSTANT + "filters = [" + ", ".join(f'"{f}"' for f in filters) + "]\n"
+    for link in links:
+        text += "\n[[link]]\n" + "".join(f"{key} = {json.dumps(value)}\n" for key, value in link.items())
+    return text
+
+
+def links_of(chance, count):
+    return [{"id": 10 + 7 * i, "name": f"link_{i}", "bag_ms": chance.choice((1, 2, 4, 8)), "jitter_us": chance.choice((0, 100, 500)),
+             "smax": chance.choice((100, 200, 400)), "integrity": chance.random() < 0.9, "redundancy": chance.random() < 0.9,
+             "skew_us": chance.choice((300, 1000, 5000))} for i in range(count)]
+
+
+def following(number):
+    return 1 if number == 255 else number + 1
+
+
+def traffic(chance, links, seconds, trouble):
+    """The frames of both networks, by (timestamp, bytes)."""
+    taps = {"A": [], "B": []}
+    end = int(seconds * 10**9)
+    silent = {n: (end // 3 + chance.randrange(end // 10), end // 2) if chance.random() < trouble * 5 else (0, 0) for n in "AB"}
+    for link in links[: len(links) - 1]:
+        at, number = chance.randrange(link["bag_ms"] * 10**6), 0
+        quiet = chance.choice("AB") if chance.random() < trouble * 2 else None
+        while at < end:
+            size = chance.randint(60, min(110, link["smax"] + (6 if chance.random() < trouble else -4)))
+            for n in "AB":
+                skew = chance.randrange(200_000) if n == "B" else 0
+                if chance.random() < trouble / 4:
+                    skew += link["skew_us"] * 1000 + chance.randrange(10**6)
+                stamp = at + skew
+                gone = chance.random() < trouble or (n == quiet and at > end // 2) or silent[n][0] <= stamp < silent[n][1]
+                if not gone:
+                    taps[n].append((stamp, frame(link["id"], size, number)))
+                if chance.random() < trouble / 8:
+                    taps[n].append((stamp + 1000, frame(link["id"], size, number)))
+            number = 0 if chance.random() < trouble / 20 else following(number)
+            if chance.random() < trouble / 3:
+                for _ in range(chance.randint(1, 140)):
+                    number = following(number)
+            early = chance.random() < trouble / 2
+            at += link["bag_ms"] * 10**6 // (4 if early else 1) + chance.randrange(link["jitter_us"] * 1000 + 1)
+    for n in "AB":
+        for _ in range(int(trouble * 20)):
+            bad = chance.choice((frame(9, 80, 1), frame(5000, 90, 2), bytes(70), frame(10, 40, 1), frame(10, 1600, 1)))
+            taps[n].append((chance.randrange(end), bad))
+        taps[n].sort(key=lambda f: f[0])
+    return taps
+
+
+def recording_of(frames):
+    return header() + b"".join(record(1_800_000_000 * 10**9 + stamp, data) for stamp, data in frames)
+
+
+def ledger_in(folder, table, taps):
+    """Writes table, recordings and, by `watch`, the ledger; returns the paths of table and ledger."""
+    paths = {name: os.path.join(folder, name) for name in ("t.toml", "a.pcap", "b.pcap", "f.bpf", "v.ledger")}
+    with open(paths["t.toml"], "w", encoding="ascii") as out:
+        out.write(table)
+    for n in "AB":
+        with open(paths[f"{n.lower()}.pcap"], "wb") as out:
+            out.write(recording_of(taps[n]))
+    with open(paths["f.bpf"], "w", encoding="ascii") as out:
+        out.write(HALF)
+    ran = run(["watch", "--config", paths["t.toml"], "--filter", paths["f.bpf"], "--a", paths["a.pcap"], "--b", paths["b.pcap"],
+               "--ledger", paths["v.ledger"], "--capture", os.devnull])
+    return paths["t.toml"], paths["v.ledger"], ran
+
+
+def report(table, ledger, *more):
+    return run(["report", "--config", table, "--ledger", ledger, *more], stdout=subprocess.PIPE)
+
+
+def numbers_fault(table, ledger):
+    ran = report(table, ledger, "--json")
+    if ran.returncode != SUCCESS:
+        return f"status {ran.returncode}: {ran.stderr!r}"
+    told = json.loads(ran.stdout)
+    for link in told["links"]:
+        if sum(link["fates"].values()) != link["deliveries"]:
+            return f"link {link['id']}: its fates aren't its deliveries"
+    found = report_reference.differences(report_reference.reference(table, ledger), told)
+    return "; ".join(found[:3])
+
+
+def page_fault(table, ledger):
+    ran = report(table, ledger)
+    if ran.returncode != SUCCESS:
+        return f"status {ran.returncode}: {ran.stderr!r}"
+    page = ran.stdout.decode("ascii")
+    for word in ("<script", "http:", "https:", "<link", "<img", "url("):
+        if word in page:
+            return f"the page has {word}"
+    if len(page) > LIMIT:
+        return f"the page has {len(page)} bytes"
+    for part in page.split("<svg")[1:]:
+        drawing = "<svg" + part[: part.index("</svg>") + 6]
+        try:
+            tree.fromstring(drawing)
+        except tree.ParseError as error:
+            return f"a drawing isn't XML: {error}: {drawing[:120]}"
+    return ""
+
+
+def generated(folder):
+    for seed, count, seconds, trouble, filters in (
+        (1, 6, 2, 0.02, (WHOLE,)), (2, 5, 3, 0.1, ()), (3, 8, 2, 0.3, (WHOLE, HALF)), (4, 4, 4, 0.01, ()), (5, 3, 1, 0.0, ()),
+        (6, 12, 1, 0.05, (HALF,)),
+    ):
+        chance = random.Random(seed)
+        links = links_of(chance, count)
+        taps = traffic(chance, links, seconds, trouble)
+        table, ledger, ran = ledger_in(folder, table_of(links, filters), taps)
+        name = f"report: {count} links, {sum(map(len, taps.values()))} frames, seed {seed}"
+        if ran.returncode != SUCCESS:
+            say(name, f"watch: {ran.stderr!r}")
+            continue
+        say(f"{name}: numbers as by the slow counter", numbers_fault(table, ledger))
+        say(f"{name}: page", page_fault(table, ledger))
+
+
+def silences_of_one_network(folder):
+    """B is silent for two thirds, and then A; a link never comes on B."""
+    chance = random.Random(9)
+    links = links_of(chance, 4)
+    taps = traffic(chance, links, 3, 0.02)
+    taps["B"] = [f for f in taps["B"] if not 10**9 <= f[0] < 2 * 10**9 and f[1][4:6] != b"\0\x0a"]
+    taps["A"] = [f for f in taps["A"] if f[0] < 2_200_000_000 or f[0] > 2_700_000_000]
+    table, ledger, _ = ledger_in(folder, table_of(links), taps)
+    say("report: silences: numbers as by the slow counter", numbers_fault(table, ledger))
+    taps["B"] = []
+    table, ledger, _ = ledger_in(folder, table_of(links), taps)
+    say("report: one network alone: numbers as by the slow counter", numbers_fault(table, ledger))
+    say("report: one network alone: page", page_fault(table, ledger))
+
+
+def empty_and_many(folder):
+    links = [dict(links_of(random.Random(1), 1)[0], id=i + 1, name=f"l{i}", redundancy=True, integrity=True, smax=200)
+             for i in range(4096)]
+    table, ledger, _ = ledger_in(folder, table_of(links), {"A": [], "B": []})
+    say("report: an empty ledger, 4096 links: numbers", numbers_fault(table, ledger))
+    say("report: an empty ledger, 4096 links: page below 1.2 MB", page_fault(table, ledger))
+    frames = {n: [(i * 2000 + r * 10**8 + (500 if n == "B" else 0), frame(i + 1, 64, r * (3 if i % 2 else 1) + 1))
+                  for r in range(4) for i in range(4096)] for n in "AB"}
+    table, ledger, _ = ledger_in(folder, table_of(links), frames)
+    say("report: 4096 links, half in trouble: page below 1.2 MB", page_fault(table, ledger))
+
+
+def broken(folder):
+    chance = random.Random(3)
+    links = [dict(l, redundancy=True, integrity=True) for l in links_of(chance, 3)]
+    table, ledger, _ = ledger_in(folder, table_of(links), traffic(chance, links, 1, 0.02))
+    with open(ledger, encoding="ascii") as file:
+        lines = file.read().splitlines(True)
+    copy = next(i for i, l in enumerate(lines) if " copy " in l)
+    regular = next(i for i, l in enumerate(lines) if " regular " in l)
+    link_counts = next(i for i, l in enumerate(lines) if l.startswith("link "))
+    total = len(lines) - 1
+    changed = os.path.join(folder, "changed.ledger")
+
+    def told(name, edit, line):
+        mine = list(lines)
+        edit(mine)
+        with open(changed, "w", encoding="ascii") as file:
+            file.write("".join(mine))
+        ran = report(table, changed, "--json")
+        want = f"afdxmon: {line}\n".encode()
+        say(f"report: {name}", "" if (ran.returncode, ran.stderr, ran.stdout) == (FAULT, want, b"") else
+            f"status {ran.returncode}, {ran.stderr!r} in place of {want!r}")
+
+    def put(at, old, new):
+        def edit(mine):
+            mine[at] = mine[at].replace(old, new, 1)
+        return edit
+
+    number = lines[regular].split()[3]
+    told("no head", put(0, "2", "1"), "report 1 Ledger at 1 head")
+    told("a line that doesn't read", put(regular, "regular", "irregular"), f"report 1 Ledger at {regular + 1} class")
+    told("a link outside the table", put(regular, f" {number} ", " 9999 "), f"report 2 Contradiction at {regular + 1} link")
+    told("a copy without its delivery", put(copy, lines[copy].split()[1], "AB"[lines[copy].split()[1] == "A"]),
+         f"report 2 Contradiction at {copy + 1} copy")
+    told("a link's counts", put(link_counts, "frames ", "frames 1"), f"report 2 Contradiction at {link_counts + 1} counts")
+    told("the total", put(total, "delivered ", "delivered 1"), f"report 2 Contradiction at {total + 1} counts")
+
+
+def in_a_browser(folder):
+    browser = shutil.which("chromium") or shutil.which("chromium-browser")
+    if browser is None:
+        from harness import skip
+        skip("report: the page in a browser", "needs chromium")
+        return
+    chance = random.Random(1)
+    links = links_of(chance, 6)
+    table, ledger, _ = ledger_in(folder, table_of(links, (WHOLE,)), traffic(chance, links, 2, 0.05))
+    page = os.path.join(folder, "report.html")
+    run(["report", "--config", table, "--ledger", ledger, "-o", page])
+    for width in (1400, 800):
+        ran = ended([browser, "--headless", "--no-sandbox", "--disable-gpu", "--enable-logging=stderr", f"--window-size={width},1000",
+                     f"--screenshot={os.path.join(folder, 'page.png')}", "file://" + page], capture_output=True)
+        messages = [line for line in ran.stderr.decode("utf-8", "replace").splitlines() if "CONSOLE" in line]
+        say(f"report: the page in a browser, {width} pixels wide", "; ".join(messages[:2]))
+
+
+def cases():
+    with tempfile.TemporaryDirectory() as folder:
+        generated(folder)
+        silences_of_one_network(folder)
+        empty_and_many(folder)
+        broken(folder)
+        in_a_browser(folder)
+
+
+if __name__ == "__main__":
+    print(PROGRAM)
+    cases()

@@ -1,0 +1,327 @@
+"""The numbers of a report, from the definitions of docs/REPORT.md over the whole list of a ledger's lines.
+
+Slow on purpose: each number is looked for in the list, and nothing is carried along. Prints them as the JSON of
+`report --json` has them:  report_reference.py TABLE LEDGER
+"""
+
+import bisect
+import json
+import sys
+import tomllib
+from collections import namedtuple
+
+Line = namedtuple("Line", "at stamp network number link sequence cls policing integrity redundancy kept mask ordinal")
+CLASSES = ["cut", "runt", "oversize", "foreign", "unconfigured", "toolong"]
+SIGNS = CLASSES + ["excess", "out", "lost", "repeat", "reset", "alone", "late", "early"]
+TROUBLES = ["toolong", "excess", "out", "lost", "late", "alone"]
+OTHER = {"A": "B", "B": "A"}
+SILENT_LINES, MOST_SILENCES, ABSENT_LINES, WINDOW_BAGS = 64, 1024, 8, 127
+
+
+def optional(field, read=int):
+    return None if field == "-" else read(field)
+
+
+def read_lines(path):
+    """The lines of frames, with each line's place in the ledger and its ordinal on its network, from 1."""
+    lines, ordinals, tail = [], {"A": 0, "B": 0}, []
+    with open(path, encoding="ascii") as ledger:
+        assert ledger.readline() == "afdx-ledger 2\n"
+        for text in ledger:
+            f = text.split()
+            if not f[0].isdigit():
+                tail.append(f)
+                continue
+            ordinals[f[1]] += 1
+            lines.append(Line(len(lines), int(f[0]), f[1], int(f[2]), optional(f[3]), optional(f[4]), f[5], optional(f[6], str),
+                              optional(f[7], str), optional(f[8], str), optional(f[9]), int(f[10], 16), ordinals[f[1]]))
+    return lines, tail
+
+
+def rule_of(line):
+    if line.cls != "regular":
+        return line.cls
+    if line.policing == "excess":
+        return "excess"
+    return "out" if line.integrity == "out" else None
+
+
+def distance(p, q):
+    """The least d with q the number d times after p, where 1 follows 255."""
+    steps, number = 0, p
+    while number != q:
+        number = 1 if number == 255 else number + 1
+        steps += 1
+    return steps
+
+
+def between(p, q):
+    """The numbers that are passed over from p to q."""
+    passed, number = [], 1 if p == 255 else p + 1
+    while number != q:
+        passed.append(number)
+        number = 1 if number == 255 else number + 1
+    return passed
+
+
+def counts(lines):
+    said = {"frames": len(lines), "accepted": sum(l.kept is not None for l in lines)}
+    said.update({cls: sum(l.cls == cls for l in lines) for cls in CLASSES})
+    said["excess"] = sum(l.policing == "excess" for l in lines)
+    said["out"] = sum(l.integrity == "out" for l in lines)
+    said["copy"] = sum(l.redundancy == "copy" for l in lines)
+    said["delivered"] = sum(l.redundancy in ("deliver", "both") for l in lines)
+    return said
+
+
+def place(line):
+    return {"stamp": str(line.stamp), "number": line.number}
+
+
+def signs(hits):
+    """The signs that occur, of a list of (sign, line, amount)."""
+    said = []
+    for sign in SIGNS:
+        of = [(l, n) for s, l, n in hits if s == sign and n > 0]
+        if of:
+            order = sorted((l for l, _ in of), key=lambda l: (l.stamp, l.number))
+            said.append({"sign": sign, "count": sum(n for _, n in of), "first": place(order[0]), "last": place(order[-1])})
+    return said
+
+
+class Ledger:
+    def __init__(self, lines):
+        self.lines = lines
+        self.of = {n: [l for l in lines if l.network == n] for n in "AB"}
+        self.places = {n: [l.at for l in self.of[n]] for n in "AB"}
+        self.silences, self.more = {}, {}
+        for n in "AB":
+            found = []
+            for p, q in zip(self.of[n], self.of[n][1:]):
+                if q.at - p.at - 1 >= SILENT_LINES:
+                    found.append({"after": p.ordinal, "from": str(p.stamp), "to": str(q.stamp), "lines": q.at - p.at - 1})
+            self.silences[n], self.more[n] = found[:MOST_SILENCES], max(0, len(found) - MOST_SILENCES)
+        self.silent = {n: {s["after"] for s in self.silences[n]} for n in "AB"}
+
+    def covered(self, network, at):
+        """A line of the network stands before the place, and one after it, and no silence is between them."""
+        before = bisect.bisect_left(self.places[network], at)
+        return 0 < before < len(self.places[network]) and before not in self.silent[network]
+
+    def after_silence(self, p, q):
+        return any(p.ordinal <= after < q.ordinal for after in self.silent[p.network])
+
+
+def median(skews):
+    if not skews:
+        return 0
+    value = sorted(skews)[(len(skews) - 1) // 2]
+    shift = max(0, value.bit_length() - 5)
+    return value >> shift << shift
+
+
+def losses(ledger, lane):
+    """Of each loss of a lane: the line at which it shows, and the numbers."""
+    return [(q, between(p.sequence, q.sequence)) for p, q in zip(lane, lane[1:])
+            if q.sequence != 0 and 2 <= distance(p.sequence, q.sequence) <= 128 and not ledger.after_silence(p, q)]
+
+
+def lost_on_both(ledger, link, lanes):
+    """The losses of a number that stand after one on the other network, at most 127 BAG before, since when the number was
+    neither seen nor counted there."""
+    if not link["integrity"]:
+        return 0
+    events = {x: [] for x in range(256)}
+    for n in "AB":
+        for l in lanes[n]:
+            events[l.sequence].append((l.at, n, "seen", l.stamp))
+        for l, xs in losses(ledger, lanes[n]):
+            for x in xs:
+                events[x].append((l.at, n, "lost", l.stamp))
+    both = 0
+    for of in events.values():
+        lost = {"A": None, "B": None}
+        for _, n, kind, stamp in sorted(of):
+            lost[n] = None
+            if kind == "lost":
+                if lost[OTHER[n]] is not None and stamp - lost[OTHER[n]] <= WINDOW_BAGS * link["bag"]:
+                    both += 1
+                    lost[OTHER[n]] = None
+                else:
+                    lost[n] = stamp
+    return both
+
+
+def numbers_of(seen):
+    """The lines by their sequence numbers."""
+    by = [[] for _ in range(256)]
+    for l in seen:
+        by[l.sequence].append(l)
+    return by
+
+
+def fates(ledger, link, seen):
+    """What became of each line `deliver`: a list of (fate, line), and of the skews of late ones."""
+    said, late_skews = [], []
+    window = WINDOW_BAGS * link["bag"]
+    for of in numbers_of(seen):
+        delivers = [l for l in of if l.redundancy == "deliver"]
+        late, named = set(), {}
+        for i, d in enumerate(delivers):
+            until = delivers[i + 1].at if i + 1 < len(delivers) else len(ledger.lines)
+            paired = any(l.redundancy == "copy" and d.at < l.at < until for l in of)
+            gone = [l for l in of if rule_of(l) and l.network != d.network]
+            met = any(l.at < d.at and d.stamp - l.stamp <= window for l in gone) or any(
+                d.at < l.at < until and l.stamp - d.stamp <= window for l in gone)
+            if i and delivers[i - 1].network != d.network and i - 1 not in late and named[i - 1] == "open" \
+                    and d.stamp - delivers[i - 1].stamp <= window:
+                late.add(i)
+                named[i - 1] = "first"
+                late_skews.append(d.stamp - delivers[i - 1].stamp)
+            named[i] = "late" if i in late else "paired" if paired else "met" if met else "open"
+        for i, d in enumerate(delivers):
+            fate = named[i]
+            if fate == "open":
+                fate = "alone" if ledger.covered(OTHER[d.network], d.at) else "uncovered"
+            said.append((fate, d))
+    return said, late_skews
+
+
+def skews(seen):
+    said, by = [], numbers_of(seen)
+    for l in seen:
+        if l.redundancy == "copy":
+            d = max((d for d in by[l.sequence] if d.at < l.at and d.redundancy == "deliver"), key=lambda d: d.at)
+            said.append(l.stamp - d.stamp)
+    return said
+
+
+def absence(ledger, seen, network):
+    """The longest block of lines in a row that are all on the other network, counting the covered ones."""
+    best, block = None, []
+    for l in seen + [None]:
+        if l is not None and l.network != network:
+            block.append(l)
+            continue
+        counted = [x for x in block if ledger.covered(network, x.at)]
+        if len(counted) >= ABSENT_LINES and (best is None or len(counted) > best["lines"]):
+            best = {"lines": len(counted), "from": str(counted[0].stamp), "to": str(counted[-1].stamp)}
+        block = []
+    return best
+
+
+def lane_of(ledger, link, lane, own_fates, seen, network):
+    hits = []
+    said = {"frames": len(lane), "bytes": sum(l.kept + 4 for l in lane if l.kept is not None), "excess_lead": 0,
+            "lost_after_silence": 0, "out_after_silence": 0}
+    intervals = []
+    for p, q in zip(lane, lane[1:]):
+        gap = ledger.after_silence(p, q)
+        if not gap:
+            intervals.append(q.stamp - p.stamp)
+            short = link["bag"] - link["jitter"] - (q.stamp - p.stamp)
+            if short > 0:
+                hits.append(("early", q, 1))
+                if rule_of(q) == "excess":
+                    said["excess_lead"] = max(said["excess_lead"], short)
+        if rule_of(q) == "out" and gap:
+            said["out_after_silence"] += 1
+        if link["integrity"]:
+            d = distance(p.sequence, q.sequence) if q.sequence else None
+            if d is None:
+                hits.append(("reset", q, 1))
+            elif d == 0:
+                hits.append(("repeat", q, 1))
+            elif 2 <= d <= 128 and gap:
+                said["lost_after_silence"] += d - 1
+            elif 2 <= d <= 128:
+                hits.append(("lost", q, d - 1))
+    for i, l in enumerate(lane):
+        rule = rule_of(l)
+        if rule and not (rule == "out" and i and ledger.after_silence(lane[i - 1], l)):
+            hits.append((rule, l, 1))
+    hits += [(fate, l, 1) for fate, l in own_fates if fate in ("alone", "late")]
+    said["least"] = min(intervals, default=None)
+    said["greatest"] = max(intervals, default=None)
+    said["interval_sum"], said["intervals"] = sum(intervals), len(intervals)
+    said["uncovered"] = sum(fate == "uncovered" for fate, _ in own_fates)
+    said["absence"] = absence(ledger, seen, network)
+    said["signs"] = signs(hits)
+    return said, hits
+
+
+def link_of(ledger, link):
+    seen = [l for l in ledger.lines if l.link == link["id"] and l.cls in ("toolong", "regular")]
+    lanes = {n: [l for l in seen if l.network == n] for n in "AB"}
+    ends, late = fates(ledger, link, seen)
+    of_copies = skews(seen)
+    said = {"id": link["id"], "name": link["name"], "counts": counts(seen), "deliveries": len(ends),
+            "fates": {f: sum(g == f for g, _ in ends) for f in ("paired", "late", "first", "met", "uncovered", "alone")},
+            "copies": len(of_copies), "skew_sum": sum(of_copies), "skew_greatest": max(of_copies, default=0),
+            "skew_median": median(of_copies), "late_greatest": max(late, default=0), "lost_both": lost_on_both(ledger, link, lanes)}
+    hits = {}
+    for n in "AB":
+        said[n.lower()], hits[n] = lane_of(ledger, link, lanes[n], [(f, l) for f, l in ends if l.network == n], seen, n)
+    said["signs"] = sum(amount for n in "AB" for sign, _, amount in hits[n] if sign in TROUBLES)
+    resets = any(sign == "reset" for n in "AB" for sign, _, _ in hits[n])
+    never = any(not lanes[n] and ledger.of[n] for n in "AB")
+    said["level"] = ("silent" if not seen else "trouble" if never or said["signs"] >= 3 and said["signs"] * 1000 >= len(seen)
+                     else "notice" if said["signs"] or resets else "clean")
+    return said, hits
+
+
+def ending_of(tail, network):
+    for f in tail:
+        if f[0] == "tap" and f[1] == network:
+            return {"end": f[2], "frames": int(f[3]), "reason": f[4] if len(f) > 4 else ""}
+    return None
+
+
+def network_of(ledger, network, tail, hits):
+    lines = ledger.of[network]
+    own = [(rule_of(l), l, 1) for l in lines if rule_of(l)]
+    own += [(s, l, n) for s, l, n in hits if s in ("lost", "repeat", "reset", "alone", "late")]
+    return {"frames": len(lines), "first": str(lines[0].stamp) if lines else None, "last": str(lines[-1].stamp) if lines else None,
+            "bytes": sum(l.kept + 24 for l in lines if l.kept is not None), "counts": counts(lines),
+            "silences": ledger.silences[network], "more_silences": ledger.more[network], "ending": ending_of(tail, network),
+            "signs": signs(own)}
+
+
+def reference(table_path, ledger_path):
+    with open(table_path, "rb") as table:
+        table = tomllib.load(table)
+    lines, tail = read_lines(ledger_path)
+    ledger = Ledger(lines)
+    links = []
+    hits = {"A": [], "B": []}
+    for link in sorted(table.get("link", []), key=lambda l: l["id"]):
+        link = dict(link, bag=link["bag_ms"] * 10**6, jitter=link["jitter_us"] * 1000, skew=link["skew_us"] * 1000)
+        said, own = link_of(ledger, link)
+        links.append(said)
+        for n in "AB":
+            hits[n] += own[n]
+    width = 5**9
+    while lines and lines[-1].stamp - lines[0].stamp >= 240 * width:
+        width *= 2
+    outside = []
+    for vl in sorted({l.link for l in lines if l.cls == "unconfigured"}):
+        of = [l for l in lines if l.cls == "unconfigured" and l.link == vl]
+        outside.append({"id": vl, "frames": len(of), "network": of[0].network, "first": place(of[0])})
+    return {"version": 1, "whole": any(f[0] == "total" for f in tail), "start": str(lines[0].stamp) if lines else None,
+            "end": str(lines[-1].stamp) if lines else None, "width": width, "counts": counts(lines),
+            "filters": [sum(l.mask >> i & 1 for l in lines) for i in range(1 + len(table.get("filters", [])))],
+            "a": network_of(ledger, "A", tail, hits["A"]), "b": network_of(ledger, "B", tail, hits["B"]),
+            "links": links, "outside": outside}
+
+
+def differences(mine, theirs, path=""):
+    """Where the reference's members differ from another report's."""
+    if isinstance(mine, dict) and isinstance(theirs, dict):
+        return [d for k in mine for d in differences(mine[k], theirs.get(k), f"{path}.{k}")]
+    if isinstance(mine, list) and isinstance(theirs, list) and len(mine) == len(theirs):
+        return [d for i, (a, b) in enumerate(zip(mine, theirs)) for d in differences(a, b, f"{path}[{i}]")]
+    return [] if mine == theirs else [f"{path}: {mine} is told as {theirs}"]
+
+
+if __name__ == "__main__":
+    print(json.dumps(reference(sys.argv[1], sys.argv[2])))
