@@ -156,7 +156,8 @@ impl Display for WorstLinks {
     }
 }
 
-/// A ledger that is written, of which the worst links are told, or aren't, and whose verdicts a capture may have.
+/// A ledger that is written, of which the worst links are told, or aren't, and whose verdicts a capture may
+/// have.
 #[derive(Drop)]
 pub struct LedgerWriter<'a> {
     blocks: Blocks,
@@ -165,8 +166,8 @@ pub struct LedgerWriter<'a> {
 }
 
 impl<'a> LedgerWriter<'a> {
-    /// A ledger whose bytes go on to `blocks`; no links are told where `worst` is None, and no capture has its
-    /// verdicts where `capture` is None.
+    /// A ledger whose bytes go on to `blocks`; no links are told where `worst` is None, and no capture has
+    /// its verdicts where `capture` is None.
     pub fn new(
         blocks: Blocks,
         worst: Option<WorstLinks>,

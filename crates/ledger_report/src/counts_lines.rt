@@ -226,7 +226,8 @@ fn ending_of(
     }))
 }
 
-/// The reason after a number: a space and a word in lower case where the recording is bad, and nothing elsewhere.
+/// The reason after a number: a space and a word in lower case where the recording is bad, and nothing
+/// elsewhere.
 fn reason_of(alloc: Global, rest: &[u8], end: TapEnd) -> Result<Option<String>, AllocError> {
     let reason = match (end, rest) {
         (TapEnd::Bad, [b' ', word @ ..]) if !word.is_empty() => word,

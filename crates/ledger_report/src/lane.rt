@@ -175,8 +175,8 @@ impl Lane {
         }
     }
 
-    /// Notes that the numbers after `previous` are lost, and says how many of them the other lane lost too, at
-    /// most `window` before. Each loss counts with one of the other lane at most.
+    /// Notes that the numbers after `previous` are lost, and says how many of them the other lane lost too,
+    /// at most `window` before. Each loss counts with one of the other lane at most.
     pub(crate) fn lose(
         &mut self,
         previous: u8,

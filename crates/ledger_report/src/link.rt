@@ -51,8 +51,8 @@ pub struct LinkReport {
     /// Lines `deliver`, and what became of them.
     pub deliveries: u64,
     pub fates: Fates,
-    /// Lines `copy`: the sum and the greatest of their skews, and the median, rounded down to its five leading
-    /// binary digits.
+    /// Lines `copy`: the sum and the greatest of their skews, and the median, rounded down to its five
+    /// leading binary digits.
     pub copies: u64,
     pub skew_sum: u64,
     pub skew_greatest: u64,

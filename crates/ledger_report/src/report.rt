@@ -129,13 +129,13 @@ fn read_lines<S: TapSource>(
 
 /// Reads a ledger, and makes its report against the table that it was judged by.
 ///
-/// One pass, numbers alone: the memory is bounded by the table's links, some 30 KB each, whatever the ledger's
-/// length.
+/// One pass, numbers alone: the memory is bounded by the table's links, some 30 KB each, whatever the
+/// ledger's length.
 ///
 /// # Errors
 ///
-/// `Line` names the first line that is none of a ledger, or contradicts the table or the lines before it; `Read`
-/// says that the source failed.
+/// `Line` names the first line that is none of a ledger, or contradicts the table or the lines before it;
+/// `Read` says that the source failed.
 pub fn read_report<S: TapSource + Drop>(
     alloc: Global,
     config: &Config,

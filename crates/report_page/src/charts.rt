@@ -50,8 +50,8 @@ pub fn peak(first: &[u64], second: &[u64]) -> u64 {
     one.max(two).max(1)
 }
 
-/// Where a shape of steps stands: the height of its greatest column, its base line, whether it is drawn upwards, and
-/// the bins of a column.
+/// Where a shape of steps stands: the height of its greatest column, its base line, whether it is drawn
+/// upwards, and the bins of a column.
 #[derive(Clone, Copy)]
 pub struct Stair {
     pub top: u64,
@@ -259,8 +259,8 @@ pub fn push_mirror(
     out.push_str("</svg>")
 }
 
-/// Where an interval stands in a band of this height: 0 at the bottom, BAG in the middle, two BAG or more at the top,
-/// by the signed root of its distance from BAG.
+/// Where an interval stands in a band of this height: 0 at the bottom, BAG in the middle, two BAG or more at
+/// the top, by the signed root of its distance from BAG.
 pub fn interval_y(interval: u64, bag: u64, height: u64) -> u64 {
     let half = height / 2;
     let away = interval.abs_diff(bag).min(bag);

@@ -287,23 +287,25 @@ const SENTENCES_ON_SIGNS: [(Sign, &str); 5] = [
     (Sign::Repeat, "Same number again on one network (repeat)"),
 ];
 
+const NEVER_SEEN: [(Network, &str); 2] = [
+    (Network::A, "Never seen on A"),
+    (Network::B, "Never seen on B"),
+];
+
+const STOPS: [(Network, &str); 2] = [
+    (Network::A, "Stops on A, goes on on B"),
+    (Network::B, "Stops on B, goes on on A"),
+];
+
 /// Appends the sentences, and says how many there are.
 pub fn push_findings(out: &mut String, view: &View<'_>) -> Result<usize, AllocError> {
     let mut found = Findings::new(out);
     found.endings(view)?;
     found.silences(view)?;
-    for network in NETWORKS {
-        let about = match network {
-            Network::A => "Never seen on A",
-            Network::B => "Never seen on B",
-        };
+    for (network, about) in NEVER_SEEN {
         found.links(view, Level::Trouble, about, Which::NeverOn(network))?;
     }
-    for network in NETWORKS {
-        let about = match network {
-            Network::A => "Stops on A, goes on on B",
-            Network::B => "Stops on B, goes on on A",
-        };
+    for (network, about) in STOPS {
         found.links(view, Level::Trouble, about, Which::StoppedOn(network))?;
     }
     found.links(

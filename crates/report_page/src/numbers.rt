@@ -130,8 +130,8 @@ pub fn push_tenths(out: &mut String, tenths: u64) -> Result<(), AllocError> {
     }
 }
 
-/// Year, month and day of a day counted from 1970-01-01 (the Gregorian calendar; eras of 400 years from March of
-/// year 0).
+/// Year, month and day of a day counted from 1970-01-01 (the Gregorian calendar; eras of 400 years from March
+/// of year 0).
 fn date_of(day: u64) -> (u64, u64, u64) {
     let days = day.saturating_add(719_468);
     let era = days / 146_097;

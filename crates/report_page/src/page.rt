@@ -17,8 +17,9 @@ use std::fmt::Write;
 use vl_config::Config;
 
 /// The head of the document, up to its style. The policy makes a browser refuse scripts and links out.
-const BEGIN: &str = r#"<!doctype html><html lang="en"><head><meta charset="utf-8"/><meta http-equiv="Content-Security-Policy"
-content="default-src 'none';style-src 'unsafe-inline'"/><meta name="viewport" content="width=device-width,initial-scale=1"/>
+const BEGIN: &str = r#"<!doctype html><html lang="en"><head><meta charset="utf-8"/>
+<meta http-equiv="Content-Security-Policy" content="default-src 'none';style-src 'unsafe-inline'"/>
+<meta name="viewport" content="width=device-width,initial-scale=1"/>
 <title>AFDX recording, "#;
 
 fn push_first_things(out: &mut String, view: &View<'_>) -> Result<(), AllocError> {
@@ -59,14 +60,20 @@ fn push_foot(out: &mut String, view: &View<'_>) -> Result<(), AllocError> {
     out.push_str(if view.sizes {
         "Sizes are those kept by a filter of the table that takes every frame whole. "
     } else {
-        "No filter of the table takes every frame whole, so the ledger doesn't tell sizes: loads are left out. "
+        NO_SIZES
     })?;
-    out.push_str("Numbers count to 255 and go on with 1: in a gap of more than 127 numbers lost is a lower bound. ")?;
+    out.push_str(LOWER_BOUND)?;
     out.push_str("This page has no script and fetches nothing.</p></footer></body></html>\n")
 }
 
-/// The page of a report against its table. `sizes` says whether a filter of the table takes every frame whole, so
-/// that the bytes kept are those of the frames.
+const NO_SIZES: &str = "\
+No filter of the table takes every frame whole, so the ledger doesn't tell sizes: loads are left out. ";
+
+const LOWER_BOUND: &str = "\
+Numbers count to 255 and go on with 1: in a gap of more than 127 numbers lost is a lower bound. ";
+
+/// The page of a report against its table. `sizes` says whether a filter of the table takes every frame
+/// whole, so that the bytes kept are those of the frames.
 pub fn page_of(
     alloc: Global,
     report: &Report,

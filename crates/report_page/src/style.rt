@@ -1,13 +1,15 @@
 //! The look of the page.
 
-/// The style sheet. A is blue and drawn upwards, B orange and drawn downwards, everywhere; what is wrong has one
-/// colour more.
-pub const STYLE: &str = r#":root{color-scheme:light dark;--bg:#fbfbf9;--card:#fff;--ink:#17202a;--dim:#5d6873;--line:#dde1e4;
+/// The style sheet. A is blue and drawn upwards, B orange and drawn downwards, everywhere; what is wrong has
+/// one colour more.
+pub const STYLE: &str = r#":root{color-scheme:light dark;--bg:#fbfbf9;--card:#fff;--ink:#17202a;--dim:#5d6873;
+--line:#dde1e4;
 --faint:#eceeef;--a:#0b66b2;--b:#c4560a;--alarm:#a3195b;--note:#8a6d00;--ok:#7d8b94;--skew:#66727c;
 --deliv:#4b6b7a;--sil:rgba(163,25,91,.20);--nr:rgba(93,104,115,.20)}
 @media screen and (prefers-color-scheme:dark){:root{--bg:#12171c;--card:#1a2128;--ink:#e8ecef;--dim:#9aa6b0;
 --line:#323c45;--faint:#262f37;--a:#5fb0f2;--b:#f49a4d;--alarm:#ff86bb;--note:#e3c34a;--ok:#71808a;
---skew:#93a1ac;--deliv:#86a9ba;--sil:rgba(255,134,187,.24);--nr:rgba(154,166,176,.22)}}*{box-sizing:border-box}
+--skew:#93a1ac;--deliv:#86a9ba;--sil:rgba(255,134,187,.24);--nr:rgba(154,166,176,.22)}}
+*{box-sizing:border-box}
 body{margin:0 auto;padding:22px 26px;max-width:1440px;background:var(--bg);color:var(--ink);
 font:14px/1.4 system-ui,"Segoe UI",Roboto,"Helvetica Neue","Liberation Sans",sans-serif;
 font-variant-numeric:tabular-nums}h1{font-size:24px;margin:0;letter-spacing:-.01em}h2{font-size:17px;
@@ -27,7 +29,8 @@ line-height:1.45;padding:4px 0 3px}.tap{display:block;font-weight:400}.tap b{col
 .tap.b{color:inherit}.tap.b b{color:var(--b)}.tap.a{color:inherit}.sub{font-size:12px;color:var(--dim)}
 .bar{display:block;width:100%;height:6px;margin:5px 0}.fa,.xa.fa{fill:var(--a)}.fb{fill:var(--b)}.xa,
 .xb{fill:var(--alarm)}.ka,.kb{fill:var(--skew)}.kt{fill:var(--alarm)}.kn{fill:var(--note)}.ks{fill:none;
-stroke:var(--ink);stroke-width:1}.bar .ks{fill:var(--ink);stroke:none}.kc{fill:var(--ok)}.kd{fill:var(--deliv)}
+stroke:var(--ink);stroke-width:1}.bar .ks{fill:var(--ink);stroke:none}.kc{fill:var(--ok)}
+.kd{fill:var(--deliv)}
 .kcopy{fill:var(--ok);opacity:.55}.gr{stroke:var(--faint);fill:none;stroke-width:1;
 vector-effect:non-scaling-stroke}.zl{stroke:var(--dim);fill:none;stroke-width:1;
 vector-effect:non-scaling-stroke;opacity:.55}.lim{stroke:var(--ink);fill:none;stroke-width:1;
@@ -48,7 +51,8 @@ font-weight:400;font-size:11px;color:var(--dim);transform:translateX(-50%);white
 font-size:12px;text-align:left;vertical-align:bottom;padding:4px 8px;border-bottom:1.5px solid var(--ink)}
 th small{display:block;font-size:10.5px}td{padding:2px 8px;border-bottom:1px solid var(--line);
 white-space:nowrap}.r{text-align:right}.p{text-align:center}td.p .a,td.p .b{display:inline-block;
-min-width:2.3em;text-align:right}td.p .b{text-align:left}td:nth-child(5) .a,td:nth-child(5) .b{min-width:3.2em}
+min-width:2.3em;text-align:right}td.p .b{text-align:left}td:nth-child(5) .a,
+td:nth-child(5) .b{min-width:3.2em}
 td.id,.det .id{color:var(--dim)}.nm{font-weight:600}.spk{width:210px;min-width:130px}.w{color:var(--alarm);
 font-weight:700}.ub{width:38px;height:6px;margin-right:6px;background:var(--faint)}tr.clean .nm,
 tr.silent .nm{font-weight:400}.scroll{overflow-x:auto}.rest{width:100%;display:block;margin-top:6px}
@@ -56,9 +60,11 @@ tr.silent .nm{font-weight:400}.scroll{overflow-x:auto}.rest{width:100%;display:b
 .det{background:var(--card);border:1px solid var(--line);border-radius:6px;padding:12px 16px 8px 6px;
 margin-bottom:14px;break-inside:avoid}.det h3{font-size:15px;display:flex;gap:8px;align-items:baseline;
 flex-wrap:wrap;margin:0 0 6px 14px}.det .id{font-weight:400;font-size:13px}.pp{font-weight:400;font-size:12px;
-color:var(--dim);margin-left:auto}.facts{font-size:12px;color:var(--dim);margin:2px 0 2px 162px}.lgs{columns:2;
+color:var(--dim);margin-left:auto}.facts{font-size:12px;color:var(--dim);margin:2px 0 2px 162px}
+.lgs{columns:2;
 column-gap:34px}.lg{break-inside:avoid;margin-bottom:14px}.lg h4{font-size:13px;
-border-bottom:1px solid var(--line);margin-bottom:5px}dl{margin:0;display:grid;grid-template-columns:104px 1fr;
+border-bottom:1px solid var(--line);margin-bottom:5px}dl{margin:0;display:grid;
+grid-template-columns:104px 1fr;
 gap:3px 10px;font-size:12.5px}dt{font-weight:600}dd{margin:0}dd i{display:block;font-size:11.5px}
 footer{border-top:1px solid var(--line);margin-top:22px;padding-top:8px;font-size:12px;color:var(--dim)}
 @media screen and (max-width:1000px){body{padding:16px}.tiles{grid-template-columns:repeat(2,1fr)}
@@ -69,12 +75,14 @@ footer{border-top:1px solid var(--line);margin-top:22px;padding-top:8px;font-siz
 .tl .g{height:calc(var(--h)*.58)}.det .g{height:calc(var(--h)*.8)}.sp{height:20px!important}
 header p{margin-top:1px}.tiles{margin-top:8px}.find li{padding:1px 0}.tl h4{margin-top:3px;
 font-size:9px!important}.mk{width:8px;height:8px}.det .id{font-size:9.5px!important}
-.tall .vl small{display:block!important;margin:0!important}.lg h4{font-size:10px}.ax b{font-size:8px!important}
+.tall .vl small{display:block!important;margin:0!important}.lg h4{font-size:10px}
+.ax b{font-size:8px!important}
 :root{--bg:#fff}body{padding:0;max-width:none;font-size:10.5px;print-color-adjust:exact;
 -webkit-print-color-adjust:exact}.tiles{gap:6px}.tile{padding:5px 8px}.big{font-size:16px}
 .big small{font-size:10px}.tile h3,.sub,.none,.facts{font-size:9px}.taps .big{font-size:10px}
 .find{column-gap:16px;font-size:9.5px;columns:2}.lgs{columns:2}.tiles{grid-template-columns:repeat(4,1fr)}
-.row{grid-template-columns:92px 1fr 88px;gap:6px}.lb,.vl{font-size:9.5px}.lb small,.vl small,.rl{font-size:8px}
+.row{grid-template-columns:92px 1fr 88px;gap:6px}.lb,.vl{font-size:9.5px}.lb small,.vl small,
+.rl{font-size:8px}
 .rl{display:inline}.tl .row{padding:0}.tl .vl small{display:inline;margin-left:5px}.none,.facts,
 .tl h4{margin-left:98px}h2{font-size:13px;margin:10px 0 4px}h2 small{font-size:9px}.tl{break-inside:avoid}
 table{font-size:8.5px}th{font-size:8.5px}th small{font-size:7.5px}td,th{padding:1px 3px}.spk{width:90px;

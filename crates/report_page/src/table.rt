@@ -16,13 +16,15 @@ const MAP_COLUMNS: usize = 128;
 /// How many links in trouble without a row are named.
 const NAMED: usize = 512;
 
-/// Appends a link's activity: A over B, and a strip under the columns with signs.
-fn push_spark(out: &mut String, view: &View<'_>, link: &LinkReport) -> Result<(), AllocError> {
-    let per = view.column(link).max(2);
-    let a = columns(view.alloc, &link.lanes.a.lines, Kind::Sum, view.used, per)?;
-    let b = columns(view.alloc, &link.lanes.b.lines, Kind::Sum, view.used, per)?;
+/// In which columns a link has signs of trouble: 1 there, 0 elsewhere.
+fn marks_of(
+    view: &View<'_>,
+    link: &LinkReport,
+    per: usize,
+    count: usize,
+) -> Result<Vec<u64>, AllocError> {
     let mut marks = Vec::new(view.alloc);
-    marks.resize(a.len(), 0u64)?;
+    marks.resize(count, 0u64)?;
     for sign in TROUBLES {
         for lane in [&link.lanes.a, &link.lanes.b] {
             let bins = columns(view.alloc, &lane.signs.of(sign).bins, Kind::Sum, view.used, per)?;
@@ -31,6 +33,15 @@ fn push_spark(out: &mut String, view: &View<'_>, link: &LinkReport) -> Result<()
             }
         }
     }
+    Ok(marks)
+}
+
+/// Appends a link's activity: A over B, and a strip under the columns with signs.
+fn push_spark(out: &mut String, view: &View<'_>, link: &LinkReport) -> Result<(), AllocError> {
+    let per = view.column(link).max(2);
+    let a = columns(view.alloc, &link.lanes.a.lines, Kind::Sum, view.used, per)?;
+    let b = columns(view.alloc, &link.lanes.b.lines, Kind::Sum, view.used, per)?;
+    let marks = marks_of(view, link, per, a.len())?;
     let used = view.used;
     write!(out, "<svg class=\"g sp\" viewBox=\"0 0 {used} 28\"")?;
     out.push_str(" style=\"--h:28px\" preserveAspectRatio=\"none\" role=\"img\">")?;

@@ -1,0 +1,154 @@
+//! The frames of a ledger's lines, cut from its recordings.
+use crate::annotated::Joining;
+use crate::captures::CutObserver;
+use crate::files::refuse_shared_cut;
+use crate::interface::{Choices, Skipped};
+use crate::live::Blocks;
+use crate::{
+    Ended, LiveSource, NO_RUN, Refused, capture_output, create, is_at_terminal, live_source, open,
+    open_tap, recording_of, refuse_several_of_both, table_of,
+};
+use afdx_frame::Network;
+use analyser::{
+    CutArguments, Exit, Fault, FileOption, LinesRun, Neighbours, NeighboursRun, Selection,
+    SelectionOption, cut_frames, is_standard, neighbours_of, print_lines, selection_of,
+};
+use pcap_io::{ReadSource, WriteSink};
+use pcapng::RecordingSource;
+use std::io::Write;
+use vl_config::Config;
+
+/// What is read and written by a cut.
+#[derive(Drop)]
+struct CutDevices<'a> {
+    selection: &'a Selection,
+    neighbours: Option<Neighbours>,
+    ledger: LiveSource,
+    a: RecordingSource<LiveSource>,
+    b: RecordingSource<LiveSource>,
+    sink: WriteSink<Blocks>,
+}
+
+/// Prints the lines that the selection takes. They are checked against the recordings that are given.
+fn cut_lines(rt: &HostRuntime, files: CutDevices<'_>, is_checked: bool) -> Ended {
+    let CutDevices {
+        selection,
+        neighbours,
+        ledger,
+        a,
+        b,
+        sink,
+    } = files;
+    let recordings = if is_checked { Some((a, b)) } else { None };
+    let LinesRun {
+        outcome,
+        ledger: _,
+        recordings,
+        output,
+    } = print_lines(rt.alloc(), selection, neighbours, ledger, recordings, sink);
+    let skipped = match recordings {
+        Some((a, b)) => Skipped::two(a.skipped(), b.skipped()),
+        None => Skipped::none(),
+    };
+    let flushed = output.into_writer().flush().is_ok();
+    Ended {
+        exit: Exit::of_cut(outcome.map_err(Fault::Cut), flushed),
+        worst: None,
+        skipped,
+    }
+}
+
+/// Writes the frames of the lines that the selection takes. A pcapng file has their verdicts, with the links'
+/// names in a table.
+fn cut_packets(
+    rt: &HostRuntime,
+    files: CutDevices<'_>,
+    is_pcapng: bool,
+    config: Option<&Config>,
+) -> Result<Ended, Refused> {
+    let CutDevices {
+        selection,
+        neighbours,
+        ledger,
+        a,
+        b,
+        sink,
+    } = files;
+    let output = capture_output(rt, sink.into_writer(), is_pcapng, Joining::Told, config)?;
+    let observer = CutObserver(output.annotated().map_err(|_| NO_RUN)?);
+    let run = cut_frames(
+        rt.alloc(),
+        selection,
+        neighbours,
+        ledger,
+        a,
+        b,
+        WriteSink::new(output),
+        &observer,
+    );
+    let flushed = run.output.into_writer().flush().is_ok();
+    Ok(Ended {
+        exit: Exit::of_cut(run.outcome.map_err(Fault::Cut), flushed),
+        worst: None,
+        skipped: Skipped::two(run.a.skipped(), run.b.skipped()),
+    })
+}
+
+/// The lines around those that are selected, where such are asked for. The ledger is read for that.
+fn neighbours(
+    rt: &HostRuntime,
+    given: &CutArguments<'_>,
+    selection: &Selection,
+) -> Result<Option<Neighbours>, Fault> {
+    if given.around == 0 {
+        return Ok(None);
+    }
+    let ledger = open(rt, given.ledger, FileOption::Ledger)?;
+    if is_standard(given.ledger) || ledger.length(rt).is_none() {
+        return Err(Fault::Selection {
+            option: SelectionOption::Around,
+            item: 0,
+        });
+    }
+    let around = u32::from(given.around);
+    let NeighboursRun { outcome, ledger: _ } = neighbours_of(
+        rt.alloc(),
+        selection,
+        around,
+        ReadSource::new(ledger),
+    );
+    match outcome {
+        Ok(found) => Ok(Some(found)),
+        Err(fault) => Err(Fault::Cut(fault)),
+    }
+}
+
+/// Writes the frames of two recordings that a selection of their ledger's lines takes, or these lines. What
+/// was written before a fault is handed to the system too. An error is a fault that was met before.
+pub fn cut(rt: &HostRuntime, given: &CutArguments<'_>, choices: Choices) -> Result<Ended, Refused> {
+    if !given.ledger_only && is_at_terminal(rt, given.output) {
+        return Ok(Ended::from(Exit::Terminal));
+    }
+    let config = table_of(rt, given.config)?;
+    let selection = selection_of(rt.alloc(), given, config.as_ref())?;
+    let neighbours = neighbours(rt, given, &selection)?;
+    let ledger = open(rt, given.ledger, FileOption::Ledger)?;
+    let a = open_tap(rt, given.a, Network::A, None)?;
+    let b = open_tap(rt, given.b, Network::B, None)?;
+    refuse_shared_cut(rt, given)?;
+    refuse_several_of_both(rt, given.a, given.b, choices)?;
+    let output = create(rt, given.output, FileOption::Output)?;
+    let files = CutDevices {
+        selection: &selection,
+        neighbours,
+        ledger: live_source(rt, ledger, &output)?,
+        a: recording_of(rt, live_source(rt, a, &output)?, choices.a)?,
+        b: recording_of(rt, live_source(rt, b, &output)?, choices.b)?,
+        sink: WriteSink::new(output),
+    };
+    if given.ledger_only {
+        Ok(cut_lines(rt, files, given.a.is_some() || given.b.is_some()))
+    } else {
+        cut_packets(rt, files, given.pcapng, config.as_ref())
+    }
+}
