@@ -1,6 +1,6 @@
 //! The table of virtual links that is drafted from recordings.
-use crate::{Ended, Refused};
 use crate::interface::Choices;
+use crate::{Ended, Refused};
 use analyser::{Fault, FileOption, LinksArguments};
 
 /// Prints a draft of the table of virtual links that recordings have.
