@@ -126,7 +126,8 @@ impl Annotator<'_> {
             self.begin()?;
         }
         self.header_left = self.header_left.saturating_sub(skipped);
-        self.packets.extend_from_slice(bytes.get(skipped..).unwrap_or(&[]))?;
+        self.packets
+            .extend_from_slice(bytes.get(skipped..).unwrap_or(&[]))?;
         if let Joining::Ledger = self.joining {
             return Ok(());
         }

@@ -26,9 +26,7 @@ impl<'a> CaptureOutput<'a> {
         config: Option<&'a Config>,
     ) -> Result<CaptureOutput<'a>, AllocError> {
         if is_pcapng {
-            Ok(CaptureOutput::Pcapng(Annotated::new(
-                alloc, blocks, joining, config,
-            )?))
+            Ok(CaptureOutput::Pcapng(Annotated::new(alloc, blocks, joining, config)?))
         } else {
             Ok(CaptureOutput::Pcap(blocks))
         }

@@ -440,11 +440,7 @@ fn watch_networks<R: Threads + Wait + Sync>(
         recording_of(rt, a, choices.a)?,
         recording_of(rt, b, choices.b)?,
         WriteSink::new(capture),
-        WriteSink::new(LedgerWriter::new(
-            ledger,
-            worst_links(rt, given),
-            annotated,
-        )),
+        WriteSink::new(LedgerWriter::new(ledger, worst_links(rt, given), annotated)),
         &watcher,
     );
     if let Some(progress) = &progress {
