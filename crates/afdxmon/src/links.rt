@@ -25,8 +25,8 @@ fn constant_of(text: Option<&str>) -> Result<Option<u32>, Fault> {
     }
 }
 
-/// How the command ended, from how its recordings did: of two that ended early the first is told, and the draft
-/// has both.
+/// How the command ended, from how its recordings did: of two that ended early the first is told, and
+/// the draft has both.
 fn exit_of(a: Ending, b: Ending) -> Exit {
     match (a, b) {
         (Ending::Clean(_), Ending::Clean(_)) => Exit::Success,

@@ -31,8 +31,8 @@ impl Arrivals {
         }
     }
 
-    /// Counts a frame: when it came, its length on the wire in bytes without the frame check sequence, and its
-    /// sequence number. A timestamp below that of the frame before counts as the same one.
+    /// Counts a frame: when it came, its length on the wire in bytes without the frame check sequence, and
+    /// its sequence number. A timestamp below that of the frame before counts as the same one.
     #[inline(always)]
     pub fn see(&mut self, stamp: Stamp, len: u32, number: u8)
         ensures len { len ≤ self.new.greatest_len }

@@ -6,7 +6,8 @@ use afdx_frame::{Network, Stamp};
 
 /// A second, the greatest SkewMax of a table, in nanoseconds.
 const MAX_SKEW: u64 = 1_000_000_000;
-/// How many frames of the other network may have come since the first copy: half of a cycle of the 255 numbers.
+/// How many frames of the other network may have come since the first copy: half of a cycle of the 255
+/// numbers.
 const MOST_SINCE: u64 = 127;
 
 /// The frame that came last with a sequence number.
