@@ -23,11 +23,11 @@ _afdxmon() {
     fi
     COMPREPLY=()
     if [ "$i" -eq 1 ]; then
-        _afdxmon_words 'watch capture debug cut asm help -h --help -V --version' "$current"
+        _afdxmon_words 'watch capture debug cut links asm help -h --help -V --version' "$current"
         return
     fi
     case ${COMP_WORDS[1]} in
-        watch | capture | debug | cut)
+        watch | capture | debug | cut | links)
             case $previous in
                 --workers) _afdxmon_words '1 2 3 4 5 6 7 8' "$current"; return ;;
                 --network) _afdxmon_words 'A B' "$current"; return ;;
@@ -44,11 +44,12 @@ _afdxmon() {
             ;;
         capture:-*) _afdxmon_words '--code --filter --source --pcapng -o --output -h --help' "$current" ;;
         debug:-*) _afdxmon_words '--filter --source --tap -h --help' "$current" ;;
+        links:-*) _afdxmon_words '--a --b --constant -h --help' "$current" ;;
         cut:-*)
             _afdxmon_words '--ledger --a --b --config --link --network --verdict --from --to --filters --around --ledger-only --pcapng -o --output -h --help' "$current"
             ;;
         asm:-*) _afdxmon_words '-h --help' "$current" ;;
-        help:*) _afdxmon_words 'watch capture debug cut asm help' "$current" ;;
+        help:*) _afdxmon_words 'watch capture debug cut links asm help' "$current" ;;
         capture:*) _afdxmon_files "$current" ;;
     esac
 }
