@@ -51,8 +51,8 @@ pub struct LinkReport {
     /// Lines `deliver`, and what became of them.
     pub deliveries: u64,
     pub fates: Fates,
-    /// Lines `copy`: the sum and the greatest of their skews, and the median, rounded down to its five leading
-    /// binary digits.
+    /// Lines `copy`: the sum and the greatest of their skews, and the median, rounded down to its five
+    /// leading binary digits.
     pub copies: u64,
     pub skew_sum: u64,
     pub skew_greatest: u64,
@@ -405,7 +405,11 @@ impl LinkReport {
         self.lanes.b.settle_held(&networks.a, &mut networks.b)?;
         self.lanes.a.drop_held();
         self.lanes.b.drop_held();
-        self.fates.uncovered = self.lanes.a.uncovered.saturating_add(self.lanes.b.uncovered);
+        self.fates.uncovered = self
+            .lanes
+            .a
+            .uncovered
+            .saturating_add(self.lanes.b.uncovered);
         let alone = self.lanes.a.signs.of(Sign::Alone).count;
         self.fates.alone = alone.saturating_add(self.lanes.b.signs.of(Sign::Alone).count);
         self.runs.end(networks);

@@ -126,8 +126,8 @@ impl NetworkReport {
         }
     }
 
-    /// Was the network alive where so many of its lines stand before: is there one before and one after, and no
-    /// silence between? None where no line follows yet.
+    /// Was the network alive where so many of its lines stand before: is there one before and one after, and
+    /// no silence between? None where no line follows yet.
     #[inline]
     pub(crate) fn covers(&self, before: u64) -> Option<bool> {
         if before == 0 {

@@ -112,10 +112,9 @@ fn read_lines<S: TapSource>(
             }
             Ok(Found::Line(LedgerLine::Head)) => {}
             Ok(Found::Line(LedgerLine::Counts(kind))) => {
-                let taken =
-                    reading
-                        .lines
-                        .take(alloc, config, &reading.counts, kind, ledger.line());
+                let taken = reading
+                    .lines
+                    .take(alloc, config, &reading.counts, kind, ledger.line());
                 if let Err(refusal) = taken {
                     return Err(line_fault(ledger.number(), refusal));
                 }
@@ -129,13 +128,13 @@ fn read_lines<S: TapSource>(
 
 /// Reads a ledger, and makes its report against the table that it was judged by.
 ///
-/// One pass, numbers alone: the memory is bounded by the table's links, some 30 KB each, whatever the ledger's
-/// length.
+/// One pass, numbers alone: the memory is bounded by the table's links, some 30 KB each, whatever the
+/// ledger's length.
 ///
 /// # Errors
 ///
-/// `Line` names the first line that is none of a ledger, or contradicts the table or the lines before it; `Read`
-/// says that the source failed.
+/// `Line` names the first line that is none of a ledger, or contradicts the table or the lines before it;
+/// `Read` says that the source failed.
 pub fn read_report<S: TapSource + Drop>(
     alloc: Global,
     config: &Config,

@@ -89,8 +89,8 @@ impl Series {
         self.bins.clear();
     }
 
-    /// The bins: none where nothing ever came. A bin in which nothing came has 0, and 2^64 - 1 in a series of least
-    /// values.
+    /// The bins: none where nothing ever came. A bin in which nothing came has 0, and 2^64 - 1 in a series of
+    /// least values.
     pub fn bins(&self) -> &[u64] {
         self.bins.as_slice()
     }

@@ -50,8 +50,8 @@ pub fn peak(first: &[u64], second: &[u64]) -> u64 {
     one.max(two).max(1)
 }
 
-/// Where a shape of steps stands: the height of its greatest column, its base line, whether it is drawn upwards, and
-/// the bins of a column.
+/// Where a shape of steps stands: the height of its greatest column, its base line, whether it is drawn
+/// upwards, and the bins of a column.
 #[derive(Clone, Copy)]
 pub struct Stair {
     pub top: u64,
@@ -121,7 +121,10 @@ pub fn begin_svg(
     let used = view.used;
     write!(out, "<svg class=\"g\" viewBox=\"0 0 {used} {height}\"")?;
     write!(out, " style=\"--h:{height}px\"")?;
-    write!(out, " preserveAspectRatio=\"none\" role=\"img\"><title>{title}</title>")
+    write!(
+        out,
+        " preserveAspectRatio=\"none\" role=\"img\"><title>{title}</title>"
+    )
 }
 
 /// The distance of two ticks of the axis: 1, 2 or 5 by a power of ten, so that there are at most 12.
@@ -172,7 +175,10 @@ fn push_band(
 ) -> Result<(), AllocError> {
     let (from, to) = times;
     let (y, height) = half;
-    write!(out, "<rect class=\"{class}\" y=\"{y}\" height=\"{height}\" x=\"")?;
+    write!(
+        out,
+        "<rect class=\"{class}\" y=\"{y}\" height=\"{height}\" x=\""
+    )?;
     push_place(out, view, view.since(from))?;
     out.push_str("\" width=\"")?;
     push_place(out, view, to.saturating_sub(from))?;
@@ -259,8 +265,8 @@ pub fn push_mirror(
     out.push_str("</svg>")
 }
 
-/// Where an interval stands in a band of this height: 0 at the bottom, BAG in the middle, two BAG or more at the top,
-/// by the signed root of its distance from BAG.
+/// Where an interval stands in a band of this height: 0 at the bottom, BAG in the middle, two BAG or more at
+/// the top, by the signed root of its distance from BAG.
 pub fn interval_y(interval: u64, bag: u64, height: u64) -> u64 {
     let half = height / 2;
     let away = interval.abs_diff(bag).min(bag);

@@ -69,14 +69,7 @@ impl<'a> Findings<'a> {
     /// The first silences of each network.
     fn silences(&mut self, view: &View<'_>) -> Result<(), AllocError> {
         for network in NETWORKS {
-            for silence in view
-                .report
-                .networks
-                .of(network)
-                .silences
-                .iter()
-                .take(NAMED)
-            {
+            for silence in view.report.networks.of(network).silences.iter().take(NAMED) {
                 if !self.begin(Level::Trouble)? {
                     continue;
                 }
@@ -287,11 +280,8 @@ const SENTENCES_ON_SIGNS: [(Sign, &str); 5] = [
     (Sign::Repeat, "Same number again on one network (repeat)"),
 ];
 
-/// Appends the sentences, and says how many there are.
-pub fn push_findings(out: &mut String, view: &View<'_>) -> Result<usize, AllocError> {
-    let mut found = Findings::new(out);
-    found.endings(view)?;
-    found.silences(view)?;
+/// The sentences on networks that links aren't seen on.
+fn push_missing(found: &mut Findings<'_>, view: &View<'_>) -> Result<(), AllocError> {
     for network in NETWORKS {
         let about = match network {
             Network::A => "Never seen on A",
@@ -306,6 +296,15 @@ pub fn push_findings(out: &mut String, view: &View<'_>) -> Result<usize, AllocEr
         };
         found.links(view, Level::Trouble, about, Which::StoppedOn(network))?;
     }
+    Ok(())
+}
+
+/// Appends the sentences, and says how many there are.
+pub fn push_findings(out: &mut String, view: &View<'_>) -> Result<usize, AllocError> {
+    let mut found = Findings::new(out);
+    found.endings(view)?;
+    found.silences(view)?;
+    push_missing(&mut found, view)?;
     found.links(
         view,
         Level::Trouble,

@@ -17,9 +17,19 @@ use std::fmt::Write;
 use vl_config::Config;
 
 /// The head of the document, up to its style. The policy makes a browser refuse scripts and links out.
-const BEGIN: &str = r#"<!doctype html><html lang="en"><head><meta charset="utf-8"/><meta http-equiv="Content-Security-Policy"
-content="default-src 'none';style-src 'unsafe-inline'"/><meta name="viewport" content="width=device-width,initial-scale=1"/>
+const BEGIN: &str = r#"<!doctype html><html lang="en"><head><meta charset="utf-8"/>
+<meta http-equiv="Content-Security-Policy" content="default-src 'none';style-src 'unsafe-inline'"/>
+<meta name="viewport" content="width=device-width,initial-scale=1"/>
 <title>AFDX recording, "#;
+
+/// What the page says where the ledger doesn't tell sizes.
+const NO_SIZES: &str = "\
+No filter of the table takes every frame whole, so the ledger doesn't tell sizes: loads are left out. ";
+
+/// What every page says at its end.
+const END: &str = "\
+Numbers count to 255 and go on with 1: in a gap of more than 127 numbers lost is a lower bound. \
+This page has no script and fetches nothing.</p></footer></body></html>\n";
 
 fn push_first_things(out: &mut String, view: &View<'_>) -> Result<(), AllocError> {
     out.push_str("<section><h2>What to look at first</h2><ol class=\"find\">")?;
@@ -40,9 +50,16 @@ fn push_links(out: &mut String, view: &View<'_>) -> Result<(), AllocError> {
     let notice = count_of(&view.ranks, Level::Notice);
     let silent = count_of(&view.ranks, Level::Silent);
     let clean = count_of(&view.ranks, Level::Clean);
-    write!(out, "<section><h2>Links, worst first <small>{trouble} in trouble ")?;
-    out.push_str("(3 signs or more and one in each thousand frames, or never seen on one network), ")?;
-    write!(out, "{notice} notice, {silent} never seen, {clean} clean</small></h2>")?;
+    write!(
+        out,
+        "<section><h2>Links, worst first <small>{trouble} in trouble "
+    )?;
+    out.push_str("(3 signs or more and one in each thousand frames, ")?;
+    out.push_str("or never seen on one network), ")?;
+    write!(
+        out,
+        "{notice} notice, {silent} never seen, {clean} clean</small></h2>"
+    )?;
     push_table(out, view)?;
     out.push_str("</section><section class=\"dets\"><h2>Links in trouble</h2>")?;
     push_strips(out, view)?;
@@ -59,10 +76,9 @@ fn push_foot(out: &mut String, view: &View<'_>) -> Result<(), AllocError> {
     out.push_str(if view.sizes {
         "Sizes are those kept by a filter of the table that takes every frame whole. "
     } else {
-        "No filter of the table takes every frame whole, so the ledger doesn't tell sizes: loads are left out. "
+        NO_SIZES
     })?;
-    out.push_str("Numbers count to 255 and go on with 1: in a gap of more than 127 numbers lost is a lower bound. ")?;
-    out.push_str("This page has no script and fetches nothing.</p></footer></body></html>\n")
+    out.push_str(END)
 }
 
 /// The page of a report against its table. `sizes` says whether a filter of the table takes every frame whole, so
