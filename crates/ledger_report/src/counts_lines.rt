@@ -178,10 +178,7 @@ impl CountsLines {
             self.text,
             "total frames {frames} accepted {accepted} cut {cut} runt {runt} oversize {oversize}"
         )?;
-        write!(
-            self.text,
-            " foreign {foreign} unconfigured {unconfigured}"
-        )?;
+        write!(self.text, " foreign {foreign} unconfigured {unconfigured}")?;
         push_judged(&mut self.text, &all)?;
         if self.endings.b.is_none() {
             return Err(Refusal::Wrong(WrongLine::Counts));
@@ -226,8 +223,7 @@ fn ending_of(
     }))
 }
 
-/// The reason after a number: a space and a word in lower case where the recording is bad, and nothing
-/// elsewhere.
+/// The reason after a number: a space and a word in lower case where the recording is bad, else nothing.
 fn reason_of(alloc: Global, rest: &[u8], end: TapEnd) -> Result<Option<String>, AllocError> {
     let reason = match (end, rest) {
         (TapEnd::Bad, [b' ', word @ ..]) if !word.is_empty() => word,

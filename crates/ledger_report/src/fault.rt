@@ -39,10 +39,7 @@ pub enum WrongLine {
 pub enum ReportFault {
     /// A line is wrong.
     #[error("line {line}: {wrong}")]
-    Line {
-        line: u64,
-        wrong: WrongLine,
-    },
+    Line { line: u64, wrong: WrongLine },
     /// The ledger can't be read.
     #[error("the ledger can't be read")]
     Read,

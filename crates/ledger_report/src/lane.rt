@@ -100,7 +100,12 @@ impl Lane {
 
     /// Notes the interval to the line before. `least` is BAG less jitter.
     #[inline]
-    pub(crate) fn note_interval(&mut self, at: &Moment, least: u64, excess: bool) -> Result<(), AllocError> {
+    pub(crate) fn note_interval(
+        &mut self,
+        at: &Moment,
+        least: u64,
+        excess: bool,
+    ) -> Result<(), AllocError> {
         let interval = at.place.stamp.saturating_sub(self.last);
         self.least = self.least.min(interval);
         self.greatest = self.greatest.max(interval);

@@ -28,7 +28,9 @@ mod signs;
 mod statistics;
 
 pub use absence::Absence;
-pub use bounds::{ABSENT_LINES, BINS, FIRST_WIDTH, MOST_SILENCES, SILENT_LINES, STOPPED_LINES, WINDOW_BAGS};
+pub use bounds::{
+    ABSENT_LINES, BINS, FIRST_WIDTH, MOST_SILENCES, SILENT_LINES, STOPPED_LINES, WINDOW_BAGS,
+};
 pub use counts::{Counts, FrameCounts};
 pub use counts_lines::{TapEnd, TapEnding};
 pub use fault::{ReportFault, WrongLine};

@@ -405,7 +405,11 @@ impl LinkReport {
         self.lanes.b.settle_held(&networks.a, &mut networks.b)?;
         self.lanes.a.drop_held();
         self.lanes.b.drop_held();
-        self.fates.uncovered = self.lanes.a.uncovered.saturating_add(self.lanes.b.uncovered);
+        self.fates.uncovered = self
+            .lanes
+            .a
+            .uncovered
+            .saturating_add(self.lanes.b.uncovered);
         let alone = self.lanes.a.signs.of(Sign::Alone).count;
         self.fates.alone = alone.saturating_add(self.lanes.b.signs.of(Sign::Alone).count);
         self.runs.end(networks);

@@ -93,7 +93,13 @@ impl Pairing {
 
     /// Was this number discarded on the other network within the window before?
     #[inline]
-    pub(crate) fn was_discarded(&self, number: u8, network: Network, stamp: u64, window: u64) -> bool {
+    pub(crate) fn was_discarded(
+        &self,
+        number: u8,
+        network: Network,
+        stamp: u64,
+        window: u64,
+    ) -> bool {
         match self.discarded.get(usize::from(number)) {
             Some(held) => match held.of(other(network)) {
                 Some(when) => stamp.saturating_sub(*when) <= window,

@@ -112,10 +112,9 @@ fn read_lines<S: TapSource>(
             }
             Ok(Found::Line(LedgerLine::Head)) => {}
             Ok(Found::Line(LedgerLine::Counts(kind))) => {
-                let taken =
-                    reading
-                        .lines
-                        .take(alloc, config, &reading.counts, kind, ledger.line());
+                let taken = reading
+                    .lines
+                    .take(alloc, config, &reading.counts, kind, ledger.line());
                 if let Err(refusal) = taken {
                     return Err(line_fault(ledger.number(), refusal));
                 }

@@ -38,13 +38,7 @@ pub struct Mark {
 /// The earlier of two places.
 fn earlier(held: Option<Place>, place: Place) -> Place {
     match held {
-        Some(held) => {
-            if held.is_before(place) {
-                held
-            } else {
-                place
-            }
-        }
+        Some(held) => { if held.is_before(place) { held } else { place } }
         None => place,
     }
 }
@@ -52,13 +46,7 @@ fn earlier(held: Option<Place>, place: Place) -> Place {
 /// The later of two places.
 fn later(held: Option<Place>, place: Place) -> Place {
     match held {
-        Some(held) => {
-            if held.is_before(place) {
-                place
-            } else {
-                held
-            }
-        }
+        Some(held) => { if held.is_before(place) { place } else { held } }
         None => place,
     }
 }

@@ -180,14 +180,7 @@ impl Statistics {
         let unconfigured = line.class == Class::Unconfigured;
         match self.links.get_mut(index) {
             Some(_) if unconfigured => Err(Refusal::Wrong(WrongLine::KnownLink)),
-            Some(link) => link.note(
-                line,
-                number,
-                at,
-                self.start,
-                self.width,
-                &mut self.networks,
-            ),
+            Some(link) => link.note(line, number, at, self.start, self.width, &mut self.networks),
             None if unconfigured => {
                 self.note_outside(id, at)?;
                 Ok(())

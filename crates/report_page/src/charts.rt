@@ -121,7 +121,10 @@ pub fn begin_svg(
     let used = view.used;
     write!(out, "<svg class=\"g\" viewBox=\"0 0 {used} {height}\"")?;
     write!(out, " style=\"--h:{height}px\"")?;
-    write!(out, " preserveAspectRatio=\"none\" role=\"img\"><title>{title}</title>")
+    write!(
+        out,
+        " preserveAspectRatio=\"none\" role=\"img\"><title>{title}</title>"
+    )
 }
 
 /// The distance of two ticks of the axis: 1, 2 or 5 by a power of ten, so that there are at most 12.
@@ -172,7 +175,10 @@ fn push_band(
 ) -> Result<(), AllocError> {
     let (from, to) = times;
     let (y, height) = half;
-    write!(out, "<rect class=\"{class}\" y=\"{y}\" height=\"{height}\" x=\"")?;
+    write!(
+        out,
+        "<rect class=\"{class}\" y=\"{y}\" height=\"{height}\" x=\""
+    )?;
     push_place(out, view, view.since(from))?;
     out.push_str("\" width=\"")?;
     push_place(out, view, to.saturating_sub(from))?;

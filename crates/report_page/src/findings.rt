@@ -69,14 +69,7 @@ impl<'a> Findings<'a> {
     /// The first silences of each network.
     fn silences(&mut self, view: &View<'_>) -> Result<(), AllocError> {
         for network in NETWORKS {
-            for silence in view
-                .report
-                .networks
-                .of(network)
-                .silences
-                .iter()
-                .take(NAMED)
-            {
+            for silence in view.report.networks.of(network).silences.iter().take(NAMED) {
                 if !self.begin(Level::Trouble)? {
                     continue;
                 }
@@ -287,27 +280,31 @@ const SENTENCES_ON_SIGNS: [(Sign, &str); 5] = [
     (Sign::Repeat, "Same number again on one network (repeat)"),
 ];
 
-const NEVER_SEEN: [(Network, &str); 2] = [
-    (Network::A, "Never seen on A"),
-    (Network::B, "Never seen on B"),
-];
-
-const STOPS: [(Network, &str); 2] = [
-    (Network::A, "Stops on A, goes on on B"),
-    (Network::B, "Stops on B, goes on on A"),
-];
+/// The sentences on networks that links aren't seen on.
+fn push_missing(found: &mut Findings<'_>, view: &View<'_>) -> Result<(), AllocError> {
+    for network in NETWORKS {
+        let about = match network {
+            Network::A => "Never seen on A",
+            Network::B => "Never seen on B",
+        };
+        found.links(view, Level::Trouble, about, Which::NeverOn(network))?;
+    }
+    for network in NETWORKS {
+        let about = match network {
+            Network::A => "Stops on A, goes on on B",
+            Network::B => "Stops on B, goes on on A",
+        };
+        found.links(view, Level::Trouble, about, Which::StoppedOn(network))?;
+    }
+    Ok(())
+}
 
 /// Appends the sentences, and says how many there are.
 pub fn push_findings(out: &mut String, view: &View<'_>) -> Result<usize, AllocError> {
     let mut found = Findings::new(out);
     found.endings(view)?;
     found.silences(view)?;
-    for (network, about) in NEVER_SEEN {
-        found.links(view, Level::Trouble, about, Which::NeverOn(network))?;
-    }
-    for (network, about) in STOPS {
-        found.links(view, Level::Trouble, about, Which::StoppedOn(network))?;
-    }
+    push_missing(&mut found, view)?;
     found.links(
         view,
         Level::Trouble,

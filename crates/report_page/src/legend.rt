@@ -7,31 +7,103 @@ use std::fmt::Write;
 type Entry = (&'static str, &'static str, &'static str);
 
 const CLASSES: [Entry; 6] = [
-    ("cut", "fewer bytes recorded than were on the wire", "the recorder's limit"),
-    ("runt", "wire length below 60", "least Ethernet frame, without FCS"),
-    ("oversize", "wire length above 1514", "greatest Ethernet frame, without FCS"),
-    ("foreign", "the first four bytes aren't the constant field", "Part 7, link addressing"),
-    ("unconfigured", "the link isn't in the table", "Part 7, filtering by link"),
-    ("toolong", "wire length + 4 above the link's Smax", "Part 7, filtering by size"),
+    (
+        "cut",
+        "fewer bytes recorded than were on the wire",
+        "the recorder's limit",
+    ),
+    (
+        "runt",
+        "wire length below 60",
+        "least Ethernet frame, without FCS",
+    ),
+    (
+        "oversize",
+        "wire length above 1514",
+        "greatest Ethernet frame, without FCS",
+    ),
+    (
+        "foreign",
+        "the first four bytes aren't the constant field",
+        "Part 7, link addressing",
+    ),
+    (
+        "unconfigured",
+        "the link isn't in the table",
+        "Part 7, filtering by link",
+    ),
+    (
+        "toolong",
+        "wire length + 4 above the link's Smax",
+        "Part 7, filtering by size",
+    ),
 ];
 
 const JUDGEMENTS: [Entry; 6] = [
-    ("excess", "the link's account on this network doesn't hold the frame", "Part 7, policing"),
-    ("next, skip", "the number after the one before, or one further", "Part 7, integrity checking"),
-    ("out", "any other number; discarded", "Part 7, integrity checking"),
-    ("first, reset", "the run's first frame of the link, or number 0", "this project's profile"),
-    ("deliver", "the first valid frame of its number wins", "Part 7, redundancy management"),
-    ("copy", "same number on the other network, at most SkewMax after", "Part 7"),
+    (
+        "excess",
+        "the link's account on this network doesn't hold the frame",
+        "Part 7, policing",
+    ),
+    (
+        "next, skip",
+        "the number after the one before, or one further",
+        "Part 7, integrity checking",
+    ),
+    (
+        "out",
+        "any other number; discarded",
+        "Part 7, integrity checking",
+    ),
+    (
+        "first, reset",
+        "the run's first frame of the link, or number 0",
+        "this project's profile",
+    ),
+    (
+        "deliver",
+        "the first valid frame of its number wins",
+        "Part 7, redundancy management",
+    ),
+    (
+        "copy",
+        "same number on the other network, at most SkewMax after",
+        "Part 7",
+    ),
 ];
 
 const READ: [Entry; 7] = [
-    ("lost", "numbers missing between two frames of a link on one network", ""),
+    (
+        "lost",
+        "numbers missing between two frames of a link on one network",
+        "",
+    ),
     ("repeat", "the same number twice running on one network", ""),
-    ("early", "closer than BAG less jitter to the link's frame before", ""),
-    ("alone", "delivered here, while the other network was alive and didn't bring it", ""),
-    ("late", "second of a pair, beyond SkewMax, so delivered twice; within 127 BAG", ""),
-    ("network silent", "64 or more lines of the other network between two of this one", ""),
-    ("trouble", "3 signs or more and one in each 1000 frames, or never seen on a network", ""),
+    (
+        "early",
+        "closer than BAG less jitter to the link's frame before",
+        "",
+    ),
+    (
+        "alone",
+        "delivered here, while the other network was alive and didn't bring it",
+        "",
+    ),
+    (
+        "late",
+        "second of a pair, beyond SkewMax, so delivered twice; within 127 BAG",
+        "",
+    ),
+    (
+        "network silent",
+        "64 or more lines of the other network between two of this one",
+        "",
+    ),
+    (
+        "trouble",
+        "3 signs or more and one in each 1000 frames, or never seen on a network",
+        "",
+    ),
 ];
 
 fn push_group(out: &mut String, title: &str, entries: &[Entry]) -> Result<(), AllocError> {

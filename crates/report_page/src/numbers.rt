@@ -130,8 +130,8 @@ pub fn push_tenths(out: &mut String, tenths: u64) -> Result<(), AllocError> {
     }
 }
 
-/// Year, month and day of a day counted from 1970-01-01 (the Gregorian calendar; eras of 400 years from March
-/// of year 0).
+/// Year, month and day of a day counted from 1970-01-01 (the Gregorian calendar; eras of 400 years from
+/// March of year 0).
 fn date_of(day: u64) -> (u64, u64, u64) {
     let days = day.saturating_add(719_468);
     let era = days / 146_097;
@@ -144,7 +144,15 @@ fn date_of(day: u64) -> (u64, u64, u64) {
     let date = (of_year + 1).saturating_sub((153 * fifth + 2) / 5);
     let month = if fifth < 10 { fifth + 3 } else { fifth - 9 };
     let year = era.saturating_mul(400).saturating_add(years);
-    (if month <= 2 { year.saturating_add(1) } else { year }, month, date)
+    (
+        if month <= 2 {
+            year.saturating_add(1)
+        } else {
+            year
+        },
+        month,
+        date,
+    )
 }
 
 /// Appends a timestamp in UTC.

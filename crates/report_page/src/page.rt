@@ -22,6 +22,15 @@ const BEGIN: &str = r#"<!doctype html><html lang="en"><head><meta charset="utf-8
 <meta name="viewport" content="width=device-width,initial-scale=1"/>
 <title>AFDX recording, "#;
 
+/// What the page says where the ledger doesn't tell sizes.
+const NO_SIZES: &str = "\
+No filter of the table takes every frame whole, so the ledger doesn't tell sizes: loads are left out. ";
+
+/// What every page says at its end.
+const END: &str = "\
+Numbers count to 255 and go on with 1: in a gap of more than 127 numbers lost is a lower bound. \
+This page has no script and fetches nothing.</p></footer></body></html>\n";
+
 fn push_first_things(out: &mut String, view: &View<'_>) -> Result<(), AllocError> {
     out.push_str("<section><h2>What to look at first</h2><ol class=\"find\">")?;
     let count = push_findings(out, view)?;
@@ -41,9 +50,16 @@ fn push_links(out: &mut String, view: &View<'_>) -> Result<(), AllocError> {
     let notice = count_of(&view.ranks, Level::Notice);
     let silent = count_of(&view.ranks, Level::Silent);
     let clean = count_of(&view.ranks, Level::Clean);
-    write!(out, "<section><h2>Links, worst first <small>{trouble} in trouble ")?;
-    out.push_str("(3 signs or more and one in each thousand frames, or never seen on one network), ")?;
-    write!(out, "{notice} notice, {silent} never seen, {clean} clean</small></h2>")?;
+    write!(
+        out,
+        "<section><h2>Links, worst first <small>{trouble} in trouble "
+    )?;
+    out.push_str("(3 signs or more and one in each thousand frames, ")?;
+    out.push_str("or never seen on one network), ")?;
+    write!(
+        out,
+        "{notice} notice, {silent} never seen, {clean} clean</small></h2>"
+    )?;
     push_table(out, view)?;
     out.push_str("</section><section class=\"dets\"><h2>Links in trouble</h2>")?;
     push_strips(out, view)?;
@@ -62,18 +78,11 @@ fn push_foot(out: &mut String, view: &View<'_>) -> Result<(), AllocError> {
     } else {
         NO_SIZES
     })?;
-    out.push_str(LOWER_BOUND)?;
-    out.push_str("This page has no script and fetches nothing.</p></footer></body></html>\n")
+    out.push_str(END)
 }
 
-const NO_SIZES: &str = "\
-No filter of the table takes every frame whole, so the ledger doesn't tell sizes: loads are left out. ";
-
-const LOWER_BOUND: &str = "\
-Numbers count to 255 and go on with 1: in a gap of more than 127 numbers lost is a lower bound. ";
-
-/// The page of a report against its table. `sizes` says whether a filter of the table takes every frame
-/// whole, so that the bytes kept are those of the frames.
+/// The page of a report against its table. `sizes` says whether a filter of the table takes every frame whole, so
+/// that the bytes kept are those of the frames.
 pub fn page_of(
     alloc: Global,
     report: &Report,

@@ -5,7 +5,9 @@ use crate::charts::{
     push_interval_band, push_mirror,
 };
 use crate::head::{first_of, push_pair, push_place};
-use crate::numbers::{push_duration, push_milliseconds, push_number, push_seconds, quotient, share};
+use crate::numbers::{
+    push_duration, push_milliseconds, push_number, push_seconds, quotient, share,
+};
 use crate::ranks::{Level, Rank, level_mark};
 use crate::timeline::end_value;
 use crate::view::{DISCARDS, NETWORKS, STRIPS, View, counts_of, letter_of, other, sum, word_of};
@@ -94,7 +96,10 @@ fn push_bytes(
         },
     )?;
     let percent = share(peak(&a, &b), 100, limit);
-    write!(out, "<span class=\"vl\"><small>peak {percent} %</small></span></div>")
+    write!(
+        out,
+        "<span class=\"vl\"><small>peak {percent} %</small></span></div>"
+    )
 }
 
 /// Appends the band of intervals on a network.
@@ -107,7 +112,13 @@ fn push_band(
 ) -> Result<(), AllocError> {
     let lane = link.lanes.of(network);
     let least = columns(view.alloc, &lane.least_bins, Kind::Least, view.used, per)?;
-    let greatest = columns(view.alloc, &lane.greatest_bins, Kind::Greatest, view.used, per)?;
+    let greatest = columns(
+        view.alloc,
+        &lane.greatest_bins,
+        Kind::Greatest,
+        view.used,
+        per,
+    )?;
     let (label, class) = match network {
         Network::A => ("interval A", "fa"),
         Network::B => ("interval B", "fb"),
@@ -177,8 +188,20 @@ fn push_sign(
     sign: Sign,
     per: usize,
 ) -> Result<(), AllocError> {
-    let a = columns(view.alloc, &link.lanes.a.signs.of(sign).bins, Kind::Sum, view.used, per)?;
-    let b = columns(view.alloc, &link.lanes.b.signs.of(sign).bins, Kind::Sum, view.used, per)?;
+    let a = columns(
+        view.alloc,
+        &link.lanes.a.signs.of(sign).bins,
+        Kind::Sum,
+        view.used,
+        per,
+    )?;
+    let b = columns(
+        view.alloc,
+        &link.lanes.b.signs.of(sign).bins,
+        Kind::Sum,
+        view.used,
+        per,
+    )?;
     let classes = if DISCARDS.contains(&sign) {
         ("xa", "xb")
     } else {
@@ -253,11 +276,17 @@ fn push_facts(out: &mut String, view: &View<'_>, link: &LinkReport) -> Result<()
         if lane.uncovered > 0 {
             out.push_str(" &#183; not counted: ")?;
             push_number(out, lane.uncovered)?;
-            write!(out, " frames of {letter} while {twin} was silent or not recorded")?;
+            write!(
+                out,
+                " frames of {letter} while {twin} was silent or not recorded"
+            )?;
         }
         if lane.out_after_silence > 0 {
             let out_of = lane.out_after_silence;
-            write!(out, " &#183; not counted: {out_of} out on {letter} right after its silence")?;
+            write!(
+                out,
+                " &#183; not counted: {out_of} out on {letter} right after its silence"
+            )?;
         }
         if lane.excess_lead > 0 {
             write!(out, " &#183; an excess on {letter} came ")?;
@@ -329,7 +358,10 @@ pub fn push_strips(out: &mut String, view: &View<'_>) -> Result<(), AllocError> 
     }
     if troubled > STRIPS {
         let more = troubled.saturating_sub(STRIPS);
-        write!(out, "<p class=\"none\">{more} more links in trouble have no strip.</p>")?;
+        write!(
+            out,
+            "<p class=\"none\">{more} more links in trouble have no strip.</p>"
+        )?;
     }
     Ok(())
 }

@@ -30,13 +30,19 @@ fn push_head(out: &mut String, view: &View<'_>) -> Result<(), AllocError> {
     let copies = all.copy;
     out.push_str("length ")?;
     push_moment(out, view, view.report.end)?;
-    writeln!(out, ", frames {frames}, delivered {delivered}, copies {copies}")?;
+    writeln!(
+        out,
+        ", frames {frames}, delivered {delivered}, copies {copies}"
+    )?;
     let links = view.ranks.len();
     let trouble = count_of(&view.ranks, Level::Trouble);
     let notice = count_of(&view.ranks, Level::Notice);
     let silent = count_of(&view.ranks, Level::Silent);
     let clean = count_of(&view.ranks, Level::Clean);
-    write!(out, "links {links}: {trouble} in trouble, {notice} notice, ")?;
+    write!(
+        out,
+        "links {links}: {trouble} in trouble, {notice} notice, "
+    )?;
     writeln!(out, "{silent} never seen, {clean} clean")?;
     if !view.report.whole {
         out.push_str("the ledger is not whole: it has no line total\n")?;

@@ -6,7 +6,7 @@ use crate::numbers::{push_milliseconds, push_number, push_tenths};
 use crate::ranks::{Level, Rank, TROUBLES, count_of, frames_of, level_mark, level_word};
 use crate::view::{ROWS, View, counts_of, sum};
 use afdx_frame::Network;
-use ledger_report::{LinkReport, Sides, Sign};
+use ledger_report::{Lane, LinkReport, Sides, Sign};
 use std::alloc::AllocError;
 use std::fmt::Write;
 use vl_config::Link;
@@ -16,22 +16,34 @@ const MAP_COLUMNS: usize = 128;
 /// How many links in trouble without a row are named.
 const NAMED: usize = 512;
 
-/// In which columns a link has signs of trouble: 1 there, 0 elsewhere.
-fn marks_of(
+/// Marks the columns that a sign of the lane has.
+fn mark_columns(
+    marks: &mut [u64],
     view: &View<'_>,
-    link: &LinkReport,
+    lane: &Lane,
+    sign: Sign,
     per: usize,
-    count: usize,
-) -> Result<Vec<u64>, AllocError> {
-    let mut marks = Vec::new(view.alloc);
-    marks.resize(count, 0u64)?;
+) -> Result<(), AllocError> {
+    let bins = columns(
+        view.alloc,
+        &lane.signs.of(sign).bins,
+        Kind::Sum,
+        view.used,
+        per,
+    )?;
+    for (mark, value) in marks.iter_mut().zip(bins.iter()) {
+        *mark = (*mark).max((*value).min(1));
+    }
+    Ok(())
+}
+
+/// By column, 1 where a sign counts against the link.
+fn marks_of(view: &View<'_>, link: &LinkReport, per: usize) -> Result<Vec<u64>, AllocError> {
+    let none = &link.lanes.a.signs.of(Sign::Cut).bins;
+    let mut marks = columns(view.alloc, none, Kind::Sum, view.used, per)?;
     for sign in TROUBLES {
-        for lane in [&link.lanes.a, &link.lanes.b] {
-            let bins = columns(view.alloc, &lane.signs.of(sign).bins, Kind::Sum, view.used, per)?;
-            for (mark, value) in marks.iter_mut().zip(bins.iter()) {
-                *mark = (*mark).max((*value).min(1));
-            }
-        }
+        mark_columns(marks.as_mut_slice(), view, &link.lanes.a, sign, per)?;
+        mark_columns(marks.as_mut_slice(), view, &link.lanes.b, sign, per)?;
     }
     Ok(marks)
 }
@@ -41,7 +53,7 @@ fn push_spark(out: &mut String, view: &View<'_>, link: &LinkReport) -> Result<()
     let per = view.column(link).max(2);
     let a = columns(view.alloc, &link.lanes.a.lines, Kind::Sum, view.used, per)?;
     let b = columns(view.alloc, &link.lanes.b.lines, Kind::Sum, view.used, per)?;
-    let marks = marks_of(view, link, per, a.len())?;
+    let marks = marks_of(view, link, per)?;
     let used = view.used;
     write!(out, "<svg class=\"g sp\" viewBox=\"0 0 {used} 28\"")?;
     out.push_str(" style=\"--h:28px\" preserveAspectRatio=\"none\" role=\"img\">")?;
@@ -89,11 +101,7 @@ fn push_counts(out: &mut String, counts: &Sides<u64>) -> Result<(), AllocError> 
 }
 
 /// Appends a cell of counts, or `off` where the rule is off for the link.
-fn push_counts_if(
-    out: &mut String,
-    on: bool,
-    counts: &Sides<u64>,
-) -> Result<(), AllocError> {
+fn push_counts_if(out: &mut String, on: bool, counts: &Sides<u64>) -> Result<(), AllocError> {
     if on {
         push_counts(out, counts)
     } else {
@@ -158,7 +166,10 @@ fn push_row(
     let mark = level_mark(rank.level);
     let id = configured.id.0;
     let name = configured.name.as_str();
-    write!(out, "<tr class=\"{level}\"><td>{mark}</td><td class=\"r id\">{id}</td>")?;
+    write!(
+        out,
+        "<tr class=\"{level}\"><td>{mark}</td><td class=\"r id\">{id}</td>"
+    )?;
     if has_strip(view, rank, at) {
         write!(out, "<td class=\"nm\"><a href=\"#v{id}\">{name}</a></td>")?;
     } else {
@@ -251,7 +262,9 @@ fn push_squares(out: &mut String, levels: &[Level], level: Level) -> Result<(), 
     for (index, held) in levels.iter().enumerate() {
         if *held == level {
             let x = (index % MAP_COLUMNS) * 10 + inset;
-            let y = (index / MAP_COLUMNS).saturating_mul(10).saturating_add(inset);
+            let y = (index / MAP_COLUMNS)
+                .saturating_mul(10)
+                .saturating_add(inset);
             write!(out, "M{x} {y}h{side}v{side}h-{side}z")?;
         }
     }
@@ -273,7 +286,10 @@ fn push_map(out: &mut String, view: &View<'_>) -> Result<(), AllocError> {
     }
     let width = MAP_COLUMNS * 10;
     let height = levels.len().div_ceil(MAP_COLUMNS).saturating_mul(10);
-    write!(out, "</h3><svg class=\"rest\" viewBox=\"0 0 {width} {height}\">")?;
+    write!(
+        out,
+        "</h3><svg class=\"rest\" viewBox=\"0 0 {width} {height}\">"
+    )?;
     for level in [Level::Trouble, Level::Notice, Level::Silent, Level::Clean] {
         push_squares(out, &levels, level)?;
     }
@@ -286,7 +302,9 @@ fn push_rest(out: &mut String, view: &View<'_>) -> Result<(), AllocError> {
     for rank in view.ranks.iter().skip(ROWS) {
         if rank.level == Level::Trouble {
             if named == 0 {
-                out.push_str("<p class=\"ids\">In trouble without a row above, by id, worst first:")?;
+                out.push_str(
+                    "<p class=\"ids\">In trouble without a row above, by id, worst first:",
+                )?;
             }
             if named < NAMED {
                 if let Some((_, link)) = view.link(rank.index) {
@@ -301,7 +319,11 @@ fn push_rest(out: &mut String, view: &View<'_>) -> Result<(), AllocError> {
         let more = named.saturating_sub(NAMED);
         write!(out, " and {more} more")?;
     }
-    if named > 0 { out.push_str("</p>") } else { Ok(()) }
+    if named > 0 {
+        out.push_str("</p>")
+    } else {
+        Ok(())
+    }
 }
 
 /// Appends the table, and a map where it doesn't have all links.

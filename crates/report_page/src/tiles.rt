@@ -32,7 +32,10 @@ fn push_links(out: &mut String, view: &View<'_>) -> Result<(), AllocError> {
     begin_tile(out, "Links", trouble > 0, "")?;
     write!(out, "{trouble}<small> of {links} in trouble</small>")?;
     middle_tile(out)?;
-    write!(out, "{notice} notice &#183; {silent} never seen &#183; {clean} clean")?;
+    write!(
+        out,
+        "{notice} notice &#183; {silent} never seen &#183; {clean} clean"
+    )?;
     end_tile(out)
 }
 

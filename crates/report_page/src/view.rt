@@ -9,6 +9,7 @@ use vl_config::{Config, Link};
 
 /// Links beyond these have no row of their own, and those in trouble beyond these no strip.
 pub const ROWS: usize = 64;
+
 pub const STRIPS: usize = 12;
 /// The most sentences of what to look at first.
 pub const SENTENCES: usize = 20;
@@ -139,7 +140,8 @@ impl<'a> View<'a> {
     pub fn column(&self, link: &LinkReport) -> usize {
         let mut column = 1usize;
         for _ in 0..8 {
-            let long = (column as u64).saturating_mul(self.report.width) >= link.bag.saturating_mul(4);
+            let long = (column as u64).saturating_mul(self.report.width)
+                >= link.bag.saturating_mul(4);
             if long || quotient(self.used as u64, (column as u64).saturating_mul(2)) < 30 {
                 break;
             }
@@ -166,4 +168,3 @@ pub fn sum(counts: &Sides<u64>) -> u64 {
 pub fn text(alloc: Global) -> Result<String, AllocError> {
     String::from_str(alloc, "")
 }
-
