@@ -23,29 +23,17 @@ _afdxmon() {
     fi
     COMPREPLY=()
     if [ "$i" -eq 1 ]; then
-<<<<<<< HEAD
-        _afdxmon_words 'watch capture debug cut links asm help -h --help -V --version' "$current"
+        _afdxmon_words 'watch capture debug cut links report asm help -h --help -V --version' "$current"
         return
     fi
     case ${COMP_WORDS[1]} in
-        watch | capture | debug | cut | links)
-=======
-        _afdxmon_words 'watch capture debug cut report asm help -h --help -V --version' "$current"
-        return
-    fi
-    case ${COMP_WORDS[1]} in
-        watch | capture | debug | cut | report)
->>>>>>> report
+        watch | capture | debug | cut | links | report)
             case $previous in
                 --workers) _afdxmon_words '1 2 3 4 5 6 7 8' "$current"; return ;;
                 --network) _afdxmon_words 'A B' "$current"; return ;;
                 --verdict) _afdxmon_words "$verdicts" "$current"; return ;;
-                --code | --link | --from | --to | --filters | --around) return ;;
-<<<<<<< HEAD
-                --quiet | --pcapng | --ledger-only | --help) ;;
-=======
-                --quiet | --ledger-only | --json | --help) ;;
->>>>>>> report
+                --code | --link | --from | --to | --filters | --around | --constant) return ;;
+                --quiet | --pcapng | --ledger-only | --json | --help) ;;
                 -o | --*) _afdxmon_files "$current"; return ;;
             esac
             ;;
@@ -62,11 +50,7 @@ _afdxmon() {
             ;;
         report:-*) _afdxmon_words '--config --ledger --json -o --output -h --help' "$current" ;;
         asm:-*) _afdxmon_words '-h --help' "$current" ;;
-<<<<<<< HEAD
-        help:*) _afdxmon_words 'watch capture debug cut links asm help' "$current" ;;
-=======
-        help:*) _afdxmon_words 'watch capture debug cut report asm help' "$current" ;;
->>>>>>> report
+        help:*) _afdxmon_words 'watch capture debug cut links report asm help' "$current" ;;
         capture:*) _afdxmon_files "$current" ;;
     esac
 }

@@ -9,11 +9,8 @@ complete -c afdxmon -n $commands -a watch -d 'Judge the frames of two recordings
 complete -c afdxmon -n $commands -a capture -d 'Copy the frames that a filter accepts'
 complete -c afdxmon -n $commands -a debug -d 'Step through a filter on the frames of a recording'
 complete -c afdxmon -n $commands -a cut -d "Copy the frames that a ledger's lines select"
-<<<<<<< HEAD
 complete -c afdxmon -n $commands -a links -d 'Draft a table of virtual links from recordings'
-=======
 complete -c afdxmon -n $commands -a report -d 'Write a page on what a ledger says'
->>>>>>> report
 complete -c afdxmon -n $commands -a asm -d "Assemble a filter's source"
 complete -c afdxmon -n $commands -a help -d 'Print the help of a command'
 
@@ -57,15 +54,13 @@ complete -c afdxmon -n $cut -l pcapng -d 'Write pcapng, with verdicts as comment
 complete -c afdxmon -n $cut -l ledger-only -d 'Print lines in place of packets'
 complete -c afdxmon -n $cut -s o -l output -r -F -d 'The file to write'
 
-<<<<<<< HEAD
 set -l links '__fish_seen_subcommand_from links'
 complete -c afdxmon -n $links -l a -r -F -d 'The recording of network A'
 complete -c afdxmon -n $links -l b -r -F -d 'The recording of network B'
 complete -c afdxmon -n $links -l constant -x -d 'The constant field of the links'
-=======
+
 set -l report '__fish_seen_subcommand_from report'
 complete -c afdxmon -n $report -l config -r -F -d 'The table of virtual links'
 complete -c afdxmon -n $report -l ledger -r -F -d 'The ledger'
 complete -c afdxmon -n $report -l json -d 'Write the numbers as JSON'
 complete -c afdxmon -n $report -s o -l output -r -F -d 'The page to write'
->>>>>>> report

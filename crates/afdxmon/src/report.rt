@@ -62,8 +62,9 @@ pub fn report(rt: &HostRuntime, given: &ReportArguments<'_>) -> Result<Ended, Re
     let config = read_config(rt.alloc(), &table)?;
     let ledger = open(rt, given.ledger, FileOption::Ledger)?;
     refuse_shared_report(rt, given)?;
-    let report =
-        read_report(rt.alloc(), &config, ReadSource::new(ledger)).map_err(|fault| fault_of(fault))?;
+    let report = read_report(rt.alloc(), &config, ReadSource::new(ledger)).map_err(|fault| fault_of(
+        fault,
+    ))?;
     let text = text_for(rt, given, &report, &config)?;
     let mut output = create(rt, given.output, FileOption::Output)?;
     let written = output.write_all(text.as_bytes()).is_ok();

@@ -81,8 +81,8 @@ fn push_foot(out: &mut String, view: &View<'_>) -> Result<(), AllocError> {
     out.push_str(END)
 }
 
-/// The page of a report against its table. `sizes` says whether a filter of the table takes every frame whole, so
-/// that the bytes kept are those of the frames.
+/// The page of a report against its table. `sizes` says whether a filter of the table takes every frame
+/// whole, so that the bytes kept are those of the frames.
 pub fn page_of(
     alloc: Global,
     report: &Report,
