@@ -1,5 +1,5 @@
-//! Captures as pcapng: what a command writes as pcap becomes blocks, and each packet of `watch` and of `cut` gets
-//! the verdict of its line in the ledger as a comment.
+//! Captures as pcapng: what a command writes as pcap becomes blocks, and each packet of `watch` and of `cut`
+//! gets the verdict of its line in the ledger as a comment.
 use crate::live::Blocks;
 use afdx_frame::{LentFrame, Network, Stamp};
 use analyser::LineObserver;

@@ -25,7 +25,8 @@ pub fn append(bytes: &mut Vec<u8>, part: &[u8])
 /// Appends bytes, and zeros up to a multiple of 4 of them.
 #[inline(always)]
 pub fn append_padded(bytes: &mut Vec<u8>, part: &[u8])
-    requires { vec_len bytes.old + (length part.now + padding_len (length part.now)) ≤ vec_capacity bytes.old }
+    requires { vec_len bytes.old + (length part.now + padding_len (length part.now))
+        ≤ vec_capacity bytes.old }
     ensures items { bytes.new.items ≡ bytes.old.items ++ padded part.now }
     ensures capacity { vec_capacity bytes.old ≤ vec_capacity bytes.new }
 {
