@@ -5,8 +5,8 @@ ghost use Rattle.pcapng_writer.specs.declared.comment.TheConstants.{MAX_COMMENT_
 /// The most bytes of a comment: its option counts them in 16 bits.
 pub const MAX_COMMENT_LEN: usize = 65_535;
 
-/// The comment of a packet, the option `opt_comment` of its block. The format has UTF-8, without a zero at
-/// the end.
+/// The comment of a packet, the option `opt_comment` of its block. The format has it in UTF-8, without a zero
+/// at the end.
 #[derive(Clone, Copy, Debug)]
 pub struct Comment<'a> {
     text: &'a [u8],
