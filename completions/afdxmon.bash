@@ -32,7 +32,7 @@ _afdxmon() {
                 --workers) _afdxmon_words '1 2 3 4 5 6 7 8' "$current"; return ;;
                 --network) _afdxmon_words 'A B' "$current"; return ;;
                 --verdict) _afdxmon_words "$verdicts" "$current"; return ;;
-                --code | --link | --from | --to | --filters | --around) return ;;
+                --code | --link | --from | --to | --filters | --around | --constant) return ;;
                 --quiet | --ledger-only | --help) ;;
                 -o | --*) _afdxmon_files "$current"; return ;;
             esac
