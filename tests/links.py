@@ -9,14 +9,17 @@ import re
 import struct
 import subprocess
 import tempfile
+from itertools import accumulate
 
-from harness import FAULT, SUCCESS, difference, frame, header, record, run, say
+from harness import EVERY, FAULT, SUCCESS, difference, frame, header, record, run, say
 from reference import parse
 
 MS = 10**6
 BAGS = [MS << power for power in range(8)]
 GROUP = 0x03000000
 START = 1_700_000_000 * 10**9
+# How far a timestamp may lie below one before it.
+LATE = 10**9
 HEAD = """\
 # A draft of the table of virtual links: what was seen in recordings, and not what was specified.
 # Check each value against the ICD.
@@ -122,11 +125,13 @@ def link_text(link, frames):
 
 def draft(a, b, wanted=None):
     """The draft of two recordings, each bytes or None."""
-    text, frames, unusable = HEAD, [], 0
+    text, frames, unusable, late = HEAD, [], 0, 0
     for network, recording in (("A", a), ("B", b)):
         if recording is None:
             continue
-        found, ending = parse(recording)
+        found, ending = parse(recording, LATE)
+        stamps = [stamp for stamp, _, _ in found]
+        late = max([late, *(high - stamp for high, stamp in zip(accumulate(stamps, max), stamps))])
         kind, count = ending.split()[:2]
         text += ENDINGS[kind].format(network, count)
         frames += [(stamp, network, k, length, data) for k, (stamp, length, data) in enumerate(found)]
@@ -150,6 +155,7 @@ def draft(a, b, wanted=None):
         text += f"# Another constant field: {constant}, in {len(of)} frames.\n" if constant != main else ""
     text += f"# {strays} frames have further constant fields.\n" if strays else ""
     text += f"\nconstant = {main}  # {len(fields[main])} frames\n"
+    text += f"late_us = {-(-late // 1000)}  # a frame came so much after one of a later timestamp\n" if late else ""
     links = {}
     for link, network, stamp, length, number in fields[main]:
         links.setdefault(link, []).append((network, stamp, length, number))
@@ -194,6 +200,13 @@ def pairs():
         yield name, sent(chance, few, 200, **how)
     a, b = sent(chance, few, 100)
     other = header() + b"".join(record(START + k, b"\x07" + frame(5, 80, 1)[1:]) for k in range(20))
+    for by in (1, 1000, 1001, LATE - 1, LATE, LATE + 1):
+        last = parse(a)[0][-1][0]
+        yield f"the last timestamp {by} ns late", (a + record(last - by, frame(few[0][0], 60, 9)), b)
+    yield "taps of several queues", [
+        header() + b"".join(record(stamp, data) for stamp, _, data in sorted(parse(one)[0], key=lambda f: f[0] + chance.randrange(3 * MS)))
+        for one in (a, b)
+    ]
     yield "networks swapped", (b, a)
     yield "one recording for both networks", (a, a)
     yield "network A alone", (a, None)
@@ -229,6 +242,31 @@ def judged(work, name, text, a, b):
     say(f"links: watch with the draft, {name}", f"status {ran.returncode}" if ran.returncode else " ".join(sorted(found)))
 
 
+def constants(work):
+    """The constant field that the draft is to have."""
+    path = os.path.join(work, "a")
+    data = header() + b"".join(record(START + k * MS, bytes([3 + 4 * (k % 3 == 0)]) + frame(k % 7, 80, k)[1:]) for k in range(60))
+    with open(path, "wb") as file:
+        file.write(data)
+    for text, constant in (("0x03000000", GROUP), ("50331648", GROUP), ("0x07000000", 0x07000000), ("117440512", 0x07000000), ("0xffffffff", 2**32 - 1)):
+        ran = run(["links", "--a", path, "--constant", text], stdout=subprocess.PIPE)
+        say(f"links: --constant {text}", difference(ran, SUCCESS, "", draft(data, None, constant).encode()))
+    for text in ("5", "0x", "", "0x01000000", "0x100000000", "4294967296", "-1", "3 0", "0x3g"):
+        ran = run(["links", "--a", path, f"--constant={text}"], stdout=subprocess.PIPE)
+        say(f"links: --constant '{text}' is refused", difference(ran, FAULT, "afdxmon: links 1 Constant", b""))
+
+
+def of_pcapng(work):
+    """A pcapng recording has the draft of the pcap file that it was made of."""
+    paths = [os.path.join(work, name) for name in ("in.pcap", "in.pcapng")]
+    (data, _) = sent(random.Random(12), table(random.Random(13), 9), 50)
+    with open(paths[0], "wb") as file:
+        file.write(data)
+    run(["capture", "--code", EVERY, paths[0], "-o", paths[1], "--pcapng"], stdout=subprocess.PIPE)
+    ran = run(["links", "--a", paths[1]], stdout=subprocess.PIPE)
+    say("links: a pcapng recording", difference(ran, SUCCESS, "", draft(data, None).encode()))
+
+
 def cases():
     with tempfile.TemporaryDirectory() as work:
         for name, (a, b) in pairs():
@@ -245,5 +283,5 @@ def cases():
             note = (lambda told: told.startswith("afdxmon: note: ")) if early else ""
             say(f"links: {name}", difference(ran, SUCCESS, note, text.encode()))
             judged(work, name, text, a, b)
-        ran = run(["links", "--a", os.path.join(work, "a"), "--constant", "5"], stdout=subprocess.PIPE)
-        say("links: a constant field without the group bits", difference(ran, FAULT, lambda told: told.startswith("afdxmon: links 1 Constant"), b""))
+        constants(work)
+        of_pcapng(work)

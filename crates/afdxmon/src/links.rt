@@ -3,9 +3,9 @@ use crate::interface::{Choices, Skipped};
 use crate::{Ended, NO_RUN, Refused, open_tap, recording_of, refuse_several_of_both};
 use afdx_frame::Network;
 use analyser::{Exit, Fault, FileOption, LinksArguments};
-use link_draft::{Endings, draft_of};
+use link_draft::{Recordings, draft_of};
 use pcap_io::{Ending, ReadSource};
-use survey_run::{Survey, SurveyRun, survey_recordings};
+use survey_run::{Recorded, Survey, SurveyRun, survey_recordings};
 
 /// The bits that a constant field has set (ARINC 664 Part 7).
 const GROUP_BITS: u32 = 0x0300_0000;
@@ -40,18 +40,18 @@ fn print_draft(
     rt: &HostRuntime,
     given: &LinksArguments<'_>,
     survey: &Survey,
-    a: Ending,
-    b: Ending,
+    a: Recorded,
+    b: Recorded,
 ) -> Exit {
-    let endings = Endings {
+    let recordings = Recordings {
         a: given.a.map(|_| a),
         b: given.b.map(|_| b),
     };
-    let Ok(draft) = draft_of(rt.alloc(), survey, endings) else {
+    let Ok(draft) = draft_of(rt.alloc(), survey, recordings) else {
         return Exit::Fault(NO_RUN);
     };
     match rt.print(&draft) {
-        Ok(()) => exit_of(a, b),
+        Ok(()) => exit_of(a.ending, b.ending),
         Err(_) => Exit::Fault(Fault::File(FileOption::Standard)),
     }
 }

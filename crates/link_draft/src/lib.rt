@@ -7,4 +7,4 @@ mod estimate;
 mod text;
 
 pub use estimate::Estimate;
-pub use text::{Endings, draft_of};
+pub use text::{Recordings, draft_of};

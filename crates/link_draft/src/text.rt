@@ -7,13 +7,22 @@ use afdx_frame::{Stamp, VlId};
 use link_estimate::{Arrivals, BAGS};
 use pcap_io::Ending;
 use std::alloc::{AllocError, Global};
-use survey_run::{Field, LinkSurvey, Survey};
+use survey_run::{Field, LinkSurvey, Recorded, Survey};
 
-/// How the recordings of networks A and B ended. None: there is none.
+/// How the recordings of networks A and B were read. None: there is none.
 #[derive(Clone, Copy, Debug)]
-pub struct Endings {
-    pub a: Option<Ending>,
-    pub b: Option<Ending>,
+pub struct Recordings {
+    pub a: Option<Recorded>,
+    pub b: Option<Recorded>,
+}
+
+impl Recordings {
+    /// How far a timestamp lies below the greatest one before it, in microseconds, rounded up.
+    fn late_us(&self) -> u64 {
+        let a = self.a.map_or(0, |a| a.late);
+        let b = self.b.map_or(0, |b| b.late);
+        a.max(b).div_ceil(1000)
+    }
 }
 
 const HEADER: &str = "\
@@ -26,11 +35,15 @@ const HEADER: &str = "\
 /// # Errors
 ///
 /// `AllocError` if the system is out of memory.
-pub fn draft_of(alloc: Global, survey: &Survey, endings: Endings) -> Result<String, AllocError> {
+pub fn draft_of(
+    alloc: Global,
+    survey: &Survey,
+    recordings: Recordings,
+) -> Result<String, AllocError> {
     let mut text = String::new(alloc);
     text.push_str(HEADER)?;
-    write_ending(&mut text, "A", endings.a)?;
-    write_ending(&mut text, "B", endings.b)?;
+    write_ending(&mut text, "A", recordings.a)?;
+    write_ending(&mut text, "B", recordings.b)?;
     if survey.unusable() > 0 {
         let unusable = survey.unusable();
         write!(
@@ -45,6 +58,13 @@ pub fn draft_of(alloc: Global, survey: &Survey, endings: Endings) -> Result<Stri
         return Ok(text);
     };
     write_constants(&mut text, survey, main)?;
+    let late = recordings.late_us();
+    if late > 0 {
+        write!(
+            text,
+            "late_us = {late}  # a frame came so much after one of a later timestamp\n"
+        )?;
+    }
     for id in 0u16..=u16::MAX {
         if let Some(link) = main.links.link(VlId(id)) {
             write_link(&mut text, link)?;
@@ -56,9 +76,9 @@ pub fn draft_of(alloc: Global, survey: &Survey, endings: Endings) -> Result<Stri
 fn write_ending(
     text: &mut String,
     network: &str,
-    ending: Option<Ending>,
+    recorded: Option<Recorded>,
 ) -> Result<(), AllocError> {
-    match ending {
+    match recorded.map(|recorded| recorded.ending) {
         None => Ok(()),
         Some(Ending::Clean(frames)) => { write!(text, "# Network {network}: {frames} frames.\n") }
         Some(Ending::Cut(frames)) => {

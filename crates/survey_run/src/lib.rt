@@ -1,7 +1,8 @@
 //! One pass over one or two recordings, and what it says of each virtual link (ARINC 664 Part 7).
 //!
 //! Frames of both recordings come in the order of timestamp, network and number. Memory is bounded by links
-//! and never by frames: a link costs some 10 KB from its first frame on.
+//! and by the frames of a second, since a timestamp may lie so far below one before it: a link costs some 10 KB
+//! from its first frame on.
 #![tactic(auto)]
 
 mod links;
@@ -9,5 +10,5 @@ mod run;
 mod survey;
 
 pub use links::{LinkSurvey, Links, MAX_LINKS};
-pub use run::{SurveyRun, survey_recordings};
+pub use run::{Recorded, SurveyRun, survey_recordings};
 pub use survey::{Field, MAX_CONSTANTS, Survey};

@@ -4,81 +4,126 @@ ghost use Rattle.std.specs.Prelude.{◌≡◌};
 
 use crate::survey::Survey;
 use afdx_frame::{Network, TapFrame};
+use ordered_merge::Merger;
 use pcap_io::{Ending, Item, OpenRefused, ReadFault, TapReader, TapSource};
 use run_outcome::{MAX_FRAMES, WatchFault, fault_of_open};
 use std::alloc::Global;
 
+/// How far a timestamp may lie below the greatest one before it in its recording, in nanoseconds: a second, as
+/// far as the window of a table reaches.
+const LATE: u64 = 1_000_000_000;
+
+/// How many frames are read, and how many are counted, in one go.
+const ROUND: usize = 1024;
+
+/// How a recording was read.
+#[derive(Clone, Copy, Debug)]
+pub struct Recorded {
+    pub ending: Ending,
+    /// How far, in nanoseconds, a timestamp lies below the greatest one before it, at most.
+    pub late: u64,
+}
+
 /// A survey that has ended, with the sources that it was given.
 #[derive(Debug, Drop)]
 pub struct SurveyRun<S, T> {
-    /// What was seen, and how the recordings of networks A and B ended, or why the survey was aborted.
-    pub outcome: Result<(Survey, Ending, Ending), WatchFault>,
+    /// What was seen, and how the recordings of networks A and B were read, or why the survey was aborted.
+    pub outcome: Result<(Survey, Recorded, Recorded), WatchFault>,
     /// The source of network A.
     pub a: S,
     /// The source of network B.
     pub b: T,
 }
 
-/// A recording and its next frame.
+/// A recording, and how it was read so far.
 #[derive(Drop)]
 struct Tap<S> {
     network: Network,
     reader: TapReader<S>,
-    head: Option<TapFrame>,
-    ending: Ending,
+    greatest: u64,
+    recorded: Recorded,
 }
 
 impl<S: TapSource> Tap<S> {
     fn open(source: S, network: Network) -> Result<Tap<S>, (WatchFault, S)> {
-        match TapReader::open(source, network, MAX_FRAMES, 0) {
+        match TapReader::open(source, network, MAX_FRAMES, LATE) {
             Ok(reader) => Ok(Tap {
                 network,
                 reader,
-                head: None,
-                ending: Ending::Clean(0),
+                greatest: 0,
+                recorded: Recorded {
+                    ending: Ending::Clean(0),
+                    late: 0,
+                },
             }),
             Err(OpenRefused { source, fault }) => Err((fault_of_open(network, fault), source)),
         }
     }
 
-    /// Reads the next frame, or the ending.
+    /// Reads the next frame into the merger, or that there is none.
     #[inline]
-    fn advance(&mut self, alloc: Global) -> Result<(), WatchFault> {
+    fn advance(&mut self, alloc: Global, merger: &mut Merger) -> Result<(), WatchFault> {
         match self.reader.next(alloc) {
-            Ok(Item::Frame(frame)) => self.head = Some(frame),
+            Ok(Item::Frame(frame)) => self.hand_on(frame, merger),
             Ok(Item::End(ending)) => {
-                self.head = None;
-                self.ending = ending;
+                self.recorded.ending = ending;
+                merger.end(self.network);
+                Ok(())
             }
-            Err(ReadFault::Memory) => return Err(WatchFault::Memory),
-            Err(ReadFault::Device | ReadFault::Failed) => {
-                return Err(WatchFault::Read {
-                    network: self.network,
-                });
-            }
+            Err(ReadFault::Memory) => Err(WatchFault::Memory),
+            Err(ReadFault::Device | ReadFault::Failed) => Err(WatchFault::Read {
+                network: self.network,
+            }),
         }
-        Ok(())
     }
 
-    /// Counts the next frame, and reads on.
     #[inline]
-    fn pass(&mut self, alloc: Global, survey: &mut Survey) -> Result<(), WatchFault> {
-        if let Some(frame) = &self.head {
-            survey.see(alloc, frame)?;
+    fn hand_on(&mut self, frame: TapFrame, merger: &mut Merger) -> Result<(), WatchFault> {
+        let stamp = frame.stamp().0;
+        let late = self.greatest.saturating_sub(stamp);
+        self.recorded.late = self.recorded.late.max(late);
+        self.greatest = self.greatest.max(stamp);
+        if !merger.can_fetch(&frame) {
+            // The reader has the merger's window, so this is not met.
+            return Err(WatchFault::Read {
+                network: self.network,
+            });
         }
-        self.advance(alloc)
+        match merger.fetch(frame) {
+            Ok(()) => Ok(()),
+            Err(_) => Err(WatchFault::Memory),
+        }
     }
 }
 
-/// The network whose frame comes next in the order of timestamp, network and number. None: both have ended.
-#[inline]
-fn next_network(a: Option<&TapFrame>, b: Option<&TapFrame>) -> Option<Network> {
-    match (a, b) {
-        (Some(a), Some(b)) if b.stamp() < a.stamp() => Some(Network::B),
-        (Some(_), _) => Some(Network::A),
-        (None, Some(_)) => Some(Network::B),
-        (None, None) => None,
+/// Reads the next frames of the recording that lags. Have both ended?
+fn fetch_round<S: TapSource, T: TapSource>(
+    alloc: Global,
+    a: &mut Tap<S>,
+    b: &mut Tap<T>,
+    merger: &mut Merger,
+) -> Result<bool, WatchFault> {
+    for _ in 0..ROUND {
+        match merger.wants() {
+            Some(Network::A) => a.advance(alloc, merger)?,
+            Some(Network::B) => b.advance(alloc, merger)?,
+            None => return Ok(true),
+        }
     }
+    Ok(false)
+}
+
+/// Counts the next frames that none may precede any more. Were there any?
+fn see_round(
+    alloc: Global,
+    merger: &mut Merger,
+    survey: &mut Survey,
+) -> Result<bool, WatchFault> {
+    let round = merger.cut(ROUND)?;
+    for frame in &round {
+        survey.see(alloc, frame)?;
+    }
+    Ok(!round.is_empty())
 }
 
 /// Counts the frames of both recordings up to their endings.
@@ -89,19 +134,20 @@ fn survey_both<S: TapSource, T: TapSource>(
     b: &mut Tap<T>,
 ) -> Result<Survey, WatchFault> {
     let mut survey = Survey::new(alloc, wanted);
-    a.advance(alloc)?;
-    b.advance(alloc)?;
+    let mut merger = Merger::new(alloc, LATE);
     for _ in 0..u64::MAX {
-        match next_network(a.head.as_ref(), b.head.as_ref()) {
-            Some(Network::A) => a.pass(alloc, &mut survey)?,
-            Some(Network::B) => b.pass(alloc, &mut survey)?,
-            None => break,
+        let have_ended = fetch_round(alloc, a, b, &mut merger)?;
+        if !see_round(alloc, &mut merger, &mut survey)? && have_ended {
+            break;
         }
     }
     Ok(survey)
 }
 
 /// Reads both recordings to their endings, once, and says what was seen. Both sources come back.
+///
+/// Timestamps may lie up to a second below the greatest one before them: the frames of so much time wait in
+/// memory.
 ///
 /// # Errors
 ///
@@ -133,7 +179,7 @@ pub fn survey_recordings<S: TapSource, T: TapSource>(
         }
     };
     let outcome = match survey_both(alloc, wanted, &mut a, &mut b) {
-        Ok(survey) => Ok((survey, a.ending, b.ending)),
+        Ok(survey) => Ok((survey, a.recorded, b.recorded)),
         Err(fault) => Err(fault),
     };
     SurveyRun {
