@@ -261,7 +261,9 @@ fn push_squares(out: &mut String, levels: &[Level], level: Level) -> Result<(), 
     write!(out, "<path class=\"{class}\" d=\"")?;
     for (index, held) in levels.iter().enumerate() {
         if *held == level {
-            let x = (index % MAP_COLUMNS) * 10 + inset;
+            let x = (index % MAP_COLUMNS)
+                .saturating_mul(10)
+                .saturating_add(inset);
             let y = (index / MAP_COLUMNS)
                 .saturating_mul(10)
                 .saturating_add(inset);
