@@ -46,6 +46,20 @@ fn first_packet(bytes: &[u8], network: Network) -> Option<(LentFrame<'_>, usize)
     Some((frame, end))
 }
 
+/// The bytes from an index on.
+fn rest_of(bytes: &[u8], from: usize) -> &[u8] {
+    bytes.get(from..).unwrap_or(&[])
+}
+
+/// The text as a packet's comment, if the packet has a line.
+fn comment_of(text: &[u8], line: Option<FrameLine>) -> Option<Comment<'_>> {
+    if line.is_some() {
+        Comment::new(text)
+    } else {
+        None
+    }
+}
+
 /// What joins packets with lines, and writes them.
 #[derive(Drop)]
 struct Annotator<'a> {
@@ -91,11 +105,9 @@ impl Annotator<'_> {
         if let Some(line) = &line {
             append_comment(&mut self.text, self.config, line)?;
         }
-        let (network, comment) = match line {
-            Some(line) => (line.network, Comment::new(&self.text)),
-            None => (Network::A, None),
-        };
-        let packets = self.packets.get(self.from..).unwrap_or(&[]);
+        let network = line.map_or(Network::A, |line| line.network);
+        let comment = comment_of(&self.text, line);
+        let packets = rest_of(&self.packets, self.from);
         let Some((frame, len)) = first_packet(packets, network) else {
             return Ok(None);
         };
