@@ -213,6 +213,8 @@ def faults(desk):
     told.append(twice("a run", "watch 1 Workers", "", [*desk.arguments(), "--workers", "9"], stdin=subprocess.DEVNULL))
     told += sessions(desk)
     told += captures(desk)
+    told += reports(desk)
+    told.append(twice("a draft", "links 1 Constant", "", ["links", "--a", desk.paths["a"], "--constant", "5"], stdin=subprocess.DEVNULL))
     told += little_memory(desk)
     for key in ADVICE:
         if not any((line + " ").startswith(key) for line in told):
@@ -313,6 +315,29 @@ def captures(desk):
         ("asm 1 Text 3 Form at 13", f"{source}:2:5\nret x\n    ^\n", ["--source", source, tap]),
     ):
         told.append(twice("a capture", line, lead, ["capture", *arguments], stdin=subprocess.DEVNULL))
+    return told
+
+
+LINE = "1000000000000000000 A 0 5 1 regular within first {} - 00\n"
+
+
+def reports(desk):
+    """What is wrong with a ledger that a report is made of."""
+    head, told = "afdx-ledger 2\n", []
+    desk.lay(config=TABLE)
+    ledger = os.path.join(desk.directory, "given.ledger")
+    for text, line in (
+        ("x\n", "report 1 Ledger at 1 head"),
+        (head + "x\n", "report 1 Ledger at 2 timestamp"),
+        (head + LINE.format("deliver").replace(" 5 1 ", " 500 1 "), "report 2 Contradiction at 2 link"),
+        (head + LINE.format("copy"), "report 2 Contradiction at 2 copy"),
+        (head + LINE.format("deliver") + "link 5 frames 2\n", "report 2 Contradiction at 3 counts"),
+    ):
+        with open(ledger, "w", encoding="ascii") as out:
+            out.write(text)
+        told.append(twice("a report", line, f"{ledger}: ", ["report", "--config", desk.paths["config"], "--ledger", ledger], stdin=subprocess.DEVNULL))
+    arguments = ["report", "--config", desk.paths["config"], "--ledger", desk.directory]
+    told.append(twice("a report", "report 3 Read Ledger", f"{desk.directory}: ", arguments, stdin=subprocess.DEVNULL))
     return told
 
 

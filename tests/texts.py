@@ -69,8 +69,11 @@ ADVICE = {
     "watch 7": NO_MEMORY,
     "links 1 Constant": "--constant is a number of 32 bits, as 0x03000000 or 50331648",
     "report 1 Ledger": "a line of no frame's form: was the ledger changed?",
+    "report 1 Ledger at 1 head": "no ledger of version 2: afdxmon watch writes one by --ledger",
+    "report 2 Contradiction at 2 link": "a link that the table doesn't have: is it the table of the run?",
+    "report 2 Contradiction at 2 copy": "a copy without its delivery before it: was the ledger changed?",
+    "report 2 Contradiction at 3 counts": "counts that its frames' lines don't give: was the ledger changed?",
     "report 3 Read Ledger": "the ledger can't be read: is it a file or a pipe?",
-    "report 4": NO_MEMORY,
 }
 # What a table may have at each key.
 ALLOWED = {
