@@ -62,15 +62,9 @@ pub enum Contradiction {
 #[derive(Clone, Copy, Debug, PartialEq, Eq)]
 pub enum ReportFault {
     /// A line that no ledger has there.
-    Ledger {
-        line: u64,
-        fault: LineFault,
-    },
+    Ledger { line: u64, fault: LineFault },
     /// A line of a ledger's form that contradicts the lines before it, or the table.
-    Contradiction {
-        line: u64,
-        found: Contradiction,
-    },
+    Contradiction { line: u64, found: Contradiction },
     /// The ledger can't be read.
     Read,
     Memory,

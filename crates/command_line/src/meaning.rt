@@ -338,7 +338,8 @@ fn contradiction_advice(found: Contradiction) -> &'static str {
     match found {
         Contradiction::Link => "a link that the table doesn't have: is it the table of the run?",
         Contradiction::Copy => "a copy without its delivery before it: was the ledger changed?",
-        Contradiction::Counts => "counts that its frames' lines don't give: was the ledger changed?",
+        Contradiction::Counts =>
+            "counts that its frames' lines don't give: was the ledger changed?",
     }
 }
 

@@ -50,7 +50,8 @@ impl Misuse {
             Misuse::Unfiltered => "--capture needs --filter, which says what frames it is to have",
             Misuse::NoNetwork => "--network is A or B",
             Misuse::Uncaptured => "--pcapng needs --capture: it says how the capture is written",
-            Misuse::NoPackets => "--pcapng says how packets are written, and --ledger-only leaves them out",
+            Misuse::NoPackets =>
+                "--pcapng says how packets are written, and --ledger-only leaves them out",
             Misuse::Incomplete => "a required argument is missing",
         }
     }

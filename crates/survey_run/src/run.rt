@@ -114,11 +114,7 @@ fn fetch_round<S: TapSource, T: TapSource>(
 }
 
 /// Counts the next frames that none may precede any more. Were there any?
-fn see_round(
-    alloc: Global,
-    merger: &mut Merger,
-    survey: &mut Survey,
-) -> Result<bool, WatchFault> {
+fn see_round(alloc: Global, merger: &mut Merger, survey: &mut Survey) -> Result<bool, WatchFault> {
     let round = merger.cut(ROUND)?;
     for frame in &round {
         survey.see(alloc, frame)?;
