@@ -9,7 +9,8 @@ from analyser import watch
 from harness import EVERY, PROGRAM, SUCCESS, TOP, difference, frame, header, say, skip
 from watching import TABLE, Desk, read, tap
 
-TOOLS = ("editcap", "gzip", "tcpdump", "tshark", "xxd", "zcat")
+TOOLS = ("editcap", "gzip", "jq", "mergecap", "tcpdump", "tshark", "xxd", "zcat")
+WRITTEN = re.compile(r"(?:(?<!2)>|\s(?:-w|-o|--ledger|--capture))\s*([\w.]+)")
 MS = 10**6
 
 
@@ -40,15 +41,26 @@ def pages(directory):
     with_program(directory)
     os.symlink(os.path.join(TOP, "examples"), os.path.join(directory, "examples"))
     how = {**surroundings(directory), "stdout": subprocess.PIPE, "stderr": subprocess.STDOUT}
+    absent = set()
     for page in (os.path.join("docs", "GUIDE.md"), "README.md"):
         for command, printed in commands_of(page):
             name = f"{page}: {' '.join(command.split())[:100]}"
-            tool = missing_tool(command)
-            if tool:
-                skip(name, f"no {tool} here")
+            why = missing_for(command, absent)
+            if why:
+                absent.update(WRITTEN.findall(command))
+                skip(name, why)
                 continue
             ran = subprocess.run(["bash", "-c", command], **how)
             say(name, "" if ran.stdout == printed.encode() else f"printed {ran.stdout[:300]!r}")
+
+
+def missing_for(command, absent):
+    """Why a command can't be run: a tool that isn't here, or a file that a command which was skipped would have written."""
+    tool = missing_tool(command)
+    if tool:
+        return f"no {tool} here"
+    file = next((file for file in sorted(absent) if re.search(rf"(?<![\w.-]){re.escape(file)}(?![\w.-])", command)), None)
+    return file and f"no {file} here"
 
 
 def missing_tool(command):
