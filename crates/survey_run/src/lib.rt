@@ -1,8 +1,8 @@
 //! One pass over one or two recordings, and what it says of each virtual link (ARINC 664 Part 7).
 //!
 //! Frames of both recordings come in the order of timestamp, network and number. Memory is bounded by links
-//! and by the frames of a second, since a timestamp may lie so far below one before it: a link costs some 10 KB
-//! from its first frame on.
+//! and by the frames of a second, since a timestamp may lie so far below one before it: a link costs some
+//! 10 KB from its first frame on.
 #![tactic(auto)]
 
 mod links;

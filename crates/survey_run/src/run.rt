@@ -9,8 +9,8 @@ use pcap_io::{Ending, Item, OpenRefused, ReadFault, TapReader, TapSource};
 use run_outcome::{MAX_FRAMES, WatchFault, fault_of_open};
 use std::alloc::Global;
 
-/// How far a timestamp may lie below the greatest one before it in its recording, in nanoseconds: a second, as
-/// far as the window of a table reaches.
+/// How far a timestamp may lie below the greatest one before it in its recording, in nanoseconds: a second,
+/// as far as the window of a table reaches.
 const LATE: u64 = 1_000_000_000;
 
 /// How many frames are read, and how many are counted, in one go.
