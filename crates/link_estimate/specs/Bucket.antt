@@ -1,4 +1,4 @@
--- The buckets of the histogram of gaps, in units of 2048 ns: a gap below 64 units has its own bucket, and a longer one shares it with
+-- The buckets of the histogram of gaps (this project's profile), in units of 2048 ns: a gap below 64 units has its own bucket, and a longer one shares it with
 -- those that have the same six leading bits. So a bucket is no wider than one unit or a thirty-second of its least gap.
 use Rattle.std.specs.Prelude.{◌≡◌, ℕ, ◌+◌, ◌*◌, ◌<◌, ◌≤◌, ◌^◌, ◌⊎◌}
 

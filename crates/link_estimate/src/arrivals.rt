@@ -1,6 +1,6 @@
 //! All that is kept of a link's frames on one network.
 
-ghost use Rattle.std.specs.Prelude.{◌≡◌, ◌≤◌};
+ghost use Rattle.std.specs.Prelude.{◌≡◌, max};
 
 use crate::gaps::Gaps;
 use crate::needs::Needs;
@@ -35,7 +35,7 @@ impl Arrivals {
     /// its sequence number. A timestamp below that of the frame before counts as the same one.
     #[inline(always)]
     pub fn see(&mut self, stamp: Stamp, len: u32, number: u8)
-        ensures len { len ≤ self.new.greatest_len }
+        ensures len { self.new.greatest_len ≡ max self.old.greatest_len len }
     {
         self.frames = self.frames.saturating_add(1);
         self.greatest_len = self.greatest_len.max(len);

@@ -1,6 +1,6 @@
 //! The gaps between frames, by a histogram of fixed size.
 
-ghost use Rattle.std.specs.Prelude.{◌≡◌, ◌<◌, ◌≤◌, ◌+◌};
+ghost use Rattle.std.specs.Prelude.{◌≡◌, ◌<◌, ◌≤◌, ◌+◌, max, min};
 ghost use Rattle.link_estimate.specs.Bucket.{IsBucketOf};
 
 /// The unit of the histogram is 2^11 ns, some two microseconds.
@@ -48,8 +48,8 @@ impl Gaps {
     /// Counts a gap.
     #[inline(always)]
     pub fn step(&mut self, gap: u64)
-        ensures least { self.new.least ≤ gap }
-        ensures greatest { gap ≤ self.new.greatest }
+        ensures least { self.new.least ≡ min self.old.least gap }
+        ensures greatest { self.new.greatest ≡ max self.old.greatest gap }
     {
         self.count = self.count.saturating_add(1);
         self.least = self.least.min(gap);
