@@ -1,6 +1,6 @@
 //! All that is kept of a link's frames on one network.
 
-ghost use Rattle.std.specs.Prelude.{◌≡◌, max};
+ghost use Rattle.std.specs.Prelude.{◌≡◌, ◌<◌, ◌+◌, ◌^◌, max};
 
 use crate::gaps::Gaps;
 use crate::needs::Needs;
@@ -35,6 +35,7 @@ impl Arrivals {
     /// its sequence number. A timestamp below that of the frame before counts as the same one.
     #[inline(always)]
     pub fn see(&mut self, stamp: Stamp, len: u32, number: u8)
+        ensures frames { self.old.frames + 1 < 2 ^ 64 → self.new.frames ≡ self.old.frames + 1 }
         ensures len { self.new.greatest_len ≡ max self.old.greatest_len len }
     {
         self.frames = self.frames.saturating_add(1);

@@ -1,6 +1,6 @@
 //! The gaps between frames, by a histogram of fixed size.
 
-ghost use Rattle.std.specs.Prelude.{◌≡◌, ◌<◌, ◌≤◌, ◌+◌, max, min};
+ghost use Rattle.std.specs.Prelude.{◌≡◌, ◌<◌, ◌≤◌, ◌+◌, ◌^◌, max, min};
 ghost use Rattle.link_estimate.specs.Bucket.{IsBucketOf};
 
 /// The unit of the histogram is 2^11 ns, some two microseconds.
@@ -48,6 +48,7 @@ impl Gaps {
     /// Counts a gap.
     #[inline(always)]
     pub fn step(&mut self, gap: u64)
+        ensures count { self.old.count + 1 < 2 ^ 64 → self.new.count ≡ self.old.count + 1 }
         ensures least { self.new.least ≡ min self.old.least gap }
         ensures greatest { self.new.greatest ≡ max self.old.greatest gap }
     {
