@@ -128,7 +128,7 @@ fn read_lines<S: TapSource>(
 
 /// Reads a ledger, and makes its report against the table that it was judged by.
 ///
-/// One pass, numbers alone: the memory is bounded by the table's links, some 30 KB each, whatever the
+/// One pass, numbers alone: the memory is bounded by the table's links, some 35 KB each, whatever the
 /// ledger's length.
 ///
 /// # Errors

@@ -22,6 +22,7 @@ pub struct Findings<'a> {
 const NAMED: usize = 3;
 
 impl<'a> Findings<'a> {
+    /// No sentence yet; they are appended to a page.
     pub fn new(out: &'a mut String) -> Findings<'a> {
         Findings { out, count: 0 }
     }

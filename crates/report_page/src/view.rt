@@ -81,6 +81,8 @@ pub fn other(network: Network) -> Network {
 pub const NETWORKS: [Network; 2] = [Network::A, Network::B];
 
 impl<'a> View<'a> {
+    /// What the parts of a page are made of: a report, its table, and the links in the order of the page.
+    /// `sizes` says whether the bytes kept are those of the frames.
     pub fn new(
         alloc: Global,
         report: &'a Report,
