@@ -25,8 +25,8 @@ fn is_refused(statements: &[Statement<'_>], at: usize, target: &str) -> bool {
     }
 }
 
-/// The label that the statement at an index names and can't jump to, if it is one of these statements that has
-/// such a label: of two the first that is refused.
+/// The label that the statement at an index names and can't jump to, if it is one of these statements that
+/// has such a label: of two the first that is refused.
 fn refused_target<'a>(
     statements: &[Statement<'_>],
     at: usize,

@@ -132,9 +132,9 @@ fn filters_of(text: Option<&str>) -> Result<Option<u8>, Fault>
 ///
 /// # Errors
 ///
-/// `Selection` of the first option, in the order of `--link`, `--verdict`, `--from`, `--to` and
-/// `--filters`, whose text has a wrong item, or of `--to` where it lies before `--from`; `Cut(Memory)` for the
-/// links or the words.
+/// `Selection` of the first option, in the order of `--link`, `--verdict`, `--from`, `--to` and `--filters`,
+/// whose text has a wrong item, or of `--to` where it lies before `--from`; `Cut(Memory)` for the links or
+/// the words.
 pub fn selection_of(
     alloc: Global,
     given: &CutArguments<'_>,

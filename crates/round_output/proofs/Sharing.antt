@@ -7,7 +7,7 @@ use Rattle.pcap_io.specs.Writer.{sink_of}
 use Rattle.pcap_io.specs.declared.writer.CaptureWriter.{CaptureWriter}
 use Rattle.round_output.specs.Entries.{AreVerdicts}
 use Rattle.round_output.specs.Filters.{capture_by, lines_by}
-use Rattle.round_output.specs.Outputs.{HasShared, HasWritten, SinkFails, StopsWriting, frames_at, outputs_of}
+use Rattle.round_output.specs.Outputs.{HasPackets, HasShared, HasWritten, SinkFails, StopsWriting, frames_at, outputs_of}
 use Rattle.round_output.specs.declared.outputs.Outputs.{Outputs}
 use Rattle.round_output.specs.declared.shared.JudgedRound.{JudgedRound}
 use Rattle.run_outcome.specs.Device.{AppendsSome, SinkMembers, SinkView, sink_at}
@@ -17,7 +17,7 @@ use Rattle.verdict_ledger.specs.declared.ledger.Ledger.{Ledger}
 use Rattle.vl_config.specs.Document.{VlTable}
 use Rattle.vl_judge.specs.Lanes.{LanesState, StandsAfter}
 use Rattle.worker_pool.specs.Chunks.{Posted}
-use Rattle.round_output.proofs.Writing.{capture_longer, capture_some, lines_longer, lines_some}
+use Rattle.round_output.proofs.Writing.{capture_longer, capture_some, lines_longer, lines_some, packets_first, packets_longer, where_ledger, where_ledger_map}
 
 -- writing stopped, and more frames would have followed
 pub stops_longer : (fault : WatchFault) (ps : List (List Packed)) (vl_table : VlTable) (capture ledger capture' ledger' : SinkView) (fs gs : List Frame) →
@@ -25,6 +25,7 @@ pub stops_longer : (fault : WatchFault) (ps : List (List Packed)) (vl_table : Vl
 stops_longer fault ps vl_table capture ledger capture' ledger' fs gs s = record {
   packets = capture_longer ps fs gs capture.contents capture'.contents s.packets;
   lines = lines_longer ps vl_table fs gs ledger.contents ledger'.contents s.lines;
+  whole = where_ledger_map (HasPackets ps fs capture capture') (HasPackets ps (fs ++ gs) capture capture') fault (packets_longer ps fs gs capture capture') s.whole;
   fails = s.fails;
 }
 
@@ -54,6 +55,9 @@ module _ {W L T : Type 0} (w : SinkMembers W) (l : SinkMembers L) (ps : List (Li
             (capture_some ps h.first (frames_at flight ++ round) _ _ h.written.packets);
         lines = subst (λ (fs : List Frame). AppendsSome ledger.contents (l.contents (ledger_sink outputs.ledger)) (lines_by ps vl_table fs)) (sym whole)
             (lines_some ps vl_table h.first (frames_at flight ++ round) _ _ h.written.lines);
+        whole = where_ledger (HasPackets ps (frames ++ round) capture (sink_at w (sink_of outputs.capture))) fault
+            (subst (λ (fs : List Frame). HasPackets ps fs capture (sink_at w (sink_of outputs.capture))) (sym whole)
+            (packets_first ps h.first (frames_at flight ++ round) capture (sink_at w (sink_of outputs.capture)) h.written.packets));
         fails = fails;
       }
 

@@ -1,6 +1,6 @@
 -- What a round adds to the capture and to the ledger.
 use Rattle.std.proofs.Common.{◌≡◌, ◌⊎◌, inl, inr, ℕ, suc, zero, ◌+◌, List, [], ◌∷◌, ◌++◌, length, map, take, Option, Some, refl, sym, subst, ap, ◌∙◌, append_assoc, arith}
-use Rattle.std.proofs.lemmas.List.{map-append, length-map, length-append, append-nil}
+use Rattle.std.proofs.lemmas.List.{map-append, length-map, length-append, append-nil, take-append-le, take_all}
 use Rattle.std.proofs.lemmas.List.Concat.{flat_map-append}
 use Rattle.std.proofs.KnownBytes.{Appends-trans}
 use Rattle.std.specs.Io.KnownBytes.{Appends}
@@ -16,12 +16,13 @@ use Rattle.vl_judge.specs.Verdicts.{Judged, judged_frames, judged_frames_after, 
 use Rattle.vl_judge.proofs.Judging.{verdicts-append}
 use Rattle.filter_workers.specs.Filters.{mask_by}
 use Rattle.round_output.specs.Filters.{capture_by, entries_by, keep_by, kept_record, packets_by}
-use Rattle.round_output.specs.Outputs.{SinkFails, StopsWriting, effect_of, ledger_fault}
+use Rattle.round_output.specs.Outputs.{HasPackets, SinkFails, StopsWriting, WhereLedgerFailed, effect_of, ledger_fault}
 use Rattle.verdict_ledger.specs.Writing.{IsAppended}
 use Rattle.verdict_ledger.specs.declared.fault.LedgerFault.{LedgerFault}
 use Rattle.verdict_ledger.specs.declared.fault.LedgerFault.TheVariants as ledger_faults
 use Rattle.run_outcome.specs.Device.{AppendsSome, SinkView}
 use Rattle.run_outcome.specs.declared.fault.WatchFault.{WatchFault}
+use Rattle.run_outcome.specs.declared.fault.Output.TheVariants as output
 use Rattle.run_outcome.specs.declared.fault.WatchFault.TheVariants as watch
 use Rattle.round_output.specs.Filters.{lines_by}
 use Rattle.run_outcome.proofs.Written.{take_past}
@@ -121,10 +122,10 @@ pub lines_all : (ps : List (List Packed)) (vl_table : VlTable) (fs : List Frame)
 lines_all ps vl_table fs a b appended = some_of a b (lines_by ps vl_table fs) [] (lines_by ps vl_table fs) appended (sym (append-nil (lines_by ps vl_table fs)))
 
 -- a prefix of a list is one of a longer list
-prefix_of_longer : (n : ℕ) (xs ys : List ℕ) → (m : ℕ) × (take m (xs ++ ys) ≡ take n xs)
+prefix_of_longer : {A : Type 0} (n : ℕ) (xs ys : List A) → (m : ℕ) × (take m (xs ++ ys) ≡ take n xs)
 prefix_of_longer zero xs ys = (0, refl)
 prefix_of_longer (suc n) [] ys = (0, refl)
-prefix_of_longer (suc n) (x ∷ xs) ys = let p = prefix_of_longer n xs ys in (suc p.0, ap (λ (l : List ℕ). x ∷ l) p.1)
+prefix_of_longer {A = A} (suc n) (x ∷ xs) ys = let p = prefix_of_longer n xs ys in (suc p.0, ap (λ (l : List A). x ∷ l) p.1)
 
 pub some_longer : (a b : Option (List ℕ)) (bytes rest all : List ℕ) → AppendsSome a b bytes → all ≡ bytes ++ rest → AppendsSome a b all
 some_longer a b bytes rest all (n, appended) e =
@@ -140,6 +141,49 @@ lines_longer ps vl_table fs gs a b some =
     let more : List Entry = entries_of gs s.0 (map (keep_by ps) gs) (map (mask_by ps) gs) in
     some_longer a b (lines_by ps vl_table fs) (lines_text more) (lines_by ps vl_table (fs ++ gs)) some
     (lines_more ps vl_table fs gs more (entries_more ps vl_table fs gs s.0 s.1))
+
+-- ---- whole packets
+
+take_front : (fs gs : List Frame) → take (length fs) (fs ++ gs) ≡ fs
+take_front fs gs = take-append-le (length fs) fs gs (omega arith) ∙ take_all (length fs) fs (omega arith)
+
+pub packets_first : (ps : List (List Packed)) (fs gs : List Frame) (capture capture' : SinkView) → Appends capture.contents capture'.contents (capture_by ps fs) →
+    HasPackets ps (fs ++ gs) capture capture'
+packets_first ps fs gs capture capture' h =
+    (length fs, subst (λ (l : List Frame). Appends capture.contents capture'.contents (capture_by ps l)) (sym (take_front fs gs)) h)
+
+pub packets_all : (ps : List (List Packed)) (fs : List Frame) (capture capture' : SinkView) → Appends capture.contents capture'.contents (capture_by ps fs) →
+    HasPackets ps fs capture capture'
+packets_all ps fs capture capture' h =
+    (length fs, subst (λ (l : List Frame). Appends capture.contents capture'.contents (capture_by ps l)) (sym (take_all (length fs) fs (omega arith))) h)
+
+pub packets_longer : (ps : List (List Packed)) (fs gs : List Frame) (capture capture' : SinkView) → HasPackets ps fs capture capture' → HasPackets ps (fs ++ gs) capture capture'
+packets_longer ps fs gs capture capture' (n, h) =
+    let p = prefix_of_longer n fs gs in
+    (p.0, subst (λ (l : List Frame). Appends capture.contents capture'.contents (capture_by ps l)) (sym p.1) h)
+
+-- what always holds, where the ledger can't be written
+pub where_ledger : (P : Type 0) (fault : WatchFault) → P → WhereLedgerFailed fault P
+where_ledger P (watch.Write output.Ledger) p = p
+where_ledger P (watch.Write output.Capture) p = tt
+where_ledger P watch.Memory p = tt
+where_ledger P watch.Spawn p = tt
+where_ledger P watch.Workers p = tt
+where_ledger P (watch.Header network fault) p = tt
+where_ledger P (watch.Read network) p = tt
+where_ledger P watch.RingLost p = tt
+where_ledger P watch.Filters p = tt
+
+pub where_ledger_map : (P Q : Type 0) (fault : WatchFault) → (P → Q) → WhereLedgerFailed fault P → WhereLedgerFailed fault Q
+where_ledger_map P Q (watch.Write output.Ledger) f p = f p
+where_ledger_map P Q (watch.Write output.Capture) f p = tt
+where_ledger_map P Q watch.Memory f p = tt
+where_ledger_map P Q watch.Spawn f p = tt
+where_ledger_map P Q watch.Workers f p = tt
+where_ledger_map P Q (watch.Header network fault) f p = tt
+where_ledger_map P Q (watch.Read network) f p = tt
+where_ledger_map P Q watch.RingLost f p = tt
+where_ledger_map P Q watch.Filters f p = tt
 
 -- there is an entry for each frame
 zipped_length : (fs : List Frame) (vs : List Judgement) (ks : List (Option ℕ)) (ms : List ℕ) →

@@ -1,5 +1,5 @@
 -- The outputs of a run, round by round.
-use Rattle.std.specs.Prelude.{◌≡◌, ℕ, List, [], ◌++◌, length, IfSome, Option}
+use Rattle.std.specs.Prelude.{◌≡◌, ℕ, List, [], ◌++◌, length, take, IfSome, Option, ⊤}
 use Rattle.std.specs.Option.{option_map_or}
 use Rattle.std.specs.Io.KnownBytes.{Appends}
 use Rattle.afdx_frame.specs.Frame.{Frame}
@@ -77,10 +77,21 @@ OfWriting fault P = ⊥
 abbrev pub SinkFails : WatchFault → ℕ → ℕ → ℕ → ℕ → Type 0
 SinkFails fault c c' l l' = OfWriting fault (Fails fault CaptureSink c c' × Fails fault LedgerSink l l')
 
--- Each sink has a prefix of what belongs to these frames.
+-- The capture has its file header and whole packets, those of the first so many of these frames.
+abbrev pub HasPackets : List (List Packed) → List Frame → SinkView → SinkView → Type 0
+HasPackets ps frames capture capture' = (n : ℕ) × Appends capture.contents capture'.contents (capture_by ps (take n frames))
+
+-- where the ledger can't be written, this
+abbrev pub WhereLedgerFailed : WatchFault → Type 0 → Type 0
+WhereLedgerFailed (watch.Write output.Ledger) P = P
+WhereLedgerFailed fault P = ⊤
+
+-- Each sink has a prefix of what belongs to these frames. The capture is begun before the ledger, and has a round's packets before the ledger has
+-- its lines: so where the ledger can't be written, the capture ends with a whole packet or its file header.
 pub record StopsWriting (fault : WatchFault) (ps : List (List Packed)) (vl_table : VlTable) (capture ledger capture' ledger' : SinkView) (frames : List Frame) : Type 0 where
   pub packets : AppendsSome capture.contents capture'.contents (capture_by ps frames)
   pub lines : AppendsSome ledger.contents ledger'.contents (lines_by ps vl_table frames)
+  pub whole : WhereLedgerFailed fault (HasPackets ps frames capture capture')
   pub fails : SinkFails fault capture.failures capture'.failures ledger.failures ledger'.failures
 
 -- Both outputs are complete, with these counts.

@@ -45,7 +45,7 @@ use Rattle.tap_queue.specs.declared.item.TapItem.{TapItem}
 use Rattle.tap_merge.proofs.TwoTaps.{high_after, in_time}
 use Rattle.watch_run.proofs.Watching.{first_of_all, wholes_before}
 use Rattle.watch_run.proofs.WholeOrder.{IsFirst, goes_on, recorded}
-use Rattle.round_output.proofs.Writing.{capture_all, capture_longer, lines_all, lines_longer}
+use Rattle.round_output.proofs.Writing.{capture_all, capture_longer, lines_all, lines_longer, packets_longer}
 
 -- ---- a tap whose source came back
 
@@ -398,7 +398,8 @@ running_aborts fault ps vl_table before a b after_a after_b capture ledger more_
     by watch.Filters (inl ((A, h), w)) other safe = absurd h
     by watch.Filters (inl ((B, h), w)) other safe = absurd h
     by (watch.Write output.Capture) (inr w) other safe = aborts (watch.Write output.Capture) (back_a, back_b, w.fails.0, w.fails.1) tt tt tt
-    by (watch.Write output.Ledger) (inr w) other safe = aborts (watch.Write output.Ledger) (back_a, back_b, w.fails.0, w.fails.1) tt tt tt
+    by (watch.Write output.Ledger) (inr w) other safe =
+        aborts (watch.Write output.Ledger) (back_a, back_b, w.fails.0, w.fails.1) tt (packets_longer ps s.cut stopped.rest before.capture capture w.whole) tt
     by watch.Memory (inr w) other safe = aborts watch.Memory (back_a, back_b, w.fails.0, w.fails.1) tt tt tt
     by watch.Spawn (inr w) other safe = absurd w.fails
     by (watch.Read n) (inr w) other safe = absurd w.fails

@@ -29,7 +29,7 @@ use Rattle.run_outcome.specs.declared.fault.Output.TheVariants as output
 use Rattle.run_outcome.specs.declared.fault.WatchFault.{WatchFault}
 use Rattle.run_outcome.specs.declared.fault.WatchFault.TheVariants as watch
 use Rattle.tap_merge.proofs.TwoTaps.{part_of}
-use Rattle.round_output.proofs.Writing.{capture_all}
+use Rattle.round_output.proofs.Writing.{capture_all, packets_all}
 use Rattle.run_outcome.proofs.Recording.{complete}
 use Rattle.watch_run.proofs.WholeOrder.{goes_on}
 
@@ -221,7 +221,7 @@ stopped_at_the_end fault ps vl_table before after fa fb cut end_a end_b m a b un
         order = follows_order m fa fb cut follows none;
         capture = some;
         ledger = lines;
-        wholes = tt;
+        wholes = packets_all ps cut before.capture after.capture s.packets;
         first = first;
       };
       whole_a = whole_given networks.A vl_table.late before.a after.a fa end_a a unread_a read_a r.a_left r.a_failures;

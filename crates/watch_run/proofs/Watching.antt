@@ -22,7 +22,7 @@ use Rattle.verdict_ledger.specs.declared.totals.Totals.{Totals}
 use Rattle.vl_config.specs.Document.{VlTable}
 use Rattle.vl_judge.specs.Lanes.{last_key}
 use Rattle.round_output.specs.Filters.{capture_by, entries_by}
-use Rattle.round_output.specs.Outputs.{HasWritten, SinkFails, StopsWriting}
+use Rattle.round_output.specs.Outputs.{HasPackets, HasWritten, SinkFails, StopsWriting, WhereLedgerFailed}
 use Rattle.vl_judge.specs.Lanes.{FollowsOn}
 use Rattle.watch_run.specs.Run.{IsWatching, StopsWatching}
 use Rattle.tap_merge.specs.declared.taps.Taps.{Taps}
@@ -38,7 +38,7 @@ use Rattle.run_outcome.specs.declared.fault.WatchFault.{WatchFault}
 use Rattle.run_outcome.specs.declared.fault.WatchFault.TheVariants as watch
 use Rattle.watch_run.proofs.WholeOrder.{IsFirst}
 use Rattle.verdict_ledger.specs.Text.{ledger_head, lines_text, rest_text}
-use Rattle.round_output.proofs.Writing.{capture_all, lines_all, some_longer, capture_longer, capture_some, entries_length, lines_longer, lines_some}
+use Rattle.round_output.proofs.Writing.{capture_all, lines_all, some_longer, capture_longer, capture_some, entries_length, lines_longer, lines_some, packets_longer}
 
 -- ---- the number of filters
 
@@ -246,13 +246,14 @@ pub stops_by_writing : (fault : WatchFault) (ps : List (List Packed)) (vl_table 
     a.failures ≡ before.a.failures → b.failures ≡ before.b.failures →
     StopsWriting fault ps vl_table before.capture before.ledger capture ledger cut →
     StopsWatching fault ps vl_table before a b capture ledger
-stops_by_writing fault ps vl_table before fa fb cut rest a b capture ledger is_first read_a read_b order sound_a sound_b s = by fault s.fails
+stops_by_writing fault ps vl_table before fa fb cut rest a b capture ledger is_first read_a read_b order sound_a sound_b s = by fault s.fails s.whole
   where
     first : HasFirstOfAll ps vl_table before capture ledger
     first = first_of_all ps vl_table before cut capture ledger is_first s.packets s.lines
 
-    by : (f : WatchFault) → SinkFails f before.capture.failures capture.failures before.ledger.failures ledger.failures → StopsWatching f ps vl_table before a b capture ledger
-    by (watch.Write output.Capture) fails = record {
+    by : (f : WatchFault) → SinkFails f before.capture.failures capture.failures before.ledger.failures ledger.failures →
+        WhereLedgerFailed f (HasPackets ps cut before.capture capture) → StopsWatching f ps vl_table before a b capture ledger
+    by (watch.Write output.Capture) fails whole = record {
       frames_a = fa;
       frames_b = fb;
       frames = cut ++ rest;
@@ -266,7 +267,21 @@ stops_by_writing fault ps vl_table before fa fb cut rest a b capture ledger is_f
       fails = (sound_a, sound_b, fails.0, fails.1);
       run = tt;
     }
-    by (watch.Write output.Ledger) fails = record {
+    by (watch.Write output.Ledger) fails whole = record {
+      frames_a = fa;
+      frames_b = fb;
+      frames = cut ++ rest;
+      read_a = read_a;
+      read_b = read_b;
+      order = order;
+      packets = capture_longer ps cut rest before.capture.contents capture.contents s.packets;
+      lines = inl (lines_longer ps vl_table cut rest before.ledger.contents ledger.contents s.lines);
+      wholes = packets_longer ps cut rest before.capture capture whole;
+      first = first;
+      fails = (sound_a, sound_b, fails.0, fails.1);
+      run = tt;
+    }
+    by watch.Memory fails whole = record {
       frames_a = fa;
       frames_b = fb;
       frames = cut ++ rest;
@@ -280,23 +295,9 @@ stops_by_writing fault ps vl_table before fa fb cut rest a b capture ledger is_f
       fails = (sound_a, sound_b, fails.0, fails.1);
       run = tt;
     }
-    by watch.Memory fails = record {
-      frames_a = fa;
-      frames_b = fb;
-      frames = cut ++ rest;
-      read_a = read_a;
-      read_b = read_b;
-      order = order;
-      packets = capture_longer ps cut rest before.capture.contents capture.contents s.packets;
-      lines = inl (lines_longer ps vl_table cut rest before.ledger.contents ledger.contents s.lines);
-      wholes = tt;
-      first = first;
-      fails = (sound_a, sound_b, fails.0, fails.1);
-      run = tt;
-    }
-    by (watch.Read network) fails = absurd fails
-    by watch.Workers fails = absurd fails
-    by (watch.Header network fault) fails = absurd fails
-    by watch.Spawn fails = absurd fails
-    by watch.RingLost fails = absurd fails
-    by watch.Filters fails = absurd fails
+    by (watch.Read network) fails whole = absurd fails
+    by watch.Workers fails whole = absurd fails
+    by (watch.Header network fault) fails whole = absurd fails
+    by watch.Spawn fails whole = absurd fails
+    by watch.RingLost fails whole = absurd fails
+    by watch.Filters fails whole = absurd fails

@@ -11,10 +11,12 @@ use Rattle.verdict_ledger.specs.declared.totals.Totals.{Totals}
 use Rattle.vl_config.specs.Document.{VlTable}
 use Rattle.run_outcome.specs.Recording.{IsRecording}
 use Rattle.run_outcome.specs.declared.fault.WatchFault.{WatchFault}
+use Rattle.run_outcome.specs.declared.fault.Output.TheVariants as output
 use Rattle.run_outcome.specs.declared.fault.WatchFault.TheVariants as watch
 use Rattle.run_outcome.specs.Device.{AppendsSome, SinkView}
 use Rattle.run_outcome.specs.Recording.{IsReadPart, IsReadWhole}
 use Rattle.round_output.specs.Filters.{capture_by, entries_by, ledger_by, lines_by}
+use Rattle.round_output.specs.Outputs.{HasPackets}
 use Rattle.round_output.specs.Round.{IsFilterCount}
 use Rattle.run_outcome.specs.Opening.{AbortsAtOpening, FailsOnly, WatchDevices}
 
@@ -53,11 +55,13 @@ HasLines ps vl_table before frames_a frames_b frames capture ledger =
     ⊎ ((a b : Ending) × HaveEnded vl_table.late before frames_a frames_b a b × Appends before.capture.contents capture.contents (capture_by ps frames)
     × AppendsSome before.ledger.contents ledger.contents (ledger_by ps vl_table frames a b))
 
--- Where a recording's source failed, the outputs have all that belongs to the first so many frames, and no part of a packet or a line.
+-- Where a recording's source failed, the outputs have all that belongs to the first so many frames, and no part of a packet or a line. Where the
+-- ledger can't be written, the capture has whole packets, and at least its file header: it is begun first.
 abbrev pub HasWholes : WatchFault → List (List Packed) → VlTable → List Frame → SinkView → SinkView → SinkView → SinkView → Type 0
 HasWholes (watch.Read network) ps vl_table frames capture ledger capture' ledger' =
     (n : ℕ) × Appends capture.contents capture'.contents (capture_by ps (take n frames))
     × Appends ledger.contents ledger'.contents (lines_by ps vl_table (take n frames))
+HasWholes (watch.Write output.Ledger) ps vl_table frames capture ledger capture' ledger' = HasPackets ps frames capture capture'
 HasWholes fault ps vl_table frames capture ledger capture' ledger' = ⊤
 
 -- Of recordings whose bytes are known, whatever was read: each output has a prefix of what belongs to all their frames.

@@ -8,8 +8,10 @@ use Rattle.pcap_io.specs.Device.{CountsFailure}
 use Rattle.pcap_io.specs.Writer.{sink_of}
 use Rattle.verdict_ledger.specs.Entry.{entries_of}
 use Rattle.verdict_ledger.specs.Ledger.{StandsAfter as LedgerStandsAfter, sink_of as ledger_sink}
+use Rattle.run_outcome.specs.Device.{sink_at}
 use Rattle.round_output.specs.Filters.{entries_by, keep_by, lines_by}
-use Rattle.round_output.proofs.Writing.{entries_told, ledger_stops, lines_more, lines_some, capture_all, packets_some, packets_whole}
+use Rattle.round_output.specs.Outputs.{ledger_fault}
+use Rattle.round_output.proofs.Writing.{entries_told, ledger_stops, lines_more, lines_some, capture_all, packets_all, packets_some, packets_whole, where_ledger}
 use Rattle.round_output.proofs.outputs.write_entries.Goals as goal
 
 pub round_text-requires-clause-text : goal.round_text-requires-clause-text
@@ -32,6 +34,7 @@ returns-in_err-write_packets-clause-stopped g c =
     rw (p.1, p.2, told.fault) (λ ps vl_table capture ledger frames before h said are. record {
       packets = packets_some ps frames round _ _ _ _ (c.deref.ensures.value ∙ are.packets_are) h.packets told.written.prefix;
       lines = lines_some ps vl_table frames round _ _ h.lines;
+      whole = tt;
       fails = (subst (λ (n : ℕ). CountsFailure n (g.W.OutSink.failures (sink_of c.write_packets.new.capture))) h.capture_failures told.written.fault, h.ledger_failures);
     })
 
@@ -67,5 +70,8 @@ returns-in-Err-clause-stopped g c = rw c.fault_of_ledger.ensures (λ ps vl_table
       packets = capture_all ps (frames ++ round) _ _
           (packets_whole ps frames round _ _ _ _ (c.deref.ensures.value ∙ are.packets_are) h.packets c.in_ok-write_packets.ensures.written.complete);
       lines = stops.0;
+      whole = where_ledger _ (ledger_fault c.in-Err.fault)
+          (packets_all ps (frames ++ round) capture (sink_at g.W.OutSink (sink_of c.write_packets.new.capture))
+          (packets_whole ps frames round _ _ _ _ (c.deref.ensures.value ∙ are.packets_are) h.packets c.in_ok-write_packets.ensures.written.complete));
       fails = stops.1;
     }))

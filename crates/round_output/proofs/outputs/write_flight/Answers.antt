@@ -1,7 +1,10 @@
 use Rattle.std.proofs.Common.{◌∙◌, ap}
+use Rattle.pcap_io.specs.Writer.{sink_of}
+use Rattle.round_output.specs.Outputs.{effect_of}
 use Rattle.round_output.specs.declared.shared.JudgedRound.{JudgedRound}
+use Rattle.run_outcome.specs.Device.{sink_at}
 use Rattle.run_outcome.proofs.Results.{with_err, with_on_ok}
-use Rattle.round_output.proofs.Writing.{capture_some, lines_some, no_sink_fails, same_effect}
+use Rattle.round_output.proofs.Writing.{capture_some, lines_some, no_sink_fails, packets_first, same_effect, where_ledger}
 use Rattle.round_output.proofs.outputs.write_flight.Goals as goal
 
 pub returns-in-Err-clause-stopped : goal.returns-in-Err-clause-stopped
@@ -11,6 +14,8 @@ returns-in-Err-clause-stopped g c =
     λ vl_table capture ledger frames before h said. record {
       packets = capture_some ps frames round _ _ h.packets;
       lines = lines_some ps vl_table frames round _ _ h.lines;
+      whole = where_ledger _ (effect_of c.in-Err.fault)
+          (packets_first ps frames round capture (sink_at g.W.OutSink (sink_of c.args.capture.now)) h.packets);
       fails = no_sink_fails c.in-Err.fault _ _ _ _ c.in-Err.ensures.fault h.capture_failures h.ledger_failures;
     }
 

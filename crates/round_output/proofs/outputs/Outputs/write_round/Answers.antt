@@ -9,6 +9,7 @@ returns-in_err-verdicts-clause-stopped g c =
     rw (p.1, p.2) (λ vl_table capture ledger frames h. record {
       packets = capture_some c.args.programs.now frames c.args.round.now _ _ h.packets;
       lines = lines_some c.args.programs.now vl_table frames c.args.round.now _ _ h.lines;
+      whole = tt;
       fails = (h.capture_failures, h.ledger_failures);
     })
 
@@ -18,6 +19,7 @@ returns-in_err-fill-clause-stopped g c =
     rw (p.1, p.2) (λ vl_table capture ledger frames h. record {
       packets = capture_some c.args.programs.now frames c.args.round.now _ _ h.packets;
       lines = lines_some c.args.programs.now vl_table frames c.args.round.now _ _ h.lines;
+      whole = tt;
       fails = (h.capture_failures, h.ledger_failures);
     })
 
