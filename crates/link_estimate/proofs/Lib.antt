@@ -1,2 +1,5 @@
 pub mod Buckets
+pub mod Copying
+pub mod Histogram
+pub mod Numbered
 pub mod Windows

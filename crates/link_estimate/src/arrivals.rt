@@ -1,6 +1,7 @@
 //! All that is kept of a link's frames on one network.
 
-ghost use Rattle.std.specs.Prelude.{◌≡◌, ◌<◌, ◌+◌, ◌^◌, max};
+ghost use Rattle.std.specs.Prelude.{◌≡◌, ◌<◌, ◌^◌, List, [], ◌∷◌, length};
+ghost use Rattle.link_estimate.specs.OneNetwork.{CountsArrivals, Received};
 
 use crate::gaps::Gaps;
 use crate::needs::Needs;
@@ -20,7 +21,9 @@ pub struct Arrivals {
 
 impl Arrivals {
     /// No frame.
-    pub fn new() -> Arrivals {
+    pub fn new() -> Arrivals
+        ensures { CountsArrivals result [] }
+    {
         Arrivals {
             frames: 0,
             greatest_len: 0,
@@ -35,8 +38,12 @@ impl Arrivals {
     /// its sequence number. A timestamp below that of the frame before counts as the same one.
     #[inline(always)]
     pub fn see(&mut self, stamp: Stamp, len: u32, number: u8)
-        ensures frames { self.old.frames + 1 < 2 ^ 64 → self.new.frames ≡ self.old.frames + 1 }
-        ensures len { self.new.greatest_len ≡ max self.old.greatest_len len }
+        ensures { (frames : List Received) → length frames < 2 ^ 32 → CountsArrivals self.old frames
+            → CountsArrivals self.new (record {
+              stamp = stamp.0;
+              len = len;
+              number = number;
+            } ∷ frames) }
     {
         self.frames = self.frames.saturating_add(1);
         self.greatest_len = self.greatest_len.max(len);

@@ -1,6 +1,7 @@
 //! The copies of frames that both networks bring.
 
-ghost use Rattle.std.specs.Prelude.{◌≡◌};
+ghost use Rattle.std.specs.Prelude.{◌≡◌, ◌<◌, ◌+◌, ◌^◌, ℕ, List, [], ◌∷◌, length};
+ghost use Rattle.link_estimate.specs.CopyPairs.{CountsCopies, SeenFrame, one_of, other_than, seen_on, skew_given};
 
 use afdx_frame::{Network, Stamp};
 
@@ -33,7 +34,9 @@ pub struct Copies {
 
 impl Copies {
     /// Of no frame.
-    pub fn new() -> Copies {
+    pub fn new() -> Copies
+        ensures { CountsCopies result [] }
+    {
         Copies {
             latest: [None; 256],
             seen_a: 0,
@@ -45,7 +48,14 @@ impl Copies {
 
     /// Counts the frame with this number.
     #[inline(always)]
-    pub fn see(&mut self, network: Network, number: u8, stamp: Stamp) {
+    pub fn see(&mut self, network: Network, number: u8, stamp: Stamp)
+        ensures { (frames : List SeenFrame) → length frames < 2 ^ 32 → CountsCopies self.old frames
+            → CountsCopies self.new (record {
+              network = network;
+              number = number;
+              stamp = stamp.0;
+            } ∷ frames) }
+    {
         let index = self.pass(network);
         let others = self.seen(other(network));
         let place = usize::from(number);
@@ -67,18 +77,27 @@ impl Copies {
 
     /// The index of the next frame on a network, which is counted.
     #[inline(always)]
-    fn pass(&mut self, network: Network) -> u64 {
-        let seen = match network {
-            Network::A => &mut self.seen_a,
-            Network::B => &mut self.seen_b,
-        };
-        let index = *seen;
-        *seen = index.saturating_add(1);
+    fn pass(&mut self, network: Network) -> u64
+        ensures index { result ≡ seen_on network self.old }
+        ensures counted { self.old.seen_a < 2 ^ 32 → self.old.seen_b < 2 ^ 32
+            → self.new ≡ record self.old {
+              seen_a = one_of network Network.A + self.old.seen_a;
+              seen_b = one_of network Network.B + self.old.seen_b;
+            } }
+    {
+        let index = self.seen(network);
+        match network {
+            Network::A => self.seen_a = index.saturating_add(1),
+            Network::B => self.seen_b = index.saturating_add(1),
+        }
         index
     }
 
+    /// How many frames have come on a network.
     #[inline(always)]
-    fn seen(&self, network: Network) -> u64 {
+    fn seen(&self, network: Network) -> u64
+        ensures { result ≡ seen_on network self.now }
+    {
         match network {
             Network::A => self.seen_a,
             Network::B => self.seen_b,
@@ -101,7 +120,9 @@ impl Copies {
 }
 
 #[inline(always)]
-fn other(network: Network) -> Network {
+fn other(network: Network) -> Network
+    ensures { result ≡ other_than network }
+{
     match network {
         Network::A => Network::B,
         Network::B => Network::A,
@@ -111,7 +132,9 @@ fn other(network: Network) -> Network {
 /// How much later than the last frame of its number a copy came. None: it is no copy. `others` is how many
 /// frames of the link have come on the other network.
 #[inline(always)]
-fn skew_of(latest: Option<Arrival>, network: Network, others: u64, stamp: Stamp) -> Option<u64> {
+fn skew_of(latest: Option<Arrival>, network: Network, others: u64, stamp: Stamp) -> Option<u64>
+    ensures { result ≡ skew_given latest network others stamp.0 }
+{
     let arrival = latest?;
     let skew = stamp.0.saturating_sub(arrival.stamp.0);
     let since = others.saturating_sub(arrival.index);

@@ -1,10 +1,11 @@
 //! The gaps between frames, by a histogram of fixed size.
 
-ghost use Rattle.std.specs.Prelude.{◌≡◌, ◌<◌, ◌≤◌, ◌+◌, ◌^◌, max, min};
+ghost use Rattle.std.specs.Prelude.{◌≡◌, ◌<◌, ◌≤◌, ◌-◌, ◌^◌, ℕ, List, [], ◌∷◌, length, IsTrue};
 ghost use Rattle.link_estimate.specs.Bucket.{IsBucketOf};
+ghost use Rattle.link_estimate.specs.Intervals.{CountsGaps, CountsUnits, IsBucketRange, IsMedian, bucket_start, count_units, is_before, is_before_end, is_within};
 
-/// The unit of the histogram is 2^11 ns, some two microseconds.
-const UNIT_BITS: u32 = 11;
+/// The unit of the histogram in nanoseconds, some two microseconds.
+const UNIT: u64 = 2048;
 /// Gaps of so many units, 2^30 ns, or more stand in one bucket, the last.
 const MOST_UNITS: u64 = 1 << 19;
 /// The buckets: 64 of one unit, 32 for each further power of 2, and the last.
@@ -36,7 +37,9 @@ struct Bucket {
 
 impl Gaps {
     /// No gap.
-    pub fn new() -> Gaps {
+    pub fn new() -> Gaps
+        ensures { CountsGaps result [] }
+    {
         Gaps {
             count: 0,
             least: u64::MAX,
@@ -48,14 +51,13 @@ impl Gaps {
     /// Counts a gap.
     #[inline(always)]
     pub fn step(&mut self, gap: u64)
-        ensures count { self.old.count + 1 < 2 ^ 64 → self.new.count ≡ self.old.count + 1 }
-        ensures least { self.new.least ≡ min self.old.least gap }
-        ensures greatest { self.new.greatest ≡ max self.old.greatest gap }
+        ensures { (gaps : List ℕ) → length gaps < 2 ^ 32 - 1 → CountsGaps self.old gaps
+            → CountsGaps self.new (gap ∷ gaps) }
     {
         self.count = self.count.saturating_add(1);
         self.least = self.least.min(gap);
         self.greatest = self.greatest.max(gap);
-        let index = index_of(gap >> UNIT_BITS);
+        let index = index_of(gap / UNIT);
         self.counts[index] = self.counts[index].saturating_add(1);
     }
 
@@ -82,29 +84,41 @@ impl Gaps {
 
     /// The bucket of the median: of n gaps in rising order that at (n - 1) / 2, from 0. None where there is
     /// no gap.
-    pub fn median(&self) -> Option<Range> {
+    pub fn median(&self) -> Option<Range>
+        ensures { (gaps : List ℕ) → length gaps < 2 ^ 32 → CountsGaps self.now gaps
+            → IsMedian gaps result }
+    {
         if self.count == 0 {
             return None;
         }
         let rank = (self.count - 1) / 2;
-        let mut below = 0u64;
-        for index in 0..BUCKETS - 1 {
-            below = below.saturating_add(u64::from(self.counts[index]));
-            if below > rank {
-                return Some(range_at(index));
-            }
-        }
-        Some(Range {
-            from: MOST_UNITS << UNIT_BITS,
-            to: u64::MAX,
-        })
+        Some(range_at(bucket_at(&self.counts, rank)))
     }
+}
+
+/// The bucket of the gap at an index of the gaps in rising order, by how many gaps each bucket has.
+fn bucket_at(counts: &[u32; 481], rank: u64) -> usize
+    ensures few { result < 481 }
+    ensures below { (gaps : List ℕ) → length gaps < 2 ^ 32 → CountsUnits counts.now gaps
+        → count_units (is_before result) gaps ≤ rank }
+    ensures above { (gaps : List ℕ) → length gaps < 2 ^ 32 → CountsUnits counts.now gaps
+        → rank < length gaps → rank < count_units (is_before_end result) gaps }
+{
+    let mut below = 0u64;
+    for index in 0..BUCKETS - 1 {
+        below = below.saturating_add(u64::from(counts[index]));
+        if below > rank {
+            return index;
+        }
+    }
+    BUCKETS - 1
 }
 
 /// The index of the bucket of a gap of so many units.
 #[inline(always)]
 fn index_of(units: u64) -> usize
-    ensures { result < 481 }
+    ensures few { result < 481 }
+    ensures within { IsTrue (is_within result units) }
 {
     if units >= MOST_UNITS {
         return BUCKETS - 1;
@@ -133,19 +147,30 @@ fn bucket_of(units: u64) -> Bucket
     }
 }
 
+/// Where the bucket at an index begins, in units.
+fn start_of(index: usize) -> u64
+    requires { index ≤ 480 }
+    ensures start { result ≡ bucket_start index }
+    ensures bound { result ≤ 524288 }
+{
+    if index < 64 {
+        return index as u64;
+    }
+    (32 + index as u64 % 32) << (index as u32 / 32 - 1)
+}
+
 /// The gaps of the bucket at an index.
 fn range_at(index: usize) -> Range
-    requires { index < 480 }
+    requires { index < 481 }
+    ensures { IsBucketRange index result }
 {
-    let (shift, part) = if index < 64 {
-        (0u32, index as u64)
+    let to = if index < BUCKETS - 1 {
+        start_of(index + 1) * UNIT
     } else {
-        (index as u32 / 32 - 1, 32 + index as u64 % 32)
+        u64::MAX
     };
-    let from = part << shift;
-    let to = (part + 1) << shift;
     Range {
-        from: from << UNIT_BITS,
-        to: to << UNIT_BITS,
+        from: start_of(index) * UNIT,
+        to,
     }
 }

@@ -1,6 +1,8 @@
 //! What a link needs at each BAG.
 
-ghost use Rattle.std.specs.Prelude.{◌≡◌, ◌<◌, ◌^◌, ℕ, List, [], ◌∷◌, length};
+ghost use Rattle.std.specs.Prelude.{◌≡◌, ◌<◌, ◌^◌, ℕ, List, [], ◌∷◌, length, slice_index_or};
+ghost use Rattle.link_estimate.specs.Jitter.{Jitter};
+ghost use Rattle.link_estimate.specs.OneNetwork.{CountsNeeds};
 
 use crate::need::Need;
 use afdx_frame::Stamp;
@@ -25,7 +27,9 @@ pub struct Needs {
 
 impl Needs {
     /// What the frames of a link need that has sent one frame at most.
-    pub fn new() -> Needs {
+    pub fn new() -> Needs
+        ensures { CountsNeeds result [] }
+    {
         Needs {
             needs: [
                 Need::new(BAGS[0]),
@@ -42,15 +46,19 @@ impl Needs {
 
     /// Counts a frame that came so many nanoseconds after the one before it, at this moment.
     #[inline(always)]
-    pub fn step(&mut self, gap: u64, stamp: Stamp) {
-        for need in self.needs.iter_mut() {
-            need.step(gap, stamp);
+    pub fn step(&mut self, gap: u64, stamp: Stamp)
+        ensures { (gaps : List ℕ) → length gaps < 2 ^ 32 → CountsNeeds self.old gaps
+            → CountsNeeds self.new (gap ∷ gaps) }
+    {
+        for index in 0usize..8 {
+            self.needs[index].step(gap, stamp);
         }
     }
 
     /// What is needed at a BAG, by its index in [`BAGS`].
     pub fn at(&self, index: usize) -> &Need
         requires { index < 8 }
+        ensures { (none : Jitter) → result.now ≡ slice_index_or self.now.needs index none }
     {
         &self.needs[index]
     }

@@ -1,6 +1,7 @@
 //! Whether sequence numbers follow one another.
 
-ghost use Rattle.std.specs.Prelude.{◌≡◌};
+ghost use Rattle.std.specs.Prelude.{◌≡◌, ◌<◌, ◌++◌, ◌^◌, ℕ, List, [], ◌∷◌, length};
+ghost use Rattle.link_estimate.specs.Numbers.{CountsNumbers};
 
 use integrity::{Check, Integrity};
 
@@ -17,7 +18,9 @@ pub struct Numbering {
 
 impl Numbering {
     /// Of no frame.
-    pub fn new() -> Numbering {
+    pub fn new() -> Numbering
+        ensures { CountsNumbers result [] }
+    {
         Numbering {
             check: Check::new(),
             next: 0,
@@ -29,7 +32,10 @@ impl Numbering {
 
     /// Counts the frame with this number.
     #[inline(always)]
-    pub fn see(&mut self, number: u8) {
+    pub fn see(&mut self, number: u8)
+        ensures { (numbers : List ℕ) → length numbers < 2 ^ 32 → CountsNumbers self.old numbers
+            → CountsNumbers self.new (numbers ++ number ∷ []) }
+    {
         match self.check.judge(true, number) {
             Integrity::Next => self.next = self.next.saturating_add(1),
             Integrity::Skip => self.skip = self.skip.saturating_add(1),
