@@ -4,6 +4,7 @@ use crate::live::Blocks;
 use afdx_frame::{LentFrame, Network, Stamp};
 use analyser::LineObserver;
 use ledger_text::{FrameLine, read_frame};
+use memchr::memchr;
 use pcapng_writer::{Comment, Interfaces, append_head, append_packet};
 use std::alloc::{AllocError, Global};
 use std::io;
@@ -17,6 +18,9 @@ const FILE_HEADER: usize = 24;
 
 /// How many bytes the header of a pcap file's packet has.
 const PACKET_HEADER: usize = 16;
+
+/// How many bytes of blocks are written in one go, and a block.
+const GATHERED: usize = 65536;
 
 /// Which line of a ledger a packet belongs to.
 #[derive(Clone, Copy)]
@@ -75,9 +79,10 @@ struct Annotator<'a> {
     told: Option<FrameLine>,
     /// What came of a line of the ledger.
     line: Vec<u8>,
-    /// A packet's comment and its block.
+    /// A packet's comment.
     text: Vec<u8>,
-    block: Vec<u8>,
+    /// The blocks that were made and not written.
+    made: Vec<u8>,
     failed: bool,
 }
 
@@ -90,16 +95,21 @@ impl Annotator<'_> {
         }
     }
 
-    /// Writes what a capture begins with.
-    fn begin(&mut self) -> io::Result<()> {
+    /// Makes what a capture begins with.
+    fn begin(&mut self) -> Result<(), AllocError> {
         let interfaces = self.interfaces();
-        self.block.clear();
-        append_head(&mut self.block, interfaces)?;
-        self.blocks.write_all(&self.block)
+        append_head(&mut self.made, interfaces)
+    }
+
+    /// Writes the blocks that were made.
+    fn write_made(&mut self) -> io::Result<()> {
+        self.blocks.write_all(&self.made)?;
+        self.made.clear();
+        Ok(())
     }
 
     /// Makes the block of the first packet, and says how many bytes that had. None: it hasn't come whole.
-    fn fill_block(&mut self, line: Option<FrameLine>) -> Result<Option<usize>, AllocError> {
+    fn make_block(&mut self, line: Option<FrameLine>) -> Result<Option<usize>, AllocError> {
         let interfaces = self.interfaces();
         self.text.clear();
         if let Some(line) = &line {
@@ -111,15 +121,14 @@ impl Annotator<'_> {
         let Some((frame, len)) = first_packet(packets, network) else {
             return Ok(None);
         };
-        self.block.clear();
         let kept = frame.view().bytes().len() as u32;
-        append_packet(&mut self.block, interfaces, &frame, kept, comment)?;
+        append_packet(&mut self.made, interfaces, &frame, kept, comment)?;
         Ok(Some(len))
     }
 
-    /// Writes the first packet with the verdict of its line. Has it come whole?
-    fn write_first(&mut self, line: Option<FrameLine>) -> io::Result<bool> {
-        let Some(len) = self.fill_block(line)? else {
+    /// Passes the first packet on, with the verdict of its line. Has it come whole?
+    fn pass_first(&mut self, line: Option<FrameLine>) -> io::Result<bool> {
+        let Some(len) = self.make_block(line)? else {
             return Ok(false);
         };
         self.from = self.from.saturating_add(len);
@@ -127,7 +136,9 @@ impl Annotator<'_> {
             self.packets.clear();
             self.from = 0;
         }
-        self.blocks.write_all(&self.block)?;
+        if self.made.len() >= GATHERED {
+            self.write_made()?;
+        }
         Ok(true)
     }
 
@@ -143,22 +154,29 @@ impl Annotator<'_> {
         if let Joining::Ledger = self.joining {
             return Ok(());
         }
-        // Each turn but the last writes a packet.
+        // Each turn but the last passes a packet on.
         for _ in 0..u64::MAX {
-            if self.packets.is_empty() || !self.write_first(self.told)? {
+            if self.packets.is_empty() || !self.pass_first(self.told)? {
                 break;
             }
         }
-        Ok(())
+        self.write_made()
     }
 
-    /// Takes the line of the ledger that has come. The head and the lines of counts are none of frames.
-    fn end_line(&mut self) -> io::Result<()> {
-        let found = read_frame(&self.line);
-        self.line.clear();
+    /// Takes a line of the ledger, of which these bytes came last. The head and the lines of counts are none
+    /// of frames.
+    fn end_line(&mut self, last: &[u8]) -> io::Result<()> {
+        let found = if self.line.is_empty() {
+            read_frame(last)
+        } else {
+            self.line.extend_from_slice(last)?;
+            let found = read_frame(&self.line);
+            self.line.clear();
+            found
+        };
         match found {
             Ok(line) if line.kept.is_some() => {
-                self.write_first(Some(line))?;
+                self.pass_first(Some(line))?;
                 Ok(())
             }
             Ok(_) | Err(_) => Ok(()),
@@ -170,15 +188,14 @@ impl Annotator<'_> {
         let mut rest = bytes;
         // Each turn but the last takes a line.
         for _ in 0..u64::MAX {
-            let Some(at) = rest.iter().position(|byte| *byte == b'\n') else {
+            let Some(at) = memchr(b'\n', rest) else {
                 break;
             };
-            self.line.extend_from_slice(rest.get(..at).unwrap_or(&[]))?;
-            self.end_line()?;
+            self.end_line(rest.get(..at).unwrap_or(&[]))?;
             rest = rest.get(at.saturating_add(1)..).unwrap_or(&[]);
         }
         self.line.extend_from_slice(rest)?;
-        Ok(())
+        self.write_made()
     }
 }
 
@@ -212,7 +229,7 @@ impl<'a> Annotated<'a> {
             told: None,
             line: Vec::new(alloc),
             text: Vec::new(alloc),
-            block: Vec::new(alloc),
+            made: Vec::new(alloc),
             failed: false,
         };
         match Arc::new(alloc, Mutex::new(annotator)) {
