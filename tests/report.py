@@ -216,11 +216,19 @@ def in_a_browser(folder):
     table, ledger, _ = ledger_in(folder, table_of(links, (WHOLE,)), traffic(chance, links, 2, 0.05))
     page = os.path.join(folder, "report.html")
     run(["report", "--config", table, "--ledger", ledger, "-o", page])
-    for width in (1400, 800):
-        ran = ended([browser, "--headless", "--no-sandbox", "--disable-gpu", "--enable-logging=stderr", f"--window-size={width},1000",
-                     f"--screenshot={os.path.join(folder, 'page.png')}", "file://" + page], capture_output=True)
+    shown, printed = os.path.join(folder, "page.png"), os.path.join(folder, "page.pdf")
+    ways = [(f"{width} pixels wide", shown, [f"--window-size={width},1000", f"--screenshot={shown}"]) for width in (1400, 800)]
+    ways.append(("in the dark", shown, ["--blink-settings=preferredColorScheme=0", f"--screenshot={shown}"]))
+    ways.append(("on A4", printed, ["--no-pdf-header-footer", f"--print-to-pdf={printed}"]))
+    for name, made, options in ways:
+        ran = ended([browser, "--headless", "--no-sandbox", "--disable-gpu", "--enable-logging=stderr", *options, "file://" + page],
+                    capture_output=True)
         messages = [line for line in ran.stderr.decode("utf-8", "replace").splitlines() if "CONSOLE" in line]
-        say(f"report: the page in a browser, {width} pixels wide", "; ".join(messages[:2]))
+        if not os.path.exists(made):
+            messages.append("nothing was drawn")
+        say(f"report: the page in a browser, {name}", "; ".join(messages[:2]))
+        if os.path.exists(made):
+            os.remove(made)
 
 
 def cases():
