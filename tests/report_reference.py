@@ -15,7 +15,7 @@ CLASSES = ["cut", "runt", "oversize", "foreign", "unconfigured", "toolong"]
 SIGNS = CLASSES + ["excess", "out", "lost", "repeat", "reset", "alone", "late", "early"]
 TROUBLES = ["toolong", "excess", "out", "lost", "late", "alone"]
 OTHER = {"A": "B", "B": "A"}
-SILENT_LINES, MOST_SILENCES, ABSENT_LINES, WINDOW_BAGS = 64, 1024, 8, 127
+SILENT_LINES, MOST_SILENCES, ABSENT_LINES, WINDOW_BAGS, BINS = 64, 1024, 8, 127, 240
 
 
 def optional(field, read=int):
@@ -188,12 +188,29 @@ def fates(ledger, link, seen):
 
 
 def skews(seen):
+    """Of each copy its line, and how much later it came."""
     said, by = [], numbers_of(seen)
     for l in seen:
         if l.redundancy == "copy":
             d = max((d for d in by[l.sequence] if d.at < l.at and d.redundancy == "deliver"), key=lambda d: d.at)
-            said.append(l.stamp - d.stamp)
+            said.append((l, l.stamp - d.stamp))
     return said
+
+
+def row_of(name, of, start, width, merge=sum):
+    """A row of the timeline, of a list of (line, amount)."""
+    bins = [[] for _ in range(BINS)]
+    for l, amount in of:
+        bins[(l.stamp - start) // width].append(amount)
+    return {"row": name, "bins": [merge(amounts) if amounts else 0 for amounts in bins]}
+
+
+def timeline(lines, hits, copies, start, width):
+    """The rows in which something came."""
+    rows = [("frames", [(l, 1) for l in lines], sum), ("bytes", [(l, l.kept + 24) for l in lines if l.kept is not None], sum),
+            ("skew", copies, max)]
+    rows += [(sign, [(l, n) for s, l, n in hits if s == sign and n > 0], sum) for sign in SIGNS]
+    return [row_of(name, of, start, width, merge) for name, of, merge in rows if of]
 
 
 def absence(ledger, seen, network):
@@ -254,7 +271,8 @@ def link_of(ledger, link):
     seen = [l for l in ledger.lines if l.link == link["id"] and l.cls in ("toolong", "regular")]
     lanes = {n: [l for l in seen if l.network == n] for n in "AB"}
     ends, late = fates(ledger, link, seen)
-    of_copies = skews(seen)
+    copies = skews(seen)
+    of_copies = [skew for _, skew in copies]
     said = {"id": link["id"], "name": link["name"], "counts": counts(seen), "deliveries": len(ends),
             "fates": {f: sum(g == f for g, _ in ends) for f in ("paired", "late", "first", "met", "uncovered", "alone")},
             "copies": len(of_copies), "skew_sum": sum(of_copies), "skew_greatest": max(of_copies, default=0),
@@ -267,7 +285,7 @@ def link_of(ledger, link):
     never = any(not lanes[n] and ledger.of[n] for n in "AB")
     said["level"] = ("silent" if not seen else "trouble" if never or said["signs"] >= 3 and said["signs"] * 1000 >= len(seen)
                      else "notice" if said["signs"] or resets else "clean")
-    return said, hits
+    return said, hits, copies
 
 
 def ending_of(tail, network):
@@ -277,14 +295,14 @@ def ending_of(tail, network):
     return None
 
 
-def network_of(ledger, network, tail, hits):
+def network_of(ledger, network, tail, hits, copies, start, width):
     lines = ledger.of[network]
     own = [(rule_of(l), l, 1) for l in lines if rule_of(l)]
     own += [(s, l, n) for s, l, n in hits if s in ("lost", "repeat", "reset", "alone", "late")]
     return {"frames": len(lines), "first": str(lines[0].stamp) if lines else None, "last": str(lines[-1].stamp) if lines else None,
             "bytes": sum(l.kept + 24 for l in lines if l.kept is not None), "counts": counts(lines),
             "silences": ledger.silences[network], "more_silences": ledger.more[network], "ending": ending_of(tail, network),
-            "signs": signs(own)}
+            "signs": signs(own), "timeline": timeline(lines, own, copies, start, width)}
 
 
 def reference(table_path, ledger_path):
@@ -293,15 +311,16 @@ def reference(table_path, ledger_path):
     lines, tail = read_lines(ledger_path)
     ledger = Ledger(lines)
     links = []
-    hits = {"A": [], "B": []}
+    hits, copies = {"A": [], "B": []}, {"A": [], "B": []}
     for link in sorted(table.get("link", []), key=lambda l: l["id"]):
         link = dict(link, bag=link["bag_ms"] * 10**6, jitter=link["jitter_us"] * 1000, skew=link["skew_us"] * 1000)
-        said, own = link_of(ledger, link)
+        said, own, of_copies = link_of(ledger, link)
         links.append(said)
         for n in "AB":
             hits[n] += own[n]
-    width = 5**9
-    while lines and lines[-1].stamp - lines[0].stamp >= 240 * width:
+            copies[n] += [(l, skew) for l, skew in of_copies if l.network == n]
+    width, start = 5**9, lines[0].stamp if lines else 0
+    while lines and lines[-1].stamp - start >= BINS * width:
         width *= 2
     outside = []
     for vl in sorted({l.link for l in lines if l.cls == "unconfigured"}):
@@ -310,7 +329,8 @@ def reference(table_path, ledger_path):
     return {"version": 1, "whole": any(f[0] == "total" for f in tail), "start": str(lines[0].stamp) if lines else None,
             "end": str(lines[-1].stamp) if lines else None, "width": width, "counts": counts(lines),
             "filters": [sum(l.mask >> i & 1 for l in lines) for i in range(1 + len(table.get("filters", [])))],
-            "a": network_of(ledger, "A", tail, hits["A"]), "b": network_of(ledger, "B", tail, hits["B"]),
+            "a": network_of(ledger, "A", tail, hits["A"], copies["A"], start, width),
+            "b": network_of(ledger, "B", tail, hits["B"], copies["B"], start, width),
             "links": links, "outside": outside}
 
 

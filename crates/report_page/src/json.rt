@@ -4,8 +4,8 @@ use crate::ranks::{level_of, level_word, signs_of};
 use crate::view::{letter_of, text, word_of};
 use afdx_frame::{Network, VlId};
 use ledger_report::{
-    Absence, Counts, Lane, LinkReport, NetworkReport, Place, Report, Sign, Signs, Silence, TapEnd,
-    TapEnding,
+    Absence, Counts, Lane, LinkReport, NetworkReport, Place, Report, Series, Sign, Signs, Silence,
+    TapEnd, TapEnding,
 };
 use serde::Serialize;
 use serde_json::Error;
@@ -104,6 +104,13 @@ struct JsonSilence {
     lines: u64,
 }
 
+/// A row of a network's timeline: a number for each bin.
+#[derive(Debug, Drop, Serialize)]
+struct JsonRow {
+    row: &'static str,
+    bins: Vec<u64>,
+}
+
 #[derive(Debug, Drop, Serialize)]
 struct JsonEnding<'a> {
     end: &'static str,
@@ -122,6 +129,7 @@ struct JsonNetwork<'a> {
     more_silences: u64,
     ending: Option<JsonEnding<'a>>,
     signs: Vec<JsonSign>,
+    timeline: Vec<JsonRow>,
 }
 
 #[derive(Debug, Drop, Serialize)]
@@ -309,6 +317,35 @@ fn ending_of(ending: &Option<TapEnding>) -> Option<JsonEnding<'_>> {
     }
 }
 
+/// Adds a row, unless nothing came in it.
+fn add_row(
+    alloc: Global,
+    rows: &mut Vec<JsonRow>,
+    row: &'static str,
+    series: &Series,
+) -> Result<(), AllocError> {
+    if series.bins().is_empty() {
+        return Ok(());
+    }
+    rows.push(JsonRow {
+        row,
+        bins: Vec::from_slice(alloc, series.bins())?,
+    })?;
+    Ok(())
+}
+
+/// What a network's numbers are by time.
+fn timeline_of(alloc: Global, side: &NetworkReport) -> Result<Vec<JsonRow>, AllocError> {
+    let mut rows = Vec::new(alloc);
+    add_row(alloc, &mut rows, "frames", &side.lines)?;
+    add_row(alloc, &mut rows, "bytes", &side.loads)?;
+    add_row(alloc, &mut rows, "skew", &side.skews)?;
+    for sign in SIGNS {
+        add_row(alloc, &mut rows, word_of(sign), &side.signs.of(sign).bins)?;
+    }
+    Ok(rows)
+}
+
 fn network_of<'a>(
     alloc: Global,
     report: &'a Report,
@@ -326,6 +363,7 @@ fn network_of<'a>(
         more_silences: side.more_silences,
         ending: ending_of(report.endings.of(network)),
         signs: signs_in(alloc, &side.signs)?,
+        timeline: timeline_of(alloc, side)?,
     })
 }
 
