@@ -1,6 +1,7 @@
 //! The copies of frames that both networks bring.
 
 ghost use Rattle.std.specs.Prelude.{◌≡◌, ◌<◌, ◌+◌, ◌^◌, ℕ, List, [], ◌∷◌, length};
+ghost use Rattle.link_estimate.specs.declared.copies.TheConstants.{MAX_SKEW};
 ghost use Rattle.link_estimate.specs.CopyPairs.{CountsCopies, SeenFrame, one_of, other_than, seen_on, skew_given};
 
 use afdx_frame::{Network, Stamp};
@@ -21,10 +22,11 @@ struct Arrival {
 }
 
 /// The copies among the frames of one link on both networks. A frame is the copy of the last one with its
-/// sequence number, where that came on the other network, at most a second before, is one of the last 128 of
-/// the link there, and has no copy yet.
+/// sequence number, where that came on the other network, at most a second or what is given before, is one of
+/// the last 128 of the link there, and has no copy yet.
 #[derive(Debug, Drop)]
 pub struct Copies {
+    most_skew: u64,
     latest: [Option<Arrival>; 256],
     seen_a: u64,
     seen_b: u64,
@@ -35,9 +37,19 @@ pub struct Copies {
 impl Copies {
     /// Of no frame.
     pub fn new() -> Copies
-        ensures { CountsCopies result [] }
+        ensures most { result.most_skew ≡ MAX_SKEW }
+        ensures none { CountsCopies result [] }
+    {
+        Copies::within(MAX_SKEW)
+    }
+
+    /// Of no frame. A copy comes at most so many nanoseconds after the first frame.
+    pub fn within(skew: u64) -> Copies
+        ensures most { result.most_skew ≡ skew }
+        ensures none { CountsCopies result [] }
     {
         Copies {
+            most_skew: skew,
             latest: [None; 256],
             seen_a: 0,
             seen_b: 0,
@@ -49,7 +61,8 @@ impl Copies {
     /// Counts the frame with this number.
     #[inline(always)]
     pub fn see(&mut self, network: Network, number: u8, stamp: Stamp)
-        ensures { (frames : List SeenFrame) → length frames < 2 ^ 32 → CountsCopies self.old frames
+        ensures most { self.new.most_skew ≡ self.old.most_skew }
+        ensures after { (frames : List SeenFrame) → length frames < 2 ^ 32 → CountsCopies self.old frames
             → CountsCopies self.new (record {
               network = network;
               number = number;
@@ -59,7 +72,8 @@ impl Copies {
         let index = self.pass(network);
         let others = self.seen(other(network));
         let place = usize::from(number);
-        match skew_of(self.latest[place], network, others, stamp) {
+        let latest = self.latest[place];
+        match skew_of(latest, network, others, stamp, self.most_skew) {
             Some(skew) => {
                 self.latest[place] = None;
                 self.count = self.count.saturating_add(1);
@@ -79,6 +93,7 @@ impl Copies {
     #[inline(always)]
     fn pass(&mut self, network: Network) -> u64
         ensures index { result ≡ seen_on network self.old }
+        ensures most { self.new.most_skew ≡ self.old.most_skew }
         ensures counted { self.old.seen_a < 2 ^ 32 → self.old.seen_b < 2 ^ 32
             → self.new ≡ record self.old {
               seen_a = one_of network Network.A + self.old.seen_a;
@@ -132,13 +147,19 @@ fn other(network: Network) -> Network
 /// How much later than the last frame of its number a copy came. None: it is no copy. `others` is how many
 /// frames of the link have come on the other network.
 #[inline(always)]
-fn skew_of(latest: Option<Arrival>, network: Network, others: u64, stamp: Stamp) -> Option<u64>
-    ensures { result ≡ skew_given latest network others stamp.0 }
+fn skew_of(
+    latest: Option<Arrival>,
+    network: Network,
+    others: u64,
+    stamp: Stamp,
+    most: u64,
+) -> Option<u64>
+    ensures { result ≡ skew_given most latest network others stamp.0 }
 {
     let arrival = latest?;
     let skew = stamp.0.saturating_sub(arrival.stamp.0);
     let since = others.saturating_sub(arrival.index);
-    if arrival.network != network && skew <= MAX_SKEW && since <= MOST_SINCE + 1 {
+    if arrival.network != network && skew <= most && since <= MOST_SINCE + 1 {
         Some(skew)
     } else {
         None

@@ -7,8 +7,8 @@ use Rattle.link_estimate.specs.declared.copies.Copies.{Copies}
 use Rattle.link_estimate.proofs.Copying.{after_pass, copies_few, counts_copy, counts_fresh, frames_few, seen_is, skew_found}
 use Rattle.link_estimate.proofs.copies.Copies.see.Goals as goal
 
-pub returns-in-Some : goal.returns-in-Some
-returns-in-Some c = λ frames few h.
+pub returns-in-Some-clause-after : goal.returns-in-Some-clause-after
+returns-in-Some-clause-after c = λ frames few h.
     (let old = c.args.self.now in
     let frame : SeenFrame = record { network = c.args.network; number = c.args.number; stamp = c.args.stamp.0 } in
     let len : length old.latest ≡ 256 = omega arith in
@@ -18,12 +18,12 @@ returns-in-Some c = λ frames few h.
     let others = c.seen-others.ensures ∙ ap (λ (n : Network). seen_on n c.pass-index.new.self) c.other.ensures in
     let found = skew_found old c.pass-index.new.self frames frame c.from-place.result c.seen-others.result c.skew_of.result h small passed c.from-place.ensures others c.skew_of.ensures in
     let one : c.saturating_add-self.result ≡ old.count + 1 =
-    omega (arith, ap (λ (s : Copies). s.count) passed, h.count, copies_few frames, few, c.saturating_add-self.ensures) in
+    omega (arith, ap (λ (s : Copies). s.count) passed, h.count, copies_few old.most_skew frames, few, c.saturating_add-self.ensures) in
     let most : c.max-self.result ≡ max old.greatest_skew c.in-Some.skew = c.max-self.ensures ∙ ap (λ (s : Copies). max s.greatest_skew c.in-Some.skew) passed in
     rw (one, most, passed, c.from-place.ensures) (counts_copy old frames frame c.in-Some.skew len small h (found ∙ c.in-Some.is)))
 
-pub returns-in-None : goal.returns-in-None
-returns-in-None c = λ frames few h.
+pub returns-in-None-clause-after : goal.returns-in-None-clause-after
+returns-in-None-clause-after c = λ frames few h.
     (let old = c.args.self.now in
     let frame : SeenFrame = record { network = c.args.network; number = c.args.number; stamp = c.args.stamp.0 } in
     let len : length old.latest ≡ 256 = omega arith in

@@ -10,6 +10,7 @@ use Rattle.round_output.proofs.Writing.{ledger_stops, packets_all, some_of, wher
 use Rattle.round_output.proofs.outputs.Outputs.begin.Goals as goal
 
 pub returns-in-Err-begin-2-clause-stopped : goal.returns-in-Err-begin-2-clause-stopped
+unfolding capture_header
 returns-in-Err-begin-2-clause-stopped g c = rw (c.fault_of_ledger.ensures, c.finish.ensures) (λ ps.
     (let stops = ledger_stops c.in-Err-begin-2.field-0.fault _ _ _ [] ledger_head _ _ _ _ _ _ (Appends-nil (g.L.OutSink.contents c.args.ledger)) (append-nil ledger_head)
     c.in-Ok-begin.ensures.written.no_failure refl c.in-Err-begin-2.ensures.written in
