@@ -144,6 +144,12 @@ impl Invocation<'_> {
                 stream_of(FileOption::Config, given.config),
                 stream_of(FileOption::Ledger, given.ledger),
             ]),
+            Invocation::Check(given) => refuse_second(&[
+                stream_of(FileOption::Config, given.config),
+                stream_if(FileOption::Filter, given.filter),
+                stream_if(FileOption::A, given.a),
+                stream_if(FileOption::B, given.b),
+            ]),
         }
     }
 }

@@ -20,10 +20,11 @@ struct Arrival {
 }
 
 /// The copies among the frames of one link on both networks. A frame is the copy of the last one with its
-/// sequence number, where that came on the other network, at most a second before, is one of the last 128 of
-/// the link there, and has no copy yet.
+/// sequence number, where that came on the other network, at most a second or what is given before, is one of
+/// the last 128 of the link there, and has no copy yet.
 #[derive(Debug, Drop)]
 pub struct Copies {
+    most_skew: u64,
     latest: [Option<Arrival>; 256],
     seen_a: u64,
     seen_b: u64,
@@ -34,7 +35,13 @@ pub struct Copies {
 impl Copies {
     /// Of no frame.
     pub fn new() -> Copies {
+        Copies::within(MAX_SKEW)
+    }
+
+    /// Of no frame. A copy comes at most so many nanoseconds after the first frame.
+    pub fn within(skew: u64) -> Copies {
         Copies {
+            most_skew: skew,
             latest: [None; 256],
             seen_a: 0,
             seen_b: 0,
@@ -49,7 +56,8 @@ impl Copies {
         let index = self.pass(network);
         let others = self.seen(other(network));
         let place = usize::from(number);
-        match skew_of(self.latest[place], network, others, stamp) {
+        let latest = self.latest[place];
+        match skew_of(latest, network, others, stamp, self.most_skew) {
             Some(skew) => {
                 self.latest[place] = None;
                 self.count = self.count.saturating_add(1);
@@ -111,11 +119,17 @@ fn other(network: Network) -> Network {
 /// How much later than the last frame of its number a copy came. None: it is no copy. `others` is how many
 /// frames of the link have come on the other network.
 #[inline(always)]
-fn skew_of(latest: Option<Arrival>, network: Network, others: u64, stamp: Stamp) -> Option<u64> {
+fn skew_of(
+    latest: Option<Arrival>,
+    network: Network,
+    others: u64,
+    stamp: Stamp,
+    most: u64,
+) -> Option<u64> {
     let arrival = latest?;
     let skew = stamp.0.saturating_sub(arrival.stamp.0);
     let since = others.saturating_sub(arrival.index);
-    if arrival.network != network && skew <= MAX_SKEW && since <= MOST_SINCE + 1 {
+    if arrival.network != network && skew <= most && since <= MOST_SINCE + 1 {
         Some(skew)
     } else {
         None
