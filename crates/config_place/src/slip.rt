@@ -118,12 +118,22 @@ fn subject_of(document: &Table, fault: ConfigFault) -> Option<Subject<'_>> {
 /// The first link that has the same value at a key.
 fn first_with<'a>(document: &'a Table, key: Key, value: &Value) -> Option<(u32, &'a Table)> {
     for (index, link) in links_of(document)?.iter().enumerate() {
-        let table = link.as_table()?;
-        if is_same(table.get(key.name())?, value) {
-            return Some((u32::try_from(index).ok()?, table));
+        match link.as_table() {
+            Some(table) if has_same(table, key, value) => {
+                return Some((u32::try_from(index).ok()?, table));
+            }
+            Some(_) | None => {}
         }
     }
     None
+}
+
+/// Has a link the same value at a key?
+fn has_same(link: &Table, key: Key, value: &Value) -> bool {
+    match link.get(key.name()) {
+        Some(own) => is_same(own, value),
+        None => false,
+    }
 }
 
 /// Are both the same integer, or the same string?

@@ -1,6 +1,6 @@
 -- What equal sequence numbers say of the clocks of two taps (this project's profile): a frame that both have seen tells their difference, and the
 -- difference that most links tell is taken. Times are in nanoseconds.
-use Rattle.std.specs.Prelude.{ℕ, ◌+◌, ◌≤◌, ◌<◌, Bool, ◌&&◌, List, [], ◌∷◌, length, Option, Some, None, find, count_by, slice_index_or, nat_le, ◌==◌}
+use Rattle.std.specs.Prelude.{ℕ, ◌+◌, ◌≤◌, ◌<◌, Bool, ◌&&◌, List, [], ◌∷◌, length, Option, Some, None, find, count_by, get_or, nat_le, ◌==◌, ◌≡◌}
 use Rattle.std.specs.Option.{option_map, option_or}
 use Rattle.input_check.specs.declared.clocks.Meeting.{Meeting}
 use Rattle.input_check.specs.declared.clocks.Sample.{Sample}
@@ -22,3 +22,14 @@ is_near one other =
 -- how many tell nearly the same
 abbrev pub support : List Meeting → Meeting → ℕ
 support meetings meeting = count_by (is_near meeting) meetings
+
+-- each of the first meetings has no more support
+abbrev pub HasMost : List Meeting → ℕ → ℕ → Type 0
+HasMost meetings n most = (k : ℕ) (d : Meeting) → k < n → support meetings (get_or meetings k d) ≤ most
+
+abbrev pub HasSupport : List Meeting → ℕ → ℕ → Type 0
+HasSupport meetings place most = (d : Meeting) → support meetings (get_or meetings place d) ≡ most
+
+-- no meeting has more support than that at an index
+abbrev pub IsMostSupported : List Meeting → ℕ → Type 0
+IsMostSupported meetings place = (most : ℕ) × HasSupport meetings place most × HasMost meetings (length meetings) most

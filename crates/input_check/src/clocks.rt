@@ -1,7 +1,7 @@
 //! How far the clocks of two taps are apart, by frames of equal sequence numbers.
 
-ghost use Rattle.std.specs.Prelude.{◌≡◌, ◌<◌, ◌≤◌, ℕ, length, find, count_by, slice_index};
-ghost use Rattle.input_check.specs.Clocks.{first_meeting, is_near, met, support};
+ghost use Rattle.std.specs.Prelude.{◌≡◌, ◌==◌, ◌<◌, ◌≤◌, ℕ, length, find, slice_get};
+ghost use Rattle.input_check.specs.Clocks.{IsMostSupported, first_meeting, is_near, met, support};
 
 /// When a frame with a sequence number came, in nanoseconds.
 #[derive(Clone, Copy, Debug, PartialEq, Eq)]
@@ -76,9 +76,7 @@ pub fn support(meetings: &[Meeting], meeting: Meeting) -> usize
 pub fn most_supported(meetings: &[Meeting]) -> usize
     requires { 0 < length meetings.now }
     ensures within { result < length meetings.now }
-    ensures most { (k : ℕ) → k < length meetings.now →
-        support meetings.now (slice_index meetings.now k)
-        ≤ support meetings.now (slice_index meetings.now result) }
+    ensures most { IsMostSupported meetings.now result }
 {
     let mut best = 0;
     let mut most = support(meetings, meetings[0]);

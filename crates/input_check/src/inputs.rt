@@ -1,6 +1,6 @@
 //! The counts of both recordings against a table.
 
-ghost use Rattle.std.specs.Prelude.{◌≡◌, vec_len};
+ghost use Rattle.std.specs.Prelude.{◌≡◌, ◌≤◌, IfOk, length, vec_len};
 
 use crate::link::LinkTally;
 use crate::tap::TapTally;
@@ -45,20 +45,31 @@ pub struct Inputs<'a> {
     listed: Option<Listed<'a>>,
 }
 
+/// The place of each identifier's link.
+fn places_of(alloc: Global, links: &[Link]) -> Result<Vec<u16>, AllocError>
+    requires { length links.now ≤ 4096 }
+    ensures { IfOk result (λ places. vec_len places ≡ 65536) }
+{
+    let mut places = vec![in alloc; NO_LINK; VL_ID_COUNT]?;
+    for (index, link) in links.iter().enumerate() {
+        let VlId(id) = link.id;
+        places[usize::from(id)] = index as u16;
+    }
+    Ok(places)
+}
+
 impl<'a> Listed<'a> {
     fn new(alloc: Global, config: &'a Config) -> Result<Listed<'a>, AllocError> {
         let links = config.links();
-        let mut places = vec![in alloc; NO_LINK; VL_ID_COUNT]?;
         let mut tallies = Vec::with_capacity(alloc, links.len())?;
-        for (index, link) in links.iter().enumerate() {
-            places[usize::from(link.id.0)] = index as u16;
+        for link in links {
             let skew = if link.redundancy { link.skew } else { 0 };
             tallies.push(LinkTally::new(skew))?;
         }
         Ok(Listed {
             constant: config.constant(),
             links,
-            places,
+            places: places_of(alloc, links)?,
             tallies,
             unlisted: vec![in alloc; 0u32; VL_ID_COUNT]?,
             constants: Vec::new(alloc),
@@ -69,41 +80,28 @@ impl<'a> Listed<'a> {
         usize::from(self.places[usize::from(id.0)])
     }
 
-    /// Counts a frame of a class against the table, and its link.
+    /// Counts a frame by its class under the table.
     #[inline]
-    fn see(&mut self, tap: &mut TapTally, frame: &TapFrame) -> Result<(), AllocError> {
-        let view = frame.view();
-        let (Some(constant), Some(id), Some(number)) = (view.constant(), view.vl(), view.sequence())
-        else {
-            tap.unusable = tap.unusable.saturating_add(1);
-            return Ok(());
-        };
+    fn see(&mut self, frame: &TapFrame) -> Result<Class, AllocError> {
+        let id = frame.view().vl().unwrap_or(VlId(0));
         let place = self.place(id);
         let smax = self.links.get(place).map(|link| link.smax);
-        match class_by(self.constant, smax, frame) {
-            Class::Cut | Class::Runt | Class::Oversize => {
-                tap.unusable = tap.unusable.saturating_add(1);
-            }
-            Class::Foreign => {
-                tap.foreign = tap.foreign.saturating_add(1);
-                self.see_constant(constant)?;
-            }
+        let class = class_by(self.constant, smax, frame);
+        match class {
+            Class::Cut | Class::Runt | Class::Oversize => {}
+            Class::Foreign => self.see_constant(frame.view().constant().unwrap_or(0))?,
             Class::Unconfigured => {
-                tap.unlisted = tap.unlisted.saturating_add(1);
                 let count = self.unlisted[usize::from(id.0)];
                 self.unlisted[usize::from(id.0)] = count.saturating_add(1);
             }
-            Class::TooLong => {
-                tap.long = tap.long.saturating_add(1);
-                self.see_link(place, frame, number);
-            }
-            Class::Regular => self.see_link(place, frame, number),
+            Class::TooLong | Class::Regular => self.see_link(place, frame),
         }
-        Ok(())
+        Ok(class)
     }
 
     #[inline]
-    fn see_link(&mut self, place: usize, frame: &TapFrame, number: u8) {
+    fn see_link(&mut self, place: usize, frame: &TapFrame) {
+        let number = frame.view().sequence().unwrap_or(0);
         if let Some(tally) = self.tallies.get_mut(place) {
             tally.see(frame.network(), frame.stamp(), number);
         }
@@ -191,14 +189,14 @@ impl Observer for Inputs<'_> {
     #[inline]
     fn see(&mut self, alloc: Global, frame: &TapFrame) -> Result<(), AllocError> {
         let _ = alloc;
-        let tap = match frame.network() {
-            Network::A => &mut self.a,
-            Network::B => &mut self.b,
+        let class = match &mut self.listed {
+            Some(listed) => Some(listed.see(frame)?),
+            None => None,
         };
-        tap.see(frame);
-        match &mut self.listed {
-            Some(listed) => listed.see(tap, frame),
-            None => Ok(()),
+        match frame.network() {
+            Network::A => self.a.see(frame, class),
+            Network::B => self.b.see(frame, class),
         }
+        Ok(())
     }
 }

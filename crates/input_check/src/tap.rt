@@ -5,6 +5,7 @@ ghost use Rattle.std.specs.Prelude.{◌≡◌};
 use crate::checksum::ends_with_check;
 use crate::decide::Marks;
 use afdx_frame::TapFrame;
+use vl_config::Class;
 
 /// Of how many frames at most the frame check sequence is looked for.
 pub const CHECKED: u64 = 64;
@@ -24,12 +25,8 @@ pub struct TapTally {
     as_b: u64,
     /// A number that all timestamps, lengths and ends of frames make.
     digest: u64,
-    /// Frames that aren't recorded whole, or aren't of 60 to 1514 bytes.
-    pub unusable: u64,
     /// Frames of another constant field than the table's.
     pub foreign: u64,
-    /// Frames of links that the table lacks.
-    pub unlisted: u64,
     /// Frames longer than their link's Smax allows.
     pub long: u64,
 }
@@ -47,17 +44,20 @@ impl TapTally {
             as_a: 0,
             as_b: 0,
             digest: 0,
-            unusable: 0,
             foreign: 0,
-            unlisted: 0,
             long: 0,
         }
     }
 
-    /// Counts a frame.
+    /// Counts a frame, and its class where there is a table.
     #[inline]
-    pub fn see(&mut self, frame: &TapFrame) {
+    pub fn see(&mut self, frame: &TapFrame, class: Option<Class>) {
         self.frames = self.frames.saturating_add(1);
+        match class {
+            Some(Class::Foreign) => self.foreign = self.foreign.saturating_add(1),
+            Some(Class::TooLong) => self.long = self.long.saturating_add(1),
+            Some(_) | None => {}
+        }
         let bytes = frame.view().bytes();
         let ends = match bytes {
             [_, _, _, _, high, low, .., last] => u64::from(*high) << 24 | u64::from(*low) << 16 | u64::from(*last),
