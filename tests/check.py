@@ -230,9 +230,11 @@ def of_wide_tables(work):
     """Tables whose faults are no key's, and links in other forms."""
     path = os.path.join(work, "t.toml")
     write(path, "constant = 50331648\nlink = [\n  { id = 5, bag_ms = 3 },\n  7,\n]\n")
-    allowed = texts.ALLOWED["link"]
-    judged("links as inline tables, one of them none", asked("--config", path), f"table: {path}: 1 fault\n" if False else asked("--config", path).stdout.decode())
-    say("check: a link that is no table is the type of 'link'", "" if f"fault: {path}:2:1: link = a value of type array: {allowed}\n" in asked("--config", path).stdout.decode() else "another")
+    missing = [key for key in LINK_KEYS if key not in ("id", "bag_ms")]
+    text = f"table: {path}: 8 faults\nfault: {path}:2:1: link = a value of type array: {texts.ALLOWED['link']}\n"
+    text += "".join(f"fault: {path}:3:3: link 0, id 5: {key} is missing: {texts.ALLOWED[key]}\n" for key in missing)
+    text += f"fault: {path}:3:13: link 0, id 5: bag_ms = 3: {texts.ALLOWED['bag_ms']}\nsound: no, 8 faults and 0 questions\n"
+    judged("links as inline tables, one of them none", asked("--config", path), text)
     write(path, "constant = 50331648\nlate_us == 1\n")
     ran = asked("--config", path)
     say("check: a text that is no TOML", difference(ran, FAULT, UNSOUND) or ("" if ran.stdout.startswith(f"table: {path}: 1 fault\nfault: {path}:2:".encode()) else repr(ran.stdout)))
@@ -357,7 +359,7 @@ class Reference:
     def difference(self, skew):
         """How far B's clock is ahead, by most links, and how many say so."""
         apart = []
-        for link in self.links:
+        for link in sorted(self.links, key=lambda one: one["id"]):
             if not link["redundancy"]:
                 continue
             a, b = self.of(link["id"], "A")[:32], self.of(link["id"], "B")[:32]

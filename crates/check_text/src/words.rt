@@ -110,6 +110,26 @@ pub fn question_word(question: &Question) -> &'static str {
     }
 }
 
+const SAME_RECORDING: &str = "are --a and --b one recording? All their frames are the same";
+
+const SWAPPED: &str = "\
+are the networks swapped? The source addresses in --a are of network B, those in --b of A";
+
+const BOTH_OF_A: &str = "are both recordings of network A? So say their source addresses";
+
+const BOTH_OF_B: &str = "are both recordings of network B? So say their source addresses";
+
+const APART: &str = "do the recordings belong together? One ends before the other begins";
+
+const CONSTANT: &str = "is the table's 'constant' that of this network? Not that of";
+
+const TAKE_THEM_OFF: &str = "hold frame check sequences? Take them off: editcap -C -4";
+
+const SMAX: &str = "does 'smax' count a frame without its check sequence?";
+
+const CLOCKS: &str = "\
+are the clocks of the taps apart? Hardly a frame is a copy within its SkewMax.";
+
 /// A question in words.
 #[derive(Clone, Copy)]
 pub struct Asked<'a>(pub &'a Question);
@@ -135,23 +155,13 @@ impl Display for DifferencePart {
 impl Display for Asked<'_> {
     fn fmt<W: fmt::Write>(&self, f: &mut Formatter<W>) -> fmt::Result {
         match *self.0 {
-            Question::SameRecording => {
-                f.write_str("are --a and --b one recording? All their frames are the same")
-            }
-            Question::Wiring(Wiring::Swapped) => {
-                f.write_str("are the networks swapped? The source addresses in --a are of network B, those in --b of A")
-            }
-            Question::Wiring(Wiring::BothOfA) => {
-                f.write_str("are both recordings of network A? So say their source addresses")
-            }
-            Question::Wiring(Wiring::BothOfB) => {
-                f.write_str("are both recordings of network B? So say their source addresses")
-            }
-            Question::Apart => {
-                f.write_str("do the recordings belong together? One ends before the other begins")
-            }
+            Question::SameRecording => f.write_str(SAME_RECORDING),
+            Question::Wiring(Wiring::Swapped) => f.write_str(SWAPPED),
+            Question::Wiring(Wiring::BothOfA) => f.write_str(BOTH_OF_A),
+            Question::Wiring(Wiring::BothOfB) => f.write_str(BOTH_OF_B),
+            Question::Apart => f.write_str(APART),
             Question::Constant { frames, of, most } => {
-                write!(f, "is the table's 'constant' that of this network? Not that of {frames} of {of} frames")?;
+                write!(f, "{CONSTANT} {frames} of {of} frames")?;
                 match most {
                     Some(most) => {
                         let (constant, frames) = (most.constant, most.frames);
@@ -162,23 +172,14 @@ impl Display for Asked<'_> {
             }
             Question::CheckSequence(network) => {
                 let network = letter_of(network);
-                write!(
-                    f,
-                    "does the recording of network {network} hold frame check sequences? Take them off: editcap -C -4"
-                )
+                write!(f, "does the recording of network {network} {TAKE_THEM_OFF}")
             }
             Question::TooLong { frames, of } => {
-                write!(
-                    f,
-                    "does 'smax' count a frame without its check sequence? {frames} of {of} frames are longer"
-                )
+                write!(f, "{SMAX} {frames} of {of} frames are longer")
             }
             Question::Clocks(difference) => {
                 let part = DifferencePart(difference);
-                write!(
-                    f,
-                    "are the clocks of the taps apart? Hardly a frame is a copy within its SkewMax.{part}"
-                )
+                write!(f, "{CLOCKS}{part}")
             }
         }
     }
