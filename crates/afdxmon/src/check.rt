@@ -38,6 +38,13 @@ impl Headed {
         }
     }
 
+    fn keep(&mut self, byte: u8) {
+        if self.len < FORMAT_LEN {
+            self.head[self.len] = byte;
+            self.len += 1;
+        }
+    }
+
     fn format(&self) -> Option<Format> {
         if self.len < FORMAT_LEN {
             None
@@ -50,10 +57,9 @@ impl Headed {
 impl Read for Headed {
     fn read(&mut self, buf: &mut [u8]) -> io::Result<usize> {
         let count = self.input.read(buf)?;
-        for byte in buf.iter().take(count) {
-            if self.len < FORMAT_LEN {
-                self.head[self.len] = *byte;
-                self.len += 1;
+        if self.len < FORMAT_LEN {
+            for byte in buf.iter().take(count.min(FORMAT_LEN)) {
+                self.keep(*byte);
             }
         }
         Ok(count)

@@ -165,17 +165,11 @@ pub struct CheckArguments<'a> {
 const VERSION: &str = "0.1.0 (commit unknown-tree)";
 
 const NUMERIC_HELP: &str = "The filter in the numeric form, as `afdxmon asm` prints it";
-
 const SOURCE_HELP: &str = "The filter's source, as `afdxmon asm` reads it";
-
 const A_HELP: &str = "The recording of network A, a pcap or pcapng file";
-
 const B_HELP: &str = "The recording of network B, a pcap or pcapng file";
-
 const OUTPUT_HELP: &str = "The capture to write, a nanosecond pcap file";
-
 const TABLE_HELP: &str = "The table of virtual links, a TOML document";
-
 const COMMENTED_HELP: &str = "Write the capture as pcapng, with verdicts as packet comments";
 
 /// An option with a value.
@@ -481,8 +475,7 @@ fn report_command<'a>(alloc: Global) -> Result<Command<'a>, AllocError>
         .arg(output_option(alloc, "The page to write, or the JSON text"))
 }
 
-const CHECK_USAGE: &str = "\
-afdxmon check [OPTIONS] --config <FILE>";
+const CHECK_USAGE: &str = "afdxmon check [OPTIONS] --config <FILE>";
 
 /// What stands after the options in the help of `check`.
 const CHECK_EXAMPLE: &str = "\
@@ -496,7 +489,6 @@ Example: whether a table, a filter and two recordings belong together
 fn check_command<'a>(alloc: Global) -> Result<Command<'a>, AllocError>
     ensures { IfOk result IsCheck }
 {
-    let json = "Write the answer as JSON in place of text";
     Command::new(alloc, "check")
         .about("Tells whether a run of watch with these inputs would be sound")
         .override_usage(CHECK_USAGE)
@@ -505,7 +497,7 @@ fn check_command<'a>(alloc: Global) -> Result<Command<'a>, AllocError>
         .arg(option(alloc, "filter", "FILE", NUMERIC_HELP, false))?
         .arg(option(alloc, "a", "FILE", A_HELP, false))?
         .arg(option(alloc, "b", "FILE", B_HELP, false))?
-        .arg(flag(alloc, "json", json))
+        .arg(flag(alloc, "json", "Write the answer as JSON in place of text"))
 }
 
 /// The program's own command, before its subcommands.

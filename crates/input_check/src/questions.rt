@@ -46,7 +46,7 @@ pub enum Question {
         frames: u64,
         of: u64,
     },
-    /// Hardly a frame is the copy of another; if the sequence numbers say how far the clocks are apart, so far.
+    /// Hardly a frame is the copy of another; the sequence numbers may say how far the clocks are apart.
     Clocks(Option<Difference>),
 }
 

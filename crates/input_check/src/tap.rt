@@ -60,7 +60,9 @@ impl TapTally {
         }
         let bytes = frame.view().bytes();
         let ends = match bytes {
-            [_, _, _, _, high, low, .., last] => u64::from(*high) << 24 | u64::from(*low) << 16 | u64::from(*last),
+            [_, _, _, _, high, low, .., last] => {
+                u64::from(*high) << 24 | u64::from(*low) << 16 | u64::from(*last)
+            }
             _ => 0,
         };
         let shape = ends << 32 | u64::from(frame.whole());
