@@ -23,11 +23,11 @@ _afdxmon() {
     fi
     COMPREPLY=()
     if [ "$i" -eq 1 ]; then
-        _afdxmon_words 'watch capture debug cut links report asm help -h --help -V --version' "$current"
+        _afdxmon_words 'watch capture debug cut links report check asm help -h --help -V --version' "$current"
         return
     fi
     case ${COMP_WORDS[1]} in
-        watch | capture | debug | cut | links | report)
+        watch | capture | debug | cut | links | report | check)
             case $previous in
                 --workers) _afdxmon_words '1 2 3 4 5 6 7 8' "$current"; return ;;
                 --network) _afdxmon_words 'A B' "$current"; return ;;
@@ -49,8 +49,9 @@ _afdxmon() {
             _afdxmon_words '--ledger --a --b --config --link --network --verdict --from --to --filters --around --ledger-only --pcapng -o --output -h --help' "$current"
             ;;
         report:-*) _afdxmon_words '--config --ledger --json -o --output -h --help' "$current" ;;
+        check:-*) _afdxmon_words '--config --filter --a --b --json -h --help' "$current" ;;
         asm:-*) _afdxmon_words '-h --help' "$current" ;;
-        help:*) _afdxmon_words 'watch capture debug cut links report asm help' "$current" ;;
+        help:*) _afdxmon_words 'watch capture debug cut links report check asm help' "$current" ;;
         capture:*) _afdxmon_files "$current" ;;
     esac
 }

@@ -11,6 +11,7 @@ complete -c afdxmon -n $commands -a debug -d 'Step through a filter on the frame
 complete -c afdxmon -n $commands -a cut -d "Copy the frames that a ledger's lines select"
 complete -c afdxmon -n $commands -a links -d 'Draft a table of virtual links from recordings'
 complete -c afdxmon -n $commands -a report -d 'Write a page on what a ledger says'
+complete -c afdxmon -n $commands -a check -d 'Tell whether a run of watch would be sound'
 complete -c afdxmon -n $commands -a asm -d "Assemble a filter's source"
 complete -c afdxmon -n $commands -a help -d 'Print the help of a command'
 
@@ -64,3 +65,10 @@ complete -c afdxmon -n $report -l config -r -F -d 'The table of virtual links'
 complete -c afdxmon -n $report -l ledger -r -F -d 'The ledger'
 complete -c afdxmon -n $report -l json -d 'Write the numbers as JSON'
 complete -c afdxmon -n $report -s o -l output -r -F -d 'The page to write'
+
+set -l check '__fish_seen_subcommand_from check'
+complete -c afdxmon -n $check -l config -r -F -d 'The table of virtual links'
+complete -c afdxmon -n $check -l filter -r -F -d 'The filter in the numeric form'
+complete -c afdxmon -n $check -l a -r -F -d 'The recording of network A'
+complete -c afdxmon -n $check -l b -r -F -d 'The recording of network B'
+complete -c afdxmon -n $check -l json -d 'Write the answer as JSON'

@@ -68,6 +68,7 @@ ADVICE = {
     "watch 4 Write ledger": "the ledger can't be written: is the disk full, or the pipe closed?",
     "watch 7": NO_MEMORY,
     "links 1 Constant": "--constant is a number of 32 bits, as 0x03000000 or 50331648",
+    "check 1 Unsound": "a run with these inputs would not be sound: the answer says why",
     "report 1 Ledger": "a line of no frame's form: was the ledger changed?",
     "report 1 Ledger at 1 head": "no ledger of version 2: afdxmon watch writes one by --ledger",
     "report 2 Contradiction at 2 link": "a link that the table doesn't have: is it the table of the run?",
@@ -143,6 +144,7 @@ ABOUT = {
     "cut": "Copies the frames of two recordings that a ledger's lines select",
     "links": "Prints a draft of the table of virtual links that recordings have",
     "report": "Writes an HTML page on what a ledger says, or its numbers",
+    "check": "Tells whether a run of watch with these inputs would be sound",
 }
 # What each command's help says after the line of what it does.
 HELP = {
@@ -269,6 +271,23 @@ The page is one file without scripts and links. Without -o a terminal is shown t
 
 Example: a page on a run
   afdxmon report --config flight.toml --ledger verdicts.ledger -o report.html
+""",
+    "check": r"""
+Usage: afdxmon check [OPTIONS] --config <FILE>
+
+Options:
+      --config <FILE>  The table of virtual links, a TOML document
+      --filter <FILE>  The filter in the numeric form, as `afdxmon asm` prints it
+      --a <FILE>       The recording of network A, a pcap or pcapng file
+      --b <FILE>       The recording of network B, a pcap or pcapng file
+      --json           Write the answer as JSON in place of text
+  -h, --help           Print help
+
+The answer goes to standard output; nothing else is written. Of each recording the first 1000000
+frames are read. The exit status is 0 where a run would be sound, else 1. '-' is standard input.
+
+Example: whether a table, a filter and two recordings belong together
+  afdxmon check --config flight.toml --filter flight.filter --a a.pcap --b b.pcap
 """,
 }
 PROGRAM_HELP = (

@@ -2,8 +2,8 @@
 //! told of the others.
 use afdx_frame::Network;
 use analyser::{
-    CaptureArguments, CutArguments, DebugArguments, Exit, Invocation, LinksArguments, SkippedNote,
-    WatchArguments, is_standard,
+    CaptureArguments, CheckArguments, CutArguments, DebugArguments, Exit, Invocation, LinksArguments,
+    SkippedNote, WatchArguments, is_standard,
 };
 use pcap_io::{BadReason, Ending, Found, ReadSource, TapReader};
 use pcapng::{Choice, Interface, InterfaceName, RecordingSource};
@@ -107,6 +107,10 @@ pub fn choose<'a>(rt: &HostRuntime, command: Invocation<'a>) -> (Invocation<'a>,
         Invocation::Links(given) => {
             let (a, b, choices) = chosen_of_both(rt, given.a, given.b);
             (Invocation::Links(LinksArguments { a, b, ..given }), choices)
+        }
+        Invocation::Check(given) => {
+            let (a, b, choices) = chosen_of_both(rt, given.a, given.b);
+            (Invocation::Check(CheckArguments { a, b, ..given }), choices)
         }
         Invocation::Asm | Invocation::Report(_) => (command, of_one(Choice::Any)),
     }

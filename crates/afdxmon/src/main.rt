@@ -6,6 +6,7 @@
 
 mod annotated;
 mod captures;
+mod check;
 mod cutting;
 mod files;
 mod interface;
@@ -30,6 +31,7 @@ use annotated::Joining;
 use bpf_debugger::DebugFault;
 use bpf_loader::Program;
 use captures::CaptureOutput;
+use check::check;
 use cutting::cut;
 use files::{refuse_closed, refuse_shared, refuse_shared_output};
 use interface::{Choices, Skipped, choose, interfaces_of};
@@ -632,6 +634,7 @@ fn run<R: Threads + Wait + Sync>(
         Invocation::Cut(given) => cut(rt, &given, choices),
         Invocation::Links(given) => links(rt, &given, choices),
         Invocation::Report(given) => report(rt, &given),
+        Invocation::Check(given) => check(rt, &given, choices),
     }
 }
 

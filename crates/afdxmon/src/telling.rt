@@ -77,6 +77,10 @@ fn given<'a>(command: Invocation<'a>, file: FileOption) -> Option<&'a str> {
         (Invocation::Cut(given), FileOption::Output) => Some(given.output),
         (Invocation::Links(given), FileOption::A) => given.a,
         (Invocation::Links(given), FileOption::B) => given.b,
+        (Invocation::Check(given), FileOption::Config) => Some(given.config),
+        (Invocation::Check(given), FileOption::Filter) => given.filter,
+        (Invocation::Check(given), FileOption::A) => given.a,
+        (Invocation::Check(given), FileOption::B) => given.b,
         (Invocation::Report(given), FileOption::Config) => Some(given.config),
         (Invocation::Report(given), FileOption::Ledger) => Some(given.ledger),
         (Invocation::Report(given), FileOption::Output) => Some(given.output),
@@ -120,7 +124,8 @@ fn code_of<'a>(command: Invocation<'a>) -> Option<&'a str> {
         | Invocation::Watch(_)
         | Invocation::Cut(_)
         | Invocation::Links(_)
-        | Invocation::Report(_) => return None,
+        | Invocation::Report(_)
+        | Invocation::Check(_) => return None,
     };
     match filter {
         FilterArgument::Code(code) => Some(code),
@@ -137,7 +142,8 @@ fn source_of<'a>(command: Invocation<'a>) -> Option<&'a str> {
         | Invocation::Watch(_)
         | Invocation::Cut(_)
         | Invocation::Links(_)
-        | Invocation::Report(_) => return None,
+        | Invocation::Report(_)
+        | Invocation::Check(_) => return None,
     };
     match filter {
         FilterArgument::Source(path) => Some(path),

@@ -16,7 +16,8 @@
 
 pub use capture_run::{capture_gives_the_accepted_frames, capture_one};
 pub use command_line::{
-    CaptureArguments, CaptureFiles, Caret, Contradiction, CutArguments, CutFiles, DebugArguments,
+    CaptureArguments, CaptureFiles, Caret, CheckArguments, Contradiction, CutArguments, CutFiles,
+    DebugArguments,
     EndingAdvice, Exit, Fault, FileOption, FilterArgument, HEAD_LEN, Hint, Inode, Invocation,
     LinksArguments, Misuse, Named, Note, Place, ReportArguments, ReportFault, ReportFiles,
     SelectionOption, SkippedNote, Summary, TO_A_TERMINAL, TapNote, USAGE, WITHOUT_TOTAL,

@@ -10,7 +10,7 @@ use Rattle.clap.specs.Words.{Text, first_value, one_text, rows_of}
 use Rattle.clap.specs.declared.parser.matches.Found.{Found}
 use Rattle.clap.proofs.WalkLemmas.{first_value-rows, one_text-rows}
 use Rattle.command_line.specs.declared.misuse.Misuse.{Misuse}
-use Rattle.command_line.specs.Arguments.{FilterWords, are_digits, capture_in, capture_with, cut_in, cut_with, debug_in, debug_with, filter_in, flag_in, is_numeral, links_in, number_in, one_filter, report_in, report_with, watch_in, watch_with}
+use Rattle.command_line.specs.Arguments.{FilterWords, are_digits, capture_in, capture_with, check_in, check_with, cut_in, cut_with, debug_in, debug_with, filter_in, flag_in, is_numeral, links_in, number_in, one_filter, report_in, report_with, watch_in, watch_with}
 
 -- ---- the texts
 
@@ -87,6 +87,17 @@ report_is f config ledger json output e1 e2 e3 e4 = cc (
   e2 ∙ first_value-rows f (codes "ledger"),
   e3 ∙ ap (option_and_then flag_in) (one_text-rows f (codes "json")),
   e4 ∙ first_value-rows f (codes "output"),
+)
+
+pub check_is : (f : Found) (config filter a b : Option Text) (json : Option Bool) → config ≡ first_value f (codes "config") → filter ≡ first_value f (codes "filter") →
+    a ≡ first_value f (codes "a") → b ≡ first_value f (codes "b") → json ≡ option_and_then flag_in (one_text f (codes "json")) →
+    check_with config filter a b json ≡ check_in (rows_of f)
+check_is f config filter a b json e1 e2 e3 e4 e5 = cc (
+  e1 ∙ first_value-rows f (codes "config"),
+  e2 ∙ first_value-rows f (codes "filter"),
+  e3 ∙ first_value-rows f (codes "a"),
+  e4 ∙ first_value-rows f (codes "b"),
+  e5 ∙ ap (option_and_then flag_in) (one_text-rows f (codes "json")),
 )
 
 -- ---- the number

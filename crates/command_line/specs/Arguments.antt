@@ -18,6 +18,7 @@ use Rattle.clap.specs.declared.builder.action.ArgAction.TheVariants.{Set, SetTru
 use Rattle.clap.specs.declared.error.kind.ErrorKind.{ErrorKind}
 use Rattle.clap.specs.declared.error.kind.ErrorKind.TheVariants as kind
 use Rattle.command_line.specs.declared.arguments.CaptureArguments.{CaptureArguments}
+use Rattle.command_line.specs.declared.arguments.CheckArguments.{CheckArguments}
 use Rattle.command_line.specs.declared.arguments.CutArguments.{CutArguments}
 use Rattle.command_line.specs.declared.arguments.DebugArguments.{DebugArguments}
 use Rattle.command_line.specs.declared.arguments.FilterArgument.{FilterArgument}
@@ -105,13 +106,17 @@ unfoldable pub report_app : App
 report_app =
     with_rule (with_rule (with_option (codes "ledger") true (with_option (codes "config") true (new_app (codes "report")))) (flag_rule (codes "json"))) output_rule
 
+unfoldable pub check_app : App
+check_app =
+    with_rule (with_option (codes "b") false (with_option (codes "a") false (with_option (codes "filter") false (with_option (codes "config") true (new_app (codes "check")))))) (flag_rule (codes "json"))
+
 -- those between
 abbrev pub judging : App → App
 judging app = with_subcommand (with_subcommand (with_subcommand app watch_app.top) debug_app.top) cut_app.top
 
 unfoldable pub afdxmon_app : App
 afdxmon_app =
-    with_subcommand (with_subcommand (judging (with_subcommand (with_subcommand program_app capture_app.top) asm_app.top)) links_app.top) report_app.top
+    with_subcommand (with_subcommand (with_subcommand (judging (with_subcommand (with_subcommand program_app capture_app.top) asm_app.top)) links_app.top) report_app.top) check_app.top
 
 -- the command is that of capture
 abbrev pub IsCapture : Command → Type 0
@@ -140,6 +145,10 @@ IsLinks c = (app_of c ≡ links_app) × ((out-Command c).has_globals ≡ false)
 -- the command is that of report
 abbrev pub IsReport : Command → Type 0
 IsReport c = (app_of c ≡ report_app) × ((out-Command c).has_globals ≡ false)
+
+-- the command is that of check
+abbrev pub IsCheck : Command → Type 0
+IsCheck c = (app_of c ≡ check_app) × ((out-Command c).has_globals ≡ false)
 
 -- ---- what arguments ask for
 
@@ -203,6 +212,14 @@ pub record ReportWords : Type 0 where
   pub json : Bool
   pub output : Text
 
+-- what a run over two recordings would be given, and whether the answer is JSON
+pub record CheckWords : Type 0 where
+  pub config : Text
+  pub filter : Option Text
+  pub a : Option Text
+  pub b : Option Text
+  pub json : Bool
+
 pub data Meant : Type 0 where
   Captures : CaptureWords → Meant
   Assembles : Meant
@@ -211,6 +228,7 @@ pub data Meant : Type 0 where
   Cuts : CutWords → Meant
   Drafts : LinksWords → Meant
   Reports : ReportWords → Meant
+  Checks : CheckWords → Meant
 
 abbrev pub are_digits : Text → Bool
 are_digits [] = true
@@ -350,6 +368,16 @@ abbrev pub report_in : List Row → Option ReportWords
 report_in rows =
     report_with (first_of (codes "config") rows) (first_of (codes "ledger") rows) (option_and_then flag_in (one_of (codes "json") rows)) (first_of (codes "output") rows)
 
+abbrev pub check_with : Option Text → Option Text → Option Text → Option Text → Option Bool → Option CheckWords
+check_with (Some config) filter a b (Some json) = Some (record { config = config; filter = filter; a = a; b = b; json = json })
+check_with _ _ _ _ _ = None
+
+-- what the options of check give
+abbrev pub check_in : List Row → Option CheckWords
+check_in rows =
+    check_with (first_of (codes "config") rows) (first_of (codes "filter") rows) (first_of (codes "a") rows) (first_of (codes "b") rows)
+    (option_and_then flag_in (one_of (codes "json") rows))
+
 -- by the subcommand that was met and what it was given
 abbrev pub meant_in : Option (Text × List Row) → Result Meant Misuse
 meant_in None = Err misuse.Incomplete
@@ -360,7 +388,8 @@ meant_in (Some met) =
     else if bytes_eq met.0 (codes "debug") then mapped Debugs (debug_in met.1)
     else if bytes_eq met.0 (codes "cut") then mapped Cuts (and_then checked_cut (required (cut_in met.1)))
     else if bytes_eq met.0 (codes "links") then mapped Drafts (checked_links (links_in met.1))
-    else if bytes_eq met.0 (codes "report") then mapped Reports (required (report_in met.1)) else Err misuse.Incomplete
+    else if bytes_eq met.0 (codes "report") then mapped Reports (required (report_in met.1))
+    else if bytes_eq met.0 (codes "check") then mapped Checks (required (check_in met.1)) else Err misuse.Incomplete
 
 -- by the arguments, the program's name first
 abbrev pub meant_asked : List Text → Result Meant Misuse
@@ -440,6 +469,15 @@ links_words l = record { a = option_map text_of l.a; b = option_map text_of l.b;
 abbrev pub report_words : ReportArguments → ReportWords
 report_words r = record { config = r.config.now; ledger = r.ledger.now; json = r.json; output = r.output.now }
 
+abbrev pub check_words : CheckArguments → CheckWords
+check_words c = record {
+  config = c.config.now;
+  filter = option_map text_of c.filter;
+  a = option_map text_of c.a;
+  b = option_map text_of c.b;
+  json = c.json;
+}
+
 abbrev pub meant_by : Invocation → Meant
 meant_by (words.Capture c) = Captures (capture_words c)
 meant_by words.Asm = Assembles
@@ -448,3 +486,4 @@ meant_by (words.Debug d) = Debugs (debug_words d)
 meant_by (words.Cut c) = Cuts (cut_words c)
 meant_by (words.Links l) = Drafts (links_words l)
 meant_by (words.Report r) = Reports (report_words r)
+meant_by (words.Check c) = Checks (check_words c)

@@ -213,3 +213,4 @@ line_of (fault.Selection option item) = codes "afdxmon: cut 8 Selection " ++ sel
 line_of (fault.Interfaces f) = codes "afdxmon: interfaces " ++ file_part f
 line_of (fault.Report f) = codes "afdxmon: report " ++ report_part f
 line_of fault.Constant = codes "afdxmon: links 1 Constant"
+line_of fault.Unsound = codes "afdxmon: check 1 Unsound"

@@ -77,3 +77,4 @@ file_of (fault.Selection option item) = None
 file_of (fault.Interfaces f) = Some f
 file_of (fault.Report f) = file_of_report f
 file_of fault.Constant = None
+file_of fault.Unsound = None

@@ -6,6 +6,7 @@ use Rattle.std.specs.Str.{bytes_eq}
 use Rattle.clap.specs.Words.{Text}
 use Rattle.command_line.specs.Arguments.{text_of}
 use Rattle.command_line.specs.declared.arguments.CaptureArguments.{CaptureArguments}
+use Rattle.command_line.specs.declared.arguments.CheckArguments.{CheckArguments}
 use Rattle.command_line.specs.declared.arguments.CutArguments.{CutArguments}
 use Rattle.command_line.specs.declared.arguments.DebugArguments.{DebugArguments}
 use Rattle.command_line.specs.declared.arguments.FilterArgument.{FilterArgument}
@@ -81,6 +82,10 @@ links_inputs l = stream_of file.A (given_if l.a) ∷ stream_of file.B (given_if 
 abbrev pub report_inputs : ReportArguments → List Stream
 report_inputs r = stream_of file.Config (is_standard r.config.now) ∷ stream_of file.Ledger (is_standard r.ledger.now) ∷ []
 
+abbrev pub check_inputs : CheckArguments → List Stream
+check_inputs c =
+    stream_of file.Config (is_standard c.config.now) ∷ stream_of file.Filter (given_if c.filter) ∷ stream_of file.A (given_if c.a) ∷ stream_of file.B (given_if c.b) ∷ []
+
 -- at most one file is standard input, and at most one standard output; else the second one and the first
 abbrev pub one_each : Invocation → Result (Unit {0}) Fault
 one_each (words.Capture c) = second_answer (capture_inputs c)
@@ -90,3 +95,4 @@ one_each (words.Debug d) = second_answer (debug_inputs d)
 one_each (words.Cut c) = second_answer (cut_inputs c)
 one_each (words.Links l) = second_answer (links_inputs l)
 one_each (words.Report r) = second_answer (report_inputs r)
+one_each (words.Check c) = second_answer (check_inputs c)

@@ -2,7 +2,7 @@
 ghost use Rattle.std.specs.Prelude.{◌≡◌, [], false, true, map, IfOk, IfErr, option_map, string_bytes, Ok};
 ghost use Rattle.clap.specs.Words.{FailsBy, app_of, found_of, kind_of, rows_of, rule_of, subcommand_rows_of, takes};
 ghost use Rattle.clap.specs.declared.error.kind.ErrorKind.TheVariants.{OutOfMemory};
-ghost use Rattle.command_line.specs.Arguments.{IsAsm, IsCapture, IsCut, IsDebug, IsLinks, IsReport, IsWatch, afdxmon_app, around_rule, capture_in, capture_words, checked, checked_cut, checked_links, cut_in, cut_words, debug_in, debug_words, filter_in, filter_words, flag_rule, is_network, kinds_asked, links_in, links_words, mapped, meant_asked, meant_by, meant_in, misuse_kind, misuse_kinds, one_filter, option_rule, output_rule, program_app, recording_rule, report_in, report_words, text_of, watch_in, watch_words, workers_rule};
+ghost use Rattle.command_line.specs.Arguments.{IsAsm, IsCapture, IsCheck, IsCut, IsDebug, IsLinks, IsReport, IsWatch, afdxmon_app, around_rule, capture_in, capture_words, check_in, check_words, checked, checked_cut, checked_links, cut_in, cut_words, debug_in, debug_words, filter_in, filter_words, flag_rule, is_network, kinds_asked, links_in, links_words, mapped, meant_asked, meant_by, meant_in, misuse_kind, misuse_kinds, one_filter, option_rule, output_rule, program_app, recording_rule, report_in, report_words, text_of, watch_in, watch_words, workers_rule};
 
 use crate::misuse::Misuse;
 use clap::{Arg, ArgAction, ArgMatches, Command, Error};
@@ -25,6 +25,8 @@ pub enum Invocation<'a> {
     Links(LinksArguments<'a>),
     /// Write a page on what a ledger says.
     Report(ReportArguments<'a>),
+    /// Say whether a run over two recordings would be sound.
+    Check(CheckArguments<'a>),
 }
 
 /// A filter, by how it is given.
@@ -143,22 +145,31 @@ pub struct ReportArguments<'a> {
     pub output: &'a str,
 }
 
+/// What a run over two recordings would be given, and how the answer is written. `-` is standard input.
+#[derive(Clone, Copy, Debug, PartialEq, Eq)]
+pub struct CheckArguments<'a> {
+    /// The table of virtual links, a TOML document.
+    pub config: &'a str,
+    /// The filter, in the numeric form.
+    pub filter: Option<&'a str>,
+    /// The recording of network A.
+    pub a: Option<&'a str>,
+    /// The recording of network B.
+    pub b: Option<&'a str>,
+    /// Is the answer written as JSON in place of text?
+    pub json: bool,
+}
+
 /// The version that `--version` prints. In a copy of the linked program `tools/stamp` puts the commit in the
 /// place of the 12 letters.
 const VERSION: &str = "0.1.0 (commit unknown-tree)";
 
 const NUMERIC_HELP: &str = "The filter in the numeric form, as `afdxmon asm` prints it";
-
 const SOURCE_HELP: &str = "The filter's source, as `afdxmon asm` reads it";
-
 const A_HELP: &str = "The recording of network A, a pcap or pcapng file";
-
 const B_HELP: &str = "The recording of network B, a pcap or pcapng file";
-
 const OUTPUT_HELP: &str = "The capture to write, a nanosecond pcap file";
-
 const TABLE_HELP: &str = "The table of virtual links, a TOML document";
-
 const COMMENTED_HELP: &str = "Write the capture as pcapng, with verdicts as packet comments";
 
 /// An option with a value.
@@ -464,6 +475,31 @@ fn report_command<'a>(alloc: Global) -> Result<Command<'a>, AllocError>
         .arg(output_option(alloc, "The page to write, or the JSON text"))
 }
 
+const CHECK_USAGE: &str = "afdxmon check [OPTIONS] --config <FILE>";
+
+/// What stands after the options in the help of `check`.
+const CHECK_EXAMPLE: &str = "\
+The answer goes to standard output; nothing else is written. Of each recording the first 1000000
+frames are read. The exit status is 0 where a run would be sound, else 1. '-' is standard input.
+
+Example: whether a table, a filter and two recordings belong together
+  afdxmon check --config flight.toml --filter flight.filter --a a.pcap --b b.pcap";
+
+/// The command `check`.
+fn check_command<'a>(alloc: Global) -> Result<Command<'a>, AllocError>
+    ensures { IfOk result IsCheck }
+{
+    Command::new(alloc, "check")
+        .about("Tells whether a run of watch with these inputs would be sound")
+        .override_usage(CHECK_USAGE)
+        .after_help(CHECK_EXAMPLE)
+        .arg(option(alloc, "config", "FILE", TABLE_HELP, true))?
+        .arg(option(alloc, "filter", "FILE", NUMERIC_HELP, false))?
+        .arg(option(alloc, "a", "FILE", A_HELP, false))?
+        .arg(option(alloc, "b", "FILE", B_HELP, false))?
+        .arg(flag(alloc, "json", "Write the answer as JSON in place of text"))
+}
+
 /// The program's own command, before its subcommands.
 fn program_command<'a>(alloc: Global) -> Command<'a>
     ensures { app_of result ≡ program_app }
@@ -485,7 +521,8 @@ fn whole_command<'a>(alloc: Global) -> Result<Command<'a>, AllocError>
         .subcommand(debug_command(alloc)?)?
         .subcommand(cut_command(alloc)?)?
         .subcommand(links_command(alloc)?)?
-        .subcommand(report_command(alloc)?)
+        .subcommand(report_command(alloc)?)?
+        .subcommand(check_command(alloc)?)
 }
 
 /// The one filter that is given by its text, as a file in the numeric form or as a source.
@@ -664,6 +701,19 @@ fn report_arguments<'a>(given: &ArgMatches<'a>) -> Option<ReportArguments<'a>>
     })
 }
 
+/// What the options of `check` give.
+fn check_arguments<'a>(given: &ArgMatches<'a>) -> Option<CheckArguments<'a>>
+    ensures { option_map check_words result ≡ check_in (rows_of (found_of given.now)) }
+{
+    Some(CheckArguments {
+        config: given.get_str("config")?,
+        filter: given.get_str("filter"),
+        a: given.get_str("a"),
+        b: given.get_str("b"),
+        json: given.get_one::<bool>("json")?,
+    })
+}
+
 /// What the matches of a command line ask for.
 fn arguments_of<'a>(matches: &ArgMatches<'a>) -> Result<Invocation<'a>, Misuse>
     ensures { mapped meant_by result ≡ meant_in (subcommand_rows_of matches.now) }
@@ -700,6 +750,12 @@ fn arguments_of<'a>(matches: &ArgMatches<'a>) -> Result<Invocation<'a>, Misuse>
             return Err(Misuse::Incomplete);
         };
         return Ok(Invocation::Report(given));
+    }
+    if name == "check" {
+        let Some(given) = check_arguments(given) else {
+            return Err(Misuse::Incomplete);
+        };
+        return Ok(Invocation::Check(given));
     }
     Err(Misuse::Incomplete)
 }

@@ -113,6 +113,8 @@ pub enum Fault {
     Report(ReportFault),
     /// A text that isn't the constant field of a draft's links.
     Constant,
+    /// A run with what `check` was given would not be sound: its answer says why.
+    Unsound,
 }
 
 /// Where a fault of the table is: a link, or the top table.
@@ -539,6 +541,7 @@ impl Display for Fault {
                 write!(f, "afdxmon: report {fault}")
             }
             Fault::Constant => f.write_str("afdxmon: links 1 Constant"),
+            Fault::Unsound => f.write_str("afdxmon: check 1 Unsound"),
         }
     }
 }

@@ -17,14 +17,14 @@ mod standard;
 mod summary;
 
 pub use arguments::{
-    CaptureArguments, CutArguments, DebugArguments, FilterArgument, Invocation, LinksArguments,
-    ReportArguments, WatchArguments, read_arguments,
+    CaptureArguments, CheckArguments, CutArguments, DebugArguments, FilterArgument, Invocation,
+    LinksArguments, ReportArguments, WatchArguments, read_arguments,
 };
 pub use caret::{Caret, Place, caret_at, place_at};
 pub use exit::{Exit, TO_A_TERMINAL, USAGE, WITHOUT_TOTAL};
 pub use fault::{Contradiction, Fault, FileOption, ReportFault, SelectionOption, fault_line};
 pub use meaning::{EndingAdvice, HEAD_LEN, advice, header_advice, numeric_advice};
-pub use message::{Note, SkippedNote, TapNote};
+pub use message::{Note, SkippedNote, TapNote, reason_words};
 pub use misuse::Misuse;
 pub use moment::{MomentText, read_moment};
 pub use place::file_of;

@@ -369,5 +369,6 @@ pub fn advice(fault: &Fault) -> &'static str {
         Fault::Interfaces(_) => CHOOSE_INTERFACE,
         Fault::Report(fault) => report_advice(fault),
         Fault::Constant => "--constant is a number of 32 bits, as 0x03000000 or 50331648",
+        Fault::Unsound => "a run with these inputs would not be sound: the answer says why",
     }
 }

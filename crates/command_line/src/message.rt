@@ -28,7 +28,8 @@ impl Display for Frames {
     }
 }
 
-fn reason_words(reason: BadReason) -> &'static str
+/// Why a recording ends bad, in words.
+pub fn reason_words(reason: BadReason) -> &'static str
     ensures { result.now ≡ reason_text reason }
 {
     match reason {

@@ -97,7 +97,8 @@ pub fn file_of(fault: &Fault) -> Option<FileOption>
         )
         | Fault::Debug(_)
         | Fault::Selection { .. }
-        | Fault::Constant => None,
+        | Fault::Constant
+        | Fault::Unsound => None,
         Fault::Cut(fault) => cut_file(fault),
         Fault::Report(fault) => report_file(fault),
     }

@@ -1,9 +1,9 @@
 //! Which file is standard input or output, as another is already.
 ghost use Rattle.std.specs.Prelude.{◌≡◌, find, option_map};
 ghost use Rattle.command_line.specs.Arguments.{text_of};
-ghost use Rattle.command_line.specs.Standard.{filter_stream, is_standard, is_standard_if, later_answer, one_each, second_answer, stream_of};
+ghost use Rattle.command_line.specs.Standard.{check_inputs, filter_stream, is_standard, is_standard_if, later_answer, one_each, second_answer, stream_of};
 
-use crate::arguments::{FilterArgument, Invocation};
+use crate::arguments::{CheckArguments, FilterArgument, Invocation};
 use crate::fault::{Fault, FileOption};
 
 /// A file by its option, and whether it is standard input or output.
@@ -94,6 +94,18 @@ fn refuse_second(streams: &[Stream]) -> Result<(), Fault>
     Ok(())
 }
 
+/// Refuses a second file of `check` that is standard input.
+fn refuse_check(given: CheckArguments<'_>) -> Result<(), Fault>
+    ensures { result ≡ second_answer (check_inputs given.entry) }
+{
+    refuse_second(&[
+        stream_of(FileOption::Config, given.config),
+        stream_if(FileOption::Filter, given.filter),
+        stream_if(FileOption::A, given.a),
+        stream_if(FileOption::B, given.b),
+    ])
+}
+
 impl Invocation<'_> {
     /// Refuses a second file that is standard input, and a second that is standard output. The commands of
     /// `debug` come from standard input.
@@ -144,6 +156,7 @@ impl Invocation<'_> {
                 stream_of(FileOption::Config, given.config),
                 stream_of(FileOption::Ledger, given.ledger),
             ]),
+            Invocation::Check(given) => refuse_check(given),
         }
     }
 }

@@ -10,4 +10,4 @@ mod scan;
 mod slip;
 
 pub use scan::{key_offset, link_offset};
-pub use slip::{Slip, slip_of};
+pub use slip::{Slip, link_of, link_table, slip_at, slip_of};

@@ -88,13 +88,13 @@ fn links_of(document: &Table) -> Option<&[Value]> {
     Some(document.get(Key::Link.name())?.as_array()?.as_slice())
 }
 
-/// The table of a link.
-fn link_table(document: &Table, index: u32) -> Option<&Table> {
+/// The table of a link, by its index in the document.
+pub fn link_table(document: &Table, index: u32) -> Option<&Table> {
     links_of(document)?.get(index as usize)?.as_table()
 }
 
-/// The link, or the network's table, that a fault names.
-fn link_of(fault: ConfigFault) -> Option<u32> {
+/// The index of the link that a fault names. None: it names the network's table.
+pub fn link_of(fault: ConfigFault) -> Option<u32> {
     match fault {
         ConfigFault::Missing { link }
         | ConfigFault::Kind { link }
@@ -118,12 +118,22 @@ fn subject_of(document: &Table, fault: ConfigFault) -> Option<Subject<'_>> {
 /// The first link that has the same value at a key.
 fn first_with<'a>(document: &'a Table, key: Key, value: &Value) -> Option<(u32, &'a Table)> {
     for (index, link) in links_of(document)?.iter().enumerate() {
-        let table = link.as_table()?;
-        if is_same(table.get(key.name())?, value) {
-            return Some((u32::try_from(index).ok()?, table));
+        match link.as_table() {
+            Some(table) if has_same(table, key, value) => {
+                return Some((u32::try_from(index).ok()?, table));
+            }
+            Some(_) | None => {}
         }
     }
     None
+}
+
+/// Has a link the same value at a key?
+fn has_same(link: &Table, key: Key, value: &Value) -> bool {
+    match link.get(key.name()) {
+        Some(own) => is_same(own, value),
+        None => false,
+    }
 }
 
 /// Are both the same integer, or the same string?
@@ -198,10 +208,23 @@ fn offset_of(alloc: Global, text: &str, link: Option<u32>, key: FaultyKey<'_>) -
     }
 }
 
-/// A fault of the keys of a table.
+/// The first fault of its kind of the keys of a table.
 fn slip_of_key(alloc: Global, text: &str, document: &Table, fault: ConfigFault) -> Option<Slip> {
     let subject = subject_of(document, fault)?;
     let key = faulty_key(fault, subject.table)?;
+    slip_at(alloc, text, document, fault, key)
+}
+
+/// What a person is told of the fault of one key, in a table's text and the document that it is. None: there
+/// is no memory for it, or the document has no such link.
+pub fn slip_at(
+    alloc: Global,
+    text: &str,
+    document: &Table,
+    fault: ConfigFault,
+    key: FaultyKey<'_>,
+) -> Option<Slip> {
+    let subject = subject_of(document, fault)?;
     Some(Slip {
         at: offset_of(alloc, text, subject.link, key),
         found: found_at(alloc, subject, key).ok()?,

@@ -10,5 +10,7 @@ mod run;
 mod survey;
 
 pub use links::{LinkSurvey, Links, MAX_LINKS};
-pub use run::{Recorded, SurveyRun, survey_recordings};
+pub use run::{
+    Extent, Observer, Pass, Recorded, Span, SurveyRun, show_recordings, survey_recordings,
+};
 pub use survey::{Field, MAX_CONSTANTS, Survey};

@@ -52,7 +52,7 @@ impl Survey {
     ///
     /// `AllocError` if there is no memory for a new constant field or a new link.
     #[inline]
-    pub fn see(&mut self, alloc: Global, frame: &TapFrame) -> Result<(), AllocError> {
+    pub fn count(&mut self, alloc: Global, frame: &TapFrame) -> Result<(), AllocError> {
         let view = frame.view();
         let whole = frame.whole();
         let (Some(constant), Some(id), Some(number)) = (view.constant(), view.vl(), view.sequence())

@@ -2,7 +2,7 @@ use Rattle.std.proofs.Common.{rules, ap, ap₂, ◌≡◌, ◌∙◌, codes, fal
 use Rattle.std.specs.Str.{bytes_eq}
 use Rattle.clap.specs.Words.{Row, Text, found_of, rows_of}
 use Rattle.clap.specs.declared.parser.matches.Found.{Found}
-use Rattle.command_line.specs.Arguments.{CutWords, Cuts, Drafts, LinksWords, ReportWords, Reports, WatchWords, Watches, and_then, checked, checked_cut, checked_links, cut_in, cut_words, links_in, links_words, mapped, meant_in, report_in, report_words, required, watch_in, watch_words}
+use Rattle.command_line.specs.Arguments.{CheckWords, Checks, CutWords, Cuts, Drafts, LinksWords, ReportWords, Reports, WatchWords, Watches, and_then, checked, checked_cut, checked_links, check_in, check_words, cut_in, cut_words, links_in, links_words, mapped, meant_in, report_in, report_words, required, watch_in, watch_words}
 use Rattle.command_line.proofs.arguments.arguments_of.Goals as goal
 
 -- the two halves of what was met
@@ -40,6 +40,14 @@ reports : (met : Option (Text × List Row)) (name : Text) (given : Found) (w : R
     bytes_eq name (codes "links") ≡ false → bytes_eq name (codes "report") ≡ true → Some w ≡ report_in (rows_of given) → Ok (Reports w) ≡ meant_in met
 reports met name given w e no_capture no_asm no_watch no_debug no_cut no_links is same =
     rw (e, no_capture, no_asm, no_watch, no_debug, no_cut, no_links, is) (ap (λ o. mapped Reports (required o)) same)
+
+-- a check was met, and this is what it is given
+checks : (met : Option (Text × List Row)) (name : Text) (given : Found) (w : CheckWords) → met ≡ Some (name, rows_of given) → bytes_eq name (codes "capture") ≡ false →
+    bytes_eq name (codes "asm") ≡ false → bytes_eq name (codes "watch") ≡ false → bytes_eq name (codes "debug") ≡ false → bytes_eq name (codes "cut") ≡ false →
+    bytes_eq name (codes "links") ≡ false → bytes_eq name (codes "report") ≡ false → bytes_eq name (codes "check") ≡ true → Some w ≡ check_in (rows_of given) →
+    Ok (Checks w) ≡ meant_in met
+checks met name given w e no_capture no_asm no_watch no_debug no_cut no_links no_report is same =
+    rw (e, no_capture, no_asm, no_watch, no_debug, no_cut, no_links, no_report, is) (ap (λ o. mapped Checks (required o)) same)
 
 pub returns-then-eq-3 : goal.returns-then-eq-3
 returns-then-eq-3 c =
@@ -81,3 +89,16 @@ returns-then-eq-7 c =
     let is : bytes_eq c.in-Some.name.now (codes "report") ≡ true = search rules in
     reports _ c.in-Some.name.now (found_of c.in-Some.given.now) (report_words c.in-Some-report_arguments.given) (both _ _ _ _ _ c.in-Some.ensures.name c.in-Some.ensures.rows) no_capture no_asm no_watch no_debug no_cut no_links is
     c.in-Some-report_arguments.ensures
+
+pub returns-then-eq-8 : goal.returns-then-eq-8
+returns-then-eq-8 c =
+    let no_capture : bytes_eq c.in-Some.name.now (codes "capture") ≡ false = search rules in
+    let no_asm : bytes_eq c.in-Some.name.now (codes "asm") ≡ false = search rules in
+    let no_watch : bytes_eq c.in-Some.name.now (codes "watch") ≡ false = search rules in
+    let no_debug : bytes_eq c.in-Some.name.now (codes "debug") ≡ false = search rules in
+    let no_cut : bytes_eq c.in-Some.name.now (codes "cut") ≡ false = search rules in
+    let no_links : bytes_eq c.in-Some.name.now (codes "links") ≡ false = search rules in
+    let no_report : bytes_eq c.in-Some.name.now (codes "report") ≡ false = search rules in
+    let is : bytes_eq c.in-Some.name.now (codes "check") ≡ true = search rules in
+    checks _ c.in-Some.name.now (found_of c.in-Some.given.now) (check_words c.in-Some-check_arguments.given) (both _ _ _ _ _ c.in-Some.ensures.name c.in-Some.ensures.rows) no_capture no_asm no_watch no_debug no_cut no_links no_report is
+    c.in-Some-check_arguments.ensures

@@ -7,11 +7,11 @@ use Rattle.command_line.proofs.Refusing.{has_a_kind, of_first, of_neither, of_se
 use Rattle.command_line.proofs.arguments.read_arguments.Goals as goal
 
 is_free : is_simple_and_free afdxmon_app ≡ true
-unfolding afdxmon_app Rattle.command_line.specs.Arguments.capture_app Rattle.command_line.specs.Arguments.watch_app Rattle.command_line.specs.Arguments.debug_app Rattle.command_line.specs.Arguments.cut_app Rattle.command_line.specs.Arguments.links_app Rattle.command_line.specs.Arguments.report_app
+unfolding afdxmon_app Rattle.command_line.specs.Arguments.capture_app Rattle.command_line.specs.Arguments.watch_app Rattle.command_line.specs.Arguments.debug_app Rattle.command_line.specs.Arguments.cut_app Rattle.command_line.specs.Arguments.links_app Rattle.command_line.specs.Arguments.report_app Rattle.command_line.specs.Arguments.check_app
 is_free = refl
 
 simple : is_simple afdxmon_app ≡ true
-unfolding afdxmon_app Rattle.command_line.specs.Arguments.capture_app Rattle.command_line.specs.Arguments.watch_app Rattle.command_line.specs.Arguments.debug_app Rattle.command_line.specs.Arguments.cut_app Rattle.command_line.specs.Arguments.links_app Rattle.command_line.specs.Arguments.report_app
+unfolding afdxmon_app Rattle.command_line.specs.Arguments.capture_app Rattle.command_line.specs.Arguments.watch_app Rattle.command_line.specs.Arguments.debug_app Rattle.command_line.specs.Arguments.cut_app Rattle.command_line.specs.Arguments.links_app Rattle.command_line.specs.Arguments.report_app Rattle.command_line.specs.Arguments.check_app
 simple = refl
 
 pub returns-in_err-matches-clause-refused : goal.returns-in_err-matches-clause-refused

@@ -3,11 +3,11 @@ use Rattle.std.specs.Result.{IfOk}
 use Rattle.clap.specs.Words.{AddsSubcommand, App, app_of, with_subcommand}
 use Rattle.clap.specs.declared.builder.command.Command.{Command}
 use Rattle.clap.specs.declared.builder.command.Command.TheViews.{out-Command}
-use Rattle.command_line.specs.Arguments.{afdxmon_app, asm_app, capture_app, cut_app, debug_app, judging, links_app, program_app, report_app, watch_app}
+use Rattle.command_line.specs.Arguments.{afdxmon_app, asm_app, capture_app, check_app, cut_app, debug_app, judging, links_app, program_app, report_app, watch_app}
 use Rattle.command_line.proofs.arguments.whole_command.Goals as goal
 
 afdxmon_is : afdxmon_app ≡
-    with_subcommand (with_subcommand (judging (with_subcommand (with_subcommand program_app capture_app.top) asm_app.top)) links_app.top) report_app.top
+    with_subcommand (with_subcommand (with_subcommand (judging (with_subcommand (with_subcommand program_app capture_app.top) asm_app.top)) links_app.top) report_app.top) check_app.top
 unfolding afdxmon_app
 afdxmon_is = refl
 
@@ -29,4 +29,5 @@ returns c =
     let debug = one_more _ _ _ _ debug_app watch c.in_ok-debug_command.ensures.0 c.in_ok-debug_command.ensures.1 c.in_ok-subcommand-4.ensures in
     let cut = one_more _ _ _ _ cut_app debug c.in_ok-cut_command.ensures.0 c.in_ok-cut_command.ensures.1 c.in_ok-subcommand-5.ensures in
     let links = one_more _ _ _ _ links_app cut c.in_ok-links_command.ensures.0 c.in_ok-links_command.ensures.1 c.in_ok-subcommand-6.ensures in
-    last _ _ _ report_app c.subcommand-7.result afdxmon_app links c.in_ok-report_command.ensures.0 c.in_ok-report_command.ensures.1 c.subcommand-7.ensures afdxmon_is
+    let report = one_more _ _ _ _ report_app links c.in_ok-report_command.ensures.0 c.in_ok-report_command.ensures.1 c.in_ok-subcommand-7.ensures in
+    last _ _ _ check_app c.subcommand-8.result afdxmon_app report c.in_ok-check_command.ensures.0 c.in_ok-check_command.ensures.1 c.subcommand-8.ensures afdxmon_is

@@ -1,0 +1,186 @@
+//! The words of the answer.
+
+use input_check::{Difference, Format, Order, Question, Unit, Wiring};
+use afdx_frame::Network;
+use jiff::Timestamp;
+use pcap_io::Ending;
+use std::fmt;
+use std::fmt::{Display, Formatter};
+use vl_config::ConfigFault;
+
+pub fn letter_of(network: Network) -> &'static str {
+    match network {
+        Network::A => "A",
+        Network::B => "B",
+    }
+}
+
+/// The name of a fault of the table, as its line has it.
+pub fn fault_word(fault: ConfigFault) -> &'static str {
+    match fault {
+        ConfigFault::Text => "Text",
+        ConfigFault::Missing { .. } => "Missing",
+        ConfigFault::Kind { .. } => "Kind",
+        ConfigFault::Range { .. } => "Range",
+        ConfigFault::UnknownKey { .. } => "UnknownKey",
+        ConfigFault::TwiceId { .. } => "TwiceId",
+        ConfigFault::TwiceName { .. } => "TwiceName",
+        ConfigFault::TooMany => "TooMany",
+        ConfigFault::Memory => "Memory",
+    }
+}
+
+/// The format of a recording, in words.
+pub fn format_words(format: Option<Format>) -> &'static str {
+    match format {
+        Some(Format::Pcap(Order::Little, Unit::Micro)) => "pcap, little-endian, microseconds",
+        Some(Format::Pcap(Order::Little, Unit::Nano)) => "pcap, little-endian, nanoseconds",
+        Some(Format::Pcap(Order::Big, Unit::Micro)) => "pcap, big-endian, microseconds",
+        Some(Format::Pcap(Order::Big, Unit::Nano)) => "pcap, big-endian, nanoseconds",
+        Some(Format::Pcapng) => "pcapng",
+        None => "unknown",
+    }
+}
+
+pub fn ending_word(ending: Ending) -> &'static str {
+    match ending {
+        Ending::Clean(_) => "clean",
+        Ending::Cut(_) => "cut",
+        Ending::Bad(..) => "bad",
+    }
+}
+
+/// How many frames stand before an ending.
+pub fn frames_before(ending: Ending) -> u64 {
+    match ending {
+        Ending::Clean(count) | Ending::Cut(count) | Ending::Bad(count, _) => count,
+    }
+}
+
+/// A timestamp in nanoseconds since 1970, as RFC 3339 writes it in UTC.
+#[derive(Clone, Copy)]
+pub struct Moment(pub u64);
+
+impl Display for Moment {
+    fn fmt<W: fmt::Write>(&self, f: &mut Formatter<W>) -> fmt::Result {
+        let nanos = self.0;
+        match Timestamp::from_nanosecond(i128::from(nanos)) {
+            Ok(timestamp) => write!(f, "{timestamp}"),
+            Err(_) => write!(f, "{nanos} ns"),
+        }
+    }
+}
+
+/// A time in seconds, with nine decimals.
+#[derive(Clone, Copy)]
+pub struct Seconds(pub u64);
+
+impl Display for Seconds {
+    fn fmt<W: fmt::Write>(&self, f: &mut Formatter<W>) -> fmt::Result {
+        let (seconds, nanos) = (self.0 / 1_000_000_000, self.0 % 1_000_000_000);
+        write!(f, "{seconds}.{nanos:09} s")
+    }
+}
+
+/// A number of things, with an s where there isn't one of them.
+#[derive(Clone, Copy)]
+pub struct Counted(pub u64, pub &'static str);
+
+impl Display for Counted {
+    fn fmt<W: fmt::Write>(&self, f: &mut Formatter<W>) -> fmt::Result {
+        let (count, kind) = (self.0, self.1);
+        let ending = if count == 1 { "" } else { "s" };
+        write!(f, "{count} {kind}{ending}")
+    }
+}
+
+/// The word of a question, for scripts.
+pub fn question_word(question: &Question) -> &'static str {
+    match question {
+        Question::SameRecording => "same_recording",
+        Question::Wiring(Wiring::Swapped) => "swapped",
+        Question::Wiring(Wiring::BothOfA) => "both_of_a",
+        Question::Wiring(Wiring::BothOfB) => "both_of_b",
+        Question::Apart => "apart",
+        Question::Constant { .. } => "constant",
+        Question::CheckSequence(Network::A) => "check_sequence_a",
+        Question::CheckSequence(Network::B) => "check_sequence_b",
+        Question::TooLong { .. } => "too_long",
+        Question::Clocks(_) => "clocks",
+    }
+}
+
+const SAME_RECORDING: &str = "are --a and --b one recording? All their frames are the same";
+
+const SWAPPED: &str = "\
+are the networks swapped? The source addresses in --a are of network B, those in --b of A";
+
+const BOTH_OF_A: &str = "are both recordings of network A? So say their source addresses";
+
+const BOTH_OF_B: &str = "are both recordings of network B? So say their source addresses";
+
+const APART: &str = "do the recordings belong together? One ends before the other begins";
+
+const CONSTANT: &str = "is the table's 'constant' that of this network? Not that of";
+
+const TAKE_THEM_OFF: &str = "hold frame check sequences? Take them off: editcap -C -4";
+
+const SMAX: &str = "does 'smax' count a frame without its check sequence?";
+
+const CLOCKS: &str = "\
+are the clocks of the taps apart? Hardly a frame is a copy within its SkewMax.";
+
+/// A question in words.
+#[derive(Clone, Copy)]
+pub struct Asked<'a>(pub &'a Question);
+
+/// How far the clocks are apart, after the question.
+#[derive(Clone, Copy)]
+struct DifferencePart(Option<Difference>);
+
+impl Display for DifferencePart {
+    fn fmt<W: fmt::Write>(&self, f: &mut Formatter<W>) -> fmt::Result {
+        let Some(difference) = self.0 else {
+            return Ok(());
+        };
+        let (ahead, nanos) = (letter_of(difference.ahead), Seconds(difference.nanos));
+        let (links, of) = (difference.links, difference.of);
+        write!(
+            f,
+            " By equal sequence numbers that of {ahead} is {nanos} ahead, say {links} of {of} links"
+        )
+    }
+}
+
+impl Display for Asked<'_> {
+    fn fmt<W: fmt::Write>(&self, f: &mut Formatter<W>) -> fmt::Result {
+        match *self.0 {
+            Question::SameRecording => f.write_str(SAME_RECORDING),
+            Question::Wiring(Wiring::Swapped) => f.write_str(SWAPPED),
+            Question::Wiring(Wiring::BothOfA) => f.write_str(BOTH_OF_A),
+            Question::Wiring(Wiring::BothOfB) => f.write_str(BOTH_OF_B),
+            Question::Apart => f.write_str(APART),
+            Question::Constant { frames, of, most } => {
+                write!(f, "{CONSTANT} {frames} of {of} frames")?;
+                match most {
+                    Some(most) => {
+                        let (constant, frames) = (most.constant, most.frames);
+                        write!(f, "; {frames} have {constant}")
+                    }
+                    None => Ok(()),
+                }
+            }
+            Question::CheckSequence(network) => {
+                let network = letter_of(network);
+                write!(f, "does the recording of network {network} {TAKE_THEM_OFF}")
+            }
+            Question::TooLong { frames, of } => {
+                write!(f, "{SMAX} {frames} of {of} frames are longer")
+            }
+            Question::Clocks(difference) => {
+                let part = DifferencePart(difference);
+                write!(f, "{CLOCKS}{part}")
+            }
+        }
+    }
+}

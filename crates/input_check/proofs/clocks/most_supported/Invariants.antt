@@ -1,0 +1,11 @@
+-- None of the meetings before the index has more support than the best.
+use Rattle.std.proofs.Common.{◌<◌, length}
+use Rattle.input_check.specs.Clocks.{HasMost, HasSupport}
+use Rattle.input_check.proofs.clocks.most_supported.Given as goal
+
+abbrev pub invariant-loop-index : goal.invariant-loop-index
+invariant-loop-index l = record {
+  within : l.best < length l.meetings;
+  has : HasSupport l.meetings l.best l.most;
+  most : HasMost l.meetings l.index l.most;
+}

@@ -1,0 +1,99 @@
+//! What is counted of a link of the table.
+
+ghost use Rattle.std.specs.Prelude.{◌≡◌, ◌≤◌};
+
+use crate::clocks::{Meeting, Sample, first_meeting};
+use afdx_frame::{Network, Stamp};
+use link_estimate::Copies;
+
+/// How many of a link's first frames are kept, on each network.
+pub const STARTS: usize = 32;
+
+/// A link's first frames on one network.
+#[derive(Debug, Drop)]
+struct Starts {
+    samples: [Sample; 32],
+    count: usize,
+    ghost within: { count ≤ 32 },
+}
+
+impl Starts {
+    fn new() -> Starts {
+        Starts {
+            samples: [Sample { stamp: 0, number: 0 }; STARTS],
+            count: 0,
+        }
+    }
+
+    #[inline(always)]
+    fn see(&mut self, stamp: Stamp, number: u8) {
+        if self.count < STARTS {
+            self.samples[self.count] = Sample {
+                stamp: stamp.0,
+                number,
+            };
+            self.count += 1;
+        }
+    }
+
+    fn as_slice(&self) -> &[Sample] {
+        &self.samples[..self.count]
+    }
+}
+
+/// The frames of a link of the table.
+#[derive(Debug, Drop)]
+pub struct LinkTally {
+    frames_a: u64,
+    frames_b: u64,
+    starts_a: Starts,
+    starts_b: Starts,
+    copies: Copies,
+}
+
+impl LinkTally {
+    /// Of no frame. A copy comes at most so many nanoseconds after the first frame.
+    pub fn new(skew: u64) -> LinkTally {
+        LinkTally {
+            frames_a: 0,
+            frames_b: 0,
+            starts_a: Starts::new(),
+            starts_b: Starts::new(),
+            copies: Copies::within(skew),
+        }
+    }
+
+    /// Counts a frame with this sequence number.
+    #[inline]
+    pub fn see(&mut self, network: Network, stamp: Stamp, number: u8) {
+        match network {
+            Network::A => {
+                self.frames_a = self.frames_a.saturating_add(1);
+                self.starts_a.see(stamp, number);
+            }
+            Network::B => {
+                self.frames_b = self.frames_b.saturating_add(1);
+                self.starts_b.see(stamp, number);
+            }
+        }
+        self.copies.see(network, number, stamp);
+    }
+
+    /// How many frames there are on a network.
+    pub fn frames(&self, network: Network) -> u64 {
+        match network {
+            Network::A => self.frames_a,
+            Network::B => self.frames_b,
+        }
+    }
+
+    /// How many of them are copies.
+    pub fn copies(&self) -> u64 {
+        self.copies.count()
+    }
+
+    /// The first frame on network B that network A has too, by its number, among the first of both.
+    pub fn meeting(&self) -> Option<Meeting> {
+        first_meeting(self.starts_a.as_slice(), self.starts_b.as_slice())
+    }
+}

@@ -1,0 +1,125 @@
+//! What is counted of one recording, whatever its links.
+
+ghost use Rattle.std.specs.Prelude.{◌≡◌};
+
+use crate::checksum::ends_with_check;
+use crate::decide::Marks;
+use afdx_frame::TapFrame;
+use vl_config::Class;
+
+/// Of how many frames at most the frame check sequence is looked for.
+pub const CHECKED: u64 = 64;
+
+/// The place of the last byte of a frame's source address.
+const INTERFACE: usize = 11;
+
+/// The counts of a recording's frames.
+#[derive(Clone, Copy, Debug)]
+pub struct TapTally {
+    frames: u64,
+    /// Frames of which the check sequence was looked for, and those that have it.
+    checked: u64,
+    with_check: u64,
+    /// Frames with the source address of an end system on network A, and on B.
+    as_a: u64,
+    as_b: u64,
+    /// A number that all timestamps, lengths and ends of frames make.
+    digest: u64,
+    /// Frames of another constant field than the table's.
+    pub foreign: u64,
+    /// Frames longer than their link's Smax allows.
+    pub long: u64,
+}
+
+/// An odd number with bits in all places.
+const MULTIPLIER: u64 = 0x9e37_79b9_7f4a_7c15;
+
+impl TapTally {
+    /// Of no frame.
+    pub fn new() -> TapTally {
+        TapTally {
+            frames: 0,
+            checked: 0,
+            with_check: 0,
+            as_a: 0,
+            as_b: 0,
+            digest: 0,
+            foreign: 0,
+            long: 0,
+        }
+    }
+
+    /// Counts a frame, and its class where there is a table.
+    #[inline]
+    pub fn see(&mut self, frame: &TapFrame, class: Option<Class>) {
+        self.frames = self.frames.saturating_add(1);
+        match class {
+            Some(Class::Foreign) => self.foreign = self.foreign.saturating_add(1),
+            Some(Class::TooLong) => self.long = self.long.saturating_add(1),
+            Some(_) | None => {}
+        }
+        let bytes = frame.view().bytes();
+        let ends = match bytes {
+            [_, _, _, _, high, low, .., last] => {
+                u64::from(*high) << 24 | u64::from(*low) << 16 | u64::from(*last)
+            }
+            _ => 0,
+        };
+        let shape = ends << 32 | u64::from(frame.whole());
+        self.digest = (self.digest ^ frame.stamp().0)
+            .wrapping_mul(MULTIPLIER)
+            .wrapping_add(shape);
+        self.see_source(bytes);
+        if self.checked < CHECKED && bytes.len() == frame.whole() as usize {
+            self.checked += 1;
+            if ends_with_check(bytes) {
+                self.with_check = self.with_check.saturating_add(1);
+            }
+        }
+    }
+
+    /// Counts what network the source address names: its last byte begins with the bits 001 on network A, and
+    /// with 010 on B (ARINC 664 Part 7).
+    #[inline]
+    fn see_source(&mut self, bytes: &[u8]) {
+        match bytes.get(INTERFACE).map(|byte| *byte >> 5) {
+            Some(1) => self.as_a = self.as_a.saturating_add(1),
+            Some(2) => self.as_b = self.as_b.saturating_add(1),
+            Some(_) | None => {}
+        }
+    }
+
+    /// How many frames there are.
+    pub fn frames(&self) -> u64
+        ensures { result ≡ self.now.frames }
+    {
+        self.frames
+    }
+
+    /// Of how many frames the check sequence was looked for, and how many have it.
+    pub fn checks(&self) -> (u64, u64)
+        ensures checked { result.0 ≡ self.now.checked }
+        ensures with_check { result.1 ≡ self.now.with_check }
+    {
+        (self.checked, self.with_check)
+    }
+
+    /// What the source addresses name.
+    pub fn marks(&self) -> Marks
+        ensures frames { result.frames ≡ self.now.frames }
+        ensures as_a { result.as_a ≡ self.now.as_a }
+        ensures as_b { result.as_b ≡ self.now.as_b }
+    {
+        Marks {
+            frames: self.frames,
+            as_a: self.as_a,
+            as_b: self.as_b,
+        }
+    }
+
+    /// Have both recordings the same frames, by their number, timestamps, lengths and ends? Two taps never
+    /// stamp all frames alike.
+    pub fn is_same(&self, other: &TapTally) -> bool {
+        0 < self.frames && self.frames == other.frames && self.digest == other.digest
+    }
+}

@@ -1,0 +1,580 @@
+"""`afdxmon check` as a program: its answers line by line, compared with what the rules say of tables and recordings made here.
+
+The expected answers share nothing with the product: faults are those that were put into a table, in the order of docs/TABLE.md; copies
+are looked for among all earlier frames, check sequences by zlib, and the difference of clocks over the frames that were shifted.
+"""
+import json
+import os
+import random
+import subprocess
+import tempfile
+import zlib
+from datetime import datetime, timedelta, timezone
+
+import texts
+from harness import FAULT, SUCCESS, difference, frame, header, record, run, run_at_terminal, say
+from reference import parse
+
+MS = 10**6
+START = 1_800_000_000 * 10**9
+UNSOUND = "afdxmon: check 1 Unsound"
+TOP = {"constant": "50331648", "late_us": "0", "filters": "[]"}
+LINK = {"id": "5", "name": '"brake"', "bag_ms": "1", "jitter_us": "0", "smax": "200", "integrity": "true", "redundancy": "true", "skew_us": "1000"}
+TOP_KEYS, LINK_KEYS = ("constant", "link", "late_us", "filters"), tuple(LINK)
+REQUIRED = {"constant", *LINK_KEYS}
+KNOWN = {
+    None: "the table has constant, late_us, filters and the links",
+    0: "a link has id, name, bag_ms, jitter_us, smax, integrity, redundancy and skew_us",
+}
+# Of each key values that are taken, out of range, and of another type.
+VALUES = {
+    "constant": (["50331648", "4294967295", "0x03000000"], ["0", "50331647", "16777216", "4294967296", "67108864", "-1"], ['"x"', "true", "1.5"]),
+    "late_us": (["0", "1000000"], ["-1", "1000001"], ['"0"', "false"]),
+    "filters": (["[]", '["1,6 0 0 0,"]'], [], ["1", '"1,6 0 0 0,"', "[1]", '[["1,6 0 0 0,"]]']),
+    "id": (["0", "65535", "77"], ["-1", "65536", "9223372036854775807"], ['"5"', "5.0", "true"]),
+    "name": (['"a"', '"' + "z" * 32 + '"', '"A-z_09"'], ['""', '"' + "z" * 33 + '"', '"a b"', '"é"'], ["5", "true", '["a"]']),
+    "bag_ms": (["1", "2", "64", "128"], ["0", "3", "129", "256", "-1"], ['"1"', "1.0"]),
+    "jitter_us": (["0", "100000"], ["-1", "100001"], ["true", "0.5"]),
+    "smax": (["64", "1518", "100"], ["63", "1519", "0", "-64"], ['"64"', "{}"]),
+    "integrity": (["true", "false"], [], ["1", '"true"', "1979-05-27"]),
+    "redundancy": (["true", "false"], [], ["0", '"no"']),
+    "skew_us": (["0", "1000000"], ["-1", "1000001"], ["[]", '"1"']),
+}
+
+
+# ---- tables
+
+
+class Table:
+    """A table as text, and where each key and header stands: `places` by (link, key), from 1."""
+
+    def __init__(self, top, links):
+        self.top, self.links, self.lines, self.places = top, links, [], {}
+        for key, value in top.items():
+            self.add(None, key, f"{key} = {value}")
+        for index, link in enumerate(links):
+            self.add(index, None, "[[link]]")
+            for key, value in link.items():
+                self.add(index, key, f"  {key} = {value}", 3)
+        self.text = "\n".join(self.lines) + "\n"
+
+    def add(self, link, key, line, column=1):
+        self.lines.append(line)
+        self.places[link, key] = (len(self.lines), column)
+
+
+def kind_of(value):
+    """The type of a value in the words of TOML."""
+    if value in ("true", "false"):
+        return "boolean"
+    for start, kind in (('"', "string"), ("[", "array"), ("{", "table")):
+        if value.startswith(start):
+            return kind
+    if value[:4].isdigit() and "-" in value:
+        return "datetime"
+    return "float" if "." in value else "integer"
+
+
+def shown(key, value):
+    kind = kind_of(value)
+    if kind == "integer":
+        return f"{key} = {int(value, 0)}"
+    return f"{key} = {value}" if kind in ("boolean", "string") else f"{key} = a value of type {kind}"
+
+
+def named(index, link):
+    text = f"link {index}"
+    for key in ("id", "name"):
+        if key in link and kind_of(link[key]) in ("integer", "string", "boolean"):
+            text += f", {key} {int(link[key], 0) if kind_of(link[key]) == 'integer' else link[key]}"
+    return text
+
+
+def told(table, link, key, word, found, allowed):
+    """A fault as the reference has it: what the line and the JSON say of it."""
+    of = table.links[link] if link is not None else {}
+    line, column = table.places.get((link, key)) or (table.places[link, None] if link is not None else (None, None))
+    subject = f"{named(link, of)}: " if link is not None else ""
+    number = int(of["id"], 0) if kind_of(of.get("id", '"')) == "integer" else None
+    name = of["name"][1:-1] if kind_of(of.get("name", "1")) == "string" else None
+    return {"fault": word, "line": line, "column": column, "link": link, "id": number, "name": name, "key": key, "found": subject + found, "allowed": allowed}
+
+
+def is_in(key, value, which):
+    return value in VALUES[key][which]
+
+
+def faults_of_keys(table, link):
+    """The faults of one table's keys: missing ones, other types, out of range, unknown ones."""
+    of, keys = (table.top, TOP_KEYS) if link is None else (table.links[link], LINK_KEYS)
+    out = [told(table, link, key, "Missing", f"{key} is missing", texts.ALLOWED[key]) for key in keys if key in REQUIRED and key not in of]
+    for which, word in ((2, "Kind"), (1, "Range")):
+        out += [told(table, link, key, word, shown(key, of[key]), texts.ALLOWED[key]) for key in keys if key in of and is_in(key, of[key], which)]
+    unknown = sorted((key for key in of if key not in keys), key=str.encode)
+    return out + [told(table, link, key, "UnknownKey", f"unknown key {key}", KNOWN[None if link is None else 0]) for key in unknown]
+
+
+def faults_of_twins(table):
+    """What an earlier link has: identifiers, and then names, that are in range."""
+    out = []
+    for index, link in enumerate(table.links):
+        for key, word in (("id", "TwiceId"), ("name", "TwiceName")):
+            if key not in link or is_in(key, link[key], 1) or is_in(key, link[key], 2):
+                continue
+            twins = [k for k, other in enumerate(table.links[:index]) if other.get(key) == link[key]]
+            if twins:
+                taken = f"{named(twins[0], table.links[twins[0]])} has it too: each link has its own {key}"
+                out.append(told(table, index, key, word, shown(key, link[key]), taken))
+    return out
+
+
+def faults_of(table):
+    out = faults_of_keys(table, None)
+    for index in range(len(table.links)):
+        out += faults_of_keys(table, index)
+    return out + faults_of_twins(table)
+
+
+def line_of(path, fault):
+    place = f":{fault['line']}:{fault['column']}" if fault["line"] else ""
+    return f"fault: {path}{place}: {fault['found']}: {fault['allowed']}\n"
+
+
+def counted(count, kind):
+    return f"{count} {kind}" + ("" if count == 1 else "s")
+
+
+def text_of_table(path, table):
+    """The answer on a table alone."""
+    faults = faults_of(table)
+    if not faults:
+        constant = int(table.top["constant"], 0)
+        return f"table: {path}: {counted(len(table.links), 'link')}, constant {constant}\n" + filters_in(table) + "sound: yes\n"
+    text = f"table: {path}: {counted(len(faults), 'fault')}\n" + "".join(line_of(path, fault) for fault in faults[:100])
+    text += f"fault: and {len(faults) - 100} more in the table\n" if len(faults) > 100 else ""
+    return text + f"sound: no, {counted(len(faults), 'fault')} and 0 questions\n"
+
+
+def filters_in(table):
+    return "filter: 1 of the table: 1 instruction\n" if "6 0 0 0" in table.top.get("filters", "") else ""
+
+
+def tables():
+    """Tables with one, two and many faults, by name."""
+    for key, (good, out_of_range, others) in VALUES.items():
+        for value in good + out_of_range + others:
+            if key in TOP:
+                yield f"{key} = {value}", Table({**TOP, key: value}, [LINK])
+            else:
+                yield f"a link with {key} = {value}", Table(TOP, [LINK, {**LINK, "id": "6", "name": '"rudder"', key: value}])
+    for key in (*TOP, *LINK_KEYS):
+        yield f"no {key}", Table({k: v for k, v in TOP.items() if k != key}, [{k: v for k, v in LINK.items() if k != key}])
+    yield "no link", Table(TOP, [])
+    yield "unknown keys", Table({**TOP, "z": "1", "Speed": "2"}, [{**LINK, "smin": "64", "BAG": "1"}])
+    yield "a link that has all of another", Table(TOP, [LINK, LINK])
+    yield "three links of one id, two of one name", Table(TOP, [LINK, {**LINK, "name": '"b"'}, {**LINK, "id": "9"}, {**LINK, "name": '"c"'}])
+    yield "twins, one of which lacks its id", Table(TOP, [{k: v for k, v in LINK.items() if k != "id"}, {**LINK, "name": '"b"'}, {**LINK, "name": '"c"'}])
+    yield "an id out of range twice", Table(TOP, [{**LINK, "id": "65536"}, {**LINK, "id": "65536", "name": '"b"'}])
+    yield "two faults in one link", Table(TOP, [{**LINK, "bag_ms": "3", "smax": "63"}])
+    chance = random.Random(21)
+    for count in (2, 9, 60, 300):
+        links = []
+        for index in range(count):
+            link = {**LINK, "id": str(chance.randrange(count * 2)), "name": f'"l{chance.randrange(count * 2)}"'}
+            for key in LINK_KEYS:
+                what = chance.random()
+                if what < 0.05:
+                    del link[key]
+                elif what < 0.15 and VALUES[key][1]:
+                    link[key] = chance.choice(VALUES[key][1])
+                elif what < 0.2:
+                    link[key] = chance.choice(VALUES[key][2])
+            links.append(link)
+        yield f"{count} links with faults at random", Table({**TOP, "late_us": chance.choice(["0", "-1"])}, links)
+
+
+def write(path, content):
+    with open(path, "wb") as file:
+        file.write(content if isinstance(content, bytes) else content.encode())
+    return path
+
+
+def asked(*arguments, **how):
+    return run(["check", *arguments], stdout=subprocess.PIPE, **how)
+
+
+def first_difference(found, expected):
+    pairs = zip(found.splitlines() + [""], expected.splitlines() + [""])
+    return next((f"{one!r}, not {other!r}" for one, other in pairs if one != other), "" if found == expected else "the ends differ")
+
+
+def judged(name, ran, text, line=None):
+    """An answer: its text whole, and the status and standard error that go with it."""
+    sound = text.endswith("sound: yes\n")
+    fault = difference(ran, SUCCESS if sound else FAULT, ("" if sound else UNSOUND) if line is None else line)
+    say(f"check: {name}", fault or first_difference(ran.stdout.decode(), text))
+
+
+def of_tables(work):
+    path = os.path.join(work, "t.toml")
+    for name, table in tables():
+        write(path, table.text)
+        judged(name, asked("--config", path), text_of_table(path, table))
+        ran = asked("--config", path, "--json")
+        answer, faults = json.loads(ran.stdout), faults_of(table)
+        fits = answer["table"]["faults"] == faults[:100] and answer["table"]["fault_count"] == len(faults) and answer["sound"] == (not faults)
+        say(f"check: {name}, as JSON", "" if fits else f"{answer['table']} is not {faults[:3]}")
+
+
+def of_wide_tables(work):
+    """Tables whose faults are no key's, and links in other forms."""
+    path = os.path.join(work, "t.toml")
+    write(path, "constant = 50331648\nlink = [\n  { id = 5, bag_ms = 3 },\n  7,\n]\n")
+    missing = [key for key in LINK_KEYS if key not in ("id", "bag_ms")]
+    text = f"table: {path}: 8 faults\nfault: {path}:2:1: link = a value of type array: {texts.ALLOWED['link']}\n"
+    text += "".join(f"fault: {path}:3:3: link 0, id 5: {key} is missing: {texts.ALLOWED[key]}\n" for key in missing)
+    text += f"fault: {path}:3:13: link 0, id 5: bag_ms = 3: {texts.ALLOWED['bag_ms']}\nsound: no, 8 faults and 0 questions\n"
+    judged("links as inline tables, one of them none", asked("--config", path), text)
+    write(path, "constant = 50331648\nlate_us == 1\n")
+    ran = asked("--config", path)
+    say("check: a text that is no TOML", difference(ran, FAULT, UNSOUND) or ("" if ran.stdout.startswith(f"table: {path}: 1 fault\nfault: {path}:2:".encode()) else repr(ran.stdout)))
+    many = Table(TOP, [{**LINK, "id": str(k), "name": f'"l{k}"'} for k in range(4097)])
+    write(path, many.text)
+    line, _ = many.places[4096, None]
+    text = f"table: {path}: 1 fault\nfault: {path}:{line}:1: 4097 links and 0 filters: at most 4096 links and 7 filters\nsound: no, 1 fault and 0 questions\n"
+    judged("4097 links", asked("--config", path), text)
+    write(path, Table({**TOP, "filters": str(["1,6 0 0 0,"] * 8).replace("'", '"')}, [LINK]).text)
+    text = f"table: {path}: 1 fault\nfault: {path}:3:1: 1 link and 8 filters: at most 4096 links and 7 filters\nsound: no, 1 fault and 0 questions\n"
+    judged("eight filters", asked("--config", path), text)
+
+
+def of_filters(work):
+    path, code = os.path.join(work, "t.toml"), os.path.join(work, "f.bpf")
+    write(path, Table({**TOP, "filters": '["1,6 0 0 0,", "2,6 0 0 0,255 0 0 0,", "x"]'}, [LINK]).text)
+    write(code, "2,5 0 0 1,6 0 0 0,")
+    text = f"table: {path}: 1 link, constant 50331648\nfault: load 7 Jump at 0\nfilter: 1 of the table: 1 instruction\n"
+    text += "fault: load 2 UnknownCode at 1 filter 2\nfault: numeric 1 Character at 0 filter 3\nsound: no, 3 faults and 0 questions\n"
+    judged("three filters that are refused", asked("--config", path, "--filter", code), text)
+    write(path, Table(TOP, [LINK]).text)
+    write(code, "3,40 0 0 12,6 0 0 4294967295,6 0 0 0,")
+    text = f"table: {path}: 1 link, constant 50331648\nfilter: --filter: 3 instructions\nsound: yes\n"
+    judged("a filter", asked("--config", path, "--filter", code), text)
+
+
+# ---- recordings
+
+
+def moment(stamp):
+    """A timestamp in UTC, with as many decimals as it has."""
+    second = datetime(1970, 1, 1, tzinfo=timezone.utc) + timedelta(seconds=stamp // 10**9)
+    fraction = f"{stamp % 10**9:09}".rstrip("0")
+    return second.strftime("%Y-%m-%dT%H:%M:%S") + (f".{fraction}" if fraction else "") + "Z"
+
+
+FORMATS = {
+    b"\x4d\x3c\xb2\xa1": "pcap, little-endian, nanoseconds",
+    b"\xa1\xb2\x3c\x4d": "pcap, big-endian, nanoseconds",
+    b"\xd4\xc3\xb2\xa1": "pcap, little-endian, microseconds",
+    b"\xa1\xb2\xc3\xd4": "pcap, big-endian, microseconds",
+    b"\x0a\x0d\x0d\x0a": "pcapng",
+}
+ENDS = {"clean": "it ends clean", "cut": "it ends cut, within a record"}
+BAD = {"stampback": "timestamp out of order", "length": "captured length over 262144 bytes", "fraction": "fraction of a second out of range"}
+
+
+def network_line(network, path, recording, frames, ending, kind=None):
+    count = counted(len(frames), "frame")
+    text = f"network {network}: {path}: {kind or FORMATS[recording[:4]]}; {count}"
+    stamps = [stamp for stamp, _, _ in frames]
+    text += f", {moment(min(stamps))} to {moment(max(stamps))}" if stamps else ""
+    word, _, *why = ending.split()
+    text += "; " + (ENDS[word] if word in ENDS else f"it ends bad: {BAD[why[0]]}") + "\n"
+    return text + (f"fault: of network {network} no frame is read after {count}: {BAD[why[0]]}\n" if word == "bad" else "")
+
+
+def copies_within(frames, skew):
+    """How many of a link's frames, (network, stamp, number) in order, are copies."""
+    count, copies = 0, set()
+    for at, (network, stamp, number) in enumerate(frames):
+        before = next((k for k in reversed(range(at)) if frames[k][2] == number), None)
+        if before is None or before in copies or frames[before][0] == network:
+            continue
+        since = sum(frames[k][0] != network for k in range(before, at))
+        if since <= 128 and stamp - frames[before][1] <= skew:
+            copies.add(at)
+            count += 1
+    return count
+
+
+def nearly_all(count, of):
+    return of > 0 and of - count <= of // 10
+
+
+class Reference:
+    """What the rules say of two recordings, each a list of (stamp, length, bytes), and a table of links."""
+
+    def __init__(self, links, a, b, constant=50331648):
+        self.taps, self.links, self.constant = {"A": a, "B": b}, links, constant
+        self.foreign, self.long, self.unlisted, self.by_link = {}, 0, {}, {link["id"]: [] for link in links}
+        frames = sorted((stamp, network, k) for network, tap in self.taps.items() for k, (stamp, _, _) in enumerate(tap))
+        for stamp, network, k in frames:
+            self.see(network, *self.taps[network][k])
+        self.all = len(frames)
+
+    def see(self, network, stamp, length, data):
+        if len(data) < length or not 60 <= length <= 1514:
+            return
+        constant, link = int.from_bytes(data[:4], "big"), int.from_bytes(data[4:6], "big")
+        if constant != self.constant:
+            self.foreign[constant] = self.foreign.get(constant, 0) + 1
+        elif link not in self.by_link:
+            self.unlisted[link] = self.unlisted.get(link, 0) + 1
+        else:
+            smax = next(one["smax"] for one in self.links if one["id"] == link)
+            self.long += length + 4 > smax
+            self.by_link[link].append((network, stamp, data[-1]))
+
+    def of(self, link, network):
+        return [(stamp, number) for on, stamp, number in self.by_link[link] if on == network]
+
+    def same(self):
+        key = lambda tap: [(stamp, length, data[4:6], data[-1:]) for stamp, length, data in tap]
+        return bool(self.taps["A"]) and key(self.taps["A"]) == key(self.taps["B"])
+
+    def marked(self, network, as_network):
+        tap = self.taps[network]
+        return nearly_all(sum(len(data) > 11 and data[11] >> 5 == {"A": 1, "B": 2}[as_network] for _, _, data in tap), len(tap))
+
+    def has_checks(self, network):
+        whole = [data for _, length, data in self.taps[network] if len(data) == length][:64]
+        return nearly_all(sum(zlib.crc32(data[:-4]).to_bytes(4, "little") == data[-4:] for data in whole), len(whole))
+
+    def pairs(self):
+        """Frames of A and B and copies, of the links with redundancy management on, and the greatest SkewMax."""
+        on = [link for link in self.links if link["redundancy"]]
+        count = lambda network: sum(len(self.of(link["id"], network)) for link in on)
+        copies = sum(copies_within(self.by_link[link["id"]], link["skew_us"] * 1000) for link in on)
+        return count("A"), count("B"), copies, max((link["skew_us"] * 1000 for link in on), default=0)
+
+    def difference(self, skew):
+        """How far B's clock is ahead, by most links, and how many say so."""
+        apart = []
+        for link in sorted(self.links, key=lambda one: one["id"]):
+            if not link["redundancy"]:
+                continue
+            a, b = self.of(link["id"], "A")[:32], self.of(link["id"], "B")[:32]
+            met = next(((stamp - first) for stamp, number in b for first, same in a if same == number), None)
+            apart += [] if met is None else [met]
+        if not apart:
+            return None
+        support = [sum(abs(one - other) <= 5 * MS for other in apart) for one in apart]
+        best = apart[support.index(max(support))]
+        return (best, max(support), len(apart)) if 2 * max(support) >= len(apart) and abs(best) > skew else None
+
+    def overlap(self):
+        spans = [(min(tap)[0], max(tap)[0]) for tap in self.taps.values() if tap]
+        return None if len(spans) < 2 else not (spans[0][1] < spans[1][0] or spans[1][1] < spans[0][0])
+
+    def questions(self):
+        out = []
+        if self.same():
+            out.append("are --a and --b one recording? All their frames are the same")
+        else:
+            if self.marked("A", "B") and self.marked("B", "A"):
+                out.append("are the networks swapped? The source addresses in --a are of network B, those in --b of A")
+            out += [f"are both recordings of network {n}? So say their source addresses" for n in "AB" if self.marked("A", n) and self.marked("B", n)]
+            if self.overlap() is False:
+                out.append("do the recordings belong together? One ends before the other begins")
+        foreign = sum(self.foreign.values())
+        if nearly_all(foreign, self.all):
+            constant = max(self.foreign, key=lambda one: self.foreign[one])
+            out.append(f"is the table's 'constant' that of this network? Not that of {foreign} of {self.all} frames; {self.foreign[constant]} have {constant}")
+        checks = [n for n in "AB" if self.has_checks(n)]
+        out += [f"does the recording of network {n} hold frame check sequences? Take them off: editcap -C -4" for n in checks]
+        if not checks and nearly_all(self.long, self.all):
+            out.append(f"does 'smax' count a frame without its check sequence? {self.long} of {self.all} frames are longer")
+        return out + (self.clocks() if not checks and not self.same() else [])
+
+    def clocks(self):
+        a, b, copies, skew = self.pairs()
+        if not (a and b and 2 * copies < a and 2 * copies < b):
+            return []
+        told = self.difference(skew)
+        if told is None and not (copies == 0 and self.overlap()):
+            return []
+        text = "are the clocks of the taps apart? Hardly a frame is a copy within its SkewMax."
+        if told:
+            ahead, nanos = "B" if told[0] > 0 else "A", abs(told[0])
+            text += f" By equal sequence numbers that of {ahead} is {nanos // 10**9}.{nanos % 10**9:09} s ahead, say {told[1]} of {told[2]} links"
+        return [text]
+
+    def notes(self):
+        absent = [f"{link['id']} {link['name']}" for link in sorted(self.links, key=lambda one: one["id"]) if not self.by_link[link["id"]]]
+        unlisted = [f"{link} ({counted(frames, 'frame')})" for link, frames in sorted(self.unlisted.items())]
+        text = ""
+        for what, names in ((f"no frame is of {counted(len(absent), 'link')} of the table", absent), (f"the table lacks {counted(len(unlisted), 'link')}", unlisted)):
+            if names:
+                text += f"note: {what}: " + ", ".join(names[:20]) + (f" and {len(names) - 20} more" if len(names) > 20 else "") + "\n"
+        return text
+
+
+def toml_of(links, constant=50331648, late=0):
+    text = f"constant = {constant}\nlate_us = {late}\n"
+    return text + "".join("\n[[link]]\n" + "".join(f"{key} = {json.dumps(value)}\n" for key, value in link.items()) for link in links)
+
+
+def expected(config, links, recordings, constant=50331648, late=0, kinds=()):
+    """The answer on a sound table and recordings, by network (path, bytes)."""
+    text = f"table: {config}: {counted(len(links), 'link')}, constant {constant}\n"
+    taps, faults = {"A": [], "B": []}, 0
+    for network, (path, recording) in recordings.items():
+        taps[network], ending = parse(recording, late)
+        text += network_line(network, path, recording, taps[network], ending, dict(kinds).get(network))
+        faults += ending.startswith("bad")
+    about = Reference(links, taps["A"], taps["B"], constant)
+    text += {True: "overlap: the recordings overlap in time\n", False: "overlap: none\n", None: ""}[about.overlap()]
+    questions = about.questions()
+    text += "".join(f"question: {question}\n" for question in questions) + about.notes()
+    sound = "yes" if not questions and not faults else f"no, {counted(faults, 'fault')} and {counted(len(questions), 'question')}"
+    return text + f"sound: {sound}\n"
+
+
+def links_of(chance, count):
+    ids = chance.sample(range(65536), count)
+    return [
+        {"id": ids[k], "name": f"l{k}", "bag_ms": chance.choice((1, 2, 4, 8)), "jitter_us": 500, "smax": chance.randrange(100, 1500), "integrity": True,
+         "redundancy": chance.random() < 0.9, "skew_us": 1000}
+        for k in range(count)
+    ]
+
+
+def sent(chance, links, cycles, marks=(0x20, 0x40), check=False, first=3):
+    """Both networks' frames, (stamp, bytes): each link sends by its BAG, the copy on B comes some microseconds later."""
+    taps = {"A": [], "B": []}
+    for link in links:
+        number, at = chance.randrange(1, 256), START + chance.randrange(link["bag_ms"] * MS)
+        for _ in range(cycles):
+            number, at = number % 255 + 1, at + link["bag_ms"] * MS
+            for network, mark in zip("AB", marks):
+                data = bytearray(frame(link["id"], chance.randrange(60, link["smax"] - 3), number))
+                data[0], data[11] = first, mark
+                data += zlib.crc32(bytes(data)).to_bytes(4, "little") if check else b""
+                taps[network].append((at + chance.randrange(50_000) + (100_000 if network == "B" else 0), bytes(data)))
+    return [sorted(taps[network]) for network in "AB"]
+
+
+def file_of(frames, shift=0, layout="<", unit=1):
+    magic = 0xA1B23C4D if unit == 1 else 0xA1B2C3D4
+    return header(layout, magic) + b"".join(record((stamp + shift) // unit * unit, data, layout, unit) for stamp, data in frames)
+
+
+def pairs():
+    """Tables and pairs of recordings, by name: links, A and B."""
+    chance = random.Random(31)
+    links = links_of(chance, 6)
+    a, b = sent(chance, links, 60)
+    yield "two recordings that belong together", links, file_of(a), file_of(b)
+    yield "networks swapped", links, file_of(b), file_of(a)
+    yield "both of network A", links, file_of(a), file_of([(stamp + 70_000, data) for stamp, data in a])
+    yield "one recording twice", links, file_of(a), file_of(a)
+    yield "the same frames in another order of bytes", links, file_of(a), file_of(a, layout=">")
+    yield "microseconds", links, file_of(a, unit=1000), file_of(b, layout=">", unit=1000)
+    for shift in (3 * 10**9, -250 * MS, 7_200 * 10**9, -1_100_000, 30 * MS):
+        yield f"the clock of B {shift} ns ahead", links, file_of(a), file_of(b, shift)
+    yield "no overlap, and other frames", links, file_of(a), file_of(sent(random.Random(5), links, 40)[1], 10**12)
+    yield "network A alone", links, file_of(a), None
+    yield "network B alone", links, None, file_of(b)
+    yield "an empty recording", links, file_of(a), header()
+    yield "no frame at all", links, header(), header()
+    yield "links that no frame names", links + [{**links[0], "id": (links[0]["id"] + 1) % 65536, "name": "none"}], file_of(a), file_of(b)
+    yield "links that the table lacks", links[:2], file_of(a), file_of(b)
+    many = [{**link, "name": f"m{k}"} for k, link in enumerate(links_of(chance, 60))]
+    a2, b2 = sent(chance, many, 4)
+    yield "60 links, of which the table has 30", many[:30], file_of(a2), file_of(b2)
+    yield "60 links that no frame names", many, file_of([]), file_of(a[:1])
+    yield "another constant field", links, *(file_of(tap) for tap in sent(chance, links, 20, first=7))
+    yield "check sequences", links, *(file_of(tap) for tap in sent(chance, links, 30, check=True))
+    yield "check sequences on network A", links, file_of(sent(chance, links, 30, check=True)[0]), file_of(b)
+    yield "frames longer than Smax", [{**link, "smax": 64} for link in links], *(
+        file_of([(stamp, data[:-1] + bytes(40) + data[-1:]) for stamp, data in tap]) for tap in (a, b))
+    yield "no redundancy", [{**link, "redundancy": False} for link in links], file_of(a), file_of(b, 3 * 10**9)
+    yield "a recording that is cut short", links, file_of(a)[:-7], file_of(b)
+    yield "a frame out of order", links, file_of(a) + record(a[0][0], a[0][1]), file_of(b)
+    yield "frames that aren't whole", links, file_of(a), file_of(b) + record(b[-1][0], frame(9, 60, 1), original=100)
+
+
+def of_recordings(work):
+    config, paths = os.path.join(work, "t.toml"), {network: os.path.join(work, f"{network}.pcap") for network in "AB"}
+    for name, links, a, b in pairs():
+        write(config, toml_of(links))
+        given, recordings = ["--config", config], {}
+        for network, recording in (("A", a), ("B", b)):
+            if recording is not None:
+                given += [f"--{network.lower()}", write(paths[network], recording)]
+                recordings[network] = (paths[network], recording)
+        text = expected(config, links, recordings)
+        judged(name, asked(*given), text)
+        answer = json.loads(asked(*given, "--json").stdout)
+        told = [f"question: {one['text']}\n" for one in answer["questions"]]
+        fits = "".join(told) in text and len(told) == text.count("question: ") and answer["sound"] == text.endswith("yes\n")
+        fits = fits and [link["id"] for link in answer["links"]] == sorted(link["id"] for link in links)
+        say(f"check: {name}, as JSON", "" if fits else json.dumps(answer)[:600])
+
+
+def of_inputs(work):
+    """Standard input, pcapng, damaged files, a terminal and a full output."""
+    chance = random.Random(41)
+    links = links_of(chance, 3)
+    a, b = (file_of(tap) for tap in sent(chance, links, 40))
+    config, paths = write(os.path.join(work, "t.toml"), toml_of(links)), [os.path.join(work, name) for name in ("a.pcap", "b.pcap", "a.pcapng", "no.pcap")]
+    write(paths[0], a)
+    write(paths[1], b)
+    text = expected(config, links, {"A": (paths[0], a), "B": (paths[1], b)})
+    for option, path, content in (("--config", config, toml_of(links).encode()), ("--a", paths[0], a), ("--b", paths[1], b)):
+        given = {"--config": config, "--a": paths[0], "--b": paths[1], option: "-"}
+        ran = asked(*(word for pair in given.items() for word in pair), input=content)
+        judged(f"{option} from standard input", ran, text.replace(f" {path}:", " standard input:"))
+    ran = asked("--config", "-", "--a", "-", input=b"")
+    say("check: standard input twice", difference(ran, FAULT, "afdxmon: file --a", b""))
+    run(["capture", "--code", "1,6 0 0 4294967295,", paths[0], "-o", paths[2], "--pcapng"])
+    judged("a pcapng recording", asked("--config", config, "--a", paths[2], "--b", paths[1]),
+           expected(config, links, {"A": (paths[2], a), "B": (paths[1], b)}, kinds=(("A", "pcapng"),)))
+    write(paths[3], b"no recording, but some bytes")
+    text = f"table: {config}: 3 links, constant 50331648\nfault: watch 2 Header B 2 Magic\nsound: no, 1 fault and 0 questions\n"
+    judged("a file that is no recording", asked("--config", config, "--a", paths[0], "--b", paths[3]), text)
+    for option in ("--config", "--filter", "--a", "--b"):
+        given = {"--config": config, option: os.path.join(work, "absent")}
+        say(f"check: {option} that isn't there", difference(asked(*(word for pair in given.items() for word in pair)), FAULT, f"afdxmon: file {option}", b""))
+    with open("/dev/full", "wb") as full:
+        ran = run(["check", "--config", config], stdout=full)
+    say("check: a full output", difference(ran, FAULT, "afdxmon: file -"))
+    write(config, toml_of(links).replace("bag_ms = ", "bag_ms = 3 #"))
+    ran = run_at_terminal(["check", "--config", config])
+    advice = "a run with these inputs would not be sound: the answer says why"
+    say("check: an unsound run at a terminal", "" if ran.returncode == FAULT and ran.stderr == f"{UNSOUND}\n{advice}\n" else repr(ran.stderr))
+
+
+def of_long_recordings(work):
+    """Of more than 10^6 frames the first are read; the others may be anything."""
+    links = [{"id": 5, "name": "brake", "bag_ms": 1, "jitter_us": 0, "smax": 200, "integrity": False, "redundancy": False, "skew_us": 0}]
+    config, paths = write(os.path.join(work, "t.toml"), toml_of(links)), [os.path.join(work, name) for name in ("a.pcap", "b.pcap")]
+    one = record(START, frame(5, 60, 1))
+    for name, more, goes_on in (("10^6 frames", b"", "it ends clean"), ("a frame more", record(START + 9, frame(5, 60, 2)), "it goes on, and no more was read")):
+        with open(paths[0], "wb") as file:
+            file.write(header() + one * 10**6 + more)
+        write(paths[1], header() + record(START + 5, frame(5, 60, 1)))
+        text = f"table: {config}: 1 link, constant 50331648\n"
+        text += f"network A: {paths[0]}: pcap, little-endian, nanoseconds; 1000000 frames, {moment(START)} to {moment(START)}; {goes_on}\n"
+        text += f"network B: {paths[1]}: pcap, little-endian, nanoseconds; 1 frame, {moment(START + 5)} to {moment(START + 5)}; it ends clean\n"
+        text += "overlap: not within what was read of the recordings\nsound: yes\n" if more else "overlap: none\nquestion: do the recordings belong together? One ends before the other begins\nsound: no, 0 faults and 1 question\n"
+        judged(name, asked("--config", config, "--a", paths[0], "--b", paths[1]), text)
+
+
+def cases():
+    with tempfile.TemporaryDirectory() as work:
+        of_tables(work)
+        of_wide_tables(work)
+        of_filters(work)
+        of_recordings(work)
+        of_inputs(work)
+        of_long_recordings(work)
