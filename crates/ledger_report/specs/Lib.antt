@@ -1,0 +1,14 @@
+pub mod Bins
+pub mod Counting
+pub mod Extremes
+pub mod LaneLines
+pub mod LaneParts
+pub mod Lanes
+pub mod Marks
+pub mod Merging
+pub mod Numbering
+pub mod Numbers
+pub mod Places
+pub mod Placing
+pub mod Sums
+pub mod Words

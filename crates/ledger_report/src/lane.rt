@@ -1,5 +1,13 @@
 //! A link on one network.
 
+ghost use Rattle.std.specs.Prelude.{◌≡◌, ◌≢◌, ◌+◌, List, ◌∷◌, max, Some, None, IfOk, IfSome, OnOk, if◌then◌else◌};
+ghost use Rattle.integrity.specs.Sequence.{next_number};
+ghost use Rattle.ledger_report.specs.Sums.{saturated};
+ghost use Rattle.ledger_report.specs.Numbers.{distance, is_loss};
+ghost use Rattle.ledger_report.specs.Numbering.{IsPlain, counted_numbering, missing_in, numbering_of};
+ghost use Rattle.ledger_report.specs.LaneLines.{is_out_after_silence, is_rule};
+ghost use Rattle.ledger_report.specs.declared.signs.Sign.TheVariants as signs;
+
 use crate::bounds::{CYCLE, MOST_DISTANCE, NUMBERS};
 use crate::moment::{Moment, Place};
 use crate::network::NetworkReport;
@@ -48,11 +56,52 @@ pub struct Lane {
     pub(crate) held_before: u64,
 }
 
+/// A seen line, as its lane takes it.
+#[derive(Clone, Copy, Debug)]
+pub struct LaneLine {
+    pub at: Moment,
+    /// Which line of its network it is, from 1.
+    pub ordinal: u64,
+    /// Its sequence number.
+    pub number: u8,
+    /// The rule by which its frame is discarded.
+    pub rule: Option<Sign>,
+    /// How many bytes the capture holds, where a filter accepts the frame.
+    pub kept: Option<u32>,
+    /// Does a silence of its network stand between the lane's line before and it?
+    pub after_silence: bool,
+}
+
+/// What a lane is counted against.
+#[derive(Clone, Copy, Debug)]
+pub struct LaneRules {
+    /// BAG less jitter, in nanoseconds.
+    pub least: u64,
+    /// Is integrity checking on?
+    pub integrity: bool,
+}
+
+/// What a sequence number says against that of the lane's line before.
+#[derive(Clone, Copy, Debug, PartialEq, Eq)]
+pub enum Numbering {
+    /// Nothing.
+    Follows,
+    /// It is 0, and isn't the lane's first.
+    Restarts,
+    /// It is the same, and not 0.
+    Repeats,
+    /// Frames are missing between both: so many numbers after the previous one.
+    Skips { previous: u8, missing: u8 },
+}
+
 /// How far a number is after another: rule 6 counts from 255 to 1.
 #[inline]
-fn distance(previous: u8, number: u8) -> u8 {
-    if previous == 0 || number >= previous {
-        number - previous.min(number)
+fn distance(previous: u8, number: u8) -> u8
+    requires { number ≢ 0 }
+    ensures { result ≡ distance previous number }
+{
+    if number >= previous {
+        number - previous
     } else {
         CYCLE - previous + number
     }
@@ -60,12 +109,113 @@ fn distance(previous: u8, number: u8) -> u8 {
 
 /// The number after this one.
 #[inline]
-fn following(number: u8) -> u8 {
+fn following(number: u8) -> u8
+    ensures { result ≡ next_number number }
+{
     if number >= CYCLE { 1 } else { number + 1 }
 }
 
+/// Does this distance say that frames are missing between two numbers?
+#[inline]
+fn is_loss(distance: u8) -> bool
+    ensures { result ≡ is_loss distance }
+{
+    2 <= distance && distance <= MOST_DISTANCE
+}
+
+/// Is it `out`, right after a silence?
+#[inline]
+fn is_out_after_silence(line: &LaneLine) -> bool
+    ensures { result ≡ is_out_after_silence line.now }
+{
+    line.after_silence && matches!(line.rule, Some(Sign::Out))
+}
+
+/// The greatest lead of lines `excess`, with that of one more line.
+#[inline]
+fn excess_lead(held: u64, line: &LaneLine, lead: u64) -> u64
+    ensures { result ≡ (if is_rule signs.Excess line.now.rule then max held lead else held) }
+{
+    match line.rule {
+        Some(Sign::Excess) => held.max(lead),
+        _ => held,
+    }
+}
+
+/// What counts of it: right after a silence no number is lost.
+#[inline]
+fn counted_numbering(after_silence: bool, numbering: Numbering) -> Numbering
+    ensures counted { result ≡ counted_numbering after_silence numbering }
+    ensures plain { IsPlain numbering → IsPlain result }
+{
+    match numbering {
+        Numbering::Skips { .. } if after_silence => Numbering::Follows,
+        _ => numbering,
+    }
+}
+
+/// How many numbers are missing.
+#[inline]
+fn missing_in(numbering: Numbering) -> u64
+    ensures { result ≡ missing_in numbering }
+{
+    match numbering {
+        Numbering::Skips { missing, .. } => u64::from(missing),
+        _ => 0,
+    }
+}
+
+/// How many numbers are missing right after a silence, with one more line.
+#[inline]
+fn lost_with(held: u64, after_silence: bool, numbering: Numbering) -> u64
+    ensures { result ≡ (if after_silence then saturated (held + missing_in numbering) else held) }
+{
+    if after_silence {
+        held.saturating_add(missing_in(numbering))
+    } else {
+        held
+    }
+}
+
+/// What a number says against that of the lane's line before.
+#[inline]
+fn numbering_of(before: Option<u8>, number: u8) -> Numbering
+    ensures says { result ≡ numbering_of before number }
+    ensures plain { IsPlain result }
+{
+    let Some(previous) = before else {
+        return Numbering::Follows;
+    };
+    if number == 0 {
+        return Numbering::Restarts;
+    }
+    if number == previous {
+        return Numbering::Repeats;
+    }
+    let distance = distance(previous, number);
+    if is_loss(distance) {
+        Numbering::Skips {
+            previous,
+            missing: distance - 1,
+        }
+    } else {
+        Numbering::Follows
+    }
+}
+
 impl Lane {
-    pub(crate) fn new(alloc: Global) -> Result<Lane, AllocError> {
+    ghost use Rattle.std.specs.Prelude.{[]};
+    ghost use Rattle.ledger_report.specs.LaneLines.{number_amount};
+    ghost use Rattle.ledger_report.specs.LaneParts.{TakesAmounts, TakesEarly, TakesInterval, TakesLine, TakesNumber};
+    ghost use Rattle.ledger_report.specs.LaneParts.{TakesRule, interval_in, numbering_in};
+    ghost use Rattle.ledger_report.specs.Lanes.{StandsAfter};
+    ghost use Rattle.ledger_report.specs.Marks.{IsRule};
+    ghost use Rattle.ledger_report.specs.declared.lane.LaneLine.{LaneLine};
+    ghost use Rattle.ledger_report.specs.declared.lane.LaneRules.{LaneRules};
+
+    pub(crate) fn new(alloc: Global) -> Result<Lane, AllocError>
+        ensures { IfOk result (λ lane. (rules : LaneRules) → StandsAfter rules [] lane) }
+    {
         Ok(Lane {
             frames: 0,
             bytes: 0,
@@ -98,46 +248,84 @@ impl Lane {
         self.frames > 0 && network.has_silence_since(self.ordinal)
     }
 
+    /// Notes a line of class `toolong` or `regular`, its network's latest, and says what its sequence number
+    /// says: no loss right after a silence.
+    #[inline]
+    pub(crate) fn note(
+        &mut self,
+        line: &LaneLine,
+        rules: &LaneRules,
+    ) -> Result<Numbering, AllocError>
+        requires rule { IfSome line.now.rule IsRule }
+        ensures after { OnOk result ((lines : List LaneLine) → StandsAfter rules.now lines self.old
+            → StandsAfter rules.now (line.now ∷ lines) self.new) }
+        ensures numbering { IfOk result (λ numbering. numbering ≡ counted_numbering line.now.after_silence
+            (numbering_in rules.now.integrity self.old line.now)) }
+    {
+        self.note_interval(line, rules.least)?;
+        self.note_line(line)?;
+        self.note_rule(line)?;
+        let numbering = self.note_number(line, rules.integrity)?;
+        Ok(numbering)
+    }
+
+    /// The interval to the line before, where no silence stands between.
+    #[inline]
+    fn interval_to(&self, line: &LaneLine) -> Option<u64>
+        ensures { result ≡ interval_in self.now line.now }
+    {
+        if self.frames == 0 || line.after_silence {
+            None
+        } else {
+            Some(line.at.place.stamp.saturating_sub(self.last))
+        }
+    }
+
     /// Notes the interval to the line before. `least` is BAG less jitter.
     #[inline]
-    pub(crate) fn note_interval(
-        &mut self,
-        at: &Moment,
-        least: u64,
-        excess: bool,
-    ) -> Result<(), AllocError> {
-        let interval = at.place.stamp.saturating_sub(self.last);
+    fn note_interval(&mut self, line: &LaneLine, least: u64) -> Result<(), AllocError>
+        ensures { OnOk result (TakesInterval least line.now self.old self.new) }
+    {
+        let Some(interval) = self.interval_to(line) else {
+            return Ok(());
+        };
+        let at = &line.at;
         self.least = self.least.min(interval);
         self.greatest = self.greatest.max(interval);
         self.interval_sum = self.interval_sum.saturating_add(interval);
         self.intervals = self.intervals.saturating_add(1);
         self.least_bins.put(at.bin, interval)?;
         self.greatest_bins.put(at.bin, interval)?;
-        if interval < least {
-            self.signs.hit(Sign::Early, at.bin, at.place, 1)?;
-            if excess {
-                self.excess_lead = self.excess_lead.max(least - interval);
-            }
-        }
+        self.note_early(line, least, interval)?;
         Ok(())
+    }
+
+    /// Notes an interval that is below `least`.
+    #[inline]
+    fn note_early(&mut self, line: &LaneLine, least: u64, interval: u64) -> Result<(), AllocError>
+        ensures { TakesEarly least line.now (Some interval) self.old self.new }
+    {
+        if interval >= least {
+            return Ok(());
+        }
+        self.excess_lead = excess_lead(self.excess_lead, line, least - interval);
+        self.signs.hit(Sign::Early, line.at.bin, line.at.place, 1)
     }
 
     /// Notes the line itself.
     #[inline]
-    pub(crate) fn note_line(
-        &mut self,
-        at: &Moment,
-        kept: Option<u32>,
-        network: &NetworkReport,
-    ) -> Result<(), AllocError> {
+    fn note_line(&mut self, line: &LaneLine) -> Result<(), AllocError>
+        ensures { OnOk result (TakesLine line.now self.old self.new) }
+    {
+        let at = &line.at;
         if self.frames == 0 {
             self.first = at.place.stamp;
         }
         self.last = at.place.stamp;
-        self.ordinal = network.frames;
+        self.ordinal = line.ordinal;
         self.frames = self.frames.saturating_add(1);
         self.lines.put(at.bin, 1)?;
-        if let Some(kept) = kept {
+        if let Some(kept) = line.kept {
             let bytes = u64::from(kept) + CHECK_BYTES;
             self.bytes = self.bytes.saturating_add(bytes);
             self.loads.put(at.bin, bytes)?;
@@ -145,17 +333,67 @@ impl Lane {
         Ok(())
     }
 
-    /// The number before, and how far this one is after it.
+    /// Notes the rule of the line.
     #[inline]
-    pub(crate) fn take_number(&mut self, number: u8) -> Option<(u8, u8)> {
-        let previous = self.previous;
-        self.previous = Some(number);
-        if let Some(lost) = self.lost_at.get_mut(usize::from(number)) {
-            *lost = None;
+    fn note_rule(&mut self, line: &LaneLine) -> Result<(), AllocError>
+        ensures { TakesRule line.now self.old self.new }
+    {
+        if is_out_after_silence(line) {
+            self.out_after_silence = self.out_after_silence.saturating_add(1);
+            return Ok(());
         }
-        match previous {
-            Some(previous) => Some((previous, distance(previous, number))),
-            None => None,
+        match line.rule {
+            Some(rule) => self.signs.hit(rule, line.at.bin, line.at.place, 1),
+            None => Ok(()),
+        }
+    }
+
+    /// Notes what the sequence number says against the one before.
+    #[inline]
+    fn note_number(&mut self, line: &LaneLine, integrity: bool) -> Result<Numbering, AllocError>
+        ensures takes { OnOk result (TakesNumber integrity line.now self.old self.new) }
+        ensures numbering { IfOk result (λ numbering. numbering ≡ counted_numbering line.now.after_silence
+            (numbering_in integrity self.old line.now)) }
+    {
+        let said = self.take_number(line, integrity);
+        self.lost_after_silence = lost_with(self.lost_after_silence, line.after_silence, said);
+        let counted = counted_numbering(line.after_silence, said);
+        self.hit_number(line, counted)?;
+        Ok(counted)
+    }
+
+    /// Remembers the sequence number, which isn't lost any more, and says what it says against the one before.
+    #[inline]
+    fn take_number(&mut self, line: &LaneLine, integrity: bool) -> Numbering
+        ensures says { result ≡ numbering_in integrity self.old line.now }
+        ensures plain { IsPlain result }
+        ensures previous { self.new.previous ≡ (if integrity then Some line.now.number else self.old.previous) }
+        ensures rest { self.new ≡ record self.old { previous = self.new.previous; lost_at = self.new.lost_at } }
+    {
+        if !integrity {
+            return Numbering::Follows;
+        }
+        let before = self.previous.replace(line.number);
+        self.set_lost(line.number, None);
+        numbering_of(before, line.number)
+    }
+
+    /// Counts what the sequence number says.
+    #[inline]
+    fn hit_number(&mut self, line: &LaneLine, numbering: Numbering) -> Result<(), AllocError>
+        requires { IsPlain numbering }
+        ensures signs { TakesAmounts (number_amount numbering) line.now.at.place self.old.signs self.new.signs }
+        ensures rest { self.new ≡ record self.old { signs = self.new.signs } }
+    {
+        let at = &line.at;
+        match numbering {
+            Numbering::Follows => Ok(()),
+            Numbering::Restarts => self.signs.hit(Sign::Reset, at.bin, at.place, 1),
+            Numbering::Repeats => self.signs.hit(Sign::Repeat, at.bin, at.place, 1),
+            Numbering::Skips { missing, .. } => {
+                self.signs
+                    .hit(Sign::Lost, at.bin, at.place, u64::from(missing))
+            }
         }
     }
 
@@ -174,7 +412,9 @@ impl Lane {
     }
 
     /// Sets when this number was lost, or that it needs no other loss.
-    fn set_lost(&mut self, number: u8, when: Option<u64>) {
+    fn set_lost(&mut self, number: u8, when: Option<u64>)
+        ensures { self.new ≡ record self.old { lost_at = self.new.lost_at } }
+    {
         if let Some(held) = self.lost_at.get_mut(usize::from(number)) {
             *held = when;
         }
@@ -268,10 +508,4 @@ impl Lane {
         self.greatest_bins.fold();
         self.held.bins.fold();
     }
-}
-
-/// Does this distance say that frames are missing between two numbers?
-#[inline]
-pub(crate) fn is_loss(distance: u8) -> bool {
-    2 <= distance && distance <= MOST_DISTANCE
 }

@@ -3,7 +3,7 @@
 use crate::absence::{Absence, Absences};
 use crate::bounds::WINDOW_BAGS;
 use crate::fault::{Refusal, WrongLine};
-use crate::lane::{Lane, is_loss};
+use crate::lane::{Lane, LaneLine, LaneRules, Numbering};
 use crate::median::Classes;
 use crate::moment::{Moment, Place};
 use crate::network::NetworkReport;
@@ -137,14 +137,24 @@ impl LinkReport {
     ) -> Result<(), Refusal> {
         self.check_words(line)?;
         let rule = rule_of(line);
-        let after_silence = self
-            .lanes
-            .of(at.network)
-            .is_after_silence(networks.of(at.network));
-        self.note_lane(line, rule, at, after_silence, networks)?;
-        if self.integrity {
-            self.note_number(number, at, after_silence, networks)?;
-        }
+        let own = networks.of(at.network);
+        let lane = self.lanes.of_mut(at.network);
+        let seen = LaneLine {
+            at: *at,
+            ordinal: own.frames,
+            number,
+            rule,
+            kept: line.kept,
+            after_silence: lane.is_after_silence(own),
+        };
+        let numbering = lane.note(
+            &seen,
+            &LaneRules {
+                least: self.bag.saturating_sub(self.jitter),
+                integrity: self.integrity,
+            },
+        )?;
+        self.note_numbering(numbering, at, networks)?;
         if rule.is_some() && self.redundancy {
             let window = self.window();
             self.pairing
@@ -176,60 +186,27 @@ impl LinkReport {
         }
     }
 
-    /// Notes interval, bytes and rule of the line.
+    /// Notes for the network what the sequence number says, and which numbers both networks lost.
     #[inline]
-    fn note_lane(
+    fn note_numbering(
         &mut self,
-        line: &FrameLine,
-        rule: Option<Sign>,
+        numbering: Numbering,
         at: &Moment,
-        after_silence: bool,
         networks: &mut Sides<NetworkReport>,
     ) -> Result<(), AllocError> {
-        let least = self.bag.saturating_sub(self.jitter);
-        let lane = self.lanes.of_mut(at.network);
-        if lane.frames > 0 && !after_silence {
-            lane.note_interval(at, least, rule == Some(Sign::Excess))?;
-        }
-        lane.note_line(at, line.kept, networks.of(at.network))?;
-        match rule {
-            Some(Sign::Out) if after_silence => {
-                lane.out_after_silence = lane.out_after_silence.saturating_add(1);
-                Ok(())
+        let (sign, amount) = match numbering {
+            Numbering::Follows => return Ok(()),
+            Numbering::Restarts => (Sign::Reset, 1),
+            Numbering::Repeats => (Sign::Repeat, 1),
+            Numbering::Skips { previous, missing } => {
+                self.note_loss(previous, missing, at)?;
+                (Sign::Lost, u64::from(missing))
             }
-            Some(rule) => lane.signs.hit(rule, at.bin, at.place, 1),
-            None => Ok(()),
-        }
-    }
-
-    /// Notes what the sequence number says against the one before.
-    #[inline]
-    fn note_number(
-        &mut self,
-        number: u8,
-        at: &Moment,
-        after_silence: bool,
-        networks: &mut Sides<NetworkReport>,
-    ) -> Result<(), AllocError> {
-        let Some((previous, distance)) = self.lanes.of_mut(at.network).take_number(number) else {
-            return Ok(());
         };
-        if number == 0 {
-            self.note_sign(Sign::Reset, at, 1, networks)
-        } else if distance == 0 {
-            self.note_sign(Sign::Repeat, at, 1, networks)
-        } else if !is_loss(distance) {
-            Ok(())
-        } else if after_silence {
-            let lane = self.lanes.of_mut(at.network);
-            lane.lost_after_silence = lane
-                .lost_after_silence
-                .saturating_add(u64::from(distance) - 1);
-            Ok(())
-        } else {
-            self.note_loss(previous, distance - 1, at)?;
-            self.note_sign(Sign::Lost, at, u64::from(distance) - 1, networks)
-        }
+        networks
+            .of_mut(at.network)
+            .signs
+            .hit(sign, at.bin, at.place, amount)
     }
 
     /// Counts a sign for the lane and its network.

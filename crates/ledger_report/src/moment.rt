@@ -1,5 +1,8 @@
 //! Where a line stands.
 
+ghost use Rattle.ledger_report.specs.Placing.{Before, NotAfter};
+ghost use Rattle.std.specs.Bool.{MatchBool};
+
 use afdx_frame::Network;
 
 /// A frame's place in its network's recording.
@@ -14,7 +17,9 @@ pub struct Place {
 impl Place {
     /// Does it stand before another place of its network?
     #[inline]
-    pub fn is_before(self, other: Place) -> bool {
+    pub fn is_before(self, other: Place) -> bool
+        ensures { MatchBool result (Before self other) (NotAfter other self) }
+    {
         self.stamp < other.stamp || (self.stamp == other.stamp && self.number < other.number)
     }
 }

@@ -1,5 +1,9 @@
 //! Numbers by time.
 
+ghost use Rattle.std.specs.Prelude.{◌≡◌, ℕ, ◌<◌, OnOk, vec_len};
+ghost use Rattle.ledger_report.specs.declared.bounds.TheConstants.{BINS};
+ghost use Rattle.ledger_report.specs.Merging.{merged, nothing_of};
+
 use crate::bounds::BINS;
 use std::alloc::{AllocError, Global};
 
@@ -16,7 +20,9 @@ pub enum Merge {
 
 impl Merge {
     #[inline(always)]
-    fn of(self, first: u64, second: u64) -> u64 {
+    fn of(self, first: u64, second: u64) -> u64
+        ensures { result ≡ merged self first second }
+    {
         match self {
             Merge::Sum => first.saturating_add(second),
             Merge::Least => first.min(second),
@@ -25,7 +31,9 @@ impl Merge {
     }
 
     #[inline(always)]
-    fn nothing(self) -> u64 {
+    fn nothing(self) -> u64
+        ensures { result ≡ nothing_of self }
+    {
         match self {
             Merge::Sum | Merge::Greatest => 0,
             Merge::Least => u64::MAX,
@@ -38,11 +46,17 @@ impl Merge {
 pub struct Series {
     merge: Merge,
     bins: Vec<u64>,
+    ghost whole: { 0 < vec_len bins → vec_len bins ≡ BINS },
 }
 
 impl Series {
+    ghost use Rattle.ledger_report.specs.Bins.{bin_at, Doubles, TakesNumber};
+
     /// A series in which nothing came. Allocates nothing.
-    pub(crate) fn new(alloc: Global, merge: Merge) -> Series {
+    pub(crate) fn new(alloc: Global, merge: Merge) -> Series
+        ensures merge { result.merge ≡ merge }
+        ensures nothing { (bin : ℕ) → bin_at result bin ≡ nothing_of merge }
+    {
         Series {
             merge,
             bins: Vec::new(alloc),
@@ -51,7 +65,10 @@ impl Series {
 
     /// Merges a number into a bin. Allocates at the first one alone.
     #[inline]
-    pub(crate) fn put(&mut self, bin: usize, value: u64) -> Result<(), AllocError> {
+    pub(crate) fn put(&mut self, bin: usize, value: u64) -> Result<(), AllocError>
+        ensures takes { OnOk result (TakesNumber bin value self.old self.new) }
+        ensures merge { self.new.merge ≡ self.old.merge }
+    {
         if self.bins.is_empty() {
             self.bins.resize(BINS, self.merge.nothing())?;
         }
@@ -62,7 +79,10 @@ impl Series {
     }
 
     /// Doubles the width: each two bins become one.
-    pub(crate) fn fold(&mut self) {
+    pub(crate) fn fold(&mut self)
+        ensures doubles { Doubles self.old self.new }
+        ensures merge { self.new.merge ≡ self.old.merge }
+    {
         let merge = self.merge;
         let bins = self.bins.as_mut_slice();
         if bins.len() < BINS {
@@ -85,13 +105,18 @@ impl Series {
     }
 
     /// Empties the series. Its memory stays.
-    pub(crate) fn clear(&mut self) {
+    pub(crate) fn clear(&mut self)
+        ensures nothing { (bin : ℕ) → bin_at self.new bin ≡ nothing_of self.old.merge }
+        ensures merge { self.new.merge ≡ self.old.merge }
+    {
         self.bins.clear();
     }
 
     /// The bins: none where nothing ever came. A bin in which nothing came has 0, and 2^64 - 1 in a series of
     /// least values.
-    pub fn bins(&self) -> &[u64] {
+    pub fn bins(&self) -> &[u64]
+        ensures { result.now ≡ self.now.bins.items }
+    {
         self.bins.as_slice()
     }
 }

@@ -1,5 +1,10 @@
 //! What is counted of a lane or a network, with its first and its last place and its bins.
 
+ghost use Rattle.std.specs.Prelude.{◌≡◌, ◌+◌, ◌<◌, ◌++◌, List, vec_len};
+ghost use Rattle.ledger_report.specs.Sums.{saturated};
+ghost use Rattle.ledger_report.specs.Placing.{IsEarlier, IsLater};
+ghost use Rattle.ledger_report.specs.Extremes.{Hit, IsFirst, IsLast};
+
 use crate::moment::Place;
 use crate::series::{Merge, Series};
 use std::alloc::{AllocError, Global};
@@ -36,7 +41,9 @@ pub struct Mark {
 }
 
 /// The earlier of two places.
-fn earlier(held: Option<Place>, place: Place) -> Place {
+fn earlier(held: Option<Place>, place: Place) -> Place
+    ensures { IsEarlier held place result }
+{
     match held {
         Some(held) => { if held.is_before(place) { held } else { place } }
         None => place,
@@ -44,15 +51,44 @@ fn earlier(held: Option<Place>, place: Place) -> Place {
 }
 
 /// The later of two places.
-fn later(held: Option<Place>, place: Place) -> Place {
+fn later(held: Option<Place>, place: Place) -> Place
+    ensures { IsLater held place result }
+{
     match held {
         Some(held) => { if held.is_before(place) { place } else { held } }
         None => place,
     }
 }
 
+/// The first place of two marks.
+fn first_with(held: Option<Place>, first: Option<Place>) -> Option<Place>
+    ensures { (hits more : List Hit) → IsFirst held hits → IsFirst first more
+        → IsFirst result (more ++ hits) }
+{
+    match first {
+        Some(first) => Some(earlier(held, first)),
+        None => held,
+    }
+}
+
+/// The last place of two marks.
+fn last_with(held: Option<Place>, last: Option<Place>) -> Option<Place>
+    ensures { (hits more : List Hit) → IsLast held hits → IsLast last more
+        → IsLast result (more ++ hits) }
+{
+    match last {
+        Some(last) => Some(later(held, last)),
+        None => held,
+    }
+}
+
 impl Mark {
-    fn new(alloc: Global) -> Mark {
+    ghost use Rattle.std.specs.Prelude.{[], ◌∷◌};
+    ghost use Rattle.ledger_report.specs.Places.{IsMarkOf};
+
+    fn new(alloc: Global) -> Mark
+        ensures { IsMarkOf [] result }
+    {
         Mark {
             count: 0,
             first: None,
@@ -61,29 +97,36 @@ impl Mark {
         }
     }
 
-    /// Moves the first and the last place so that both of these are within.
-    fn reach(&mut self, first: Place, last: Place) {
-        self.first = Some(earlier(self.first, first));
-        self.last = Some(later(self.last, last));
-    }
-
-    pub(crate) fn hit(&mut self, bin: usize, place: Place, amount: u64) -> Result<(), AllocError> {
+    /// Counts a line so often.
+    pub(crate) fn hit(&mut self, bin: usize, place: Place, amount: u64) -> Result<(), AllocError>
+        ensures hits { (hits : List Hit) → IsMarkOf hits self.old → IsMarkOf (record {
+          place = place;
+          amount = amount;
+        } ∷ hits) self.new }
+        ensures count { self.new.count ≡ saturated (self.old.count + amount) }
+    {
         self.count = self.count.saturating_add(amount);
-        self.reach(place, place);
+        self.first = Some(earlier(self.first, place));
+        self.last = Some(later(self.last, place));
         self.bins.put(bin, amount)
     }
 
-    /// Adds another mark, and empties it.
-    pub(crate) fn absorb(&mut self, other: &Mark) -> Result<(), AllocError> {
-        let (Some(first), Some(last)) = (other.first, other.last) else {
-            return Ok(());
-        };
+    /// Adds another mark.
+    pub(crate) fn absorb(&mut self, other: &Mark) -> Result<(), AllocError>
+        ensures hits { (hits more : List Hit) → IsMarkOf hits self.old → IsMarkOf more other.now
+            → IsMarkOf (more ++ hits) self.new }
+        ensures count { self.new.count ≡ saturated (self.old.count + other.now.count) }
+    {
         self.count = self.count.saturating_add(other.count);
-        self.reach(first, last);
+        self.first = first_with(self.first, other.first);
+        self.last = last_with(self.last, other.last);
         self.bins.absorb(&other.bins)
     }
 
-    pub(crate) fn clear(&mut self) {
+    pub(crate) fn clear(&mut self)
+        ensures hits { IsMarkOf [] self.new }
+        ensures count { self.new.count ≡ 0 }
+    {
         self.count = 0;
         self.first = None;
         self.last = None;
@@ -95,29 +138,46 @@ impl Mark {
 #[derive(Debug, Drop)]
 pub struct Signs {
     marks: Vec<Mark>,
-    none: Mark,
+    ghost whole: { vec_len marks ≡ 14 },
+}
+
+impl Sign {
+    ghost use Rattle.ledger_report.specs.Marks.{sign_index};
+
+    /// Where its mark stands.
+    #[inline(always)]
+    fn index(self) -> usize
+        ensures index { result ≡ sign_index self }
+        ensures within { result < 14 }
+    {
+        self as usize
+    }
 }
 
 impl Signs {
-    pub(crate) fn new(alloc: Global) -> Result<Signs, AllocError> {
+    ghost use Rattle.std.specs.Prelude.{[], IfOk};
+    ghost use Rattle.ledger_report.specs.Places.{IsMarkOf};
+    ghost use Rattle.ledger_report.specs.Marks.{HasHits, KeepsOthers, TakesHit, mark_at};
+    ghost use Rattle.ledger_report.specs.declared.signs.Mark.{Mark};
+
+    pub(crate) fn new(alloc: Global) -> Result<Signs, AllocError>
+        ensures { IfOk result (λ signs. (sign : Sign) → HasHits signs sign []) }
+    {
         let mut marks = Vec::with_capacity(alloc, SIGNS)?;
         for _ in 0..SIGNS {
             marks.push(Mark::new(alloc))?;
         }
-        Ok(Signs {
-            marks,
-            none: Mark::new(alloc),
-        })
+        Ok(Signs { marks })
     }
 
     /// The mark of a sign.
-    pub fn of(&self, sign: Sign) -> &Mark {
-        match self.marks.get(sign as usize) {
-            Some(mark) => mark,
-            None => &self.none,
-        }
+    pub fn of(&self, sign: Sign) -> &Mark
+        ensures { (none : Mark) → result.now ≡ mark_at self.now sign none }
+    {
+        &self.marks[sign.index()]
     }
 
+    /// Counts a line so often for a sign.
     #[inline]
     pub(crate) fn hit(
         &mut self,
@@ -125,18 +185,27 @@ impl Signs {
         bin: usize,
         place: Place,
         amount: u64,
-    ) -> Result<(), AllocError> {
-        match self.marks.get_mut(sign as usize) {
-            Some(mark) => mark.hit(bin, place, amount),
-            None => Ok(()),
-        }
+    ) -> Result<(), AllocError>
+        ensures takes { TakesHit sign (record {
+          place = place;
+          amount = amount;
+        }) self.old self.new }
+        ensures others { KeepsOthers sign self.old self.new }
+        ensures count { (none : Mark) → (mark_at self.new sign none).count
+            ≡ saturated ((mark_at self.old sign none).count + amount) }
+    {
+        self.marks[sign.index()].hit(bin, place, amount)
     }
 
-    pub(crate) fn absorb(&mut self, sign: Sign, other: &Mark) -> Result<(), AllocError> {
-        match self.marks.get_mut(sign as usize) {
-            Some(mark) => mark.absorb(other),
-            None => Ok(()),
-        }
+    /// Adds a mark to that of a sign.
+    pub(crate) fn absorb(&mut self, sign: Sign, other: &Mark) -> Result<(), AllocError>
+        ensures takes { (hits more : List Hit) → HasHits self.old sign hits → IsMarkOf more other.now
+            → HasHits self.new sign (more ++ hits) }
+        ensures others { KeepsOthers sign self.old self.new }
+        ensures count { (none : Mark) → (mark_at self.new sign none).count
+            ≡ saturated ((mark_at self.old sign none).count + other.now.count) }
+    {
+        self.marks[sign.index()].absorb(other)
     }
 
     pub(crate) fn fold(&mut self) {
@@ -145,7 +214,9 @@ impl Signs {
         }
     }
 
-    pub(crate) fn held(alloc: Global) -> Mark {
+    pub(crate) fn held(alloc: Global) -> Mark
+        ensures { IsMarkOf [] result }
+    {
         Mark::new(alloc)
     }
 }

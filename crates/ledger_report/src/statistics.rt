@@ -1,6 +1,11 @@
 //! What each line adds to the numbers of its network and its link.
 
+ghost use Rattle.std.specs.Prelude.{◌≡◌, ◌-◌, ◌/◌, ◌<◌, IfSome};
+ghost use Rattle.ledger_report.specs.Marks.{IsRule};
+ghost use Rattle.ledger_report.specs.Words.{rule_of};
+
 use crate::bounds::{BINS, FIRST_WIDTH};
+use crate::counts::{is_excess, is_out};
 use crate::fault::{Refusal, WrongLine};
 use crate::link::LinkReport;
 use crate::moment::{Moment, Place};
@@ -9,9 +14,7 @@ use crate::report::OutsideLink;
 use crate::sides::{Sides, other};
 use crate::signs::Sign;
 use afdx_frame::{Network, VL_ID_COUNT, VlId};
-use integrity::Integrity;
 use ledger_text::FrameLine;
-use policing::Policing;
 use std::alloc::{AllocError, Global};
 use vl_config::{Class, Config};
 
@@ -20,7 +23,10 @@ const NO_LINK: u16 = u16::MAX;
 
 /// The rule by which a line's frame is discarded: its class, policing or integrity checking.
 #[inline]
-pub fn rule_of(line: &FrameLine) -> Option<Sign> {
+pub fn rule_of(line: &FrameLine) -> Option<Sign>
+    ensures rule { result ≡ rule_of line.now }
+    ensures sign { IfSome result IsRule }
+{
     match line.class {
         Class::Cut => Some(Sign::Cut),
         Class::Runt => Some(Sign::Runt),
@@ -28,15 +34,17 @@ pub fn rule_of(line: &FrameLine) -> Option<Sign> {
         Class::Foreign => Some(Sign::Foreign),
         Class::Unconfigured => Some(Sign::Unconfigured),
         Class::TooLong => Some(Sign::TooLong),
-        Class::Regular if line.policing == Some(Policing::Excess) => Some(Sign::Excess),
-        Class::Regular if line.integrity == Some(Integrity::Out) => Some(Sign::Out),
+        Class::Regular if is_excess(line) => Some(Sign::Excess),
+        Class::Regular if is_out(line) => Some(Sign::Out),
         Class::Regular => None,
     }
 }
 
 /// The bin of a timestamp that isn't before the first.
 #[inline]
-pub fn bin_of(start: u64, width: u64, stamp: u64) -> usize {
+pub fn bin_of(start: u64, width: u64, stamp: u64) -> usize
+    ensures { 0 < width → result ≡ (stamp - start) / width }
+{
     if width == 0 {
         return 0;
     }

@@ -1,0 +1,177 @@
+-- One more hit of a sign, among the marks of all signs.
+use Rattle.std.proofs.Common.{◌≡◌, ℕ, zero, suc, ◌<◌, ◌==◌, nat_lt, Option, Some, None, Bool, true, false, List, ◌∷◌, length, get_or, set, if◌then◌else◌, refl, sym, ap, ◌∙◌, subst, arith, get_or-set_same, get_or-set_other}
+use Rattle.std.specs.List.{cons_option}
+use Rattle.std.proofs.lemmas.Bool.{eqb-true, eqb-false, lt-ltb}
+use Rattle.ledger_report.specs.Extremes.{Hit}
+use Rattle.ledger_report.specs.Places.{IsMarkOf}
+use Rattle.ledger_report.specs.LaneLines.{early_amount, hit_of, is_out_after_silence, is_rule, lead_of, number_amount, one_where, rule_amount}
+use Rattle.ledger_report.specs.LaneParts.{TakesAmounts}
+use Rattle.ledger_report.specs.Marks.{HasHits, TakesHit, hits_with, sign_index}
+use Rattle.ledger_report.specs.declared.lane.LaneLine.{LaneLine}
+use Rattle.ledger_report.specs.declared.lane.Numbering.TheVariants.{Follows, Restarts, Repeats, Skips}
+use Rattle.ledger_report.specs.declared.moment.Place.{Place}
+use Rattle.ledger_report.specs.declared.signs.Mark.{Mark}
+use Rattle.ledger_report.specs.declared.signs.Sign.{Sign}
+use Rattle.ledger_report.specs.declared.signs.Sign.TheVariants.{Cut, Runt, Oversize, Foreign, Unconfigured, TooLong, Excess, Out, Lost, Repeat, Reset, Alone, Late, Early}
+use Rattle.ledger_report.specs.declared.signs.Signs.{Signs}
+
+by_test : (b : Bool) (P : Bool → Type 0) → (b ≡ true → P true) → (b ≡ false → P false) → P b
+by_test true P f g = f refl
+by_test false P f g = g refl
+
+-- the mark at a place takes a hit, and the others stay
+pub marks_hit : (marks : List Mark) (index sign other : ℕ) (new held : Mark) (hit : Hit) (hits : List Hit) → index ≡ sign → index < length marks
+    → (IsMarkOf hits (get_or marks index held) → IsMarkOf (hit ∷ hits) new)
+    → ((none : Mark) → IsMarkOf hits (get_or marks other none))
+    → (none : Mark) → IsMarkOf (if sign == other then hit ∷ hits else hits) (get_or (set marks index new) other none)
+marks_hit marks index sign other new held hit hits at within takes has none =
+    by_test (sign == other) (λ b. sign == other ≡ b → IsMarkOf (if b then hit ∷ hits else hits) (get_or (set marks index new) other none))
+    (λ yes same. (
+    let one : index ≡ other = at ∙ eqb-true sign other yes in
+    let found : get_or (set marks index new) other none ≡ new =
+    ap (λ n. get_or (set marks index new) n none) (sym one) ∙ get_or-set_same marks index new none within in
+    subst (IsMarkOf (hit ∷ hits)) (sym found)
+    (takes (subst (λ n. IsMarkOf hits (get_or marks n held)) (sym one) (has held)))))
+    (λ differ same. (
+    let found : get_or (set marks index new) other none ≡ get_or marks other none =
+    get_or-set_other marks index other new none (λ (h : other ≡ index). eqb-false sign other differ (sym (h ∙ at))) in
+    subst (IsMarkOf hits) (sym found) (has none)))
+    refl
+
+-- the hits that the amount of a sign gives
+hit_of-some : (place : Place) (amount : ℕ) → 0 < amount → hit_of place amount ≡ Some (record { place = place; amount = amount })
+hit_of-some place zero some = absurd (omega arith)
+hit_of-some place (suc amount) some = refl
+
+-- a hit of one sign counts for no other
+pub amounts_one : (sign : Sign) (amounts : Sign → ℕ) (place : Place) (amount : ℕ) (old new : Signs)
+    → ((other : Sign) → amounts other ≡ (if sign_index sign == sign_index other then amount else 0)) → 0 < amount
+    → TakesHit sign (record { place = place; amount = amount }) old new → TakesAmounts amounts place old new
+amounts_one sign amounts place amount old new are some takes other hits has =
+    let hit : Hit = record { place = place; amount = amount } in
+    let same : cons_option (hit_of place (amounts other)) hits ≡ hits_with sign hit other hits =
+    ap (λ n. cons_option (hit_of place n) hits) (are other)
+    ∙ by_test (sign_index sign == sign_index other) (λ b. cons_option (hit_of place (if b then amount else 0)) hits ≡ (if b then hit ∷ hits else hits))
+    (λ yes. ap (λ (o : Option Hit). cons_option o hits) (hit_of-some place amount some))
+    (λ no. refl) in
+    subst (HasHits new other) (sym same) (takes other hits has)
+
+-- none counts for any sign
+pub amounts_none : (amounts : Sign → ℕ) (place : Place) (signs : Signs) → ((other : Sign) → amounts other ≡ 0) → TakesAmounts amounts place signs signs
+amounts_none amounts place signs are other hits has =
+    subst (λ n. HasHits signs other (cons_option (hit_of place n) hits)) (sym (are other)) has
+
+-- ---- which signs
+
+pub early_some : (bound interval : ℕ) (other : Sign) → interval < bound →
+    early_amount bound (Some interval) other ≡ (if sign_index Early == sign_index other then 1 else 0)
+early_some bound interval Early less = let e : nat_lt interval bound ≡ true = lt-ltb interval bound less in rw e refl
+early_some bound interval Cut less = refl
+early_some bound interval Runt less = refl
+early_some bound interval Oversize less = refl
+early_some bound interval Foreign less = refl
+early_some bound interval Unconfigured less = refl
+early_some bound interval TooLong less = refl
+early_some bound interval Excess less = refl
+early_some bound interval Out less = refl
+early_some bound interval Lost less = refl
+early_some bound interval Repeat less = refl
+early_some bound interval Reset less = refl
+early_some bound interval Alone less = refl
+early_some bound interval Late less = refl
+
+pub early_none : (bound : ℕ) (interval : Option ℕ) (other : Sign) → lead_of bound interval ≡ None → early_amount bound interval other ≡ 0
+early_none bound interval Early none = rw none refl
+early_none bound interval Cut none = refl
+early_none bound interval Runt none = refl
+early_none bound interval Oversize none = refl
+early_none bound interval Foreign none = refl
+early_none bound interval Unconfigured none = refl
+early_none bound interval TooLong none = refl
+early_none bound interval Excess none = refl
+early_none bound interval Out none = refl
+early_none bound interval Lost none = refl
+early_none bound interval Repeat none = refl
+early_none bound interval Reset none = refl
+early_none bound interval Alone none = refl
+early_none bound interval Late none = refl
+
+pub follows_amount : (other : Sign) → number_amount Follows other ≡ 0
+follows_amount Cut = refl
+follows_amount Runt = refl
+follows_amount Oversize = refl
+follows_amount Foreign = refl
+follows_amount Unconfigured = refl
+follows_amount TooLong = refl
+follows_amount Excess = refl
+follows_amount Out = refl
+follows_amount Lost = refl
+follows_amount Repeat = refl
+follows_amount Reset = refl
+follows_amount Alone = refl
+follows_amount Late = refl
+follows_amount Early = refl
+
+pub restarts_amount : (other : Sign) → number_amount Restarts other ≡ (if sign_index Reset == sign_index other then 1 else 0)
+restarts_amount Cut = refl
+restarts_amount Runt = refl
+restarts_amount Oversize = refl
+restarts_amount Foreign = refl
+restarts_amount Unconfigured = refl
+restarts_amount TooLong = refl
+restarts_amount Excess = refl
+restarts_amount Out = refl
+restarts_amount Lost = refl
+restarts_amount Repeat = refl
+restarts_amount Reset = refl
+restarts_amount Alone = refl
+restarts_amount Late = refl
+restarts_amount Early = refl
+
+pub repeats_amount : (other : Sign) → number_amount Repeats other ≡ (if sign_index Repeat == sign_index other then 1 else 0)
+repeats_amount Cut = refl
+repeats_amount Runt = refl
+repeats_amount Oversize = refl
+repeats_amount Foreign = refl
+repeats_amount Unconfigured = refl
+repeats_amount TooLong = refl
+repeats_amount Excess = refl
+repeats_amount Out = refl
+repeats_amount Lost = refl
+repeats_amount Repeat = refl
+repeats_amount Reset = refl
+repeats_amount Alone = refl
+repeats_amount Late = refl
+repeats_amount Early = refl
+
+pub skips_amount : (previous missing : ℕ) (other : Sign) → number_amount (Skips previous missing) other ≡ (if sign_index Lost == sign_index other then missing else 0)
+skips_amount previous missing Cut = refl
+skips_amount previous missing Runt = refl
+skips_amount previous missing Oversize = refl
+skips_amount previous missing Foreign = refl
+skips_amount previous missing Unconfigured = refl
+skips_amount previous missing TooLong = refl
+skips_amount previous missing Excess = refl
+skips_amount previous missing Out = refl
+skips_amount previous missing Lost = refl
+skips_amount previous missing Repeat = refl
+skips_amount previous missing Reset = refl
+skips_amount previous missing Alone = refl
+skips_amount previous missing Late = refl
+skips_amount previous missing Early = refl
+
+-- ---- rules
+
+rule_of-line : (line : LaneLine) (gone : Bool) (rule : Option Sign) (other : Sign) → is_out_after_silence line ≡ gone → line.rule ≡ rule →
+    rule_amount line other ≡ one_where (is_rule other (if gone then None else rule))
+rule_of-line line gone rule other is same = rw (is, same) refl
+
+pub rule_gone : (line : LaneLine) (other : Sign) → is_out_after_silence line ≡ true → rule_amount line other ≡ 0
+rule_gone line other is = rule_of-line line true line.rule other is refl
+
+pub rule_none : (line : LaneLine) (other : Sign) → is_out_after_silence line ≡ false → line.rule ≡ None → rule_amount line other ≡ 0
+rule_none line other is none = rule_of-line line false None other is none
+
+pub rule_some : (line : LaneLine) (rule other : Sign) → is_out_after_silence line ≡ false → line.rule ≡ Some rule →
+    rule_amount line other ≡ (if sign_index rule == sign_index other then 1 else 0)
+rule_some line rule other is some = rule_of-line line false (Some rule) other is some

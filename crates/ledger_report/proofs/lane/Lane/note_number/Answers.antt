@@ -1,0 +1,9 @@
+-- The number is taken, and what it says is counted.
+use Rattle.ledger_report.proofs.LaneMoves.{number_parts}
+use Rattle.ledger_report.proofs.lane.Lane.note_number.Goals as goal
+
+pub returns-clause-takes : goal.returns-clause-takes
+returns-clause-takes c =
+    number_parts c.args.integrity c.args.line.now c.args.self.now c.take_number-said.new.self c.hit_number.new.self c.take_number-said.result
+    c.counted_numbering-counted.result c.lost_with-self.result c.take_number-said.ensures.says c.take_number-said.ensures.previous
+    c.take_number-said.ensures.rest c.lost_with-self.ensures c.counted_numbering-counted.ensures.counted c.hit_number.ensures.signs c.hit_number.ensures.rest
