@@ -1,1 +1,4 @@
+pub mod BlockStarts
 pub mod Handed
+pub mod OptionFronts
+pub mod Times

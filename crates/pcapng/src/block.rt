@@ -1,9 +1,10 @@
 //! What the next bytes of a recording begin: a block, and what it says.
-ghost use Rattle.std.specs.Prelude.{◌≡◌, ◌≢◌, ◌+◌, ◌≤◌, length, IfOk, OnOk};
-ghost use Rattle.pcapng.specs.Block.{IsWithin, shortest_of};
+ghost use Rattle.std.specs.Prelude.{◌≡◌, ◌≢◌, ◌+◌, ◌-◌, ◌≤◌, length, slice_range, IfOk, OnOk};
+ghost use Rattle.pcapng.specs.Options.{options_of};
+ghost use Rattle.pcapng.specs.Block.{IsWithin, end_fault, fields_of, interface_fault, is_length_of, kind_of, later_reason, order_of, order_of_magic, lengths_agree, packet_fault, section_fault, shortest_of, start_header_fault, start_of, start_reason, unless};
 ghost use Rattle.pcapng.specs.declared.block.BlockKind.TheVariants as kinds;
 
-use crate::options::options_fit;
+use crate::options::{options_fit, padded_len};
 use pcap_io::{BadReason, ByteOrder, HeaderFault, read_u16, read_u32};
 
 /// The bytes at the start of a block that say how long it is: its type, its length, and in a section
@@ -50,7 +51,9 @@ pub enum BlockKind {
 }
 
 impl BlockKind {
-    fn of_type(block_type: u32) -> BlockKind {
+    fn of_type(block_type: u32) -> BlockKind
+        ensures { result ≡ kind_of block_type }
+    {
         match block_type {
             SECTION_HEADER => BlockKind::Section,
             INTERFACE_DESCRIPTION => BlockKind::Interface,
@@ -59,6 +62,28 @@ impl BlockKind {
             ENHANCED_PACKET => BlockKind::Packet,
             _ => BlockKind::Other,
         }
+    }
+
+    /// The byte order of such a block, of at least 12 bytes: a section header names its own, and any
+    /// other has that of its section. None: the byte-order magic is unknown.
+    #[inline]
+    fn order(self, order: ByteOrder, bytes: &[u8]) -> Option<ByteOrder>
+        requires { 12 ≤ length bytes.now }
+        ensures { result ≡ order_of self order bytes.now }
+    {
+        match self {
+            BlockKind::Section => section_order(read_u32(ByteOrder::Big, &bytes[8..])),
+            _ => Some(order),
+        }
+    }
+
+    /// Whether such a block that is read can have this length.
+    #[inline]
+    fn can_have(self, len: u32) -> bool
+        ensures { result ≡ is_length_of self len }
+    {
+        let fits = self == BlockKind::Other || len as usize <= MAX_BLOCK_LEN;
+        len % 4 == 0 && len as usize >= self.shortest() && fits
     }
 
     /// The length of the shortest such block.
@@ -95,7 +120,9 @@ pub enum StartFault {
 
 impl StartFault {
     /// The reason that it is within a recording.
-    pub fn reason(self) -> BadReason {
+    pub fn reason(self) -> BadReason
+        ensures { result ≡ start_reason self }
+    {
         match self {
             StartFault::Magic => BadReason::Section,
             StartFault::Length => BadReason::BlockLength,
@@ -103,7 +130,9 @@ impl StartFault {
     }
 
     /// The fault that it is in the first section header.
-    pub fn header_fault(self) -> HeaderFault {
+    pub fn header_fault(self) -> HeaderFault
+        ensures { result ≡ start_header_fault self }
+    {
         match self {
             StartFault::Magic => HeaderFault::ByteOrderMagic,
             StartFault::Length => HeaderFault::SectionLength,
@@ -112,7 +141,9 @@ impl StartFault {
 }
 
 /// The reason that the fault of a section header is where it comes later.
-pub fn later_reason(fault: HeaderFault) -> BadReason {
+pub fn later_reason(fault: HeaderFault) -> BadReason
+    ensures { result ≡ later_reason fault }
+{
     match fault {
         HeaderFault::SectionOption => BadReason::BlockBounds,
         HeaderFault::SectionLengthsDiffer => BadReason::BlockLengthsDiffer,
@@ -121,7 +152,9 @@ pub fn later_reason(fault: HeaderFault) -> BadReason {
 }
 
 /// The byte order that the byte-order magic names.
-fn section_order(magic: u32) -> Option<ByteOrder> {
+fn section_order(magic: u32) -> Option<ByteOrder>
+    ensures { result ≡ order_of_magic magic }
+{
     match magic {
         0x1a2b_3c4d => Some(ByteOrder::Big),
         0x4d3c_2b1a => Some(ByteOrder::Little),
@@ -134,20 +167,16 @@ impl BlockStart {
     #[inline]
     pub fn read(order: ByteOrder, bytes: &[u8]) -> Result<BlockStart, StartFault>
         requires { 12 ≤ length bytes.now }
+        ensures value { result ≡ start_of order bytes.now }
         ensures long { IfOk result (λ start. shortest_of start.kind ≤ start.len) }
         ensures short { IfOk result (λ start. start.kind ≢ kinds.Other → start.len ≤ MAX_BLOCK_LEN) }
     {
         let kind = BlockKind::of_type(read_u32(order, bytes));
-        let order = match kind {
-            BlockKind::Section => match section_order(read_u32(ByteOrder::Big, &bytes[8..])) {
-                Some(order) => order,
-                None => return Err(StartFault::Magic),
-            },
-            _ => order,
+        let Some(order) = kind.order(order, bytes) else {
+            return Err(StartFault::Magic);
         };
         let len = read_u32(order, &bytes[4..]);
-        let fits = kind == BlockKind::Other || len as usize <= MAX_BLOCK_LEN;
-        if len % 4 == 0 && len as usize >= kind.shortest() && fits {
+        if kind.can_have(len) {
             Ok(BlockStart { order, kind, len })
         } else {
             Err(StartFault::Length)
@@ -159,6 +188,7 @@ impl BlockStart {
 #[inline]
 fn lengths_agree(order: ByteOrder, block: &[u8]) -> bool
     requires { 12 ≤ length block.now }
+    ensures { result ≡ lengths_agree order block.now }
 {
     read_u32(order, &block[block.len() - 4..]) as usize == block.len()
 }
@@ -166,6 +196,7 @@ fn lengths_agree(order: ByteOrder, block: &[u8]) -> bool
 /// What is wrong with a whole section header.
 pub fn check_section(order: ByteOrder, block: &[u8]) -> Result<(), HeaderFault>
     requires { 28 ≤ length block.now }
+    ensures { result ≡ unless (section_fault order block.now) }
 {
     if read_u16(order, &block[12..]) != 1 {
         return Err(HeaderFault::SectionVersion);
@@ -215,17 +246,30 @@ pub fn first_section(bytes: &[u8]) -> FirstSection
     }
 }
 
-/// What is wrong with the options and the last length of a whole interface description.
-pub fn check_interface_end(order: ByteOrder, block: &[u8]) -> Result<(), BadReason>
-    requires { 20 ≤ length block.now }
+/// What is wrong with the options from a place on, up to a whole block's last length, or with that.
+#[inline]
+fn check_end(order: ByteOrder, block: &[u8], from: usize) -> Result<(), BadReason>
+    requires within { from + 4 ≤ length block.now }
+    requires long { 12 ≤ length block.now }
+    ensures { result ≡ unless (end_fault order block.now
+        (options_of order (slice_range block.now from (length block.now - 4)))) }
 {
-    if !options_fit(order, &block[16..block.len() - 4]) {
+    let to = block.len() - 4;
+    if from < to && !options_fit(order, &block[from..to]) {
         return Err(BadReason::BlockBounds);
     }
     if !lengths_agree(order, block) {
         return Err(BadReason::BlockLengthsDiffer);
     }
     Ok(())
+}
+
+/// What is wrong with the options and the last length of a whole interface description.
+pub fn check_interface_end(order: ByteOrder, block: &[u8]) -> Result<(), BadReason>
+    requires { 20 ≤ length block.now }
+    ensures { result ≡ unless (interface_fault order block.now) }
+{
+    check_end(order, block, 16)
 }
 
 /// The fields of a packet, before its captured bytes.
@@ -243,6 +287,7 @@ impl PacketFields {
     #[inline]
     pub fn read(order: ByteOrder, kind: BlockKind, block: &[u8]) -> PacketFields
         requires { 32 ≤ length block.now }
+        ensures { result ≡ fields_of order kind block.now }
     {
         let interface = match kind {
             BlockKind::ObsoletePacket => u32::from(read_u16(order, &block[8..])),
@@ -262,19 +307,13 @@ impl PacketFields {
     #[inline]
     pub fn check_end(&self, order: ByteOrder, block: &[u8]) -> Result<(), BadReason>
         requires { 32 ≤ length block.now }
-        ensures { OnOk result (28 + self.now.captured_len ≤ length block.now) }
+        ensures value { result ≡ unless (packet_fault order self.now.captured_len block.now) }
+        ensures within { OnOk result (28 + self.now.captured_len ≤ length block.now) }
     {
-        let padded = (self.captured_len as usize).div_ceil(4) * 4;
-        let room = block.len() - PACKET_LEN;
-        if padded > room {
+        let padded = padded_len(self.captured_len as usize);
+        if padded > block.len() - PACKET_LEN {
             return Err(BadReason::BlockBounds);
         }
-        if padded < room && !options_fit(order, &block[CAPTURED_AT + padded..block.len() - 4]) {
-            return Err(BadReason::BlockBounds);
-        }
-        if !lengths_agree(order, block) {
-            return Err(BadReason::BlockLengthsDiffer);
-        }
-        Ok(())
+        check_end(order, block, CAPTURED_AT + padded)
     }
 }

@@ -1,5 +1,5 @@
 //! Which interface of a recording is read.
-ghost use Rattle.std.specs.Prelude.{◌≡◌, ◌≤◌, length, take, None, IfSome};
+ghost use Rattle.std.specs.Prelude.{◌≡◌, ◌<◌, ◌≤◌, length, take, None, MatchOption};
 ghost use Rattle.pcapng.specs.declared.choice.TheConstants.{MAX_NAME_LEN};
 
 /// The bytes of the longest name that can be chosen.
@@ -17,7 +17,7 @@ pub struct InterfaceName {
 impl InterfaceName {
     /// The name of these bytes. None: they are more than [`MAX_NAME_LEN`].
     pub fn new(name: &[u8]) -> Option<InterfaceName>
-        ensures { IfSome result (λ n. take n.len n.bytes ≡ name.now) }
+        ensures { MatchOption result (MAX_NAME_LEN < length name.now) (λ n. (take n.len n.bytes ≡ name.now) × (length name.now ≤ MAX_NAME_LEN)) }
     {
         if name.len() > MAX_NAME_LEN {
             return None;

@@ -433,7 +433,8 @@ impl Converter {
         let number = self.section.next_number()?;
         let interface = Interface::described(begun.order, number, block)?;
         check_interface_end(begun.order, block)?;
-        self.section.add(interface)
+        self.section.add(interface);
+        Ok(())
     }
 
     /// Reads a packet: it is given next, or passed.

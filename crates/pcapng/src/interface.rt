@@ -1,8 +1,12 @@
 //! Interfaces of a section, and the time that their timestamps stand for.
-ghost use Rattle.std.specs.Prelude.{◌≡◌, ℕ, ◌*◌, ◌<◌, ◌≤◌, ◌^◌, length, IfSome};
+ghost use Rattle.std.specs.Prelude.{◌≡◌, ℕ, ◌*◌, ◌<◌, ◌≤◌, ◌^◌, length, Ok, Err, false, IfOk, IfSome, MatchOption, MatchResult};
+ghost use Rattle.pcap_io.specs.Layout.{number_in};
+ghost use Rattle.pcapng.specs.Interface.{bytes_of_name, described_of, has_name, interface_of, name_bytes, name_from, nanoseconds_of, offset_from, offset_of, resolution_from, resolution_of, time_of};
+ghost use Rattle.pcapng.specs.Options.{options_of, value_of};
 
 use crate::choice::InterfaceName;
 use crate::options::find_option;
+use byteorder::{BigEndian, ByteOrder as Endian, LittleEndian};
 use pcap_io::{BadReason, ByteOrder, read_u16};
 
 /// The codes of the options that are read (draft-ietf-opsawg-pcapng, Interface Description Block).
@@ -45,6 +49,19 @@ const POWERS_OF_TEN: [u64; 20] = [
     10_000_000_000_000_000_000,
 ];
 
+/// 10 to this power. None: it is 2^64 or more.
+#[inline]
+fn power_of_ten(power: u8) -> Option<u64>
+    ensures { MatchOption result (20 ≤ power) (λ n. (power < 20) × (n ≡ 10 ^ power)) }
+{
+    let power = usize::from(power);
+    if power < POWERS_OF_TEN.len() {
+        Some(POWERS_OF_TEN[power])
+    } else {
+        None
+    }
+}
+
 /// The part of a second that timestamps count.
 #[derive(Clone, Copy, Debug, PartialEq, Eq)]
 pub enum Resolution {
@@ -56,7 +73,9 @@ pub enum Resolution {
 
 impl Resolution {
     /// That of the option `if_tsresol`: where the top bit is set, the rest is the power of 2.
-    fn of_option(value: u8) -> Resolution {
+    fn of_option(value: u8) -> Resolution
+        ensures { result ≡ resolution_of value }
+    {
         if value < 128 {
             Resolution::Decimal(value)
         } else {
@@ -66,16 +85,19 @@ impl Resolution {
 
     /// So many counts in nanoseconds, cut down to whole ones.
     #[inline]
-    fn nanoseconds(self, count: u64) -> u128 {
+    fn nanoseconds(self, count: u64) -> u128
+        ensures value { result ≡ nanoseconds_of self count }
+        ensures bound { result < 2 ^ 94 }
+    {
         match self {
             Resolution::Decimal(6) => u128::from(count) * 1000,
             Resolution::Decimal(9) => u128::from(count),
             Resolution::Decimal(power) if power < 9 => {
                 u128::from(count) * u128::from(POWERS_OF_TEN[9 - usize::from(power)])
             }
-            Resolution::Decimal(power) => match POWERS_OF_TEN.get(usize::from(power) - 9) {
-                Some(counts) if *counts != 0 => u128::from(count / *counts),
-                _ => 0,
+            Resolution::Decimal(power) => match power_of_ten(power - 9) {
+                Some(counts) => u128::from(count / counts),
+                None => 0,
             },
             Resolution::Binary(power) if power < 128 => {
                 (u128::from(count) * 1_000_000_000) >> u32::from(power)
@@ -94,7 +116,9 @@ pub enum Offset {
 
 impl Offset {
     /// That of the option `if_tsoffset`, a signed number of 64 bits.
-    fn of_option(value: u64) -> Offset {
+    fn of_option(value: u64) -> Offset
+        ensures { result ≡ offset_of value }
+    {
         if value < 1 << 63 {
             Offset::Later(value)
         } else {
@@ -119,10 +143,45 @@ pub struct Interface {
 }
 
 /// The number in the first eight bytes.
-fn read_u64(order: ByteOrder, bytes: &[u8; 8]) -> u64 {
+fn read_u64(order: ByteOrder, bytes: &[u8]) -> u64
+    requires { 8 ≤ length bytes.now }
+    ensures { result ≡ number_in order 8 bytes.now }
+{
     match order {
-        ByteOrder::Little => u64::from_le_bytes(*bytes),
-        ByteOrder::Big => u64::from_be_bytes(*bytes),
+        ByteOrder::Little => LittleEndian::read_u64(bytes),
+        ByteOrder::Big => BigEndian::read_u64(bytes),
+    }
+}
+
+/// The name that the options give, where it is no longer than one that can be chosen.
+fn name_in(order: ByteOrder, options: &[u8]) -> Option<InterfaceName>
+    ensures { bytes_of_name result ≡ name_from (value_of 2 (options_of order options.now)) }
+{
+    match find_option(order, options, IF_NAME) {
+        Some(name) => InterfaceName::new(name),
+        None => None,
+    }
+}
+
+/// The part of a second that the options give. None: theirs has another length.
+fn resolution_in(order: ByteOrder, options: &[u8]) -> Option<Resolution>
+    ensures { result ≡ resolution_from (value_of 9 (options_of order options.now)) }
+{
+    match find_option(order, options, IF_TSRESOL) {
+        Some([value]) => Some(Resolution::of_option(*value)),
+        Some(_) => None,
+        None => Some(Resolution::Decimal(6)),
+    }
+}
+
+/// The offset that the options give. None: theirs has another length.
+fn offset_in(order: ByteOrder, options: &[u8]) -> Option<Offset>
+    ensures { result ≡ offset_from order (value_of 14 (options_of order options.now)) }
+{
+    match find_option(order, options, IF_TSOFFSET) {
+        Some(value) if value.len() == 8 => Some(Offset::of_option(read_u64(order, value))),
+        Some(_) => None,
+        None => Some(Offset::Later(0)),
     }
 }
 
@@ -131,27 +190,21 @@ impl Interface {
     /// options lie within it.
     pub fn described(order: ByteOrder, number: u32, block: &[u8]) -> Result<Interface, BadReason>
         requires { 20 ≤ length block.now }
+        ensures value { MatchResult result
+            (λ i. interface_of order number block.now ≡ Ok (described_of i))
+            (λ reason. interface_of order number block.now ≡ Err reason) }
+        ensures no_packets { IfOk result (λ i. i.has_packets ≡ false) }
     {
         let options = &block[OPTIONS_AT..block.len() - 4];
-        let name = match find_option(order, options, IF_NAME) {
-            Some(name) => InterfaceName::new(name),
-            None => None,
+        let Some(resolution) = resolution_in(order, options) else {
+            return Err(BadReason::BlockBounds);
         };
-        let resolution = match find_option(order, options, IF_TSRESOL) {
-            Some([value]) => Resolution::of_option(*value),
-            Some(_) => return Err(BadReason::BlockBounds),
-            None => Resolution::Decimal(6),
-        };
-        let offset = match find_option(order, options, IF_TSOFFSET) {
-            Some(value) => match <&[u8; 8]>::try_from(value) {
-                Ok(value) => Offset::of_option(read_u64(order, value)),
-                Err(_) => return Err(BadReason::BlockBounds),
-            },
-            None => Offset::Later(0),
+        let Some(offset) = offset_in(order, options) else {
+            return Err(BadReason::BlockBounds);
         };
         Ok(Interface {
             number,
-            name,
+            name: name_in(order, options),
             ethernet: read_u16(order, &block[8..]) == ETHERNET,
             has_packets: false,
             resolution,
@@ -159,11 +212,22 @@ impl Interface {
         })
     }
 
+    /// Whether it has this name.
+    pub fn is_named(&self, name: &InterfaceName) -> bool
+        ensures { result ≡ has_name (name_bytes name.now) (bytes_of_name self.now.name) }
+    {
+        match &self.name {
+            Some(own) => own.as_bytes() == name.as_bytes(),
+            None => false,
+        }
+    }
+
     /// The time of a timestamp in nanoseconds since 1970. None: it lies before that, or 2^32 seconds
     /// or more after it.
     #[inline]
     pub fn stamp(&self, count: u64) -> Option<u64>
-        ensures { IfSome result (λ n. n < 2 ^ 32 * 1000000000) }
+        ensures value { result ≡ time_of self.now.resolution self.now.offset count }
+        ensures bound { IfSome result (λ n. n < 2 ^ 32 * 1000000000) }
     {
         let nanoseconds = self.resolution.nanoseconds(count);
         let total = match self.offset {

@@ -1,5 +1,6 @@
 //! A section of a recording: its byte order, its interfaces, and which of them is read.
-ghost use Rattle.std.specs.Prelude.{◌≡◌, ◌≤◌, ◌<◌, ◌*◌, ◌^◌, length, vec_capacity, vec_len, IfOk};
+ghost use Rattle.std.specs.Prelude.{◌≡◌, ◌≤◌, ◌<◌, ◌*◌, ◌^◌, length, map, vec_capacity, vec_len, Err, IfOk, OnErr, OnOk};
+ghost use Rattle.pcapng.specs.Interface.{described_of};
 ghost use Rattle.pcapng.specs.declared.section.TheConstants.{MAX_INTERFACES};
 
 use crate::choice::Choice;
@@ -35,8 +36,13 @@ pub struct Section {
 }
 
 impl Section {
+    ghost use Rattle.pcap_io.specs.declared.layout.ByteOrder.TheVariants.{Little};
+    ghost use Rattle.pcapng.specs.Section.{in_section, is_chosen, known_of, next_number, noted, role_of, stamp_of, unknown, with_interface};
+
     /// No section yet. Allocates the memory of its interfaces.
-    pub fn new(alloc: Global, choice: Choice) -> Result<Section, AllocError> {
+    pub fn new(alloc: Global, choice: Choice) -> Result<Section, AllocError>
+        ensures { IfOk result (λ s. known_of s ≡ unknown choice Little) }
+    {
         Ok(Section {
             choice,
             order: ByteOrder::Little,
@@ -61,22 +67,28 @@ impl Section {
     }
 
     /// A section of this byte order begins, with no interfaces.
-    pub fn begin(&mut self, order: ByteOrder) {
+    pub fn begin(&mut self, order: ByteOrder)
+        ensures { known_of self.new ≡ in_section order (known_of self.old) }
+    {
         self.order = order;
         self.interfaces.clear();
     }
 
     /// Whether the interface is the chosen one.
-    fn is_chosen(&self, interface: &Interface) -> bool {
-        match self.choice {
+    fn is_chosen(&self, interface: &Interface) -> bool
+        ensures { result ≡ is_chosen self.now.choice (described_of interface.now) }
+    {
+        match &self.choice {
             Choice::Any => true,
-            Choice::Number(number) => interface.number == number,
-            Choice::Name(name) => interface.name == Some(name),
+            Choice::Number(number) => interface.number == *number,
+            Choice::Name(name) => interface.is_named(name),
         }
     }
 
     /// The number of the interface that is described next.
-    pub fn next_number(&self) -> Result<u32, BadReason> {
+    pub fn next_number(&self) -> Result<u32, BadReason>
+        ensures { result ≡ next_number (vec_len self.now.interfaces) }
+    {
         let number = self.interfaces.len();
         if number < MAX_INTERFACES {
             Ok(number as u32)
@@ -89,7 +101,8 @@ impl Section {
     #[inline]
     pub fn stamp(&self, number: u32, count: u64) -> Result<u64, BadReason>
         requires { number < vec_len self.now.interfaces }
-        ensures { IfOk result (λ n. n < 2 ^ 32 * 1000000000) }
+        ensures value { result ≡ stamp_of (known_of self.now) number count }
+        ensures bound { IfOk result (λ n. n < 2 ^ 32 * 1000000000) }
     {
         match self.interfaces[number as usize].stamp(count) {
             Some(stamp) => Ok(stamp),
@@ -98,21 +111,21 @@ impl Section {
     }
 
     /// One more interface.
-    pub fn add(&mut self, interface: Interface) -> Result<(), BadReason> {
-        if self.interfaces.len() >= MAX_INTERFACES {
-            return Err(BadReason::TooManyInterfaces);
-        }
+    pub fn add(&mut self, interface: Interface)
+        requires { vec_len self.old.interfaces < MAX_INTERFACES }
+        ensures { known_of self.new ≡ with_interface (described_of interface) (known_of self.old) }
+    {
         if self.is_chosen(&interface) {
             self.described = true;
         }
         self.interfaces.push(interface).unwrap();
-        Ok(())
     }
 
     /// What is done with a packet of the interface of this number.
     #[inline]
     pub fn role(&self, number: u32) -> Result<Role, BadReason>
-        ensures { IfOk result (λ r. number < vec_len self.now.interfaces) }
+        ensures value { result ≡ role_of (known_of self.now) number }
+        ensures known { IfOk result (λ r. number < vec_len self.now.interfaces) }
     {
         let Some(interface) = self.interfaces.get(number as usize) else {
             return Err(BadReason::UnknownInterface);
@@ -133,10 +146,12 @@ impl Section {
     #[inline]
     pub fn note_packet(&mut self, number: u32, role: Role)
         requires { number < vec_len self.old.interfaces }
+        ensures { known_of self.new ≡ noted number role (known_of self.old) }
     {
         self.interfaces[number as usize].has_packets = true;
-        if role == Role::Taken {
-            self.taken = Some(number);
+        match role {
+            Role::Taken => self.taken = Some(number),
+            Role::Counted | Role::Skipped => {}
         }
     }
 }

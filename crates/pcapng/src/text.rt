@@ -1,5 +1,7 @@
 //! The pcap that is given for a pcapng recording.
-ghost use Rattle.std.specs.Prelude.{◌≡◌, length};
+ghost use Rattle.std.specs.Prelude.{◌≡◌, length, take};
+ghost use Rattle.pcap_io.specs.Recording.{header_bytes};
+ghost use Rattle.pcapng.specs.Text.{converted_layout, file_header_bytes, reason_bytes};
 
 use byteorder::{BigEndian, ByteOrder as Endian, LittleEndian};
 use pcap_io::{BadReason, CONVERTED_MAGIC, HeaderFault};
@@ -13,7 +15,9 @@ pub const PACKET_HEADER_LEN: usize = 16;
 const NANOSECONDS: u32 = 1_000_000_000;
 
 /// The file header, which tells a fault by its code.
-pub fn file_header(fault: Option<HeaderFault>) -> [u8; FILE_HEADER_LEN] {
+pub fn file_header(fault: Option<HeaderFault>) -> [u8; FILE_HEADER_LEN]
+    ensures { result ≡ file_header_bytes fault }
+{
     let mut header = [0u8; FILE_HEADER_LEN];
     BigEndian::write_u32(&mut header, CONVERTED_MAGIC);
     LittleEndian::write_u16(&mut header[4..], 2);
@@ -31,7 +35,10 @@ pub fn packet_header(
     fraction: u32,
     captured: u32,
     original: u32,
-) -> [u8; FILE_HEADER_LEN] {
+) -> [u8; FILE_HEADER_LEN]
+    ensures { take PACKET_HEADER_LEN result
+        ≡ header_bytes converted_layout seconds fraction captured original }
+{
     let mut header = [0u8; FILE_HEADER_LEN];
     LittleEndian::write_u32(&mut header, seconds);
     LittleEndian::write_u32(&mut header[4..], fraction);
@@ -41,6 +48,8 @@ pub fn packet_header(
 }
 
 /// The header that tells a reason.
-pub fn reason_header(reason: BadReason) -> [u8; FILE_HEADER_LEN] {
+pub fn reason_header(reason: BadReason) -> [u8; FILE_HEADER_LEN]
+    ensures { take PACKET_HEADER_LEN result ≡ reason_bytes reason }
+{
     packet_header(0, NANOSECONDS + reason.code(), 0, 0)
 }

@@ -1,0 +1,107 @@
+-- Sections: the interfaces that they describe, and which of them is read (this project's choice).
+use Rattle.std.specs.Prelude.{ℕ, Bool, true, false, ◌||◌, List, [], ◌∷◌, ◌++◌, map, slice_get, Option, Some, None, Result, Ok, Err, nat_lt, ◌==◌, if◌then◌else◌}
+use Rattle.pcap_io.specs.declared.layout.ByteOrder.{ByteOrder}
+use Rattle.pcap_io.specs.declared.recording.BadReason.{BadReason}
+use Rattle.pcap_io.specs.declared.recording.BadReason.TheVariants as reasons
+use Rattle.pcapng.specs.Interface.{Described, described_of, has_name, name_bytes, time_of}
+use Rattle.pcapng.specs.declared.choice.Choice.{Choice}
+use Rattle.pcapng.specs.declared.choice.Choice.TheVariants.{Any, Number, Name}
+use Rattle.pcapng.specs.declared.section.Role.{Role}
+use Rattle.pcapng.specs.declared.section.Role.TheVariants as roles
+use Rattle.pcapng.specs.declared.section.Section.{Section}
+use Rattle.pcapng.specs.declared.section.TheConstants.{MAX_INTERFACES}
+
+-- What is known of a recording where a block begins.
+pub record Known : Type 0 where
+  pub choice : Choice
+  -- the byte order of the section
+  pub order : ByteOrder
+  -- the interfaces that the section has described
+  pub interfaces : List Described
+  -- the number of the interface of which a packet was taken last, where one was
+  pub taken : Option ℕ
+  -- the chosen interface was described, in this section or an earlier one
+  pub described : Bool
+
+-- what a section knows
+abbrev pub known_of : Section → Known
+known_of s = record {
+  choice = s.choice;
+  order = s.order;
+  interfaces = map described_of s.interfaces.items;
+  taken = s.taken;
+  described = s.described;
+}
+
+-- with no choice any interface is described
+abbrev pub needs_none : Choice → Bool
+needs_none Any = true
+needs_none (Number number) = false
+needs_none (Name name) = false
+
+-- before the first section
+abbrev pub unknown : Choice → ByteOrder → Known
+unknown choice order = record { choice = choice; order = order; interfaces = []; taken = None; described = needs_none choice }
+
+-- a section of this byte order begins, with no interfaces
+abbrev pub in_section : ByteOrder → Known → Known
+in_section order k = record k { order = order; interfaces = [] }
+
+-- the interface is the chosen one
+abbrev pub is_chosen : Choice → Described → Bool
+is_chosen Any i = true
+is_chosen (Number number) i = i.number == number
+is_chosen (Name name) i = has_name (name_bytes name) i.name
+
+-- the number of the interface that is described next: so many stand before it
+abbrev pub next_number : ℕ → Result ℕ BadReason
+next_number count = if nat_lt count MAX_INTERFACES then Ok count else Err reasons.TooManyInterfaces
+
+-- one more interface is described
+abbrev pub with_interface : Described → Known → Known
+with_interface i k = record k { interfaces = k.interfaces ++ (i ∷ []); described = k.described || is_chosen k.choice i }
+
+-- ---- packets
+
+-- with no choice, packets are of one interface
+abbrev pub role_among : Choice → Option ℕ → ℕ → Result Role BadReason
+role_among Any (Some taken) number = if taken == number then Ok roles.Taken else Err reasons.SeveralInterfaces
+role_among Any None number = Ok roles.Taken
+role_among (Number wanted) taken number = Ok roles.Taken
+role_among (Name wanted) taken number = Ok roles.Taken
+
+-- what is done with a packet of this number and interface
+abbrev pub role_with : Known → ℕ → Described → Result Role BadReason
+role_with k number i =
+    if is_chosen k.choice i then (if i.ethernet then role_among k.choice k.taken number else Ok roles.Counted) else Ok roles.Skipped
+
+abbrev pub role_at : Known → ℕ → Option Described → Result Role BadReason
+role_at k number None = Err reasons.UnknownInterface
+role_at k number (Some i) = role_with k number i
+
+-- what is done with a packet of the interface of this number
+abbrev pub role_of : Known → ℕ → Result Role BadReason
+role_of k number = role_at k number (slice_get k.interfaces number)
+
+-- a packet of the interface of this number was taken
+abbrev pub with_taken : ℕ → Known → Known
+with_taken number k = record k { taken = Some number }
+
+-- the interface of this number had a packet
+abbrev pub noted : ℕ → Role → Known → Known
+noted number roles.Taken k = with_taken number k
+noted number roles.Counted k = k
+noted number roles.Skipped k = k
+
+abbrev pub stamp_from : Option ℕ → Result ℕ BadReason
+stamp_from None = Err reasons.StampRange
+stamp_from (Some time) = Ok time
+
+-- the time of a timestamp of an interface
+abbrev pub stamp_with : Option Described → ℕ → Result ℕ BadReason
+stamp_with None count = Err reasons.UnknownInterface
+stamp_with (Some i) count = stamp_from (time_of i.resolution i.offset count)
+
+-- the time of a timestamp of the interface of this number
+abbrev pub stamp_of : Known → ℕ → ℕ → Result ℕ BadReason
+stamp_of k number count = stamp_with (slice_get k.interfaces number) count
