@@ -50,6 +50,7 @@ returns-in-Err-two_rings-clause-refused g c = rw (c.new-in-Err-two_rings.ensures
           merged.read_a.failures merged.read_b.failures (record {
             packets = capture_all ps [] _ _ written.packets;
             lines = lines_all ps vl_table [] _ _ written.lines;
+            whole = tt;
             fails = (written.capture_failures, written.ledger_failures);
           })),
     ))
