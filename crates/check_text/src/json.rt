@@ -1,7 +1,7 @@
 //! The answer as JSON.
 
 use crate::answer::{Answer, FilterAnswer, TapAnswer};
-use crate::faults::told_faults;
+use crate::faults::{ToldFault, told_faults};
 use crate::verdict::verdict_of;
 use crate::words::{Asked, Moment, ending_word, frames_before, format_words, letter_of, question_word};
 use afdx_frame::{Network, VlId};
@@ -240,15 +240,12 @@ fn overlap_word(answer: &Answer<'_>) -> Option<&'static str> {
     })
 }
 
-/// The answer as one JSON object.
-///
-/// # Errors
-///
-/// The system is out of memory.
-pub fn json_of(alloc: Global, answer: &Answer<'_>) -> Result<String, Error> {
-    let told = told_faults(alloc, answer.text, answer.faults)?;
+fn faults_of<'a>(
+    alloc: Global,
+    told: &'a [ToldFault],
+) -> Result<Vec<JsonFault<'a>>, AllocError> {
     let mut faults = Vec::new(alloc);
-    for fault in &told {
+    for fault in told {
         faults.push(JsonFault {
             fault: fault.word,
             line: fault.place.map(|place| place.line as u64),
@@ -261,6 +258,16 @@ pub fn json_of(alloc: Global, answer: &Answer<'_>) -> Result<String, Error> {
             allowed: fault.allowed.as_str(),
         })?;
     }
+    Ok(faults)
+}
+
+/// The answer as one JSON object.
+///
+/// # Errors
+///
+/// The system is out of memory.
+pub fn json_of(alloc: Global, answer: &Answer<'_>) -> Result<String, Error> {
+    let told = told_faults(alloc, answer.text, answer.faults)?;
     let verdict = verdict_of(answer);
     let unread = match &answer.unread {
         Some(fault) => Some(line_of(alloc, fault)?),
@@ -275,7 +282,7 @@ pub fn json_of(alloc: Global, answer: &Answer<'_>) -> Result<String, Error> {
             links: answer.config.map(|config| config.links().len() as u64),
             constant: answer.config.map(|config| config.constant()),
             fault_count: answer.faults.len() as u64,
-            faults,
+            faults: faults_of(alloc, &told)?,
         },
         filters: filters_of(alloc, answer.filters)?,
         a: tap_if(alloc, &answer.a)?,
