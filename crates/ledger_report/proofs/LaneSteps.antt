@@ -6,7 +6,8 @@ use Rattle.std.specs.List.{cons_option}
 use Rattle.ledger_report.specs.LaneLines.{bytes_of, early_amount, excess_lead, hit_of, interval_since, is_out_after_silence, is_rule, number_amount, numbering_since, one_where, rule_amount, stamp_of}
 use Rattle.ledger_report.specs.LaneParts.{TakesAmounts, TakesInterval, TakesLine, TakesNumber, TakesRule, interval_in, numbering_in}
 use Rattle.ledger_report.specs.Lanes.{IsLaneSign, StandsAfter, Step, amount_of, counted_at, excess_leads, hits, interval_of, intervals, missing_after_silence, newest, numbering_at, oldest, steps}
-use Rattle.ledger_report.specs.Marks.{HasHits, IsRule, sign_index}
+use Rattle.ledger_report.specs.Alone.{KeepsAlone, MissesMore}
+use Rattle.ledger_report.specs.Marks.{HasHits, IsRule, mark_at, sign_index}
 use Rattle.ledger_report.specs.Numbering.{counted_numbering, missing_in, numbering_of}
 use Rattle.ledger_report.specs.Extremes.{Hit}
 use Rattle.ledger_report.specs.Sums.{saturated, total_of}
@@ -15,6 +16,7 @@ use Rattle.ledger_report.specs.declared.lane.LaneLine.{LaneLine}
 use Rattle.ledger_report.specs.declared.lane.LaneRules.{LaneRules}
 use Rattle.ledger_report.specs.declared.lane.Numbering.{Numbering}
 use Rattle.ledger_report.specs.declared.moment.Place.{Place}
+use Rattle.ledger_report.specs.declared.signs.Mark.{Mark}
 use Rattle.ledger_report.specs.declared.signs.Sign.{Sign}
 use Rattle.ledger_report.specs.declared.signs.Sign.TheVariants.{Cut, Runt, Oversize, Foreign, Unconfigured, TooLong, Excess, Out, Lost, Repeat, Reset, Alone, Late, Early}
 use Rattle.ledger_report.specs.declared.signs.Signs.{Signs}
@@ -158,3 +160,18 @@ stands_more rules line lines s0 s1 s2 s3 s4 is h t1 t2 t3 t4 =
           (subst (λ (n : Numbering). TakesAmounts (number_amount (counted_numbering line.after_silence n)) line.at.place s3.signs s4.signs) said t4.signs)
           is sign (hits rules sign lines) own (h.signs sign own);
     }
+
+-- ---- deliveries that the other network didn't bring: none more
+
+pub missed_same : (rules : LaneRules) (line : LaneLine) (s0 s1 s2 s3 s4 : Lane) → TakesInterval rules.least line s0 s1 → TakesLine line s1 s2
+    → TakesRule line s2 s3 → TakesNumber rules.integrity line s3 s4 → KeepsAlone s0.signs s1.signs → KeepsAlone s2.signs s3.signs → KeepsAlone s3.signs s4.signs
+    → MissesMore 0 s0 s4
+missed_same rules line s0 s1 s2 s3 s4 t1 t2 t3 t4 k1 k3 k4 none few =
+    let uncovered : s4.uncovered ≡ s0.uncovered =
+    ap (λ (l : Lane). l.uncovered) t4.rest ∙ ap (λ (l : Lane). l.uncovered) t3.rest ∙ ap (λ (l : Lane). l.uncovered) t2.rest ∙ ap (λ (l : Lane). l.uncovered) t1.rest in
+    let held : s4.held.count ≡ s0.held.count =
+    ap (λ (l : Lane). l.held.count) t4.rest ∙ ap (λ (l : Lane). l.held.count) t3.rest ∙ ap (λ (l : Lane). l.held.count) t2.rest
+    ∙ ap (λ (l : Lane). l.held.count) t1.rest in
+    let alone : (mark_at s4.signs Alone none).count ≡ (mark_at s0.signs Alone none).count =
+    ap (λ (m : Mark). m.count) (k4 none ∙ k3 none ∙ ap (λ (l : Lane). mark_at l.signs Alone none) t2.rest ∙ k1 none) in
+    omega (arith, uncovered, held, alone)

@@ -4,4 +4,6 @@ pub mod LaneMoves
 pub mod LaneSteps
 pub mod LaneSums
 pub mod MarkMoves
+pub mod Pendings
+pub mod Readings
 pub mod Tallies

@@ -1,3 +1,4 @@
+pub mod Alone
 pub mod Bins
 pub mod Counting
 pub mod Extremes
@@ -8,7 +9,10 @@ pub mod Marks
 pub mod Merging
 pub mod Numbering
 pub mod Numbers
+pub mod Pending
 pub mod Places
 pub mod Placing
+pub mod Reading
+pub mod Settling
 pub mod Sums
 pub mod Words

@@ -205,6 +205,7 @@ fn numbering_of(before: Option<u8>, number: u8) -> Numbering
 
 impl Lane {
     ghost use Rattle.std.specs.Prelude.{[]};
+    ghost use Rattle.ledger_report.specs.Alone.{KeepsAlone, MissesMore};
     ghost use Rattle.ledger_report.specs.LaneLines.{number_amount};
     ghost use Rattle.ledger_report.specs.LaneParts.{TakesAmounts, TakesEarly, TakesInterval, TakesLine, TakesNumber};
     ghost use Rattle.ledger_report.specs.LaneParts.{TakesRule, interval_in, numbering_in};
@@ -261,6 +262,7 @@ impl Lane {
             → StandsAfter rules.now (line.now ∷ lines) self.new) }
         ensures numbering { IfOk result (λ numbering. numbering ≡ counted_numbering line.now.after_silence
             (numbering_in rules.now.integrity self.old line.now)) }
+        ensures missed { OnOk result (MissesMore 0 self.old self.new) }
     {
         self.note_interval(line, rules.least)?;
         self.note_line(line)?;
@@ -284,7 +286,8 @@ impl Lane {
     /// Notes the interval to the line before. `least` is BAG less jitter.
     #[inline]
     fn note_interval(&mut self, line: &LaneLine, least: u64) -> Result<(), AllocError>
-        ensures { OnOk result (TakesInterval least line.now self.old self.new) }
+        ensures takes { OnOk result (TakesInterval least line.now self.old self.new) }
+        ensures alone { OnOk result (KeepsAlone self.old.signs self.new.signs) }
     {
         let Some(interval) = self.interval_to(line) else {
             return Ok(());
@@ -303,7 +306,8 @@ impl Lane {
     /// Notes an interval that is below `least`.
     #[inline]
     fn note_early(&mut self, line: &LaneLine, least: u64, interval: u64) -> Result<(), AllocError>
-        ensures { TakesEarly least line.now (Some interval) self.old self.new }
+        ensures takes { TakesEarly least line.now (Some interval) self.old self.new }
+        ensures alone { KeepsAlone self.old.signs self.new.signs }
     {
         if interval >= least {
             return Ok(());
@@ -336,7 +340,9 @@ impl Lane {
     /// Notes the rule of the line.
     #[inline]
     fn note_rule(&mut self, line: &LaneLine) -> Result<(), AllocError>
-        ensures { TakesRule line.now self.old self.new }
+        requires { IfSome line.now.rule IsRule }
+        ensures takes { TakesRule line.now self.old self.new }
+        ensures alone { KeepsAlone self.old.signs self.new.signs }
     {
         if is_out_after_silence(line) {
             self.out_after_silence = self.out_after_silence.saturating_add(1);
@@ -352,6 +358,7 @@ impl Lane {
     #[inline]
     fn note_number(&mut self, line: &LaneLine, integrity: bool) -> Result<Numbering, AllocError>
         ensures takes { OnOk result (TakesNumber integrity line.now self.old self.new) }
+        ensures alone { OnOk result (KeepsAlone self.old.signs self.new.signs) }
         ensures numbering { IfOk result (λ numbering. numbering ≡ counted_numbering line.now.after_silence
             (numbering_in integrity self.old line.now)) }
     {
@@ -384,6 +391,7 @@ impl Lane {
         requires { IsPlain numbering }
         ensures signs { TakesAmounts (number_amount numbering) line.now.at.place self.old.signs self.new.signs }
         ensures rest { self.new ≡ record self.old { signs = self.new.signs } }
+        ensures alone { KeepsAlone self.old.signs self.new.signs }
     {
         let at = &line.at;
         match numbering {
@@ -398,7 +406,9 @@ impl Lane {
     }
 
     /// Takes the loss of this number at most `window` before: one that is not seen since, nor taken before.
-    fn take_loss(&mut self, number: u8, stamp: u64, window: u64) -> bool {
+    fn take_loss(&mut self, number: u8, stamp: u64, window: u64) -> bool
+        ensures { self.new ≡ record self.old { lost_at = self.new.lost_at } }
+    {
         match self.lost_at.get_mut(usize::from(number)) {
             Some(lost) => match *lost {
                 Some(when) if stamp.saturating_sub(when) <= window => {
@@ -429,7 +439,10 @@ impl Lane {
         stamp: u64,
         window: u64,
         other: &mut Lane,
-    ) -> Result<u64, AllocError> {
+    ) -> Result<u64, AllocError>
+        ensures own { self.new ≡ record self.old { lost_at = self.new.lost_at } }
+        ensures other { other.new ≡ record other.old { lost_at = other.new.lost_at } }
+    {
         if self.lost_at.is_empty() {
             self.lost_at.resize(NUMBERS, None)?;
         }
@@ -455,11 +468,14 @@ impl Lane {
         before: u64,
         twin: &NetworkReport,
         own: &mut NetworkReport,
-    ) -> Result<(), AllocError> {
+    ) -> Result<(), AllocError>
+        ensures { OnOk result (MissesMore 1 self.old self.new) }
+    {
         match twin.covers(before) {
             Some(true) => {
                 self.signs.hit(Sign::Alone, bin, place, 1)?;
-                own.signs.hit(Sign::Alone, bin, place, 1)
+                own.signs.hit(Sign::Alone, bin, place, 1)?;
+                Ok(())
             }
             Some(false) => {
                 self.uncovered = self.uncovered.saturating_add(1);
@@ -468,7 +484,8 @@ impl Lane {
             None => {
                 self.settle_held(twin, own)?;
                 self.held_before = before;
-                self.held.hit(bin, place, 1)
+                self.held.hit(bin, place, 1)?;
+                Ok(())
             }
         }
     }
@@ -478,7 +495,9 @@ impl Lane {
         &mut self,
         twin: &NetworkReport,
         own: &mut NetworkReport,
-    ) -> Result<(), AllocError> {
+    ) -> Result<(), AllocError>
+        ensures { OnOk result (MissesMore 0 self.old self.new) }
+    {
         if self.held.count == 0 {
             return Ok(());
         }
@@ -495,7 +514,10 @@ impl Lane {
     }
 
     /// Counts the deliveries that are held as not covered.
-    pub(crate) fn drop_held(&mut self) {
+    pub(crate) fn drop_held(&mut self)
+        ensures missed { MissesMore 0 self.old self.new }
+        ensures none { self.new.held.count ≡ 0 }
+    {
         self.uncovered = self.uncovered.saturating_add(self.held.count);
         self.held.clear();
     }

@@ -1,7 +1,11 @@
 //! A link on both networks.
 
+ghost use Rattle.std.specs.Prelude.{◌≡◌, ◌+◌, ◌<◌, Some, None, IfOk, IfSome, OnOk, slice_index_or};
+ghost use Rattle.ledger_report.specs.Marks.{IsRule};
+ghost use Rattle.ledger_report.specs.Pending.{fate_pends, pends};
+
 use crate::absence::{Absence, Absences};
-use crate::bounds::WINDOW_BAGS;
+use crate::bounds::{NUMBERS, WINDOW_BAGS};
 use crate::fault::{Refusal, WrongLine};
 use crate::lane::{Lane, LaneLine, LaneRules, Numbering};
 use crate::median::Classes;
@@ -75,7 +79,14 @@ pub struct LinkReport {
 }
 
 impl LinkReport {
-    pub(crate) fn new(alloc: Global, link: &Link) -> Result<LinkReport, AllocError> {
+    ghost use Rattle.std.specs.Prelude.{ℕ, ◌^◌};
+    ghost use Rattle.ledger_report.specs.Settling.{AccountsMore, IsBalanced, accounted, counted, fate_sum};
+    ghost use Rattle.ledger_report.specs.declared.signs.Mark.{Mark};
+
+    pub(crate) fn new(alloc: Global, link: &Link) -> Result<LinkReport, AllocError>
+        ensures balanced { IfOk result (λ report. (report.deliveries ≡ 0)
+            × (report.fates ≡ record { paired = 0; late = 0; first = 0; met = 0; uncovered = 0; alone = 0 })) }
+    {
         Ok(LinkReport {
             id: link.id,
             bag: link.bag,
@@ -134,38 +145,72 @@ impl LinkReport {
         start: u64,
         width: u64,
         networks: &mut Sides<NetworkReport>,
-    ) -> Result<(), Refusal> {
+    ) -> Result<(), Refusal>
+        ensures { OnOk result (IsBalanced self.old → self.old.deliveries + 2 < 2 ^ 64
+            → IsBalanced self.new) }
+    {
         self.check_words(line)?;
         let rule = rule_of(line);
         let own = networks.of(at.network);
-        let lane = self.lanes.of_mut(at.network);
         let seen = LaneLine {
             at: *at,
             ordinal: own.frames,
             number,
             rule,
             kept: line.kept,
-            after_silence: lane.is_after_silence(own),
+            after_silence: self.lanes.of(at.network).is_after_silence(own),
         };
-        let numbering = lane.note(
-            &seen,
-            &LaneRules {
-                least: self.bag.saturating_sub(self.jitter),
-                integrity: self.integrity,
-            },
-        )?;
+        let numbering = self.note_lane(&seen)?;
         self.note_numbering(numbering, at, networks)?;
-        if rule.is_some() && self.redundancy {
-            let window = self.window();
-            self.pairing
-                .discard(number, at.network, at.place.stamp, window)?;
-        }
+        self.note_discarded(&seen)?;
         self.runs.note(at.network, at.place.stamp, networks);
         match line.redundancy {
-            Some(Redundancy::Copy) => self.note_copy(number, at, networks),
-            Some(Redundancy::Deliver) => self.note_delivery(number, at, start, width, networks),
-            Some(Redundancy::Both) | None => Ok(()),
+            Some(Redundancy::Copy) => self.note_copy(number, at, networks)?,
+            Some(Redundancy::Deliver) => {
+                self.note_delivery(number, at, start, width, networks)?;
+            }
+            Some(Redundancy::Both) | None => {}
         }
+        Ok(())
+    }
+
+    /// Notes the line for its lane, and says what its sequence number says.
+    #[inline]
+    fn note_lane(&mut self, line: &LaneLine) -> Result<Numbering, AllocError>
+        requires rule { IfSome line.now.rule IsRule }
+        ensures accounts { OnOk result (AccountsMore 0 self.old self.new) }
+        ensures deliveries { self.new.deliveries ≡ self.old.deliveries }
+    {
+        let rules = LaneRules {
+            least: self.bag.saturating_sub(self.jitter),
+            integrity: self.integrity,
+        };
+        match line.at.network {
+            Network::A => {
+                let numbering = self.lanes.a.note(line, &rules)?;
+                Ok(numbering)
+            }
+            Network::B => {
+                let numbering = self.lanes.b.note(line, &rules)?;
+                Ok(numbering)
+            }
+        }
+    }
+
+    /// Notes a line that has a rule: its frame came and was discarded.
+    #[inline]
+    fn note_discarded(&mut self, line: &LaneLine) -> Result<(), AllocError>
+        ensures accounts { OnOk result (AccountsMore 0 self.old self.new) }
+        ensures deliveries { self.new.deliveries ≡ self.old.deliveries }
+    {
+        if line.rule.is_none() || !self.redundancy {
+            return Ok(());
+        }
+        let window = self.window();
+        let at = &line.at;
+        self.pairing
+            .discard(line.number, at.network, at.place.stamp, window)?;
+        Ok(())
     }
 
     /// Does the line say that integrity checking and redundancy management are off where the table does?
@@ -193,7 +238,10 @@ impl LinkReport {
         numbering: Numbering,
         at: &Moment,
         networks: &mut Sides<NetworkReport>,
-    ) -> Result<(), AllocError> {
+    ) -> Result<(), AllocError>
+        ensures accounts { OnOk result (AccountsMore 0 self.old self.new) }
+        ensures deliveries { self.new.deliveries ≡ self.old.deliveries }
+    {
         let (sign, amount) = match numbering {
             Numbering::Follows => return Ok(()),
             Numbering::Restarts => (Sign::Reset, 1),
@@ -206,36 +254,16 @@ impl LinkReport {
         networks
             .of_mut(at.network)
             .signs
-            .hit(sign, at.bin, at.place, amount)
-    }
-
-    /// Counts a sign for the lane and its network.
-    fn note_sign(
-        &mut self,
-        sign: Sign,
-        at: &Moment,
-        amount: u64,
-        networks: &mut Sides<NetworkReport>,
-    ) -> Result<(), AllocError> {
-        self.lanes
-            .of_mut(at.network)
-            .signs
             .hit(sign, at.bin, at.place, amount)?;
-        networks
-            .of_mut(at.network)
-            .signs
-            .hit(sign, at.bin, at.place, amount)
+        Ok(())
     }
 
     /// Notes that so many numbers are lost, and counts those that the other network lost too.
-    fn note_loss(&mut self, previous: u8, lost: u8, at: &Moment) -> Result<(), AllocError> {
-        let window = self.window();
-        let stamp = at.place.stamp;
-        let lanes = &mut self.lanes;
-        let both = match at.network {
-            Network::A => lanes.a.lose(previous, lost, stamp, window, &mut lanes.b)?,
-            Network::B => lanes.b.lose(previous, lost, stamp, window, &mut lanes.a)?,
-        };
+    fn note_loss(&mut self, previous: u8, lost: u8, at: &Moment) -> Result<(), AllocError>
+        ensures accounts { OnOk result (AccountsMore 0 self.old self.new) }
+        ensures deliveries { self.new.deliveries ≡ self.old.deliveries }
+    {
+        let both = self.lose(previous, lost, at)?;
         if both > 0 {
             self.lost_both = self.lost_both.saturating_add(both);
             if self.first_lost_both.is_none() {
@@ -245,6 +273,20 @@ impl LinkReport {
         Ok(())
     }
 
+    /// Notes for the lane that so many numbers are lost, and says how many of them the other lane lost too.
+    fn lose(&mut self, previous: u8, lost: u8, at: &Moment) -> Result<u64, AllocError>
+        ensures accounts { AccountsMore 0 self.old self.new }
+        ensures deliveries { self.new.deliveries ≡ self.old.deliveries }
+    {
+        let window = self.window();
+        let stamp = at.place.stamp;
+        let lanes = &mut self.lanes;
+        match at.network {
+            Network::A => lanes.a.lose(previous, lost, stamp, window, &mut lanes.b),
+            Network::B => lanes.b.lose(previous, lost, stamp, window, &mut lanes.a),
+        }
+    }
+
     /// Notes a copy, whose delivery stands before on the other network.
     #[inline]
     fn note_copy(
@@ -252,8 +294,11 @@ impl LinkReport {
         number: u8,
         at: &Moment,
         networks: &mut Sides<NetworkReport>,
-    ) -> Result<(), Refusal> {
-        let mut delivery = match self.pairing.latest(number) {
+    ) -> Result<(), Refusal>
+        ensures accounts { OnOk result (AccountsMore 0 self.old self.new) }
+        ensures deliveries { self.new.deliveries ≡ self.old.deliveries }
+    {
+        let delivery = match self.pairing.latest(number) {
             Some(delivery) if delivery.network != at.network => delivery,
             _ => return Err(Refusal::Wrong(WrongLine::Copy)),
         };
@@ -261,17 +306,38 @@ impl LinkReport {
         if skew > self.skew_max {
             return Err(Refusal::Wrong(WrongLine::Skew));
         }
-        if matches!(delivery.fate, Fate::Open | Fate::Met) {
-            delivery.fate = Fate::Paired;
-            self.fates.paired = self.fates.paired.saturating_add(1);
-            self.pairing.set(number, delivery)?;
-        }
+        self.pair(number)?;
         self.copies = self.copies.saturating_add(1);
         self.skew_sum = self.skew_sum.saturating_add(skew);
         self.skew_greatest = self.skew_greatest.max(skew);
         self.classes.add(skew)?;
         self.skews.of_mut(at.network).put(at.bin, skew)?;
         networks.of_mut(at.network).skews.put(at.bin, skew)?;
+        Ok(())
+    }
+
+    /// The latest delivery of a number has its copy.
+    #[inline]
+    fn pair(&mut self, number: u8) -> Result<(), AllocError>
+        ensures accounts { OnOk result (AccountsMore 0 self.old self.new) }
+        ensures deliveries { self.new.deliveries ≡ self.old.deliveries }
+    {
+        let Some(delivery) = self.pairing.latest(number) else {
+            return Ok(());
+        };
+        if matches!(delivery.fate, Fate::Late | Fate::Paired) {
+            return Ok(());
+        }
+        self.fates.paired = self.fates.paired.saturating_add(1);
+        self.pairing.set(
+            number,
+            Delivery {
+                network: delivery.network,
+                place: delivery.place,
+                before: delivery.before,
+                fate: Fate::Paired,
+            },
+        )?;
         Ok(())
     }
 
@@ -284,28 +350,13 @@ impl LinkReport {
         start: u64,
         width: u64,
         networks: &mut Sides<NetworkReport>,
-    ) -> Result<(), Refusal> {
+    ) -> Result<(), Refusal>
+        ensures accounts { OnOk result ((none : Mark) → accounted none self.old + 2 < 2 ^ 64
+            → accounted none self.new ≡ accounted none self.old + 1) }
+        ensures deliveries { self.old.deliveries + 1 < 2 ^ 64 → self.new.deliveries ≡ self.old.deliveries + 1 }
+    {
         self.deliveries = self.deliveries.saturating_add(1);
-        let window = self.window();
-        let stamp = at.place.stamp;
-        let mut fate = if self
-            .pairing
-            .was_discarded(number, at.network, stamp, window)
-        {
-            Fate::Met
-        } else {
-            Fate::Open
-        };
-        if let Some(before) = self.pairing.latest(number) {
-            let skew = stamp.saturating_sub(before.place.stamp);
-            let late = before.fate == Fate::Open && before.network != at.network && skew <= window;
-            if late {
-                fate = Fate::Late;
-                self.note_late(skew, at, networks)?;
-            } else {
-                self.settle(before, start, width, networks)?;
-            }
-        }
+        let fate = self.settle_before(number, at, start, width, networks)?;
         self.pairing.set(
             number,
             Delivery {
@@ -318,18 +369,79 @@ impl LinkReport {
         Ok(())
     }
 
+    /// Settles the latest delivery of the number of a delivery, and says what is known of this one.
+    #[inline]
+    fn settle_before(
+        &mut self,
+        number: u8,
+        at: &Moment,
+        start: u64,
+        width: u64,
+        networks: &mut Sides<NetworkReport>,
+    ) -> Result<Fate, AllocError>
+        ensures accounts { IfOk result (λ fate. (none : Mark) → accounted none self.old + 2 < 2 ^ 64
+            → accounted none self.new + fate_pends fate ≡ accounted none self.old
+            + pends (slice_index_or self.old.pairing.deliveries.items number None) + 1) }
+        ensures pairing { self.new.pairing ≡ self.old.pairing }
+        ensures deliveries { self.new.deliveries ≡ self.old.deliveries }
+    {
+        let fate = self.fate_so_far(number, at);
+        let Some(before) = self.pairing.latest(number) else {
+            return Ok(fate);
+        };
+        let skew = at.place.stamp.saturating_sub(before.place.stamp);
+        if matches!(before.fate, Fate::Open) && before.network != at.network && skew <= self.window() {
+            self.note_late(skew, at, networks)?;
+            return Ok(Fate::Late);
+        }
+        self.settle(before, start, width, networks)?;
+        Ok(fate)
+    }
+
+    /// What is known of a delivery by the lines before it.
+    #[inline]
+    fn fate_so_far(&self, number: u8, at: &Moment) -> Fate
+        ensures { fate_pends result ≡ 1 }
+    {
+        let met = self
+            .pairing
+            .was_discarded(number, at.network, at.place.stamp, self.window());
+        if met { Fate::Met } else { Fate::Open }
+    }
+
     /// Notes the second delivery of a number, beyond SkewMax.
     fn note_late(
         &mut self,
         skew: u64,
         at: &Moment,
         networks: &mut Sides<NetworkReport>,
-    ) -> Result<(), AllocError> {
+    ) -> Result<(), AllocError>
+        ensures accounts { OnOk result (AccountsMore 2 self.old self.new) }
+        ensures pairing { self.new.pairing ≡ self.old.pairing }
+        ensures deliveries { self.new.deliveries ≡ self.old.deliveries }
+    {
         self.fates.late = self.fates.late.saturating_add(1);
         self.fates.first = self.fates.first.saturating_add(1);
         self.late_greatest = self.late_greatest.max(skew);
         self.late_skews.of_mut(at.network).put(at.bin, skew)?;
-        self.note_sign(Sign::Late, at, 1, networks)
+        self.hit_late(at)?;
+        networks
+            .of_mut(at.network)
+            .signs
+            .hit(Sign::Late, at.bin, at.place, 1)?;
+        Ok(())
+    }
+
+    /// Counts a late delivery for its lane.
+    fn hit_late(&mut self, at: &Moment) -> Result<(), AllocError>
+        ensures accounts { AccountsMore 0 self.old self.new }
+        ensures pairing { self.new.pairing ≡ self.old.pairing }
+        ensures deliveries { self.new.deliveries ≡ self.old.deliveries }
+    {
+        match at.network {
+            Network::A => self.lanes.a.signs.hit(Sign::Late, at.bin, at.place, 1),
+            Network::B => self.lanes.b.signs.hit(Sign::Late, at.bin, at.place, 1),
+        }
     }
 
     /// Says what became of a delivery that no later line of its number can pair.
@@ -339,7 +451,11 @@ impl LinkReport {
         start: u64,
         width: u64,
         networks: &mut Sides<NetworkReport>,
-    ) -> Result<(), AllocError> {
+    ) -> Result<(), AllocError>
+        ensures accounts { OnOk result (AccountsMore (fate_pends delivery.fate) self.old self.new) }
+        ensures pairing { self.new.pairing ≡ self.old.pairing }
+        ensures deliveries { self.new.deliveries ≡ self.old.deliveries }
+    {
         match delivery.fate {
             Fate::Late | Fate::Paired => Ok(()),
             Fate::Met => {
@@ -348,47 +464,53 @@ impl LinkReport {
             }
             Fate::Open => {
                 let bin = bin_of(start, width, delivery.place.stamp);
-                let place = delivery.place;
-                let before = delivery.before;
-                match delivery.network {
-                    Network::A => {
-                        self.lanes
-                            .a
-                            .note_alone(place, bin, before, &networks.b, &mut networks.a)
-                    }
-                    Network::B => {
-                        self.lanes
-                            .b
-                            .note_alone(place, bin, before, &networks.a, &mut networks.b)
-                    }
-                }
+                self.note_alone(&delivery, bin, networks)
             }
         }
     }
 
-    /// Settles what is left once the ledger has ended.
+    /// Notes a delivery that the other network didn't bring.
+    fn note_alone(
+        &mut self,
+        delivery: &Delivery,
+        bin: usize,
+        networks: &mut Sides<NetworkReport>,
+    ) -> Result<(), AllocError>
+        ensures accounts { OnOk result (AccountsMore 1 self.old self.new) }
+        ensures pairing { self.new.pairing ≡ self.old.pairing }
+        ensures deliveries { self.new.deliveries ≡ self.old.deliveries }
+    {
+        let place = delivery.place;
+        let before = delivery.before;
+        match delivery.network {
+            Network::A => {
+                self.lanes
+                    .a
+                    .note_alone(place, bin, before, &networks.b, &mut networks.a)?;
+                Ok(())
+            }
+            Network::B => {
+                self.lanes
+                    .b
+                    .note_alone(place, bin, before, &networks.a, &mut networks.b)?;
+                Ok(())
+            }
+        }
+    }
+
+    /// Settles what is left once the ledger has ended. Each delivery then has one fate.
     pub(crate) fn end(
         &mut self,
         start: u64,
         width: u64,
         networks: &mut Sides<NetworkReport>,
-    ) -> Result<(), AllocError> {
-        for number in 0..=255u8 {
-            if let Some(delivery) = self.pairing.latest(number) {
-                self.settle(delivery, start, width, networks)?;
-            }
-        }
-        self.lanes.a.settle_held(&networks.b, &mut networks.a)?;
-        self.lanes.b.settle_held(&networks.a, &mut networks.b)?;
-        self.lanes.a.drop_held();
-        self.lanes.b.drop_held();
-        self.fates.uncovered = self
-            .lanes
-            .a
-            .uncovered
-            .saturating_add(self.lanes.b.uncovered);
-        let alone = self.lanes.a.signs.of(Sign::Alone).count;
-        self.fates.alone = alone.saturating_add(self.lanes.b.signs.of(Sign::Alone).count);
+    ) -> Result<(), AllocError>
+        ensures { OnOk result (IsBalanced self.old → self.old.deliveries < 2 ^ 62
+            → (self.new.deliveries ≡ self.old.deliveries) × (self.new.deliveries ≡ fate_sum self.new.fates)) }
+    {
+        self.settle_latest(start, width, networks)?;
+        self.settle_lanes(networks)?;
+        self.sum_fates();
         self.runs.end(networks);
         self.absences = Sides {
             a: self.runs.longest(Network::A),
@@ -397,6 +519,75 @@ impl LinkReport {
         self.stopped = self.runs.last();
         self.skew_median = self.classes.median(self.copies);
         Ok(())
+    }
+
+    /// Settles the latest delivery of each number.
+    fn settle_latest(
+        &mut self,
+        start: u64,
+        width: u64,
+        networks: &mut Sides<NetworkReport>,
+    ) -> Result<(), AllocError>
+        ensures counts { OnOk result ((none : Mark) → accounted none self.old < 2 ^ 62
+            → counted none self.new ≡ accounted none self.old) }
+        ensures deliveries { OnOk result (self.new.deliveries ≡ self.old.deliveries) }
+    {
+        for number in 0..NUMBERS {
+            self.settle_number(number as u8, start, width, networks)?;
+        }
+        Ok(())
+    }
+
+    /// Settles the latest delivery of a number.
+    fn settle_number(
+        &mut self,
+        number: u8,
+        start: u64,
+        width: u64,
+        networks: &mut Sides<NetworkReport>,
+    ) -> Result<(), AllocError>
+        ensures accounts { OnOk result (AccountsMore
+            (pends (slice_index_or self.old.pairing.deliveries.items number None)) self.old self.new) }
+        ensures pairing { self.new.pairing ≡ self.old.pairing }
+        ensures deliveries { self.new.deliveries ≡ self.old.deliveries }
+    {
+        match self.pairing.latest(number) {
+            Some(delivery) => {
+                self.settle(delivery, start, width, networks)?;
+                Ok(())
+            }
+            None => Ok(()),
+        }
+    }
+
+    /// Settles the deliveries that the lanes hold.
+    fn settle_lanes(&mut self, networks: &mut Sides<NetworkReport>) -> Result<(), AllocError>
+        ensures counts { OnOk result ((none : Mark) → counted none self.old < 2 ^ 62
+            → counted none self.new ≡ counted none self.old) }
+        ensures held { OnOk result ((self.new.lanes.a.held.count ≡ 0) × (self.new.lanes.b.held.count ≡ 0)) }
+        ensures deliveries { OnOk result (self.new.deliveries ≡ self.old.deliveries) }
+    {
+        self.lanes.a.settle_held(&networks.b, &mut networks.a)?;
+        self.lanes.b.settle_held(&networks.a, &mut networks.b)?;
+        self.lanes.a.drop_held();
+        self.lanes.b.drop_held();
+        Ok(())
+    }
+
+    /// Sums what the lanes say of the deliveries that the other network didn't bring.
+    fn sum_fates(&mut self)
+        requires held { (self.old.lanes.a.held.count ≡ 0) × (self.old.lanes.b.held.count ≡ 0) }
+        ensures sum { (none : Mark) → counted none self.old < 2 ^ 62
+            → fate_sum self.new.fates ≡ counted none self.old }
+        ensures deliveries { self.new.deliveries ≡ self.old.deliveries }
+    {
+        self.fates.uncovered = self
+            .lanes
+            .a
+            .uncovered
+            .saturating_add(self.lanes.b.uncovered);
+        let alone = self.lanes.a.signs.of(Sign::Alone).count;
+        self.fates.alone = alone.saturating_add(self.lanes.b.signs.of(Sign::Alone).count);
     }
 
     pub(crate) fn fold(&mut self) {

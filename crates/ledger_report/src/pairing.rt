@@ -1,5 +1,8 @@
 //! What became of each delivery: whether the other network brought its number too.
 
+ghost use Rattle.std.specs.Prelude.{◌≡◌, ◌+◌, ◌<◌, Some, None, OnOk, slice_index_or, vec_len};
+ghost use Rattle.ledger_report.specs.Pending.{pending, pends};
+
 use crate::bounds::NUMBERS;
 use crate::moment::Place;
 use crate::sides::{Sides, other};
@@ -34,10 +37,13 @@ pub struct Delivery {
 pub struct Pairing {
     deliveries: Vec<Option<Delivery>>,
     discarded: Vec<Sides<Option<u64>>>,
+    ghost whole: { 0 < vec_len deliveries → vec_len deliveries ≡ 256 },
 }
 
 impl Pairing {
-    pub(crate) fn new(alloc: Global) -> Pairing {
+    pub(crate) fn new(alloc: Global) -> Pairing
+        ensures { pending result.deliveries.items ≡ 0 }
+    {
         Pairing {
             deliveries: Vec::new(alloc),
             discarded: Vec::new(alloc),
@@ -46,7 +52,9 @@ impl Pairing {
 
     /// The latest delivery of a number.
     #[inline]
-    pub(crate) fn latest(&self, number: u8) -> Option<Delivery> {
+    pub(crate) fn latest(&self, number: u8) -> Option<Delivery>
+        ensures { result ≡ slice_index_or self.now.deliveries.items number None }
+    {
         match self.deliveries.get(usize::from(number)) {
             Some(delivery) => *delivery,
             None => None,
@@ -55,13 +63,15 @@ impl Pairing {
 
     /// Sets the latest delivery of a number.
     #[inline]
-    pub(crate) fn set(&mut self, number: u8, delivery: Delivery) -> Result<(), AllocError> {
+    pub(crate) fn set(&mut self, number: u8, delivery: Delivery) -> Result<(), AllocError>
+        ensures { OnOk result (pending self.new.deliveries.items
+            + pends (slice_index_or self.old.deliveries.items number None)
+            ≡ pending self.old.deliveries.items + pends (Some delivery)) }
+    {
         if self.deliveries.is_empty() {
             self.deliveries.resize(NUMBERS, None)?;
         }
-        if let Some(held) = self.deliveries.get_mut(usize::from(number)) {
-            *held = Some(delivery);
-        }
+        self.deliveries[usize::from(number)] = Some(delivery);
         Ok(())
     }
 
@@ -72,7 +82,9 @@ impl Pairing {
         network: Network,
         stamp: u64,
         window: u64,
-    ) -> Result<(), AllocError> {
+    ) -> Result<(), AllocError>
+        ensures { OnOk result (pending self.new.deliveries.items ≡ pending self.old.deliveries.items) }
+    {
         if self.discarded.is_empty() {
             for _ in 0..NUMBERS {
                 self.discarded.push(Sides { a: None, b: None })?;
@@ -81,13 +93,36 @@ impl Pairing {
         if let Some(held) = self.discarded.get_mut(usize::from(number)) {
             *held.of_mut(network) = Some(stamp);
         }
-        if let Some(mut delivery) = self.latest(number) {
-            let soon = stamp.saturating_sub(delivery.place.stamp) <= window;
-            if delivery.fate == Fate::Open && delivery.network != network && soon {
-                delivery.fate = Fate::Met;
-                self.set(number, delivery)?;
-            }
+        self.meet(number, network, stamp, window)?;
+        Ok(())
+    }
+
+    /// The latest delivery of a number was met by a line that was discarded, if it is open.
+    fn meet(
+        &mut self,
+        number: u8,
+        network: Network,
+        stamp: u64,
+        window: u64,
+    ) -> Result<(), AllocError>
+        ensures { OnOk result (pending self.new.deliveries.items ≡ pending self.old.deliveries.items) }
+    {
+        let Some(delivery) = self.latest(number) else {
+            return Ok(());
+        };
+        let soon = stamp.saturating_sub(delivery.place.stamp) <= window;
+        if !matches!(delivery.fate, Fate::Open) || delivery.network == network || !soon {
+            return Ok(());
         }
+        self.set(
+            number,
+            Delivery {
+                network: delivery.network,
+                place: delivery.place,
+                before: delivery.before,
+                fate: Fate::Met,
+            },
+        )?;
         Ok(())
     }
 

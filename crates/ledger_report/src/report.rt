@@ -1,5 +1,10 @@
 //! From a ledger to its report.
 
+ghost use Rattle.std.specs.Prelude.{◌≡◌, ℕ, List, [], Option, IfOk, false};
+ghost use Rattle.ledger_text.specs.Ledger.{has_failed as ledger_failed};
+ghost use Rattle.ledger_report.specs.Counting.{AreCountsOf};
+ghost use Rattle.ledger_report.specs.Reading.{CountsLedger, HasCounted};
+
 use crate::counts::FrameCounts;
 use crate::counts_lines::{CountsLines, TapEnding};
 use crate::fault::{Refusal, ReportFault, WrongLine};
@@ -101,8 +106,13 @@ fn read_lines<S: TapSource>(
     config: &Config,
     ledger: &mut LedgerReader<S>,
     reading: &mut Reading,
-) -> Result<(), ReportFault> {
-    for _ in 0..u64::MAX {
+) -> Result<(), ReportFault>
+    requires sound { ledger_failed ledger.old ≡ false }
+    ensures { (bytes : Option (List ℕ)) (failures : ℕ)
+        → HasCounted S.TapSource bytes failures [] ledger.old reading.old.counts
+        → IfOk result (λ _. CountsLedger bytes reading.new.counts) }
+{
+    loop {
         match ledger.advance() {
             Ok(Found::Line(LedgerLine::Frame(frame))) => {
                 reading.counts.count(&frame);
@@ -119,11 +129,11 @@ fn read_lines<S: TapSource>(
                     return Err(line_fault(ledger.number(), refusal));
                 }
             }
-            Ok(Found::Complete | Found::Incomplete) => return Ok(()),
+            Ok(Found::Complete) => return Ok(()),
+            Ok(Found::Incomplete) => return Ok(()),
             Err(fault) => return Err(read_fault(fault)),
         }
     }
-    Ok(())
 }
 
 /// Reads a ledger, and makes its report against the table that it was judged by.
@@ -139,7 +149,9 @@ pub fn read_report<S: TapSource + Drop>(
     alloc: Global,
     config: &Config,
     source: S,
-) -> Result<Report, ReportFault> {
+) -> Result<Report, ReportFault>
+    ensures { IfOk result (λ report. CountsLedger (S.remaining source) report.counts) }
+{
     let mut ledger = match LedgerReader::new(alloc, source) {
         Ok(ledger) => ledger,
         Err(LinesRefused { source: _ }) => return Err(ReportFault::Memory),
@@ -156,7 +168,9 @@ pub fn read_report<S: TapSource + Drop>(
 }
 
 impl Reading {
-    fn new(alloc: Global, config: &Config) -> Result<Reading, AllocError> {
+    fn new(alloc: Global, config: &Config) -> Result<Reading, AllocError>
+        ensures { IfOk result (λ reading. AreCountsOf [] reading.counts) }
+    {
         Ok(Reading {
             counts: FrameCounts::new(alloc)?,
             statistics: Statistics::new(alloc, config)?,
@@ -164,7 +178,9 @@ impl Reading {
         })
     }
 
-    fn into_report(self) -> Report {
+    fn into_report(self) -> Report
+        ensures { result.counts ≡ self.counts }
+    {
         let Reading {
             counts,
             statistics,

@@ -1,12 +1,12 @@
 -- One sign at most takes a hit.
-use Rattle.std.proofs.Common.{sym, subst, arith}
+use Rattle.std.proofs.Common.{refl, sym, subst, arith}
 use Rattle.ledger_report.specs.LaneLines.{number_amount}
 use Rattle.ledger_report.specs.LaneParts.{TakesAmounts}
 use Rattle.ledger_report.specs.Marks.{TakesHit}
 use Rattle.ledger_report.specs.Numbering.{IsPlain}
 use Rattle.ledger_report.specs.declared.lane.Numbering.{Numbering}
 use Rattle.ledger_report.specs.declared.lane.Numbering.TheVariants.{Follows, Restarts, Repeats, Skips}
-use Rattle.ledger_report.specs.declared.signs.Sign.TheVariants.{Lost, Repeat, Reset}
+use Rattle.ledger_report.specs.declared.signs.Sign.TheVariants.{Alone, Lost, Repeat, Reset}
 use Rattle.ledger_report.proofs.MarkMoves.{amounts_none, amounts_one, follows_amount, repeats_amount, restarts_amount, skips_amount}
 use Rattle.ledger_report.proofs.lane.Lane.hit_number.Goals as goal
 
@@ -39,3 +39,12 @@ returns-in-Skips-clause-signs c =
     subst (λ n. TakesHit Lost (record { place = place; amount = n }) c.args.self.now.signs c.hit-in-Skips.new.self) c.from.ensures c.hit-in-Skips.ensures.takes in
     subst (λ (n : Numbering). TakesAmounts (number_amount n) place c.args.self.now.signs c.hit-in-Skips.new.self) (sym c.in-Skips.is)
     (amounts_one Lost (number_amount (Skips previous missing)) place missing c.args.self.now.signs c.hit-in-Skips.new.self (skips_amount previous missing) plain takes)
+
+pub returns-in-Restarts-clause-alone : goal.returns-in-Restarts-clause-alone
+returns-in-Restarts-clause-alone c = λ none. c.hit.ensures.others Alone none refl
+
+pub returns-in-Repeats-clause-alone : goal.returns-in-Repeats-clause-alone
+returns-in-Repeats-clause-alone c = λ none. c.hit-in-Repeats.ensures.others Alone none refl
+
+pub returns-in-Skips-clause-alone : goal.returns-in-Skips-clause-alone
+returns-in-Skips-clause-alone c = λ none. c.hit-in-Skips.ensures.others Alone none refl

@@ -1,13 +1,13 @@
 -- The interval is below the bound.
 use Rattle.std.proofs.Common.{Some, refl, arith, ◌<◌}
 use Rattle.ledger_report.specs.LaneLines.{early_amount, is_rule}
-use Rattle.ledger_report.specs.declared.signs.Sign.TheVariants.{Early, Excess}
+use Rattle.ledger_report.specs.declared.signs.Sign.TheVariants.{Alone, Early, Excess}
 use Rattle.ledger_report.proofs.LaneMoves.{lead_more}
 use Rattle.ledger_report.proofs.MarkMoves.{amounts_one, early_some}
 use Rattle.ledger_report.proofs.lane.Lane.note_early.Goals as goal
 
-pub returns : goal.returns
-returns c =
+pub returns-clause-takes : goal.returns-clause-takes
+returns-clause-takes c =
     let line = c.args.line.now in
     let less : c.args.interval < c.args.least = omega (arith, c.if-interval-least.false) in
     record {
@@ -16,3 +16,6 @@ returns c =
           (λ other. early_some c.args.least c.args.interval other less) (omega arith) c.hit.ensures.takes;
       rest = refl;
     }
+
+pub returns-clause-alone : goal.returns-clause-alone
+returns-clause-alone c = λ none. c.hit.ensures.others Alone none refl

@@ -1,4 +1,8 @@
 -- The number is taken, and what it says is counted.
+use Rattle.std.proofs.Common.{ap, ◌∙◌}
+use Rattle.ledger_report.specs.Marks.{mark_at}
+use Rattle.ledger_report.specs.declared.lane.Lane.{Lane}
+use Rattle.ledger_report.specs.declared.signs.Sign.TheVariants.{Alone}
 use Rattle.ledger_report.proofs.LaneMoves.{number_parts}
 use Rattle.ledger_report.proofs.lane.Lane.note_number.Goals as goal
 
@@ -7,3 +11,7 @@ returns-clause-takes c =
     number_parts c.args.integrity c.args.line.now c.args.self.now c.take_number-said.new.self c.hit_number.new.self c.take_number-said.result
     c.counted_numbering-counted.result c.lost_with-self.result c.take_number-said.ensures.says c.take_number-said.ensures.previous
     c.take_number-said.ensures.rest c.lost_with-self.ensures c.counted_numbering-counted.ensures.counted c.hit_number.ensures.signs c.hit_number.ensures.rest
+
+pub returns-clause-alone : goal.returns-clause-alone
+returns-clause-alone c = λ none.
+    c.hit_number.ensures.alone none ∙ ap (λ (l : Lane). mark_at l.signs Alone none) c.take_number-said.ensures.rest

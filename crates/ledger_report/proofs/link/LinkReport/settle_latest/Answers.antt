@@ -1,0 +1,24 @@
+-- One more number is settled.
+use Rattle.std.proofs.Common.{◌≡◌, ◌∙◌, ◌+◌, ◌<◌, ◌^◌, None, ap, arith, slice_index_or}
+use Rattle.ledger_report.specs.Pending.{pending, pends}
+use Rattle.ledger_report.specs.Settling.{accounted}
+use Rattle.ledger_report.specs.declared.pairing.Pairing.{Pairing}
+use Rattle.ledger_report.proofs.Pendings.{pending-drop}
+use Rattle.ledger_report.proofs.link.LinkReport.settle_latest.Goals as goal
+
+pub loop-number-preserved : goal.loop-number-preserved
+loop-number-preserved c = record {
+  settled = λ none few.
+      (let all = c.args.self.now.pairing.deliveries.items in
+      let number = c.loop-number.number in
+      let old = c.loop-number.invariant.settled none few in
+      let drops = pending-drop all number in
+      let here = ap (λ (p : Pairing). pends (slice_index_or p.deliveries.items number None)) c.loop-number.invariant.pairing in
+      let same = ap (λ (p : Pairing). pending p.deliveries.items) c.loop-number.invariant.pairing in
+      let after = ap (λ (p : Pairing). pending p.deliveries.items) c.settle_number.ensures.pairing in
+      let room : accounted none c.loop-number.self + pends (slice_index_or c.loop-number.self.pairing.deliveries.items number None) < 2 ^ 64 =
+      omega (arith, old, drops, here, same, few) in
+      omega (arith, old, drops, here, same, after, c.in_ok-settle_number.ensures.accounts none room));
+  pairing = c.settle_number.ensures.pairing ∙ c.loop-number.invariant.pairing;
+  deliveries = c.settle_number.ensures.deliveries ∙ c.loop-number.invariant.deliveries;
+}
