@@ -14,16 +14,16 @@ use std::alloc::{AllocError, Global};
 use std::fmt::Write;
 
 #[derive(Debug, Drop, Serialize)]
-struct JsonFault<'a> {
+struct JsonFault {
     fault: &'static str,
     line: Option<u64>,
     column: Option<u64>,
     link: Option<u32>,
     id: Option<i64>,
-    name: Option<&'a str>,
-    key: Option<&'a str>,
-    found: &'a str,
-    allowed: &'a str,
+    name: Option<String>,
+    key: Option<String>,
+    found: String,
+    allowed: String,
 }
 
 #[derive(Debug, Drop, Serialize)]
@@ -32,7 +32,7 @@ struct JsonTable<'a> {
     links: Option<u64>,
     constant: Option<u32>,
     fault_count: u64,
-    faults: Vec<JsonFault<'a>>,
+    faults: Vec<JsonFault>,
 }
 
 #[derive(Debug, Drop, Serialize)]
@@ -240,50 +240,60 @@ fn overlap_word(answer: &Answer<'_>) -> Option<&'static str> {
     })
 }
 
-fn faults_of<'a>(
-    alloc: Global,
-    told: &'a [ToldFault],
-) -> Result<Vec<JsonFault<'a>>, AllocError> {
-    let mut faults = Vec::new(alloc);
+fn fault_of(told: ToldFault) -> JsonFault {
+    let ToldFault {
+        place,
+        word,
+        link,
+        id,
+        name,
+        key,
+        found,
+        allowed,
+    } = told;
+    JsonFault {
+        fault: word,
+        line: place.map(|place| place.line as u64),
+        column: place.map(|place| place.column as u64),
+        link,
+        id,
+        name,
+        key,
+        found,
+        allowed,
+    }
+}
+
+fn faults_of(alloc: Global, answer: &Answer<'_>) -> Result<Vec<JsonFault>, AllocError> {
+    let told = told_faults(alloc, answer.text, answer.faults)?;
+    let mut faults = Vec::with_capacity(alloc, told.len())?;
     for fault in told {
-        faults.push(JsonFault {
-            fault: fault.word,
-            line: fault.place.map(|place| place.line as u64),
-            column: fault.place.map(|place| place.column as u64),
-            link: fault.link,
-            id: fault.id,
-            name: fault.name.as_deref(),
-            key: fault.key.as_deref(),
-            found: fault.found.as_str(),
-            allowed: fault.allowed.as_str(),
-        })?;
+        faults.push(fault_of(fault))?;
     }
     Ok(faults)
 }
 
-/// The answer as one JSON object.
-///
-/// # Errors
-///
-/// The system is out of memory.
-pub fn json_of(alloc: Global, answer: &Answer<'_>) -> Result<String, Error> {
-    let told = told_faults(alloc, answer.text, answer.faults)?;
+fn table_of<'a>(alloc: Global, answer: &Answer<'a>) -> Result<JsonTable<'a>, AllocError> {
+    Ok(JsonTable {
+        path: answer.table,
+        links: answer.config.map(|config| config.links().len() as u64),
+        constant: answer.config.map(|config| config.constant()),
+        fault_count: answer.faults.len() as u64,
+        faults: faults_of(alloc, answer)?,
+    })
+}
+
+fn answer_of<'a>(alloc: Global, answer: &Answer<'a>) -> Result<JsonAnswer<'a>, AllocError> {
     let verdict = verdict_of(answer);
     let unread = match &answer.unread {
         Some(fault) => Some(line_of(alloc, fault)?),
         None => None,
     };
-    let json = JsonAnswer {
+    Ok(JsonAnswer {
         version: 1,
         sound: verdict.is_sound(),
         faults: verdict.faults as u64,
-        table: JsonTable {
-            path: answer.table,
-            links: answer.config.map(|config| config.links().len() as u64),
-            constant: answer.config.map(|config| config.constant()),
-            fault_count: answer.faults.len() as u64,
-            faults: faults_of(alloc, &told)?,
-        },
+        table: table_of(alloc, answer)?,
         filters: filters_of(alloc, answer.filters)?,
         a: tap_if(alloc, &answer.a)?,
         b: tap_if(alloc, &answer.b)?,
@@ -292,6 +302,15 @@ pub fn json_of(alloc: Global, answer: &Answer<'_>) -> Result<String, Error> {
         questions: questions_of(alloc, answer.questions)?,
         links: links_of(alloc, answer)?,
         unlisted: unlisted_of(alloc, answer)?,
-    };
+    })
+}
+
+/// The answer as one JSON object.
+///
+/// # Errors
+///
+/// The system is out of memory.
+pub fn json_of(alloc: Global, answer: &Answer<'_>) -> Result<String, Error> {
+    let json = answer_of(alloc, answer)?;
     serde_json::to_string(alloc, &json)
 }
