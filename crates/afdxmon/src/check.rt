@@ -79,7 +79,11 @@ struct Passed<'a> {
 
 /// What a person knows an input by.
 fn shown_path(path: &str) -> &str {
-    if is_standard(path) { "standard input" } else { path }
+    if is_standard(path) {
+        "standard input"
+    } else {
+        path
+    }
 }
 
 fn tap_answer<'a>(

@@ -2,8 +2,8 @@
 //! told of the others.
 use afdx_frame::Network;
 use analyser::{
-    CaptureArguments, CheckArguments, CutArguments, DebugArguments, Exit, Invocation, LinksArguments,
-    SkippedNote, WatchArguments, is_standard,
+    CaptureArguments, CheckArguments, CutArguments, DebugArguments, Exit, Invocation,
+    LinksArguments, SkippedNote, WatchArguments, is_standard,
 };
 use pcap_io::{BadReason, Ending, Found, ReadSource, TapReader};
 use pcapng::{Choice, Interface, InterfaceName, RecordingSource};

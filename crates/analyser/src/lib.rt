@@ -17,13 +17,12 @@
 pub use capture_run::{capture_gives_the_accepted_frames, capture_one};
 pub use command_line::{
     CaptureArguments, CaptureFiles, Caret, CheckArguments, Contradiction, CutArguments, CutFiles,
-    DebugArguments,
-    EndingAdvice, Exit, Fault, FileOption, FilterArgument, HEAD_LEN, Hint, Inode, Invocation,
-    LinksArguments, Misuse, Named, Note, Place, ReportArguments, ReportFault, ReportFiles,
-    SelectionOption, SkippedNote, Summary, TO_A_TERMINAL, TapNote, USAGE, WITHOUT_TOTAL,
-    WatchArguments, WatchFiles, Written, advice, caret_at, fault_line, file_of, header_advice,
-    hint_of, is_standard, load_offset, numeric_advice, numeric_offset, place_at, read_arguments,
-    source_offset, written_as,
+    DebugArguments, EndingAdvice, Exit, Fault, FileOption, FilterArgument, HEAD_LEN, Hint, Inode,
+    Invocation, LinksArguments, Misuse, Named, Note, Place, ReportArguments, ReportFault,
+    ReportFiles, SelectionOption, SkippedNote, Summary, TO_A_TERMINAL, TapNote, USAGE,
+    WITHOUT_TOTAL, WatchArguments, WatchFiles, Written, advice, caret_at, fault_line, file_of,
+    header_advice, hint_of, is_standard, load_offset, numeric_advice, numeric_offset, place_at,
+    read_arguments, source_offset, written_as,
 };
 pub use commands::{
     AsmRun, CaptureRun, DebugRun, HeldTap, MAX_TEXT, Ran, TapRead, answer_line, asm_over,

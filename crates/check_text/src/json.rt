@@ -3,7 +3,9 @@
 use crate::answer::{Answer, FilterAnswer, TapAnswer};
 use crate::faults::{ToldFault, told_faults};
 use crate::verdict::verdict_of;
-use crate::words::{Asked, Moment, ending_word, frames_before, format_words, letter_of, question_word};
+use crate::words::{
+    Asked, Moment, ending_word, format_words, frames_before, letter_of, question_word,
+};
 use afdx_frame::{Network, VlId};
 use command_line::{Fault, reason_words};
 use input_check::{Overlap, Question};
@@ -176,10 +178,7 @@ fn tap_if<'a>(
     }
 }
 
-fn difference_of(
-    alloc: Global,
-    question: &Question,
-) -> Result<Option<JsonDifference>, AllocError> {
+fn difference_of(alloc: Global, question: &Question) -> Result<Option<JsonDifference>, AllocError> {
     match question {
         Question::Clocks(Some(difference)) => Ok(Some(JsonDifference {
             ahead: letter_of(difference.ahead),

@@ -38,7 +38,11 @@ pub fn verdict_of(answer: &Answer<'_>) -> Verdict {
             faults = faults.saturating_add(1);
         }
     }
-    for is_fault in [answer.unread.is_some(), ends_bad(answer.a), ends_bad(answer.b)] {
+    for is_fault in [
+        answer.unread.is_some(),
+        ends_bad(answer.a),
+        ends_bad(answer.b),
+    ] {
         if is_fault {
             faults = faults.saturating_add(1);
         }

@@ -1,7 +1,7 @@
 //! The words of the answer.
 
-use input_check::{Difference, Format, Order, Question, Unit, Wiring};
 use afdx_frame::Network;
+use input_check::{Difference, Format, Order, Question, Unit, Wiring};
 use jiff::Timestamp;
 use pcap_io::Ending;
 use std::fmt;

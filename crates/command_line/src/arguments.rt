@@ -165,11 +165,17 @@ pub struct CheckArguments<'a> {
 const VERSION: &str = "0.1.0 (commit unknown-tree)";
 
 const NUMERIC_HELP: &str = "The filter in the numeric form, as `afdxmon asm` prints it";
+
 const SOURCE_HELP: &str = "The filter's source, as `afdxmon asm` reads it";
+
 const A_HELP: &str = "The recording of network A, a pcap or pcapng file";
+
 const B_HELP: &str = "The recording of network B, a pcap or pcapng file";
+
 const OUTPUT_HELP: &str = "The capture to write, a nanosecond pcap file";
+
 const TABLE_HELP: &str = "The table of virtual links, a TOML document";
+
 const COMMENTED_HELP: &str = "Write the capture as pcapng, with verdicts as packet comments";
 
 /// An option with a value.

@@ -1,6 +1,6 @@
 -- What equal sequence numbers say of the clocks of two taps (this project's profile): a frame that both have seen tells their difference, and the
 -- difference that most links tell is taken. Times are in nanoseconds.
-use Rattle.std.specs.Prelude.{ℕ, ◌+◌, ◌≤◌, ◌<◌, Bool, ◌&&◌, List, [], ◌∷◌, length, Option, Some, None, find, count_by, get_or, nat_le, ◌==◌, ◌≡◌}
+use Rattle.std.specs.Prelude.{ℕ, ◌+◌, ◌≤◌, ◌<◌, Bool, ◌&&◌, List, [], ◌∷◌, length, Option, None, find, count_by, get_or, nat_le, ◌==◌, ◌≡◌}
 use Rattle.std.specs.Option.{option_map, option_or}
 use Rattle.input_check.specs.declared.clocks.Meeting.{Meeting}
 use Rattle.input_check.specs.declared.clocks.Sample.{Sample}

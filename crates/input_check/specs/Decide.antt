@@ -1,5 +1,5 @@
 -- What numbers of recordings say of the inputs of a run (this project's profile): questions, and no verdicts.
-use Rattle.std.specs.Prelude.{ℕ, ◌-◌, ◌*◌, ◌/◌, Bool, true, false, ◌&&◌, ◌||◌, not, Option, Some, None, nat_lt, nat_le, ◌==◌, if◌then◌else◌}
+use Rattle.std.specs.Prelude.{ℕ, ◌-◌, ◌*◌, ◌/◌, Bool, ◌&&◌, Option, Some, None, nat_lt, nat_le, if◌then◌else◌}
 use Rattle.input_check.specs.declared.decide.Overlap.{Overlap}
 use Rattle.input_check.specs.declared.decide.Overlap.TheVariants.{Together, Apart, Unknown}
 use Rattle.input_check.specs.declared.decide.Reach.{Reach}

@@ -20,7 +20,10 @@ struct Starts {
 impl Starts {
     fn new() -> Starts {
         Starts {
-            samples: [Sample { stamp: 0, number: 0 }; STARTS],
+            samples: [Sample {
+                stamp: 0,
+                number: 0,
+            }; STARTS],
             count: 0,
         }
     }

@@ -190,10 +190,7 @@ fn ask_of_networks(
 }
 
 /// Whether the frames are those of the table. Do they end with check sequences?
-fn ask_of_frames(
-    questions: &mut Vec<Question>,
-    inputs: &Inputs<'_>,
-) -> Result<bool, AllocError> {
+fn ask_of_frames(questions: &mut Vec<Question>, inputs: &Inputs<'_>) -> Result<bool, AllocError> {
     let (a, b) = (inputs.tap(Network::A), inputs.tap(Network::B));
     let of = a.frames().saturating_add(b.frames());
     let frames = a.foreign.saturating_add(b.foreign);

@@ -1,11 +1,11 @@
 -- The list of faults begins with the first fault.
-use Rattle.std.proofs.Common.{◌≡◌, ℕ, ◌+◌, ◌≤◌, Bool, true, false, ◌&&◌, ◌||◌, not, cond, List, [], ◌∷◌, ◌++◌, length, map, take, Option, Some, None, is_some, unwrap_or, ◌==◌, nat_eq, nat_lt, refl, ap, sym, ◌∙◌, arith}
+use Rattle.std.proofs.Common.{◌≡◌, ℕ, ◌+◌, ◌≤◌, Bool, true, false, ◌&&◌, ◌||◌, not, cond, List, [], ◌∷◌, ◌++◌, length, map, Option, Some, None, is_some, unwrap_or, ◌==◌, nat_lt, refl, ap, ◌∙◌, arith}
 use Rattle.std.proofs.lemmas.List.{take_all, map-append}
 use Rattle.std.proofs.lemmas.Bool.{and_parts}
 use Rattle.std.proofs.lemmas.Bool.Decides.{nat_tests}
 use Rattle.std.specs.Option.{option_map_or, option_or}
 use Rattle.std.specs.List.{flat_map, list_any}
-use Rattle.toml.specs.Data.{Data, Items, no_items, item, Members, no_members, member, array, get_member, as_table, as_array}
+use Rattle.toml.specs.Data.{Data, Items, no_items, item, Members, no_members, member, array, get_member, as_table}
 use Rattle.toml.specs.Parse.{parse_document}
 use Rattle.vl_config.specs.declared.fault.ConfigFault.{ConfigFault}
 use Rattle.vl_config.specs.declared.fault.ConfigFault.TheVariants.{Text, Missing, Kind, Range, UnknownKey, TwiceId, TwiceName, TooMany}
@@ -14,7 +14,7 @@ use Rattle.vl_config.specs.declared.key.Key.TheVariants.{Constant, Link, LateUs,
 use Rattle.vl_config.specs.declared.config.TheConstants.{MAX_LINKS, MAX_TABLE_FILTERS}
 use Rattle.vl_config.specs.Link.{VirtualLink}
 use Rattle.vl_config.specs.Keys.{key_name, top_keys, link_keys, all_items, is_kind, is_missing, is_other_kind, is_out_of_range, is_unknown, has_unknown, keys_fault}
-use Rattle.vl_config.specs.Document.{number_at, text_at, link_of, data_of, items_at, items_of_array, link_in, link_fault, links_fault, links_of, count_fault, has_id, has_name, twice_in, twice_fault, document_fault, first_fault}
+use Rattle.vl_config.specs.Document.{number_at, text_at, link_of, data_of, items_at, items_of_array, link_in, link_fault, links_fault, links_of, count_fault, has_name, twice_in, twice_fault, document_fault, first_fault}
 use Rattle.table_check.specs.Faults.{FoundFault, OwnWords, of_key, of_name, of_whole, told, missing_fault, kind_fault, range_fault, unknown_fault, names_of, keys_faults, count_faults, link_faults, links_faults, is_good, id_in, name_in, is_id, is_name, own_of, is_again_id, is_again_name, twice_here, twice_faults, checked_links, document_faults, text_faults, first_of}
 
 first_append : (xs ys : List FoundFault) → first_of (xs ++ ys) ≡ option_or (first_of xs) (first_of ys)
@@ -44,7 +44,7 @@ first_name keys place no_members = refl
 first_name keys place (member name d ms) =
     first_append (unknown_fault keys place name) (flat_map (unknown_fault keys place) (names_of ms))
     ∙ rw (first_told (is_unknown keys name) (of_name (UnknownKey place) name), first_name keys place ms)
-      (or_cond (is_unknown keys name) (has_unknown keys ms) (UnknownKey place))
+    (or_cond (is_unknown keys name) (has_unknown keys ms) (UnknownKey place))
 
 range_step : (b o kinds told outs : Bool) → (kinds ≡ false → told ≡ outs) → b || kinds ≡ false → (not b && o) || told ≡ o || outs
 range_step true o kinds told outs rest e = cc
@@ -76,12 +76,16 @@ keys_first keys place members =
     first_append ((m ++ k) ++ r) u
     ∙ ap (λ x. option_or x (first_of u)) (first_append (m ++ k) r)
     ∙ ap (λ x. option_or (option_or x (first_of r)) (first_of u)) (first_append m k)
-    ∙ rw (first_key (is_missing members) (Missing place) keys, first_key (is_other_kind members) (Kind place) keys,
-      first_key (λ key. not (is_other_kind members key) && is_out_of_range members key) (Range place) keys, first_name keys place members)
-      (joined (list_any (is_missing members) keys) (list_any (is_other_kind members) keys) (list_any (is_out_of_range members) keys)
-        (list_any (λ key. not (is_other_kind members key) && is_out_of_range members key) keys) (has_unknown keys members)
-        (Missing place) (Kind place) (Range place) (UnknownKey place)
-        (range_alone (is_other_kind members) (is_out_of_range members) keys))
+    ∙ rw (
+      first_key (is_missing members) (Missing place) keys,
+      first_key (is_other_kind members) (Kind place) keys,
+      first_key (λ key. not (is_other_kind members key) && is_out_of_range members key) (Range place) keys,
+      first_name keys place members,
+    )
+    (joined (list_any (is_missing members) keys) (list_any (is_other_kind members) keys) (list_any (is_out_of_range members) keys)
+    (list_any (λ key. not (is_other_kind members key) && is_out_of_range members key) keys) (has_unknown keys members)
+    (Missing place) (Kind place) (Range place) (UnknownKey place)
+    (range_alone (is_other_kind members) (is_out_of_range members) keys))
 
 -- ---- links
 
@@ -94,7 +98,7 @@ link_first : (place : ℕ) (d : Data) → is_some (as_table d) ≡ true → firs
 link_first place d h = at (as_table d) h
   where
     at : (t : Option Members) → is_some t ≡ true →
-      first_of (option_map_or (keys_faults link_keys (Some place)) t []) ≡ option_map_or (keys_fault link_keys (Some place)) t (Some (Kind None))
+        first_of (option_map_or (keys_faults link_keys (Some place)) t []) ≡ option_map_or (keys_fault link_keys (Some place)) t (Some (Kind None))
     at None e = cc
     at (Some m) e = keys_first link_keys (Some place) m
 
@@ -151,8 +155,8 @@ own_table place (Some m) e =
     let kind_name = or_false (is_other_kind m Name) (list_any (is_other_kind m) (BagMs ∷ JitterUs ∷ Smax ∷ Integrity ∷ Redundancy ∷ SkewUs ∷ [])) kind.1 in
     let range_name = or_false (is_out_of_range m Name) (list_any (is_out_of_range m) (BagMs ∷ JitterUs ∷ Smax ∷ Integrity ∷ Redundancy ∷ SkewUs ∷ [])) range.1 in
     same_words (id_in m) (Some (number_at Id m)) (name_in m) (Some (text_at Name m))
-      (when_true (is_good m Id) (number_at Id m) (good_when (is_missing m Id) (is_other_kind m Id) (is_out_of_range m Id) missing.0 kind.0 range.0))
-      (when_true (is_good m Name) (text_at Name m) (good_when (is_missing m Name) (is_other_kind m Name) (is_out_of_range m Name) missing_name.0 kind_name.0 range_name.0))
+    (when_true (is_good m Id) (number_at Id m) (good_when (is_missing m Id) (is_other_kind m Id) (is_out_of_range m Id) missing.0 kind.0 range.0))
+    (when_true (is_good m Name) (text_at Name m) (good_when (is_missing m Name) (is_other_kind m Name) (is_out_of_range m Name) missing_name.0 kind_name.0 range_name.0))
 
 or_none : (a b : Option ConfigFault) → option_or a b ≡ None → (a ≡ None) × (b ≡ None)
 or_none (Some f) b e = cc
@@ -186,8 +190,8 @@ here_first place earlier link =
     let named = is_again_name (map clean earlier) (Some link.name) in
     first_append (told again (of_key (TwiceId (Some place)) Id)) (told named (of_key (TwiceName (Some place)) Name))
     ∙ rw (first_told again (of_key (TwiceId (Some place)) Id), first_told named (of_key (TwiceName (Some place)) Name))
-      (twice_joined again named (TwiceId (Some place)) (TwiceName (Some place))
-      ∙ rw (any_id link.id.0 earlier, any_name link.name earlier) refl)
+    (twice_joined again named (TwiceId (Some place)) (TwiceName (Some place))
+    ∙ rw (any_id link.id.0 earlier, any_name link.name earlier) refl)
 
 twice_first : (place : ℕ) (earlier links : List VirtualLink) →
     first_of (twice_faults place (map clean earlier) (map clean links)) ≡ twice_fault place earlier links
@@ -258,10 +262,10 @@ document_first members =
     ∙ ap (λ x. option_or x (first_of t)) (first_append (k ++ c) l)
     ∙ ap (λ x. option_or (option_or x (first_of l)) (first_of t)) (first_append k c)
     ∙ in_turn (first_of k) (first_of c) (first_of l) (first_of t)
-      (keys_fault top_keys None members) (count_fault members) (links_fault 0 (items_at Link members)) (twice_fault 0 [] (links_of members))
-      (keys_first top_keys None members) (count_first members)
-      (λ ek ec. rw (all_checked members ec) (links_first 0 (items_at Link members) (links_tables members ek)))
-      (λ ek ec el. rw (all_checked members ec, owns_clean 0 (items_at Link members) el) (twice_first 0 [] (links_of members)))
+    (keys_fault top_keys None members) (count_fault members) (links_fault 0 (items_at Link members)) (twice_fault 0 [] (links_of members))
+    (keys_first top_keys None members) (count_first members)
+    (λ ek ec. rw (all_checked members ec) (links_first 0 (items_at Link members) (links_tables members ek)))
+    (λ ek ec el. rw (all_checked members ec, owns_clean 0 (items_at Link members) el) (twice_first 0 [] (links_of members)))
 
 pub text_first : (text : List ℕ) → first_of (text_faults text) ≡ first_fault text
 text_first text = at (parse_document text)

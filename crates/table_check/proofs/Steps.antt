@@ -17,7 +17,7 @@ links_faults_more values i value h e = rw (drop_more values i value h, ← e) re
 pub twice_faults_more : (owns : List Own) (i : ℕ) (own : Own) → i < length owns → own ≡ get_or owns i own →
     twice_faults i (map own_words (take i owns)) (map own_words (drop i owns))
     ≡ twice_here i (map own_words (take i owns)) (own_words own)
-      ++ twice_faults (i + 1) (map own_words (take (i + 1) owns)) (map own_words (drop (i + 1) owns))
+    ++ twice_faults (i + 1) (map own_words (take (i + 1) owns)) (map own_words (drop (i + 1) owns))
 twice_faults_more owns i own h e = rw (drop_more owns i own h, take_more owns i own h, ← e, map-append) refl
 
 pub data_of_view : (values : List Value) → data_of (items_view values) ≡ map view values

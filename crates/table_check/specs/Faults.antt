@@ -3,7 +3,7 @@
 -- turn; and then for each link what an earlier one has. A value of another type is not out of range too, and what is no identifier or no name is nobody's twice. Links beyond the
 -- first 4096 are not looked at.
 use Rattle.std.specs.Prelude.{ℕ, ◌+◌, Bool, false, ◌&&◌, ◌||◌, not, List, [], ◌∷◌, ◌++◌, length, map, take, Option, Some, None, unwrap_or, ◌==◌, nat_eq, nat_lt, if◌then◌else◌}
-use Rattle.std.specs.Option.{option_map, option_map_or}
+use Rattle.std.specs.Option.{option_map_or}
 use Rattle.std.specs.List.{flat_map, list_any}
 use Rattle.std.specs.Cmp.Lexicographic.{pointwise}
 use Rattle.toml.specs.Data.{Data, Members, no_members, member, as_table}

@@ -67,11 +67,7 @@ fn checked_links(table: &Table) -> &[Value]
 }
 
 /// Adds that there are too many links or filters, if there are.
-fn tell_count(
-    alloc: Global,
-    faults: &mut Vec<TableFault>,
-    table: &Table,
-) -> Result<(), AllocError>
+fn tell_count(alloc: Global, faults: &mut Vec<TableFault>, table: &Table) -> Result<(), AllocError>
     ensures { OnOk result (faults.new.items ≡ faults.old.items ++ count_faults (table_view table.now)) }
 {
     let links = values_at(table, Key::Link).len();

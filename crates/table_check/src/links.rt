@@ -161,7 +161,13 @@ fn tell_twice_here(
     let is_id = is_again_id(earlier, own.id);
     tell_key(alloc, faults, is_id, ConfigFault::TwiceId { link }, Key::Id)?;
     let is_name = is_again_name(earlier, own.name);
-    tell_key(alloc, faults, is_name, ConfigFault::TwiceName { link }, Key::Name)
+    tell_key(
+        alloc,
+        faults,
+        is_name,
+        ConfigFault::TwiceName { link },
+        Key::Name,
+    )
 }
 
 /// Adds a fault for each link whose identifier or name an earlier one has.

@@ -1,4 +1,4 @@
-use Rattle.std.proofs.Common.{◌≡◌, ◌<◌, ◌≤◌, length, arith}
+use Rattle.std.proofs.Common.{◌≤◌, arith}
 use Rattle.input_check.specs.Clocks.{HasSupport}
 use Rattle.input_check.proofs.Steps.{has_support, most_more}
 use Rattle.input_check.proofs.clocks.most_supported.Goals as goal
@@ -11,20 +11,20 @@ loop-index-preserved c =
     has_support meetings c.loop-index.index c.support-count.result _ c.loop-index-test.true c.support-count.ensures in
     elim c.if-most-count.branch [
       | then-most-count w ↦ (
-        let wide : c.loop-index.most ≤ c.support-count.result = omega (arith, w.if-most-count.true) in
-        let same : c.support-count.result ≤ c.support-count.result = omega arith in
-        record {
-          within = rw w.best-is c.loop-index-test.true;
-          has = rw (w.best-is, w.most-is) here;
-          most = rw w.most-is (most_more meetings c.loop-index.index c.support-count.result c.loop-index.most c.support-count.result here wide same c.loop-index.invariant.most);
-        })
+          let wide : c.loop-index.most ≤ c.support-count.result = omega (arith, w.if-most-count.true) in
+          let same : c.support-count.result ≤ c.support-count.result = omega arith in
+          record {
+            within = rw w.best-is c.loop-index-test.true;
+            has = rw (w.best-is, w.most-is) here;
+            most = rw w.most-is (most_more meetings c.loop-index.index c.support-count.result c.loop-index.most c.support-count.result here wide same c.loop-index.invariant.most);
+          })
       | else-most-count w ↦ (
-        let same : c.loop-index.most ≤ c.loop-index.most = omega arith in
-        record {
-          within = rw w.best-is c.loop-index.invariant.within;
-          has = rw (w.best-is, w.most-is) c.loop-index.invariant.has;
-          most = rw w.most-is (most_more meetings c.loop-index.index c.support-count.result c.loop-index.most c.loop-index.most here same w.if-most-count.false c.loop-index.invariant.most);
-        })
+          let same : c.loop-index.most ≤ c.loop-index.most = omega arith in
+          record {
+            within = rw w.best-is c.loop-index.invariant.within;
+            has = rw (w.best-is, w.most-is) c.loop-index.invariant.has;
+            most = rw w.most-is (most_more meetings c.loop-index.index c.support-count.result c.loop-index.most c.loop-index.most here same w.if-most-count.false c.loop-index.invariant.most);
+          })
     ]
 
 pub returns-clause-most : goal.returns-clause-most

@@ -1,4 +1,4 @@
-use Rattle.std.proofs.Common.{◌≡◌, map, take, length, min, ap, arith}
+use Rattle.std.proofs.Common.{◌≡◌, take, length, min, ap, arith}
 use Rattle.std.proofs.lemmas.List.{take-map, take_min}
 use Rattle.toml.specs.View.{view}
 use Rattle.vl_config.specs.declared.config.TheConstants.{MAX_LINKS}
