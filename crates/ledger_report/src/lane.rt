@@ -205,17 +205,20 @@ fn numbering_of(before: Option<u8>, number: u8) -> Numbering
 
 impl Lane {
     ghost use Rattle.std.specs.Prelude.{[]};
-    ghost use Rattle.ledger_report.specs.Alone.{KeepsAlone, MissesMore};
+    ghost use Rattle.ledger_report.specs.Alone.{KeepsAlone, MissesMore, missed};
     ghost use Rattle.ledger_report.specs.LaneLines.{number_amount};
-    ghost use Rattle.ledger_report.specs.LaneParts.{TakesAmounts, TakesEarly, TakesInterval, TakesLine, TakesNumber};
+    ghost use Rattle.ledger_report.specs.LaneParts.{TakesAmounts, TakesEarly, TakesInterval, TakesLine};
+    ghost use Rattle.ledger_report.specs.LaneParts.{TakesNumber};
     ghost use Rattle.ledger_report.specs.LaneParts.{TakesRule, interval_in, numbering_in};
     ghost use Rattle.ledger_report.specs.Lanes.{StandsAfter};
     ghost use Rattle.ledger_report.specs.Marks.{IsRule};
     ghost use Rattle.ledger_report.specs.declared.lane.LaneLine.{LaneLine};
     ghost use Rattle.ledger_report.specs.declared.lane.LaneRules.{LaneRules};
+    ghost use Rattle.ledger_report.specs.declared.signs.Mark.{Mark};
 
     pub(crate) fn new(alloc: Global) -> Result<Lane, AllocError>
-        ensures { IfOk result (λ lane. (rules : LaneRules) → StandsAfter rules [] lane) }
+        ensures after { IfOk result (λ lane. (rules : LaneRules) → StandsAfter rules [] lane) }
+        ensures missed { IfOk result (λ lane. (none : Mark) → missed none lane ≡ 0) }
     {
         Ok(Lane {
             frames: 0,
@@ -369,13 +372,18 @@ impl Lane {
         Ok(counted)
     }
 
-    /// Remembers the sequence number, which isn't lost any more, and says what it says against the one before.
+    /// Remembers the sequence number, which isn't lost any more, and says what it says against the one
+    /// before.
     #[inline]
     fn take_number(&mut self, line: &LaneLine, integrity: bool) -> Numbering
         ensures says { result ≡ numbering_in integrity self.old line.now }
         ensures plain { IsPlain result }
-        ensures previous { self.new.previous ≡ (if integrity then Some line.now.number else self.old.previous) }
-        ensures rest { self.new ≡ record self.old { previous = self.new.previous; lost_at = self.new.lost_at } }
+        ensures previous { self.new.previous
+            ≡ (if integrity then Some line.now.number else self.old.previous) }
+        ensures rest { self.new ≡ record self.old {
+          previous = self.new.previous;
+          lost_at = self.new.lost_at;
+        } }
     {
         if !integrity {
             return Numbering::Follows;
@@ -389,7 +397,8 @@ impl Lane {
     #[inline]
     fn hit_number(&mut self, line: &LaneLine, numbering: Numbering) -> Result<(), AllocError>
         requires { IsPlain numbering }
-        ensures signs { TakesAmounts (number_amount numbering) line.now.at.place self.old.signs self.new.signs }
+        ensures signs { TakesAmounts (number_amount numbering) line.now.at.place
+            self.old.signs self.new.signs }
         ensures rest { self.new ≡ record self.old { signs = self.new.signs } }
         ensures alone { KeepsAlone self.old.signs self.new.signs }
     {

@@ -84,8 +84,7 @@ impl LinkReport {
     ghost use Rattle.ledger_report.specs.declared.signs.Mark.{Mark};
 
     pub(crate) fn new(alloc: Global, link: &Link) -> Result<LinkReport, AllocError>
-        ensures balanced { IfOk result (λ report. (report.deliveries ≡ 0)
-            × (report.fates ≡ record { paired = 0; late = 0; first = 0; met = 0; uncovered = 0; alone = 0 })) }
+        ensures { IfOk result (λ report. (report.deliveries ≡ 0) × IsBalanced report) }
     {
         Ok(LinkReport {
             id: link.id,
@@ -353,7 +352,8 @@ impl LinkReport {
     ) -> Result<(), Refusal>
         ensures accounts { OnOk result ((none : Mark) → accounted none self.old + 2 < 2 ^ 64
             → accounted none self.new ≡ accounted none self.old + 1) }
-        ensures deliveries { self.old.deliveries + 1 < 2 ^ 64 → self.new.deliveries ≡ self.old.deliveries + 1 }
+        ensures deliveries { self.old.deliveries + 1 < 2 ^ 64
+            → self.new.deliveries ≡ self.old.deliveries + 1 }
     {
         self.deliveries = self.deliveries.saturating_add(1);
         let fate = self.settle_before(number, at, start, width, networks)?;
@@ -390,7 +390,10 @@ impl LinkReport {
             return Ok(fate);
         };
         let skew = at.place.stamp.saturating_sub(before.place.stamp);
-        if matches!(before.fate, Fate::Open) && before.network != at.network && skew <= self.window() {
+        if matches!(before.fate, Fate::Open)
+            && before.network != at.network
+            && skew <= self.window()
+        {
             self.note_late(skew, at, networks)?;
             return Ok(Fate::Late);
         }

@@ -1,4 +1,4 @@
-use Rattle.std.proofs.Common.{◌++◌, ◌∷◌, [], ℕ, refl}
+use Rattle.std.proofs.Common.{refl}
 use Rattle.ledger_text.specs.Ledger.{frame_lines}
 use Rattle.ledger_text.specs.declared.order.LedgerLine.TheVariants as lines
 use Rattle.ledger_report.proofs.Readings.{ends_counting, few_before, frame_counted, other_counted}

@@ -1,5 +1,5 @@
 -- One more number is settled.
-use Rattle.std.proofs.Common.{◌≡◌, ◌∙◌, ◌+◌, ◌<◌, ◌^◌, None, ap, arith, slice_index_or}
+use Rattle.std.proofs.Common.{◌∙◌, ◌+◌, ◌<◌, ◌^◌, None, ap, arith, slice_index_or}
 use Rattle.ledger_report.specs.Pending.{pending, pends}
 use Rattle.ledger_report.specs.Settling.{accounted}
 use Rattle.ledger_report.specs.declared.pairing.Pairing.{Pairing}
