@@ -17,7 +17,8 @@ pub struct InterfaceName {
 impl InterfaceName {
     /// The name of these bytes. None: they are more than [`MAX_NAME_LEN`].
     pub fn new(name: &[u8]) -> Option<InterfaceName>
-        ensures { MatchOption result (MAX_NAME_LEN < length name.now) (λ n. (take n.len n.bytes ≡ name.now) × (length name.now ≤ MAX_NAME_LEN)) }
+        ensures { MatchOption result (MAX_NAME_LEN < length name.now) (λ n.
+            (take n.len n.bytes ≡ name.now) × (length name.now ≤ MAX_NAME_LEN)) }
     {
         if name.len() > MAX_NAME_LEN {
             return None;

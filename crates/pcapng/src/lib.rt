@@ -12,8 +12,10 @@
 //! A recording of any other format is handed on as it is. What pcap can't say of a pcapng recording,
 //! the codes of `pcap_io`'s private layout tell: the reader then names the fault or the reason.
 //!
-//! What the source gives for a recording that isn't pcapng is stated and proved: its bytes. Of the
-//! bytes that it gives for a pcapng recording nothing is stated; tests fix them.
+//! What the source gives for a recording that isn't pcapng is stated and proved: its bytes. Of a pcapng
+//! recording the parts are: what a block's start, its options, an interface's description, a timestamp, a
+//! section and a packet's fields say, and which reason there is. That the bytes given are those of the
+//! blocks in their order isn't stated; tests fix them.
 #![tactic(auto)]
 
 mod block;

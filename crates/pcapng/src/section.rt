@@ -37,7 +37,8 @@ pub struct Section {
 
 impl Section {
     ghost use Rattle.pcap_io.specs.declared.layout.ByteOrder.TheVariants.{Little};
-    ghost use Rattle.pcapng.specs.Section.{in_section, is_chosen, known_of, next_number, noted, role_of, stamp_of, unknown, with_interface};
+    ghost use Rattle.pcapng.specs.Section.{in_section, is_chosen, known_of, next_number, noted};
+    ghost use Rattle.pcapng.specs.Section.{role_of, stamp_of, unknown, with_interface};
 
     /// No section yet. Allocates the memory of its interfaces.
     pub fn new(alloc: Global, choice: Choice) -> Result<Section, AllocError>
