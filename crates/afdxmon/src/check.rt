@@ -101,6 +101,20 @@ fn tap_answer<'a>(
     })
 }
 
+/// Opens both recordings.
+fn open_both(
+    rt: &HostRuntime,
+    given: &CheckArguments<'_>,
+    choices: Choices,
+) -> Result<(HeadedSource, HeadedSource), Refused> {
+    let a = open_tap(rt, given.a, Network::A, None)?;
+    let b = open_tap(rt, given.b, Network::B, None)?;
+    refuse_several_of_both(rt, given.a, given.b, choices)?;
+    let a = recording_of(rt, ReadSource::new(Headed::new(a)), choices.a)?;
+    let b = recording_of(rt, ReadSource::new(Headed::new(b)), choices.b)?;
+    Ok((a, b))
+}
+
 /// Reads the first frames of both recordings.
 fn read_recordings<'a>(
     rt: &HostRuntime,
@@ -109,11 +123,7 @@ fn read_recordings<'a>(
     config: Option<&Config>,
     inputs: &mut Inputs<'_>,
 ) -> Result<Passed<'a>, Refused> {
-    let a = open_tap(rt, given.a, Network::A, None)?;
-    let b = open_tap(rt, given.b, Network::B, None)?;
-    refuse_several_of_both(rt, given.a, given.b, choices)?;
-    let a = recording_of(rt, ReadSource::new(Headed::new(a)), choices.a)?;
-    let b = recording_of(rt, ReadSource::new(Headed::new(b)), choices.b)?;
+    let (a, b) = open_both(rt, given, choices)?;
     let extent = Extent {
         frames: MOST_FRAMES,
         late: config.map_or(MOST_LATE, |config| config.late()),
@@ -191,34 +201,68 @@ fn table_in(rt: &HostRuntime, text: &str, faults: &[TableFault]) -> Result<Optio
     }
 }
 
+/// A table's text, its faults, and the table where it has none.
+#[derive(Clone, Copy)]
+struct Table<'a> {
+    text: &'a str,
+    faults: &'a [TableFault],
+    config: Option<&'a Config>,
+}
+
 /// Tells whether a run with these inputs would be sound.
 pub fn check(
     rt: &HostRuntime,
     given: &CheckArguments<'_>,
     choices: Choices,
 ) -> Result<Ended, Refused> {
-    let alloc = rt.alloc();
     let text = text_of(rt, given.config, FileOption::Config)?;
-    let faults = table_faults(alloc, &text).map_err(|_| NO_RUN)?;
+    let faults = table_faults(rt.alloc(), &text).map_err(|_| NO_RUN)?;
     let config = table_in(rt, &text, &faults)?;
-    let filters = filter_answers(rt, given, config.as_ref())?;
-    let mut inputs = Inputs::new(alloc, config.as_ref()).map_err(|_| NO_RUN)?;
-    let passed = read_recordings(rt, given, choices, config.as_ref(), &mut inputs)?;
+    let table = Table {
+        text: &text,
+        faults: &faults,
+        config: config.as_ref(),
+    };
+    check_inputs(rt, given, choices, table)
+}
+
+/// Looks at the filters and the recordings, and tells the answer.
+fn check_inputs(
+    rt: &HostRuntime,
+    given: &CheckArguments<'_>,
+    choices: Choices,
+    table: Table<'_>,
+) -> Result<Ended, Refused> {
+    let filters = filter_answers(rt, given, table.config)?;
+    let mut inputs = Inputs::new(rt.alloc(), table.config).map_err(|_| NO_RUN)?;
+    let passed = read_recordings(rt, given, choices, table.config, &mut inputs)?;
+    tell_inputs(rt, given, table, &filters, &inputs, passed)
+}
+
+/// Tells what was found.
+fn tell_inputs(
+    rt: &HostRuntime,
+    given: &CheckArguments<'_>,
+    table: Table<'_>,
+    filters: &[FilterAnswer],
+    inputs: &Inputs<'_>,
+    passed: Passed<'_>,
+) -> Result<Ended, Refused> {
     let look = Look {
         a: reach_of(passed.a),
         b: reach_of(passed.b),
     };
-    let questions = questions_of(alloc, &inputs, look).map_err(|_| NO_RUN)?;
+    let questions = questions_of(rt.alloc(), inputs, look).map_err(|_| NO_RUN)?;
     let answer = Answer {
         table: shown_path(given.config),
-        text: &text,
-        faults: &faults,
-        config: config.as_ref(),
-        filters: &filters,
+        text: table.text,
+        faults: table.faults,
+        config: table.config,
+        filters,
         a: passed.a,
         b: passed.b,
         unread: passed.unread,
-        inputs: &inputs,
+        inputs,
         look,
         questions: &questions,
     };
