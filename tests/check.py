@@ -390,7 +390,7 @@ class Reference:
             constant = max(self.foreign, key=lambda one: self.foreign[one])
             out.append(f"is the table's 'constant' that of this network? Not that of {foreign} of {self.all} frames; {self.foreign[constant]} have {constant}")
         checks = [n for n in "AB" if self.has_checks(n)]
-        out += [f"does the recording of network {n} hold frame check sequences? Take them off: editcap -C -4" for n in checks]
+        out += [f"does the recording of network {n} hold frame check sequences? Take them off: editcap -L -C -4" for n in checks]
         if not checks and nearly_all(self.long, self.all):
             out.append(f"does 'smax' count a frame without its check sequence? {self.long} of {self.all} frames are longer")
         return out + (self.clocks() if not checks and not self.same() else [])

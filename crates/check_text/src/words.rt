@@ -123,7 +123,7 @@ const APART: &str = "do the recordings belong together? One ends before the othe
 
 const CONSTANT: &str = "is the table's 'constant' that of this network? Not that of";
 
-const TAKE_THEM_OFF: &str = "hold frame check sequences? Take them off: editcap -C -4";
+const TAKE_THEM_OFF: &str = "hold frame check sequences? Take them off: editcap -L -C -4";
 
 const SMAX: &str = "does 'smax' count a frame without its check sequence?";
 
