@@ -330,11 +330,29 @@ def both_networks():
     return file.bytes()
 
 
+def two_of_a_name(bench):
+    """Of several interfaces of one name in a section its first is meant by the name, each by its number."""
+    file = Blocks().section().interface("usb", 9, link_type=220).interface("eth0", 9).interface("eth0", 9).interface("eth1", 9)
+    for i, data in enumerate(DATA):
+        for number in (2, 1, 3):
+            file.packet((SECOND + i) * 10**9 + number, data[:60] + bytes([number]), number)
+    later = Blocks(">").section().interface("eth1").interface("eth0").packet((SECOND + 9) * 10**6, DATA[0], 1).interface("eth0").packet((SECOND + 10) * 10**6, DATA[1], 2)
+    both = file.bytes() + later.packet((SECOND + 11) * 10**6, DATA[2], 1).bytes()
+    kinds = Blocks().section().interface("eth0", 9, link_type=220).interface("eth0", 9).packet(1, DATA[0], 1).packet(2, DATA[1]).packet(3, DATA[2], 1).bytes()
+    for choice in ("eth0", 1, 2, "eth1"):
+        bench.captured("two interfaces of a name", file.bytes(), choice)
+        bench.captured("two interfaces of a name, in two sections", both, choice)
+    bench.captured("two interfaces of a name, the first not of Ethernet", kinds, "eth0")
+    frames, ending, _ = Reader("eth0").read(file.bytes())
+    say("pcapng: a name means the first interface of it", "" if [data[-1] for *_, data in frames] == [1] * len(DATA) else ending)
+
+
 def choices(bench):
     """An interface by its number and its name; a path that is there as it stands wins."""
     both = both_networks()
     for choice in (0, 1, 2, 3, 65535, "eth0", "eth1", "usb", "eth", "eth00", "ETH0"):
         bench.captured("interfaces", both, choice)
+    two_of_a_name(bench)
     several = "afdxmon: interfaces RECORDING: 0 eth0, 2 eth1"
     bench.refused("several interfaces", both, several)
     one = Blocks().section().interface("eth0", 9).interface("eth1", 9)

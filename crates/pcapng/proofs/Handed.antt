@@ -1,17 +1,23 @@
 -- What steps do to what is given.
 use Rattle.std.proofs.Common.{◌≡◌, ℕ, ◌+◌, ◌-◌, ◌<◌, ◌≤◌, min, Bool, true, false, List, [], ◌∷◌, ◌++◌, length, take, drop, slice_range, nat_lt, nat_eq, Option, Some, None, Result, Ok, Err, IsErr, IfOk, IfSome, ◌⊎◌, inl, inr, refl, sym, ap, ◌∙◌, subst, arith, append_assoc}
-use Rattle.std.proofs.KnownBytes.{Consumes-trans, Keeps-refl}
+use Rattle.std.proofs.KnownBytes.{Consumes-trans}
 use Rattle.std.proofs.lemmas.Bool.{cases_lt, eqb-true, le-ltb}
 use Rattle.std.proofs.lemmas.List.{length-append, take_at, drop_at, drop_all, take_all, take-append-drop, drop-append-le}
 use Rattle.std.specs.Io.KnownBytes.{Consumes, IsAtEnd, Keeps, ReadConsumes, prepend_known}
 use Rattle.byteorder.specs.Endian.{big_number}
 use borrow.Rule.Slice.PartMut.{put_mid}
-use Rattle.pcap_io.specs.Bytes.{known_bytes}
+use Rattle.pcap_io.specs.Bytes.{IsBytes, bytes_of, known_bytes}
+use Rattle.pcapng.proofs.GivenBytes.{given_of-known}
+use Rattle.pcap_io.specs.declared.layout.ByteOrder.TheVariants.{Little}
 use Rattle.pcap_io.specs.declared.device.DeviceFault.{DeviceFault}
 use Rattle.pcap_io.proofs.Bytes.{known_bytes-consumed, known_bytes-end, known_bytes-kept}
 use Rattle.pcap_io.proofs.Draws.{split, length-between, keeps_more}
 use Rattle.pcap_io.proofs.Transfers.{take-read}
-use Rattle.pcapng.specs.Handed.{handed, handed_known, known_at, pending_of, rest_at, unread_of, untouched, untouched_as}
+use Rattle.pcapng.specs.File.{pcap_of}
+use Rattle.pcapng.specs.Handed.{given_as, given_from, given_of, handed, handed_known, known_at, pending_of, rest_at, unread_of}
+use Rattle.pcapng.specs.Section.{Known, known_of, unknown}
+use Rattle.pcapng.specs.declared.choice.Choice.{Choice}
+use Rattle.pcapng.specs.declared.section.Section.{Section}
 use Rattle.pcapng.specs.declared.converter.Converter.{Converter}
 use Rattle.pcapng.specs.declared.converter.Stage.{Stage}
 use Rattle.pcapng.specs.declared.converter.Stage.TheVariants as stages
@@ -24,42 +30,44 @@ pub none_first : (xs ys : List ℕ) → xs ++ ys ≡ [] → xs ≡ []
 none_first [] ys e = refl
 none_first (x ∷ xs) ys e = cc
 
--- what is given next stays, and the unread bytes with those of the source
-pub keeps_at : (p q : List ℕ) (st to : Stage) (u v : List ℕ) (r s : Option (List ℕ)) → q ≡ p → to ≡ st
-    → Keeps (prepend_known u r) (prepend_known v s) → Keeps (known_at p st u r) (known_at q to v s)
-keeps_at p q st to u v None s e t h = tt
-keeps_at p q st to u v (Some x) None e t h = absurd h
-keeps_at p q st to u v (Some x) (Some y) e t h =
-    let same : prepend_known q (rest_at to (v ++ y)) ≡ prepend_known p (rest_at st (u ++ x)) =
-    ap (λ (l : List ℕ). prepend_known l (rest_at to (v ++ y))) e
-    ∙ (ap (λ (k : Stage). prepend_known p (rest_at k (v ++ y))) t ∙ ap (λ (l : List ℕ). prepend_known p (rest_at st l)) h) in
-    subst (Keeps (prepend_known p (rest_at st (u ++ x)))) (sym same) (Keeps-refl (prepend_known p (rest_at st (u ++ x))))
-
--- part of what is given next was given
-pub gives_front : (p q front : List ℕ) (rest : Option (List ℕ)) → p ≡ front ++ q → Consumes (prepend_known p rest) (prepend_known q rest) front
-gives_front p q front None e = tt
-gives_front p q front (Some x) e = ap (λ (l : List ℕ). l ++ x) e ∙ append_assoc front q x
+-- what is given next stays, what is known, and the unread bytes with those of the source
+pub keeps_at : (p q : List ℕ) (st to : Stage) (k m : Known) (u v : List ℕ) (r s : Option (List ℕ)) → q ≡ p → to ≡ st → m ≡ k
+    → Keeps (prepend_known u r) (prepend_known v s) → Keeps (known_at p st k u r) (known_at q to m v s)
+keeps_at p q st to k m u v None s e t f h = tt
+keeps_at p q st to k m u v (Some x) None e t f h = absurd h
+keeps_at p q st to k m u v (Some x) (Some y) e t f h =
+    ap (λ (l : List ℕ). l ++ rest_at to m (v ++ y)) e
+    ∙ (ap (λ (a : Stage). p ++ rest_at a m (v ++ y)) t
+    ∙ (ap (λ (n : Known). p ++ rest_at st n (v ++ y)) f ∙ ap (λ (l : List ℕ). p ++ rest_at st k l) h))
 
 pub gives_known : (c d : Converter) (front : List ℕ) (r : Option (List ℕ)) → pending_of c ≡ front ++ pending_of d → d.stage ≡ c.stage
-    → unread_of d ≡ unread_of c → Consumes (handed_known c r) (handed_known d r) front
-gives_known c d front None p t u = tt
-gives_known c d front (Some x) p t u =
-    let same : rest_at d.stage (unread_of d ++ x) ≡ rest_at c.stage (unread_of c ++ x) =
-    ap (λ (st : Stage). rest_at st (unread_of d ++ x)) t ∙ ap (λ (l : List ℕ). rest_at c.stage (l ++ x)) u in
-    subst (λ (o : Option (List ℕ)). Consumes (handed c x) (prepend_known (pending_of d) o) front) (sym same)
-    (gives_front (pending_of c) (pending_of d) front (rest_at c.stage (unread_of c ++ x)) p)
+    → unread_of d ≡ unread_of c → d.section ≡ c.section → Consumes (handed_known c r) (handed_known d r) front
+gives_known c d front None p t u f = tt
+gives_known c d front (Some x) p t u f =
+    let same : rest_at d.stage (known_of d.section) (unread_of d ++ x) ≡ rest_at c.stage (known_of c.section) (unread_of c ++ x) =
+    ap (λ (st : Stage). rest_at st (known_of d.section) (unread_of d ++ x)) t
+    ∙ (ap (λ (s : Section). rest_at c.stage (known_of s) (unread_of d ++ x)) f ∙ ap (λ (l : List ℕ). rest_at c.stage (known_of c.section) (l ++ x)) u) in
+    let rest = rest_at c.stage (known_of c.section) (unread_of c ++ x) in
+    ap (λ (l : List ℕ). l ++ rest) p ∙ (append_assoc front (pending_of d) rest ∙ ap (λ (l : List ℕ). front ++ (pending_of d ++ l)) (sym same))
 
 -- what is given stays, for a source that stays
-pub hands_known : (c d : Converter) (r : Option (List ℕ)) → ((left : List ℕ) → Keeps (handed c left) (handed d left)) → Keeps (handed_known c r) (handed_known d r)
+pub hands_known : (c d : Converter) (r : Option (List ℕ)) → ((left : List ℕ) → handed d left ≡ handed c left) → Keeps (handed_known c r) (handed_known d r)
 hands_known c d None h = tt
 hands_known c d (Some x) h = h x
+
+-- where nothing is left of what is given next, it is what the rest stands for
+pub at_stage : (c : Converter) (st : Stage) (left : List ℕ) → c.stage ≡ st → pending_of c ≡ []
+    → handed c left ≡ rest_at st (known_of c.section) (unread_of c ++ left)
+at_stage c st left t p =
+    ap (λ (l : List ℕ). l ++ rest_at c.stage (known_of c.section) (unread_of c ++ left)) p
+    ∙ ap (λ (s : Stage). rest_at s (known_of c.section) (unread_of c ++ left)) t
 
 -- ---- the first four bytes
 
 -- four unread bytes are the first four
-pub first_four : (items left : List ℕ) (s e : ℕ) → s + 4 ≤ e → e ≤ length items
-    → untouched (slice_range items s e ++ left) ≡ untouched_as (big_number 4 (slice_range items s (s + 4))) (slice_range items s e ++ left)
-first_four items left s e four within =
+pub first_four : (k : Known) (items left : List ℕ) (s e : ℕ) → s + 4 ≤ e → e ≤ length items
+    → given_from k (slice_range items s e ++ left) ≡ given_as (big_number 4 (slice_range items s (s + 4))) k (slice_range items s e ++ left)
+first_four k items left s e four within =
     let a = slice_range items s (s + 4) in
     let b = slice_range items (s + 4) e in
     let whole : slice_range items s e ++ left ≡ a ++ (b ++ left) = ap (λ (l : List ℕ). l ++ left) (split s 4 e items four within) ∙ append_assoc a b left in
@@ -71,7 +79,7 @@ first_four items left s e four within =
 
 -- ---- reads
 
-from_start : (e : ℕ) (xs : List ℕ) → slice_range xs 0 e ≡ take e xs
+pub from_start : (e : ℕ) (xs : List ℕ) → slice_range xs 0 e ≡ take e xs
 from_start e xs =
     let all : e - 0 ≡ e = omega arith in
     ap (λ (m : ℕ). take m (drop 0 xs)) all
@@ -91,16 +99,13 @@ keeps_prepend (Some x) None xs ys e h = absurd h
 keeps_prepend (Some x) (Some y) xs ys e h = ap (λ (l : List ℕ). l ++ y) e ∙ ap (λ (l : List ℕ). xs ++ l) h
 
 -- nothing is left of a header and of other bytes
-pub given_of : (hs bs items : List ℕ) → hs ++ bs ≡ [] → hs ++ slice_range items 0 0 ≡ []
-given_of hs bs items e = ap (λ (l : List ℕ). l ++ []) (none_first hs bs e)
+pub none_given : (hs bs items : List ℕ) → hs ++ bs ≡ [] → hs ++ slice_range items 0 0 ≡ []
+none_given hs bs items e = ap (λ (l : List ℕ). l ++ []) (none_first hs bs e)
 
 -- a recording that is handed on, of which nothing is read ahead
 plain : (c : Converter) (r : Option (List ℕ)) → pending_of c ≡ [] → unread_of c ≡ [] → c.stage ≡ stages.Untouched → handed_known c r ≡ r
 plain c None p u t = refl
-plain c (Some x) p u t =
-    ap (λ (l : List ℕ). prepend_known l (rest_at c.stage (unread_of c ++ x))) p
-    ∙ (ap (λ (st : Stage). prepend_known [] (rest_at st (unread_of c ++ x))) t
-    ∙ ap (λ (l : List ℕ). prepend_known [] (rest_at stages.Untouched (l ++ x))) u)
+plain c (Some x) p u t = ap Some (at_stage c stages.Untouched x t p ∙ ap (λ (l : List ℕ). l ++ x) u)
 
 pub passes : (c : Converter) (a b : Option (List ℕ)) (n : ℕ) (buf : List ℕ) → pending_of c ≡ [] → unread_of c ≡ [] → c.stage ≡ stages.Untouched
     → Consumes a b (take n buf) × (n ≡ 0 → 0 < length buf → IsAtEnd b)
@@ -137,13 +142,18 @@ two_given h b n hs bs eh eb = elim (cases_lt n (length hs)) [
 
 -- ---- the beginning
 
-pub begins_section : (c : Converter) (left : List ℕ) → c.stage ≡ stages.Start → c.start + 4 ≤ c.end → c.end ≤ length c.block.items
-    → big_number 4 (slice_range c.block.items c.start (c.start + 4)) ≡ 0x0a0d0d0a → Keeps (handed c left) None
-begins_section c left t four within magic =
-    let none : rest_at c.stage (unread_of c ++ left) ≡ None =
-    ap (λ (st : Stage). rest_at st (unread_of c ++ left)) t
-    ∙ (first_four c.block.items left c.start c.end four within ∙ ap (λ (m : ℕ). untouched_as m (unread_of c ++ left)) magic) in
-    rw none tt
+-- the number in the first four bytes decides
+begun_at : (c : Converter) (left : List ℕ) → c.stage ≡ stages.Start → pending_of c ≡ [] → c.start + 4 ≤ c.end → c.end ≤ length c.block.items
+    → handed c left ≡ given_as (big_number 4 (slice_range c.block.items c.start (c.start + 4))) (known_of c.section) (unread_of c ++ left)
+begun_at c left t p four within = at_stage c stages.Start left t p ∙ first_four (known_of c.section) c.block.items left c.start c.end four within
+
+pub begins_section : (c : Converter) (left : List ℕ) → c.stage ≡ stages.Start → pending_of c ≡ [] → c.start + 4 ≤ c.end → c.end ≤ length c.block.items
+    → big_number 4 (slice_range c.block.items c.start (c.start + 4)) ≡ 0x0a0d0d0a
+    → (slice_range c.header c.header_from c.header_to ++ slice_range c.block.items 0 0) ++ pcap_of (known_of c.section) (unread_of c ++ left) ≡ handed c left
+begins_section c left t p four within magic =
+    let rest = pcap_of (known_of c.section) (unread_of c ++ left) in
+    ap (λ (l : List ℕ). l ++ rest) (none_given (slice_range c.header c.header_from c.header_to) (slice_range c.block.items c.body_from c.body_to) c.block.items p)
+    ∙ sym (begun_at c left t p four within ∙ ap (λ (m : ℕ). given_as m (known_of c.section) (unread_of c ++ left)) magic)
 
 no_number : (m n : ℕ) → (m ≡ n → ⊥) → nat_eq m n ≡ false
 no_number m n differs = elim (which (nat_eq m n)) [
@@ -151,73 +161,51 @@ no_number m n differs = elim (which (nat_eq m n)) [
   | inr f ↦ f
 ]
 
--- what is given of a recording whose header was judged
-given_now : (c : Converter) (items rest left : List ℕ) (kind : Option (List ℕ)) → c.stage ≡ stages.Start → pending_of c ≡ []
-    → untouched (unread_of c ++ left) ≡ kind → kind ≡ Some (rest ++ left)
-    → Keeps (handed c left) (Some ((slice_range c.header c.header_from c.header_to ++ slice_range items 0 0) ++ (rest ++ left)))
-given_now c items rest left kind t p one two =
-    let now : handed c left ≡ Some (rest ++ left) =
-    ap (λ (l : List ℕ). prepend_known l (rest_at c.stage (unread_of c ++ left))) p
-    ∙ (ap (λ (st : Stage). prepend_known [] (rest_at st (unread_of c ++ left))) t ∙ ap (prepend_known []) (one ∙ two)) in
-    let none : slice_range c.header c.header_from c.header_to ++ slice_range items 0 0 ≡ [] =
-    given_of (slice_range c.header c.header_from c.header_to) (slice_range c.block.items c.body_from c.body_to) items p in
-    rw now (ap (λ (l : List ℕ). l ++ (rest ++ left)) none)
-
 pub begins_plain : (c : Converter) (left : List ℕ) → c.stage ≡ stages.Start → pending_of c ≡ [] → c.start + 4 ≤ c.end → c.end ≤ length c.block.items
     → (big_number 4 (slice_range c.block.items c.start (c.start + 4)) ≡ 0x0a0d0d0a → ⊥)
     → (big_number 4 (slice_range c.block.items c.start (c.start + 4)) ≡ 0x70636e67 → ⊥)
-    → Keeps (handed c left) (Some ((slice_range c.header c.header_from c.header_to ++ slice_range c.block.items 0 0) ++ (unread_of c ++ left)))
+    → (slice_range c.header c.header_from c.header_to ++ slice_range c.block.items 0 0) ++ (unread_of c ++ left) ≡ handed c left
 begins_plain c left t p four within section private =
     let m = big_number 4 (slice_range c.block.items c.start (c.start + 4)) in
     let one : nat_eq m 0x0a0d0d0a ≡ false = no_number m 0x0a0d0d0a section in
     let two : nat_eq m 0x70636e67 ≡ false = no_number m 0x70636e67 private in
-    let plain : untouched_as m (unread_of c ++ left) ≡ Some (unread_of c ++ left) = rw (one, two) refl in
-    given_now c c.block.items (unread_of c) left _ t p (first_four c.block.items left c.start c.end four within) plain
+    let plain : given_as m (known_of c.section) (unread_of c ++ left) ≡ unread_of c ++ left = rw (one, two) refl in
+    ap (λ (l : List ℕ). l ++ (unread_of c ++ left))
+    (none_given (slice_range c.header c.header_from c.header_to) (slice_range c.block.items c.body_from c.body_to) c.block.items p)
+    ∙ sym (begun_at c left t p four within ∙ plain)
 
 pub begins_blanked : (c : Converter) (left : List ℕ) → c.stage ≡ stages.Start → pending_of c ≡ [] → c.start + 4 ≤ c.end → c.end ≤ length c.block.items
     → big_number 4 (slice_range c.block.items c.start (c.start + 4)) ≡ 0x70636e67
-    → Keeps (handed c left) (Some ((0 ∷ 0 ∷ 0 ∷ 0 ∷ []) ++ (slice_range c.block.items (c.start + 4) c.end ++ left)))
+    → (0 ∷ 0 ∷ 0 ∷ 0 ∷ []) ++ (slice_range c.block.items (c.start + 4) c.end ++ left) ≡ handed c left
 begins_blanked c left t p four within magic =
     let size : 4 ≤ length (unread_of c) = omega (arith, length-between c.start c.end c.block.items within, four) in
-    let given = (0 ∷ 0 ∷ 0 ∷ 0 ∷ []) ++ drop 4 (unread_of c ++ left) in
-    let now : handed c left ≡ Some given =
-    ap (λ (l : List ℕ). prepend_known l (rest_at c.stage (unread_of c ++ left))) p
-    ∙ (ap (λ (st : Stage). prepend_known [] (rest_at st (unread_of c ++ left))) t
-    ∙ ap (prepend_known []) (first_four c.block.items left c.start c.end four within ∙ ap (λ (m : ℕ). untouched_as m (unread_of c ++ left)) magic)) in
     let rest : slice_range c.block.items (c.start + 4) c.end ++ left ≡ drop 4 (unread_of c ++ left) =
     ap (λ (l : List ℕ). l ++ left) (sym (drop_slice 4 c.start c.end c.block.items four within)) ∙ sym (drop-append-le 4 (unread_of c) left size) in
-    rw now (ap (λ (l : List ℕ). (0 ∷ 0 ∷ 0 ∷ 0 ∷ []) ++ l) rest)
+    ap (λ (l : List ℕ). (0 ∷ 0 ∷ 0 ∷ 0 ∷ []) ++ l) rest
+    ∙ sym (begun_at c left t p four within ∙ ap (λ (m : ℕ). given_as m (known_of c.section) (unread_of c ++ left)) magic)
 
 -- ---- a source
 
-nothing : (known : Option (List ℕ)) → prepend_known [] known ≡ known
-nothing None = refl
-nothing (Some x) = refl
-
-pub keeps_source : (c d : Converter) (r s : Option (List ℕ)) → Keeps (handed_known c r) (handed_known d s)
-    → Keeps (known_bytes (handed_known c r)) (known_bytes (handed_known d s))
-keeps_source c d r s h = known_bytes-kept (handed_known c r) (handed_known d s) h
-
-pub hands_source : (c d : Converter) (r : Option (List ℕ)) → ((left : List ℕ) → Keeps (handed c left) (handed d left))
+pub hands_source : (c d : Converter) (r : Option (List ℕ)) → ((left : List ℕ) → handed d left ≡ handed c left)
     → Keeps (known_bytes (handed_known c r)) (known_bytes (handed_known d r))
 hands_source c d r h = known_bytes-kept (handed_known c r) (handed_known d r) (hands_known c d r h)
 
 pub gives_source : (c d : Converter) (front : List ℕ) (r : Option (List ℕ)) → pending_of c ≡ front ++ pending_of d → d.stage ≡ c.stage
-    → unread_of d ≡ unread_of c → Consumes (known_bytes (handed_known c r)) (known_bytes (handed_known d r)) front
-gives_source c d front r p t u = known_bytes-consumed (handed_known c r) (handed_known d r) front (gives_known c d front r p t u)
+    → unread_of d ≡ unread_of c → d.section ≡ c.section → Consumes (known_bytes (handed_known c r)) (known_bytes (handed_known d r)) front
+gives_source c d front r p t u f = known_bytes-consumed (handed_known c r) (handed_known d r) front (gives_known c d front r p t u f)
 
--- the source has ended, and the rest is given
-pub ends_known : (c d : Converter) (r : Option (List ℕ)) → IsAtEnd r → Keeps (handed c []) (handed d []) → Keeps (handed_known c r) (handed_known d r)
-ends_known c d None e h = tt
-ends_known c d (Some x) e h = subst (λ (l : List ℕ). Keeps (handed c l) (handed d l)) (sym e) h
+-- all that is given for the known bytes is known
+pub starts_whole : (c : Converter) (choice : Choice) (r : Option (List ℕ)) → IfSome r IsBytes → c.stage ≡ stages.Start → pending_of c ≡ [] → unread_of c ≡ []
+    → known_of c.section ≡ unknown choice Little → IfSome r (λ bytes. known_bytes (handed_known c r) ≡ Some (given_of choice bytes))
+starts_whole c choice None fits t p u k = tt
+starts_whole c choice (Some x) fits t p u k =
+    ap bytes_of (at_stage c stages.Start x t p ∙ (ap (λ (l : List ℕ). given_from (known_of c.section) (l ++ x)) u ∙ ap (λ (m : Known). given_from m x) k))
+    ∙ given_of-known choice (Some x) fits
 
-pub starts_whole : (c : Converter) (r : Option (List ℕ)) → c.stage ≡ stages.Start → pending_of c ≡ [] → unread_of c ≡ []
-    → IfSome r (λ bytes. known_bytes (handed_known c r) ≡ known_bytes (untouched bytes))
-starts_whole c None t p u = tt
-starts_whole c (Some x) t p u =
-    ap (λ (l : List ℕ). known_bytes (prepend_known l (rest_at c.stage (unread_of c ++ x)))) p
-    ∙ (ap (λ (st : Stage). known_bytes (prepend_known [] (rest_at st (unread_of c ++ x)))) t
-    ∙ (ap (λ (l : List ℕ). known_bytes (prepend_known [] (untouched (l ++ x)))) u ∙ ap known_bytes (nothing (untouched x))))
+-- nothing follows
+pub ends_there : (c : Converter) (r : Option (List ℕ)) → c.stage ≡ stages.Ended → pending_of c ≡ [] → IsAtEnd (known_bytes (handed_known c r))
+ends_there c None t p = tt
+ends_there c (Some x) t p = known_bytes-end (Some (handed c x)) (at_stage c stages.Ended x t p)
 
 -- ---- reads, one after another
 

@@ -1,4 +1,10 @@
 pub mod BlockStarts
+pub mod Converting
+pub mod Examples
+pub mod Files
+pub mod GivenBytes
 pub mod Handed
 pub mod OptionFronts
+pub mod Orders
+pub mod Reading
 pub mod Times

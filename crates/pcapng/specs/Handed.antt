@@ -1,9 +1,15 @@
--- What a source gives for a recording that isn't pcapng: its bytes. Of a pcapng recording nothing is stated here.
-use Rattle.std.specs.Prelude.{◌≡◌, ℕ, ◌<◌, ◌≤◌, List, [], ◌∷◌, ◌++◌, length, take, drop, slice_range, Option, Some, None, nat_lt, ◌==◌, if◌then◌else◌, ⊤}
-use Rattle.std.specs.Io.KnownBytes.{Keeps, prepend_known}
+-- What a source gives for a recording: the pcap that a pcapng file stands for, and of any other file its bytes.
+use Rattle.std.specs.Prelude.{◌≡◌, ℕ, ◌+◌, ◌<◌, ◌≤◌, List, [], ◌∷◌, ◌++◌, length, take, drop, slice_range, Option, Some, None, nat_lt, ◌==◌, if◌then◌else◌, ⊤}
 use Rattle.byteorder.specs.Endian.{big_number}
 use Rattle.pcap_io.specs.Bytes.{known_bytes}
+use Rattle.pcap_io.specs.Layout.{number_in}
+use Rattle.pcap_io.specs.declared.layout.ByteOrder.TheVariants.{Little}
+use Rattle.pcap_io.specs.declared.recording.BadReason.TheVariants.{BlockLengthsDiffer}
+use Rattle.pcapng.specs.File.{end_bytes, given_at, pcap_of}
+use Rattle.pcapng.specs.Section.{Known, known_of, unknown}
+use Rattle.pcapng.specs.Text.{cut_bytes, reason_bytes}
 use Rattle.pcapng.specs.declared.block.TheConstants.{MAX_BLOCK_LEN}
+use Rattle.pcapng.specs.declared.choice.Choice.{Choice}
 use Rattle.pcapng.specs.declared.converter.Converter.{Converter}
 use Rattle.pcapng.specs.declared.converter.Stage.{Stage}
 use Rattle.pcapng.specs.declared.converter.Stage.TheVariants as stages
@@ -11,46 +17,69 @@ use Rattle.pcapng.specs.declared.converter.Step.{Step}
 use Rattle.pcapng.specs.declared.converter.Step.TheVariants as steps
 use Rattle.pcapng.specs.declared.source.RecordingSource.{RecordingSource}
 
--- What is given where the first four bytes are this number: they don't begin a section header. In place of the magic number that is this
--- project's own, zeros are given, which no format begins with.
-abbrev pub untouched_as : ℕ → List ℕ → Option (List ℕ)
-untouched_as magic bytes =
-    if magic == 0x0a0d0d0a then None
-    else if magic == 0x70636e67 then Some ((0 ∷ 0 ∷ 0 ∷ 0 ∷ []) ++ drop 4 bytes)
-    else Some bytes
+-- What is given where the first four bytes are this number: a section header's type begins a pcapng file. In place of the magic number
+-- that is this project's own, zeros are given, which no format begins with.
+abbrev pub given_as : ℕ → Known → List ℕ → List ℕ
+given_as magic k bytes =
+    if magic == 0x0a0d0d0a then pcap_of k bytes
+    else if magic == 0x70636e67 then (0 ∷ 0 ∷ 0 ∷ 0 ∷ []) ++ drop 4 bytes
+    else bytes
 
--- what is given for a whole file
-abbrev pub untouched : List ℕ → Option (List ℕ)
-untouched bytes = if nat_lt (length bytes) 4 then Some bytes else untouched_as (big_number 4 (take 4 bytes)) bytes
+abbrev pub given_from : Known → List ℕ → List ℕ
+given_from k bytes = if nat_lt (length bytes) 4 then bytes else given_as (big_number 4 (take 4 bytes)) k bytes
+
+-- What is given for a whole recording, of which this interface is chosen.
+abbrev pub given_of : Choice → List ℕ → List ℕ
+given_of choice bytes = given_from (unknown choice Little) bytes
 
 -- what was read ahead and isn't judged yet
 abbrev pub unread_of : Converter → List ℕ
 unread_of c = slice_range c.block.items c.start c.end
 
+-- so many of its bytes
+abbrev pub block_of : Converter → ℕ → List ℕ
+block_of c len = slice_range c.block.items c.start (c.start + len)
+
 -- what is given next
 abbrev pub pending_of : Converter → List ℕ
 pending_of c = slice_range c.header c.header_from c.header_to ++ slice_range c.block.items c.body_from c.body_to
 
+-- what is given from within a block of this length that is passed over, of which so many bytes stand before its last four
+abbrev pub skipped_at : ℕ → ℕ → Known → List ℕ → List ℕ
+skipped_at before len k bytes =
+    if nat_lt (length bytes) (before + 4) then cut_bytes
+    else if number_in k.order 4 (drop before bytes) == len then given_at k (drop (before + 4) bytes)
+    else reason_bytes BlockLengthsDiffer
+
 -- what is given for the bytes that aren't judged yet
-abbrev pub rest_at : Stage → List ℕ → Option (List ℕ)
-rest_at stages.Start bytes = untouched bytes
-rest_at stages.Untouched bytes = Some bytes
-rest_at stages.FirstSection bytes = None
-rest_at stages.Blocks bytes = None
-rest_at (stages.Skipping left len) bytes = None
-rest_at stages.Ended bytes = None
+abbrev pub rest_at : Stage → Known → List ℕ → List ℕ
+rest_at stages.Start k bytes = given_from k bytes
+rest_at stages.Untouched k bytes = bytes
+rest_at stages.FirstSection k bytes = pcap_of k bytes
+rest_at stages.Blocks k bytes = given_at k bytes
+rest_at (stages.Skipping left len) k bytes = skipped_at left len k bytes
+rest_at stages.Ended k bytes = []
+
+-- what is given for them where they end before what comes next does
+abbrev pub end_at : Stage → Known → List ℕ → List ℕ
+end_at stages.Start k bytes = bytes
+end_at stages.Untouched k bytes = bytes
+end_at stages.FirstSection k bytes = []
+end_at stages.Blocks k bytes = if length bytes == 0 then end_bytes k else cut_bytes
+end_at (stages.Skipping left len) k bytes = cut_bytes
+end_at stages.Ended k bytes = []
 
 -- what is given where the source has these bytes left
-abbrev pub handed : Converter → List ℕ → Option (List ℕ)
-handed c left = prepend_known (pending_of c) (rest_at c.stage (unread_of c ++ left))
+abbrev pub handed : Converter → List ℕ → List ℕ
+handed c left = pending_of c ++ rest_at c.stage (known_of c.section) (unread_of c ++ left)
 
 -- what is given next, and then for the unread bytes and those that the source has left, where it exposes them
-abbrev pub known_at : List ℕ → Stage → List ℕ → Option (List ℕ) → Option (List ℕ)
-known_at pending stage unread None = None
-known_at pending stage unread (Some left) = prepend_known pending (rest_at stage (unread ++ left))
+abbrev pub known_at : List ℕ → Stage → Known → List ℕ → Option (List ℕ) → Option (List ℕ)
+known_at pending stage k unread None = None
+known_at pending stage k unread (Some left) = Some (pending ++ rest_at stage k (unread ++ left))
 
 abbrev pub handed_known : Converter → Option (List ℕ) → Option (List ℕ)
-handed_known c known = known_at (pending_of c) c.stage (unread_of c) known
+handed_known c known = known_at (pending_of c) c.stage (known_of c.section) (unread_of c) known
 
 -- what a recording's source exposes
 abbrev pub remaining_of : {S : Type 0} → (S → Option (List ℕ)) → RecordingSource S → Option (List ℕ)
@@ -58,14 +87,26 @@ remaining_of remaining s = known_bytes (handed_known s.converter (remaining s.so
 
 -- what is given stays, whatever the source has left
 abbrev pub HandsOn : Converter → Converter → Type 0
-HandsOn a b = (left : List ℕ) → Keeps (handed a left) (handed b left)
+HandsOn a b = (left : List ℕ) → handed b left ≡ handed a left
+
+-- this is all that is given
+abbrev pub GivesLast : Converter → List ℕ → Type 0
+GivesLast c bytes = (left : List ℕ) → handed c left ≡ bytes
+
+-- the unread bytes end before what comes next does
+abbrev pub EndsWithin : Converter → Type 0
+EndsWithin c = rest_at c.stage (known_of c.section) (unread_of c) ≡ end_at c.stage (known_of c.section) (unread_of c)
 
 -- the unread bytes are fewer than a step needs, and those that it needs have room in the block
 abbrev pub Lacks : Converter → Step → Type 0
 Lacks c steps.Done = ⊤
-Lacks c (steps.Needs needed) = (needed ≤ MAX_BLOCK_LEN) × (length (unread_of c) < needed) × (c.stage ≡ stages.Start → needed ≡ 4)
+Lacks c (steps.Needs needed) = (needed ≤ MAX_BLOCK_LEN) × (length (unread_of c) < needed) × EndsWithin c
 
 -- where more is needed, nothing is left to give, as before
 abbrev pub StillGiven : Converter → Step → List ℕ → Type 0
 StillGiven c steps.Done pending = ⊤
 StillGiven c (steps.Needs needed) pending = pending_of c ≡ pending
+
+-- nothing changed but the section
+abbrev pub KeepsRest : Converter → Converter → Type 0
+KeepsRest a b = (b.stage ≡ a.stage) × (b.start ≡ a.start) × (b.end ≡ a.end) × (b.block ≡ a.block) × (pending_of b ≡ pending_of a)

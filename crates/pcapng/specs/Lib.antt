@@ -1,6 +1,9 @@
 pub mod Block
+pub mod File
 pub mod Handed
 pub mod Interface
+pub mod Laws
 pub mod Options
+pub mod Packets
 pub mod Section
 pub mod Text

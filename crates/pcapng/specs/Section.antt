@@ -20,6 +20,8 @@ pub record Known : Type 0 where
   pub interfaces : List Described
   -- the number of the interface of which a packet was taken last, where one was
   pub taken : Option ℕ
+  -- where a name was chosen: the number of the first interface of this name that the section has described
+  pub named : Option ℕ
   -- the chosen interface was described, in this section or an earlier one
   pub described : Bool
 
@@ -30,6 +32,7 @@ known_of s = record {
   order = s.order;
   interfaces = map described_of s.interfaces.items;
   taken = s.taken;
+  named = s.named;
   described = s.described;
 }
 
@@ -41,25 +44,42 @@ needs_none (Name name) = false
 
 -- before the first section
 abbrev pub unknown : Choice → ByteOrder → Known
-unknown choice order = record { choice = choice; order = order; interfaces = []; taken = None; described = needs_none choice }
+unknown choice order = record { choice = choice; order = order; interfaces = []; taken = None; named = None; described = needs_none choice }
 
 -- a section of this byte order begins, with no interfaces
 abbrev pub in_section : ByteOrder → Known → Known
-in_section order k = record k { order = order; interfaces = [] }
+in_section order k = record k { order = order; interfaces = []; named = None }
 
--- the interface is the chosen one
-abbrev pub is_chosen : Choice → Described → Bool
-is_chosen Any i = true
-is_chosen (Number number) i = i.number == number
-is_chosen (Name name) i = has_name (name_bytes name) i.name
+-- the number is known, and this one
+abbrev pub is_number : Option ℕ → ℕ → Bool
+is_number None number = false
+is_number (Some known) number = known == number
+
+-- the interface is the chosen one: of those of the chosen name the section's first
+abbrev pub is_chosen : Choice → Option ℕ → Described → Bool
+is_chosen Any named i = true
+is_chosen (Number number) named i = i.number == number
+is_chosen (Name name) named i = is_number named i.number
+
+-- the number of the first interface of the chosen name, after one more is described: only the first of a section is chosen
+abbrev pub first_named : Choice → Option ℕ → Described → Option ℕ
+first_named Any named i = named
+first_named (Number number) named i = named
+first_named (Name name) (Some first) i = Some first
+first_named (Name name) None i = if has_name (name_bytes name) i.name then Some i.number else None
 
 -- the number of the interface that is described next: so many stand before it
 abbrev pub next_number : ℕ → Result ℕ BadReason
 next_number count = if nat_lt count MAX_INTERFACES then Ok count else Err reasons.TooManyInterfaces
 
+-- one more interface is described, and then this is the number of the first of the chosen name
+abbrev pub with_named : Option ℕ → Described → Known → Known
+with_named named i k =
+    record k { interfaces = k.interfaces ++ (i ∷ []); named = named; described = k.described || is_chosen k.choice named i }
+
 -- one more interface is described
 abbrev pub with_interface : Described → Known → Known
-with_interface i k = record k { interfaces = k.interfaces ++ (i ∷ []); described = k.described || is_chosen k.choice i }
+with_interface i k = with_named (first_named k.choice k.named i) i k
 
 -- ---- packets
 
@@ -73,7 +93,7 @@ role_among (Name wanted) taken number = Ok roles.Taken
 -- what is done with a packet of this number and interface
 abbrev pub role_with : Known → ℕ → Described → Result Role BadReason
 role_with k number i =
-    if is_chosen k.choice i then (if i.ethernet then role_among k.choice k.taken number else Ok roles.Counted) else Ok roles.Skipped
+    if is_chosen k.choice k.named i then (if i.ethernet then role_among k.choice k.taken number else Ok roles.Counted) else Ok roles.Skipped
 
 abbrev pub role_at : Known → ℕ → Option Described → Result Role BadReason
 role_at k number None = Err reasons.UnknownInterface

@@ -1,5 +1,6 @@
 //! What the next bytes of a recording begin: a block, and what it says.
 ghost use Rattle.std.specs.Prelude.{◌≡◌, ◌≢◌, ◌+◌, ◌-◌, ◌≤◌, length, slice_range, IfOk, OnOk};
+ghost use Rattle.pcapng.specs.File.{first_of};
 ghost use Rattle.pcapng.specs.Options.{options_of};
 ghost use Rattle.pcapng.specs.Block.{IsWithin, end_fault, fields_of, interface_fault, is_length_of, kind_of, later_reason, order_of, order_of_magic, lengths_agree, packet_fault, section_fault, shortest_of, start_header_fault, start_of, start_reason, unless};
 ghost use Rattle.pcapng.specs.declared.block.BlockKind.TheVariants as kinds;
@@ -224,7 +225,8 @@ pub enum FirstSection {
 /// Reads the first section header.
 pub fn first_section(bytes: &[u8]) -> FirstSection
     requires { 12 ≤ length bytes.now }
-    ensures { IsWithin (length bytes.now) result }
+    ensures value { result ≡ first_of bytes.now }
+    ensures within { IsWithin (length bytes.now) result }
 {
     let begun = match BlockStart::read(ByteOrder::Little, bytes) {
         Ok(begun) => begun,

@@ -46,6 +46,6 @@ pub enum Choice {
     Any,
     /// Those of the interface of this number in its section.
     Number(u32),
-    /// Those of the interfaces of this name.
+    /// Those of the first interface of this name in its section.
     Name(InterfaceName),
 }

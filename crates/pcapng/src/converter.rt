@@ -1,8 +1,9 @@
 //! The part of a source that needs no other: what was read ahead, and what it is converted to.
-ghost use Rattle.std.specs.Prelude.{◌≡◌, ◌≤◌, ◌<◌, ◌+◌, ◌-◌, ◌++◌, slice_range, [], ℕ, List, min, take, length, vec_capacity, vec_len, Ok, Err, IfOk, OnOk, OnErr, IsTrue, ◌↔◌};
+ghost use Rattle.std.specs.Prelude.{◌≡◌, ◌≤◌, ◌<◌, ◌+◌, ◌-◌, ◌++◌, ◌≢◌, slice_range, [], ℕ, List, min, take, drop, length, Some, vec_capacity, vec_len, Ok, Err, IfOk, OnOk, OnErr, IsTrue, ◌↔◌};
 ghost use Rattle.std.specs.Io.KnownBytes.{IsAtEnd, Keeps, prepend_known};
 ghost use Rattle.pcap_io.specs.Device.{CountsFailure, NoFailure};
-ghost use Rattle.pcapng.specs.Block.{shortest_of};
+ghost use Rattle.pcapng.specs.Block.{fields_of, shortest_of};
+ghost use Rattle.pcapng.specs.declared.block.BlockKind.TheVariants as kinds;
 ghost use Rattle.pcapng.specs.declared.converter.Stage.TheVariants as stages;
 ghost use Rattle.pcapng.specs.declared.block.TheConstants.{MAX_BLOCK_LEN};
 ghost use Rattle.pcapng.specs.declared.text.TheConstants.{FILE_HEADER_LEN};
@@ -142,14 +143,21 @@ fn read_behind<S: TapSource>(
 }
 
 impl Converter {
-    ghost use Rattle.pcapng.specs.Handed.{HandsOn, Lacks, StillGiven};
-    ghost use Rattle.pcapng.specs.Handed.{handed, handed_known, pending_of, unread_of};
+    ghost use Rattle.pcap_io.specs.declared.layout.ByteOrder.TheVariants.{Little};
+    ghost use Rattle.pcapng.specs.File.{interface_read, packet_read, passed};
+    ghost use Rattle.pcapng.specs.File.{read_of, read_with, section_read};
+    ghost use Rattle.pcapng.specs.Handed.{EndsWithin, GivesLast, HandsOn, KeepsRest, Lacks};
+    ghost use Rattle.pcapng.specs.Handed.{StillGiven, block_of, handed, handed_known, pending_of};
+    ghost use Rattle.pcapng.specs.Handed.{unread_of};
+    ghost use Rattle.pcapng.specs.Section.{known_of, unknown};
+    ghost use Rattle.pcapng.specs.Text.{file_header_bytes, reason_bytes};
 
     /// Nothing was read. Allocates all the memory that it will need.
     pub fn new(alloc: Global, choice: Choice) -> Result<Converter, AllocError>
         ensures start { IfOk result (λ c. c.stage ≡ stages.Start) }
         ensures pending { IfOk result (λ c. pending_of c ≡ []) }
         ensures unread { IfOk result (λ c. unread_of c ≡ []) }
+        ensures known { IfOk result (λ c. known_of c.section ≡ unknown choice Little) }
     {
         let section = Section::new(alloc, choice)?;
         let mut block = Vec::with_capacity(alloc, MAX_BLOCK_LEN)?;
@@ -206,6 +214,7 @@ impl Converter {
         ensures gives { pending_of self.old ≡ take result buf.new ++ pending_of self.new }
         ensures stage { self.new.stage ≡ self.old.stage }
         ensures unread { unread_of self.new ≡ unread_of self.old }
+        ensures section { self.new.section ≡ self.old.section }
         ensures all { result < length buf.new → pending_of self.new ≡ [] }
     {
         let header = copy_some(buf, &self.header[self.header_from..self.header_to]);
@@ -220,7 +229,9 @@ impl Converter {
 
     /// Ends, after a header of which so many bytes are given.
     fn end_with(&mut self, header: [u8; FILE_HEADER_LEN], len: usize)
-        requires { len ≤ FILE_HEADER_LEN }
+        requires fits { len ≤ FILE_HEADER_LEN }
+        requires given { pending_of self.old ≡ [] }
+        ensures { GivesLast self.new (take len header) }
     {
         self.header = header;
         self.header_from = 0;
@@ -231,21 +242,28 @@ impl Converter {
     /// Ends for a reason.
     #[cold]
     #[inline(never)]
-    fn end_bad(&mut self, reason: BadReason) {
+    fn end_bad(&mut self, reason: BadReason)
+        requires { pending_of self.old ≡ [] }
+        ensures { GivesLast self.new (reason_bytes reason) }
+    {
         self.end_with(reason_header(reason), PACKET_HEADER_LEN);
     }
 
     /// Ends for a fault of the first section header.
     #[cold]
     #[inline(never)]
-    fn end_at_header(&mut self, fault: HeaderFault) {
+    fn end_at_header(&mut self, fault: HeaderFault)
+        requires { pending_of self.old ≡ [] }
+        ensures { GivesLast self.new (file_header_bytes (Some fault)) }
+    {
         self.end_with(file_header(Some(fault)), FILE_HEADER_LEN);
     }
 
     /// Ends where the source does.
     pub fn end_here(&mut self)
-        requires { self.old.stage ≡ stages.Start → length (unread_of self.old) < 4 }
-        ensures { Keeps (handed self.old []) (handed self.new []) }
+        requires given { pending_of self.old ≡ [] }
+        requires within { EndsWithin self.old }
+        ensures { handed self.new [] ≡ handed self.old [] }
     {
         match self.stage {
             Stage::Start => self.stage = Stage::Untouched,
@@ -284,6 +302,7 @@ impl Converter {
             (handed_known self.new (S.remaining source.new)) }
         ensures given { pending_of self.new ≡ [] }
         ensures stage { self.new.stage ≡ self.old.stage }
+        ensures section { self.new.section ≡ self.old.section }
         ensures end { result ≡ Ok 0 → (unread_of self.new ≡ unread_of self.old)
             × IsAtEnd (S.remaining source.new) }
         ensures no_failure { OnOk result (NoFailure (S.failures source.old) (S.failures source.new)) }
@@ -333,8 +352,10 @@ impl Converter {
 
     /// Reads the first section header.
     fn first_section(&mut self) -> Step
-        requires { self.old.stage ≡ stages.FirstSection }
+        requires start { self.old.stage ≡ stages.FirstSection }
+        requires given { pending_of self.old ≡ [] }
         ensures lacks { Lacks self.new result }
+        ensures kept { HandsOn self.old self.new }
         ensures given { StillGiven self.new result (pending_of self.old) }
     {
         let unread = &self.block[self.start..self.end];
@@ -359,8 +380,10 @@ impl Converter {
     /// Reads the next block.
     #[inline]
     fn next_block(&mut self) -> Step
-        requires { self.old.stage ≡ stages.Blocks }
+        requires start { self.old.stage ≡ stages.Blocks }
+        requires given { pending_of self.old ≡ [] }
         ensures lacks { Lacks self.new result }
+        ensures kept { HandsOn self.old self.new }
         ensures given { StillGiven self.new result (pending_of self.old) }
     {
         let unread = &self.block[self.start..self.end];
@@ -393,8 +416,15 @@ impl Converter {
     /// Reads a block that is there whole.
     #[inline]
     fn whole_block(&mut self, begun: &BlockStart) -> Result<(), BadReason>
+        requires given { pending_of self.old ≡ [] }
         requires long { shortest_of begun.now.kind ≤ begun.now.len }
         requires whole { self.old.start + begun.now.len ≤ self.old.end }
+        requires read { begun.now.kind ≢ kinds.Other }
+        ensures value { read_of (known_of self.old.section) begun.now (block_of self.old begun.now.len)
+            ≡ read_with (pending_of self.new) (known_of self.new.section) result }
+        ensures passed { OnOk result ((self.new.stage ≡ self.old.stage)
+            × (unread_of self.new ≡ drop begun.now.len (unread_of self.old))) }
+        ensures wrong { OnErr result (pending_of self.new ≡ []) }
     {
         match begun.kind {
             BlockKind::Packet | BlockKind::ObsoletePacket => return self.packet(begun),
@@ -411,8 +441,9 @@ impl Converter {
     fn later_section(&mut self, begun: &BlockStart) -> Result<(), BadReason>
         requires long { 28 ≤ begun.now.len }
         requires whole { self.old.start + begun.now.len ≤ self.old.end }
-        ensures start { self.new.start ≡ self.old.start }
-        ensures end { self.new.end ≡ self.old.end }
+        ensures value { section_read (known_of self.old.section) begun.now.order
+            (block_of self.old begun.now.len) ≡ passed (known_of self.new.section) result }
+        ensures kept { KeepsRest self.old self.new }
     {
         let block = &self.block[self.start..self.start + begun.len as usize];
         if let Err(fault) = check_section(begun.order, block) {
@@ -426,8 +457,9 @@ impl Converter {
     fn interface(&mut self, begun: &BlockStart) -> Result<(), BadReason>
         requires long { 20 ≤ begun.now.len }
         requires whole { self.old.start + begun.now.len ≤ self.old.end }
-        ensures start { self.new.start ≡ self.old.start }
-        ensures end { self.new.end ≡ self.old.end }
+        ensures value { interface_read (known_of self.old.section) begun.now.order
+            (block_of self.old begun.now.len) ≡ passed (known_of self.new.section) result }
+        ensures kept { KeepsRest self.old self.new }
     {
         let block = &self.block[self.start..self.start + begun.len as usize];
         let number = self.section.next_number()?;
@@ -440,8 +472,16 @@ impl Converter {
     /// Reads a packet: it is given next, or passed.
     #[inline]
     fn packet(&mut self, begun: &BlockStart) -> Result<(), BadReason>
+        requires given { pending_of self.old ≡ [] }
         requires long { 32 ≤ begun.now.len }
         requires whole { self.old.start + begun.now.len ≤ self.old.end }
+        ensures value { packet_read (known_of self.old.section) begun.now.order
+            (fields_of begun.now.order begun.now.kind (block_of self.old begun.now.len))
+            (block_of self.old begun.now.len)
+            ≡ read_with (pending_of self.new) (known_of self.new.section) result }
+        ensures passed { OnOk result ((self.new.stage ≡ self.old.stage)
+            × (unread_of self.new ≡ drop begun.now.len (unread_of self.old))) }
+        ensures wrong { OnErr result (pending_of self.new ≡ []) }
     {
         let (start, len) = (self.start, begun.len as usize);
         let block = &self.block[start..start + len];
@@ -476,6 +516,9 @@ impl Converter {
 
     /// Passes what is unread of a block that is skipped.
     fn skip(&mut self, left: u32, len: u32) -> Step
+        requires start { self.old.stage ≡ stages.Skipping left len }
+        requires given { pending_of self.old ≡ [] }
+        ensures kept { HandsOn self.old self.new }
         ensures lacks { Lacks self.new result }
         ensures given { StillGiven self.new result (pending_of self.old) }
     {

@@ -12,16 +12,15 @@
 //! A recording of any other format is handed on as it is. What pcap can't say of a pcapng recording,
 //! the codes of `pcap_io`'s private layout tell: the reader then names the fault or the reason.
 //!
-//! What the source gives for a recording that isn't pcapng is stated and proved: its bytes. Of a pcapng
-//! recording the parts are: what a block's start, its options, an interface's description, a timestamp, a
-//! section and a packet's fields say, and which reason there is. That the bytes given are those of the
-//! blocks in their order isn't stated; tests fix them.
+//! What the source gives is stated and proved for every recording: the pcap that a pcapng file stands for,
+//! block by block, and the bytes themselves of any other. By a law a reader of pcap reads the file's packets.
 #![tactic(auto)]
 
 mod block;
 mod choice;
 mod converter;
 mod interface;
+mod laws;
 mod options;
 mod section;
 mod source;
@@ -30,5 +29,6 @@ mod text;
 pub use block::MAX_BLOCK_LEN;
 pub use choice::{Choice, InterfaceName, MAX_NAME_LEN};
 pub use interface::{Interface, Offset, Resolution};
+pub use laws::{block_is_read_first, file_is_read, header_fault_is_told};
 pub use section::MAX_INTERFACES;
 pub use source::{RecordingSource, Refused};

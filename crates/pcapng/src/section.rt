@@ -30,6 +30,8 @@ pub struct Section {
     interfaces: Vec<Interface>,
     /// With no choice: the number of the Ethernet interface that had the first packet.
     taken: Option<u32>,
+    /// The number of the section's first interface of the chosen name.
+    named: Option<u32>,
     /// The chosen interface was described, in this section or an earlier one.
     described: bool,
     ghost room: { MAX_INTERFACES ≤ vec_capacity interfaces },
@@ -37,7 +39,7 @@ pub struct Section {
 
 impl Section {
     ghost use Rattle.pcap_io.specs.declared.layout.ByteOrder.TheVariants.{Little};
-    ghost use Rattle.pcapng.specs.Section.{in_section, is_chosen, known_of, next_number, noted};
+    ghost use Rattle.pcapng.specs.Section.{first_named, in_section, is_chosen, known_of, next_number, noted};
     ghost use Rattle.pcapng.specs.Section.{role_of, stamp_of, unknown, with_interface};
 
     /// No section yet. Allocates the memory of its interfaces.
@@ -49,6 +51,7 @@ impl Section {
             order: ByteOrder::Little,
             interfaces: Vec::with_capacity(alloc, MAX_INTERFACES)?,
             taken: None,
+            named: None,
             described: choice == Choice::Any,
         })
     }
@@ -73,16 +76,27 @@ impl Section {
     {
         self.order = order;
         self.interfaces.clear();
+        self.named = None;
     }
 
-    /// Whether the interface is the chosen one.
+    /// Whether the described interface is the chosen one.
     fn is_chosen(&self, interface: &Interface) -> bool
-        ensures { result ≡ is_chosen self.now.choice (described_of interface.now) }
+        ensures { result ≡ is_chosen self.now.choice self.now.named (described_of interface.now) }
     {
         match &self.choice {
             Choice::Any => true,
             Choice::Number(number) => interface.number == *number,
-            Choice::Name(name) => interface.is_named(name),
+            Choice::Name(_) => self.named == Some(interface.number),
+        }
+    }
+
+    /// The number of the section's first interface of the chosen name, once this one is described.
+    fn first_named(&self, interface: &Interface) -> Option<u32>
+        ensures { result ≡ first_named self.now.choice self.now.named (described_of interface.now) }
+    {
+        match (&self.choice, self.named) {
+            (Choice::Name(name), None) if interface.is_named(name) => Some(interface.number),
+            (_, named) => named,
         }
     }
 
@@ -116,6 +130,7 @@ impl Section {
         requires { vec_len self.old.interfaces < MAX_INTERFACES }
         ensures { known_of self.new ≡ with_interface (described_of interface) (known_of self.old) }
     {
+        self.named = self.first_named(&interface);
         if self.is_chosen(&interface) {
             self.described = true;
         }

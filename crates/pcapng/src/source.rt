@@ -1,5 +1,5 @@
 //! The source that gives a recording of either format as pcap.
-ghost use Rattle.std.specs.Prelude.{◌≡◌, ◌≤◌, ◌<◌, [], length, take, IfSome, Ok, Err, IfOk, IfErr, OnOk, OnErr};
+ghost use Rattle.std.specs.Prelude.{◌≡◌, ◌≤◌, ◌<◌, [], length, take, Some, IfSome, Ok, Err, IfOk, IfErr, OnOk, OnErr};
 ghost use Rattle.std.specs.Io.KnownBytes.{Consumes, Keeps, ReadConsumes};
 ghost use Rattle.pcap_io.specs.Device.{CountsFailure};
 ghost use Rattle.pcapng.specs.declared.block.TheConstants.{MAX_BLOCK_LEN};
@@ -30,9 +30,9 @@ pub struct RecordingSource<S> {
 }
 
 impl<S: TapSource> RecordingSource<S> {
-    ghost use Rattle.pcap_io.specs.Bytes.{known_bytes};
-    ghost use Rattle.pcapng.specs.Handed.{Lacks, StillGiven, pending_of, remaining_of, unread_of, untouched};
-    ghost use Rattle.pcapng.specs.declared.converter.Stage.TheVariants.{Start, Untouched};
+    ghost use Rattle.pcapng.specs.Handed.{EndsWithin, Lacks, StillGiven};
+    ghost use Rattle.pcapng.specs.Handed.{given_of, pending_of, remaining_of, unread_of};
+    ghost use Rattle.pcapng.specs.declared.converter.Stage.TheVariants.{Untouched};
 
     /// Hands on the recording of a source. It reads nothing yet, and allocates all that it will need:
     /// a block of 2^20 bytes, of which it touches no more than 64 KiB unless a longer block comes, and
@@ -44,7 +44,7 @@ impl<S: TapSource> RecordingSource<S> {
     pub fn new(alloc: Global, source: S, choice: Choice) -> Result<RecordingSource<S>, Refused<S>>
         ensures no_failure { IfOk result (λ s. ⟦<RecordingSource<S> as TapSource>⟧.failures s ≡ 0) }
         ensures whole { IfOk result (λ s. IfSome (S.remaining source) (λ bytes.
-            remaining_of S.remaining s ≡ known_bytes (untouched bytes))) }
+            remaining_of S.remaining s ≡ Some (given_of choice bytes))) }
         ensures refused { IfErr result (λ r. r.source ≡ source) }
     {
         match Converter::new(alloc, choice) {
@@ -136,7 +136,7 @@ impl<S: TapSource> RecordingSource<S> {
     fn refill(&mut self, needed: usize) -> Result<(), DeviceFault>
         requires fits { needed ≤ MAX_BLOCK_LEN }
         requires lacks { length (unread_of self.old.converter) < needed }
-        requires start { self.old.converter.stage ≡ Start → needed ≡ 4 }
+        requires ends { EndsWithin self.old.converter }
         requires given { pending_of self.old.converter ≡ [] }
         ensures kept { Keeps (remaining_of S.remaining self.old)
             (remaining_of S.remaining self.new) }

@@ -8,7 +8,7 @@ returns-then-magic-eq-SECTION_HEADER-clause-kept c = λ left.
     let v = c.args.self.now in
     let read : c.read_u32-magic.result ≡ big_number 4 (slice_range v.block.items v.start (v.start + 4)) =
     c.read_u32-magic.ensures ∙ ap (λ (l : List ℕ). big_number 4 (slice_range l v.start (v.start + 4))) c.deref.ensures.value in
-    begins_section v left c.requires.start (omega arith) (search rules) (sym read ∙ c.if-magic-eq-SECTION_HEADER.true)
+    begins_section v left c.requires.start c.requires.given (omega arith) (search rules) (sym read ∙ c.if-magic-eq-SECTION_HEADER.true)
 
 pub returns-then-magic-eq-CONVERTED_MAGIC-clause-kept : goal.returns-then-magic-eq-CONVERTED_MAGIC-clause-kept
 returns-then-magic-eq-CONVERTED_MAGIC-clause-kept c = λ left.

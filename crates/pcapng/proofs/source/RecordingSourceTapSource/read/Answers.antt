@@ -1,8 +1,9 @@
-use Rattle.std.proofs.Common.{rules, ◌≡◌, ℕ, ◌+◌, ◌-◌, [], length, take, ap, ◌∙◌, arith}
+use Rattle.std.proofs.Common.{rules, ◌≡◌, ℕ, ◌+◌, ◌-◌, ◌<◌, [], length, take, ap, ◌∙◌, arith}
 use Rattle.std.proofs.KnownBytes.{Consumes-kept, Keeps-refl, Keeps-trans}
 use borrow.Rule.Slice.PartMut.{put_mid}
 use Rattle.pcap_io.proofs.Transfers.{fill_more}
-use Rattle.pcapng.proofs.Handed.{err_reads, keeps_after, reads_after}
+use Rattle.pcapng.proofs.Handed.{ends_there, err_reads, keeps_after, reads_after}
+use Rattle.pcapng.specs.declared.converter.Stage.TheVariants as stages
 use Rattle.pcapng.proofs.source.RecordingSourceTapSource.read.Goals as goal
 use Rattle.pcapng.proofs.source.RecordingSourceTapSource.read.Goals.{in-Needs+else-done-gt0-2+in_ok-refill, in_default-step}
 
@@ -11,6 +12,14 @@ returns-then-done-buf-clause-bytes g c = (
   fill_more _ _ _ c.loop.done c.give-done.result _ c.loop.buf c.give-done.new.buf c.loop.invariant.within c.give-done.ensures.bound c.loop.invariant.given c.give-done.ensures.bytes,
   λ none room. absurd (omega (arith, none, room, c.if-done-buf.true)),
 )
+
+pub returns-in-Ended-clause-bytes : goal.returns-in-Ended-clause-bytes
+returns-in-Ended-clause-bytes g c =
+    let room : c.give-done.result < length c.give-done.new.buf = search rules in
+    let ended : c.give-done.new.self.converter.stage ≡ stages.Ended = search rules in (
+      fill_more _ _ _ c.loop.done c.give-done.result _ c.loop.buf c.give-done.new.buf c.loop.invariant.within c.give-done.ensures.bound c.loop.invariant.given c.give-done.ensures.bytes,
+      λ none more. ends_there c.give-done.new.self.converter _ ended (c.give-done.ensures.all room),
+    )
 
 pub returns-then-done-gt0-clause-bytes : goal.returns-then-done-gt0-clause-bytes
 returns-then-done-gt0-clause-bytes g c = (

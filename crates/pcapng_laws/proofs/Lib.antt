@@ -1,0 +1,3 @@
+pub mod Captures
+pub mod Frames
+pub mod PacketBlocks
