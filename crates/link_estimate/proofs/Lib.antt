@@ -1,4 +1,5 @@
 pub mod Buckets
+pub mod Classes
 pub mod Copying
 pub mod Histogram
 pub mod Numbered

@@ -1,7 +1,7 @@
 //! The jitter that the account of one BAG needs, as a fold over the gaps between frames.
 
-ghost use Rattle.std.specs.Prelude.{◌≡◌, ◌<◌, ◌^◌, ℕ, List, [], ◌∷◌, length};
-ghost use Rattle.link_estimate.specs.Jitter.{StandsAfter};
+ghost use Rattle.std.specs.Prelude.{◌≡◌, ◌<◌, ◌-◌, ◌^◌, ℕ, List, [], ◌∷◌, length};
+ghost use Rattle.link_estimate.specs.Jitter.{IsBoundOfMost, IsClass, StandsAfter, Step, gaps_before};
 
 use afdx_frame::Stamp;
 use std::marker::Model;
@@ -34,6 +34,8 @@ impl Model for Need {
       bag = need.bag;
       newest = need.newest;
       greatest = need.greatest;
+      at = need.at;
+      classes = need.classes;
     } };
 
     ghost invariant = { λ need. need.bag ≤ 128000000 };
@@ -59,8 +61,11 @@ impl Need {
     #[inline(always)]
     pub fn step(&mut self, gap: u64, stamp: Stamp)
         ensures bag { self.new.bag ≡ self.old.bag }
-        ensures after { (gaps : List ℕ) → length gaps < 2 ^ 32 → StandsAfter self.old gaps
-            → StandsAfter self.new (gap ∷ gaps) }
+        ensures after { (steps : List Step) → length steps < 2 ^ 32 - 1 → StandsAfter self.old steps
+            → StandsAfter self.new (record {
+              gap = gap;
+              stamp = stamp;
+            } ∷ steps) }
     {
         self.newest = self.newest.saturating_add(self.bag).saturating_sub(gap);
         if self.greatest < self.newest {
@@ -86,13 +91,18 @@ impl Need {
     }
 
     /// When the first frame came that needs so much; 0 where none needs any.
-    pub fn at(&self) -> Stamp {
+    pub fn at(&self) -> Stamp
+        ensures { result ≡ self.now.at }
+    {
         self.at
     }
 
     /// The least power of 2 in microseconds, below which the needs of all frames but so many lie.
     /// None: not even 2^17 us.
-    pub fn all_but(&self, spared: u64) -> Option<u64> {
+    pub fn all_but(&self, spared: u64) -> Option<u64>
+        ensures { (steps : List Step) → length steps < 2 ^ 32 → StandsAfter self.now steps
+            → IsBoundOfMost self.now.bag spared (gaps_before steps) result }
+    {
         let mut above = 0u64;
         for class in (1..CLASSES).rev() {
             above = above.saturating_add(u64::from(self.classes[class]));
@@ -111,7 +121,7 @@ impl Need {
 /// The class of a need: class c has those below 2^c us and not below half of that, the last one the rest.
 #[inline(always)]
 fn class_of(need: u64) -> usize
-    ensures { result < 19 }
+    ensures { IsClass need result }
 {
     let micros = need / 1000;
     if micros == 0 {

@@ -1,7 +1,7 @@
 //! What a link needs at each BAG.
 
-ghost use Rattle.std.specs.Prelude.{◌≡◌, ◌<◌, ◌^◌, ℕ, List, [], ◌∷◌, length, slice_index_or};
-ghost use Rattle.link_estimate.specs.Jitter.{Jitter};
+ghost use Rattle.std.specs.Prelude.{◌≡◌, ◌<◌, ◌-◌, ◌^◌, List, [], ◌∷◌, length, slice_index_or};
+ghost use Rattle.link_estimate.specs.Jitter.{Jitter, Step};
 ghost use Rattle.link_estimate.specs.OneNetwork.{CountsNeeds};
 
 use crate::need::Need;
@@ -47,8 +47,11 @@ impl Needs {
     /// Counts a frame that came so many nanoseconds after the one before it, at this moment.
     #[inline(always)]
     pub fn step(&mut self, gap: u64, stamp: Stamp)
-        ensures { (gaps : List ℕ) → length gaps < 2 ^ 32 → CountsNeeds self.old gaps
-            → CountsNeeds self.new (gap ∷ gaps) }
+        ensures { (steps : List Step) → length steps < 2 ^ 32 - 1 → CountsNeeds self.old steps
+            → CountsNeeds self.new (record {
+              gap = gap;
+              stamp = stamp;
+            } ∷ steps) }
     {
         for index in 0usize..8 {
             self.needs[index].step(gap, stamp);

@@ -1,0 +1,3 @@
+pub mod FirstSeen
+pub mod LinkFrames
+pub mod NetworkFrames

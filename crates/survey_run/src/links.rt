@@ -1,6 +1,6 @@
 //! The links of one constant field.
 
-ghost use Rattle.std.specs.Prelude.{◌≡◌, ◌≤◌, IfOk, vec_len};
+ghost use Rattle.std.specs.Prelude.{◌≡◌, ◌≤◌, ◌<◌, ◌^◌, ℕ, List, [], ◌∷◌, length, option_copied, IfOk, vec_len};
 
 use afdx_frame::{LentFrame, Network, Stamp, VL_ID_COUNT, VlId};
 use link_estimate::{Arrivals, Copies};
@@ -36,8 +36,13 @@ pub struct Links {
 }
 
 impl LinkSurvey {
+    ghost use Rattle.survey_run.specs.LinkFrames.{CountsLink, Sighting};
+
     #[inline(never)]
-    fn new(id: VlId) -> LinkSurvey {
+    fn new(id: VlId) -> LinkSurvey
+        ensures id { result.id ≡ id }
+        ensures none { CountsLink result [] }
+    {
         LinkSurvey {
             id,
             a: Arrivals::new(),
@@ -47,7 +52,17 @@ impl LinkSurvey {
     }
 
     #[inline(always)]
-    fn see(&mut self, network: Network, stamp: Stamp, len: u32, number: u8) {
+    fn see(&mut self, network: Network, stamp: Stamp, len: u32, number: u8)
+        ensures id { self.new.id ≡ self.old.id }
+        ensures after { (frames : List Sighting) (id : ℕ) → length frames < 2 ^ 32
+            → CountsLink self.old frames → CountsLink self.new (record {
+              id = id;
+              network = network;
+              stamp = stamp.0;
+              len = len;
+              number = number;
+            } ∷ frames) }
+    {
         match network {
             Network::A => self.a.see(stamp, len, number),
             Network::B => self.b.see(stamp, len, number),
@@ -57,8 +72,12 @@ impl LinkSurvey {
 }
 
 impl Links {
+    ghost use Rattle.survey_run.specs.LinkFrames.{CountsLinks, FindsLink, Sighting};
+
     /// No link.
-    pub fn new(alloc: Global) -> Result<Links, AllocError> {
+    pub fn new(alloc: Global) -> Result<Links, AllocError>
+        ensures { IfOk result (λ links. CountsLinks links []) }
+    {
         Ok(Links {
             places: vec![in alloc; NO_LINK; VL_ID_COUNT]?,
             links: Vec::new(alloc),
@@ -79,7 +98,16 @@ impl Links {
         stamp: Stamp,
         len: u32,
         number: u8,
-    ) -> Result<(), AllocError> {
+    ) -> Result<(), AllocError>
+        ensures { IfOk result (λ _. (frames : List Sighting) → length frames < 2 ^ 32
+            → CountsLinks self.old frames → CountsLinks self.new (record {
+              id = id.0;
+              network = network;
+              stamp = stamp.0;
+              len = len;
+              number = number;
+            } ∷ frames)) }
+    {
         let place = usize::from(self.places[usize::from(id.0)]);
         if place < self.links.len() {
             self.links[place].see(network, stamp, len, number);
@@ -97,13 +125,18 @@ impl Links {
     }
 
     /// The link of an identifier.
-    pub fn link(&self, id: VlId) -> Option<&LinkSurvey> {
+    pub fn link(&self, id: VlId) -> Option<&LinkSurvey>
+        ensures { (frames : List Sighting) → CountsLinks self.now frames
+            → FindsLink frames id.0 (option_copied result) }
+    {
         let place = usize::from(self.places[usize::from(id.0)]);
         self.links.get(place)
     }
 
     /// How many links there are.
-    pub fn count(&self) -> usize {
+    pub fn count(&self) -> usize
+        ensures { result ≡ vec_len self.now.links }
+    {
         self.links.len()
     }
 

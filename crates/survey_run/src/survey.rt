@@ -1,6 +1,8 @@
 //! What recordings say of a network: its constant field and its links.
 
-ghost use Rattle.std.specs.Prelude.{◌≡◌};
+ghost use Rattle.std.specs.Prelude.{◌≡◌, ◌<◌, ◌^◌, ℕ, Option, List, [], ◌∷◌, length, option_copied, IfOk};
+ghost use Rattle.afdx_frame.specs.Frame.{Frame};
+ghost use Rattle.survey_run.specs.NetworkFrames.{IsMainField, IsPlaceOf, Surveys, is_wanted};
 
 use crate::links::Links;
 use afdx_frame::{Network, TapFrame, VlId};
@@ -37,7 +39,9 @@ pub struct Survey {
 
 impl Survey {
     /// Of no frame. With `wanted` the frames of that constant field alone are looked at.
-    pub fn new(alloc: Global, wanted: Option<u32>) -> Survey {
+    pub fn new(alloc: Global, wanted: Option<u32>) -> Survey
+        ensures { Surveys wanted result [] }
+    {
         Survey {
             wanted,
             fields: Vec::new(alloc),
@@ -52,7 +56,11 @@ impl Survey {
     ///
     /// `AllocError` if there is no memory for a new constant field or a new link.
     #[inline]
-    pub fn count(&mut self, alloc: Global, frame: &TapFrame) -> Result<(), AllocError> {
+    pub fn count(&mut self, alloc: Global, frame: &TapFrame) -> Result<(), AllocError>
+        ensures { IfOk result (λ _. (wanted : Option ℕ) (frames : List Frame)
+            → length frames < 2 ^ 32 → Surveys wanted self.old frames
+            → Surveys wanted self.new (frame.now ∷ frames)) }
+    {
         let view = frame.view();
         let whole = frame.whole();
         let (Some(constant), Some(id), Some(number)) = (view.constant(), view.vl(), view.sequence())
@@ -81,7 +89,9 @@ impl Survey {
 
     /// The place of a constant field, which is made at its first frame. None: it isn't kept.
     #[inline]
-    fn place_of(&mut self, alloc: Global, constant: u32) -> Result<Option<usize>, AllocError> {
+    fn place_of(&mut self, alloc: Global, constant: u32) -> Result<Option<usize>, AllocError>
+        ensures { IfOk result (λ place. IsPlaceOf self.old self.new constant place) }
+    {
         for place in 0..self.fields.len() {
             if self.fields[place].constant == constant {
                 return Ok(Some(place));
@@ -99,7 +109,9 @@ impl Survey {
         Ok(Some(place))
     }
 
-    fn is_kept(&self, constant: u32) -> bool {
+    fn is_kept(&self, constant: u32) -> bool
+        ensures { result ≡ is_wanted self.now.wanted constant }
+    {
         match self.wanted {
             Some(wanted) => constant == wanted,
             None => constant & GROUP_BITS == GROUP_BITS,
@@ -107,7 +119,9 @@ impl Survey {
     }
 
     /// The constant field that most frames have, the first seen of several. None: no frame has one.
-    pub fn main_field(&self) -> Option<&Field> {
+    pub fn main_field(&self) -> Option<&Field>
+        ensures { IsMainField self.now.fields.items (option_copied result) }
+    {
         let mut main: Option<&Field> = None;
         for field in &self.fields {
             let more = match main {
@@ -122,7 +136,9 @@ impl Survey {
     }
 
     /// The constant fields that were kept, in the order of their first frames.
-    pub fn fields(&self) -> &[Field] {
+    pub fn fields(&self) -> &[Field]
+        ensures { result.now ≡ self.now.fields.items }
+    {
         self.fields.as_slice()
     }
 

@@ -3,7 +3,7 @@ use Rattle.std.proofs.Common.{◌≡◌, ◌∙◌, ◌+◌, ◌-◌, ◌<◌, �
 use Rattle.std.proofs.lemmas.List.{length-append}
 use Rattle.afdx_frame.specs.declared.key.Stamp.{Stamp}
 use Rattle.link_estimate.specs.Intervals.{CountsGaps}
-use Rattle.link_estimate.specs.OneNetwork.{CountsArrivals, CountsNeeds, Received, gaps_of, numbers_of}
+use Rattle.link_estimate.specs.OneNetwork.{CountsArrivals, CountsNeeds, Received, gaps_of, numbers_of, steps_of}
 use Rattle.link_estimate.proofs.arrivals.Arrivals.see.Goals as goal
 
 numbers_length : (frames : List Received) → length (numbers_of frames) ≡ length frames
@@ -16,6 +16,10 @@ numbers_length (frame ∷ before) = rw length-append (more (length (numbers_of b
 gaps_length : (frame : Received) (before : List Received) → length (gaps_of (frame ∷ before)) ≡ length before
 gaps_length frame [] = refl
 gaps_length frame (next ∷ before) = ap suc (gaps_length next before)
+
+steps_length : (frame : Received) (before : List Received) → length (steps_of (frame ∷ before)) ≡ length before
+steps_length frame [] = refl
+steps_length frame (next ∷ before) = ap suc (steps_length next before)
 
 pub returns-in-Some : goal.returns-in-Some
 returns-in-Some c = λ frames few h. by frames few h
@@ -46,6 +50,6 @@ returns-in-Some c = λ frames few h. by frames few h
           greatest_len = c.max-self.ensures ∙ ap (λ n. max n c.args.len) h.greatest_len;
           last = c.replace.ensures.after;
           gaps = subst (λ g. CountsGaps c.step.new.self (g ∷ gaps)) gap (c.step.ensures gaps short h.gaps);
-          needs = subst (λ g. CountsNeeds c.step-in-Some.new.self (g ∷ gaps)) gap (c.step-in-Some.ensures gaps (omega (arith, short)) h.needs);
+          needs = subst (λ g. CountsNeeds c.step-in-Some.new.self (record { gap = g; stamp = c.args.stamp } ∷ steps_of (before ∷ rest))) gap (c.step-in-Some.ensures (steps_of (before ∷ rest)) (omega (arith, short, steps_length before rest, gaps_length before rest)) h.needs);
           numbering = c.see.ensures (numbers_of (before ∷ rest)) (omega (arith, numbers_length (before ∷ rest), few)) h.numbering;
         }

@@ -1,12 +1,12 @@
 -- Those before the index have seen the gap, and the others stay.
-use Rattle.std.proofs.Common.{◌≡◌, ◌<◌, ◌≤◌, ◌^◌, ℕ, List, ◌∷◌, length, slice_index_or}
-use Rattle.link_estimate.specs.Jitter.{Jitter, StandsAfter}
+use Rattle.std.proofs.Common.{◌≡◌, ◌<◌, ◌≤◌, ◌-◌, ◌^◌, ℕ, List, ◌∷◌, length, slice_index_or}
+use Rattle.link_estimate.specs.Jitter.{Jitter, StandsAfter, Step}
 use Rattle.link_estimate.proofs.needs.Needs.step.Given as goal
 
 abbrev pub invariant-loop-index : goal.invariant-loop-index
 invariant-loop-index l = record {
   bags : (index : ℕ) (none : Jitter) → (slice_index_or l.self.needs index none).bag ≡ (slice_index_or l.fn.self.needs index none).bag;
-  seen : (index : ℕ) (none : Jitter) → index < l.index → (gaps : List ℕ) → length gaps < 2 ^ 32 → StandsAfter (slice_index_or l.fn.self.needs index none) gaps →
-      StandsAfter (slice_index_or l.self.needs index none) (l.gap ∷ gaps);
+  seen : (index : ℕ) (none : Jitter) → index < l.index → (steps : List Step) → length steps < 2 ^ 32 - 1 → StandsAfter (slice_index_or l.fn.self.needs index none) steps →
+      StandsAfter (slice_index_or l.self.needs index none) (record { gap = l.gap; stamp = l.stamp } ∷ steps);
   rest : (index : ℕ) (none : Jitter) → l.index ≤ index → slice_index_or l.self.needs index none ≡ slice_index_or l.fn.self.needs index none;
 }
