@@ -30,6 +30,13 @@ HasMost meetings n most = (k : ℕ) (d : Meeting) → k < n → support meetings
 abbrev pub HasSupport : List Meeting → ℕ → ℕ → Type 0
 HasSupport meetings place most = (d : Meeting) → support meetings (get_or meetings place d) ≡ most
 
--- no meeting has more support than that at an index
-abbrev pub IsMostSupported : List Meeting → ℕ → Type 0
-IsMostSupported meetings place = (most : ℕ) × HasSupport meetings place most × HasMost meetings (length meetings) most
+-- each of the first meetings has less support
+abbrev pub HasLess : List Meeting → ℕ → ℕ → Type 0
+HasLess meetings n most = (k : ℕ) (d : Meeting) → k < n → support meetings (get_or meetings k d) < most
+
+-- no meeting has more support than that at an index, and it is the first of several that have as much
+pub record IsMostSupported (meetings : List Meeting) (place : ℕ) : Type 0 where
+  pub most : ℕ
+  pub has : HasSupport meetings place most
+  pub no_more : HasMost meetings (length meetings) most
+  pub first : HasLess meetings place most

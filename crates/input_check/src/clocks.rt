@@ -72,7 +72,7 @@ pub fn support(meetings: &[Meeting], meeting: Meeting) -> usize
         .count()
 }
 
-/// The index of a meeting whose difference of the clocks most others tell, too.
+/// The index of the meeting whose difference of the clocks most others tell, too: the first of several.
 pub fn most_supported(meetings: &[Meeting]) -> usize
     requires { 0 < length meetings.now }
     ensures within { result < length meetings.now }

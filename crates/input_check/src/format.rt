@@ -1,6 +1,8 @@
 //! The format of a recording, by its first bytes (docs/FORMATS.md).
 
 ghost use Rattle.std.specs.Prelude.{◌≡◌};
+ghost use Rattle.std.specs.Int.{from_be_bytes, w32};
+ghost use Rattle.input_check.specs.Formats.{format_by};
 
 /// How many bytes tell the format.
 pub const FORMAT_LEN: usize = 4;
@@ -27,7 +29,9 @@ pub enum Format {
 }
 
 /// The format of a recording that begins so. None: it is neither format.
-pub fn format_of(head: [u8; 4]) -> Option<Format> {
+pub fn format_of(head: [u8; 4]) -> Option<Format>
+    ensures { result ≡ format_by (from_be_bytes w32 head) }
+{
     match u32::from_be_bytes(head) {
         0xa1b2_c3d4 => Some(Format::Pcap(Order::Big, Unit::Micro)),
         0xd4c3_b2a1 => Some(Format::Pcap(Order::Little, Unit::Micro)),

@@ -127,6 +127,8 @@ impl<'a> Listed<'a> {
 }
 
 impl<'a> Inputs<'a> {
+    ghost use Rattle.input_check.specs.Parts.{constants_of, links_of, tallies_of, tap_of, unlisted_of};
+
     /// Of no frame.
     ///
     /// # Errors
@@ -145,7 +147,9 @@ impl<'a> Inputs<'a> {
     }
 
     /// The counts of a recording.
-    pub fn tap(&self, network: Network) -> &TapTally {
+    pub fn tap(&self, network: Network) -> &TapTally
+        ensures { result.now ≡ tap_of network self.now }
+    {
         match network {
             Network::A => &self.a,
             Network::B => &self.b,
@@ -153,7 +157,9 @@ impl<'a> Inputs<'a> {
     }
 
     /// The links of the table with their counts, none without a table.
-    pub fn links(&self) -> &[Link] {
+    pub fn links(&self) -> &[Link]
+        ensures { result.now ≡ links_of self.now }
+    {
         match &self.listed {
             Some(listed) => listed.links,
             None => &[],
@@ -161,7 +167,9 @@ impl<'a> Inputs<'a> {
     }
 
     /// The counts of the table's links, in their order.
-    pub fn tallies(&self) -> &[LinkTally] {
+    pub fn tallies(&self) -> &[LinkTally]
+        ensures { result.now ≡ tallies_of self.now }
+    {
         match &self.listed {
             Some(listed) => listed.tallies.as_slice(),
             None => &[],
@@ -169,7 +177,9 @@ impl<'a> Inputs<'a> {
     }
 
     /// How many frames of an identifier there are that the table lacks.
-    pub fn unlisted(&self, id: VlId) -> u32 {
+    pub fn unlisted(&self, id: VlId) -> u32
+        ensures { result ≡ unlisted_of id.0 self.now }
+    {
         match &self.listed {
             Some(listed) => listed.unlisted[usize::from(id.0)],
             None => 0,
@@ -177,7 +187,9 @@ impl<'a> Inputs<'a> {
     }
 
     /// The first constant fields that were met beside the table's, in the order of their first frames.
-    pub fn constants(&self) -> &[Constant] {
+    pub fn constants(&self) -> &[Constant]
+        ensures { result.now ≡ constants_of self.now }
+    {
         match &self.listed {
             Some(listed) => listed.constants.as_slice(),
             None => &[],

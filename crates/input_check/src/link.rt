@@ -1,6 +1,6 @@
 //! What is counted of a link of the table.
 
-ghost use Rattle.std.specs.Prelude.{◌≡◌, ◌≤◌};
+ghost use Rattle.std.specs.Prelude.{◌≡◌, ◌≤◌, ◌<◌, ◌^◌, ℕ, List, [], ◌∷◌, length};
 
 use crate::clocks::{Meeting, Sample, first_meeting};
 use afdx_frame::{Network, Stamp};
@@ -18,7 +18,12 @@ struct Starts {
 }
 
 impl Starts {
-    fn new() -> Starts {
+    ghost use Rattle.input_check.specs.Tallies.{KeepsStarts, kept_samples};
+    ghost use Rattle.input_check.specs.declared.clocks.Sample.{Sample};
+
+    fn new() -> Starts
+        ensures { KeepsStarts result [] }
+    {
         Starts {
             samples: [Sample {
                 stamp: 0,
@@ -29,7 +34,13 @@ impl Starts {
     }
 
     #[inline(always)]
-    fn see(&mut self, stamp: Stamp, number: u8) {
+    fn see(&mut self, stamp: Stamp, number: u8)
+        ensures { (samples : List Sample) → KeepsStarts self.old samples
+            → KeepsStarts self.new (record {
+              stamp = stamp.0;
+              number = number;
+            } ∷ samples) }
+    {
         if self.count < STARTS {
             self.samples[self.count] = Sample {
                 stamp: stamp.0,
@@ -39,7 +50,9 @@ impl Starts {
         }
     }
 
-    fn as_slice(&self) -> &[Sample] {
+    fn as_slice(&self) -> &[Sample]
+        ensures { result.now ≡ kept_samples self.now }
+    {
         &self.samples[..self.count]
     }
 }
@@ -55,8 +68,13 @@ pub struct LinkTally {
 }
 
 impl LinkTally {
+    ghost use Rattle.link_estimate.specs.CopyPairs.{SeenFrame};
+    ghost use Rattle.input_check.specs.Tallies.{CountsTally, counted_on, meeting_of};
+
     /// Of no frame. A copy comes at most so many nanoseconds after the first frame.
-    pub fn new(skew: u64) -> LinkTally {
+    pub fn new(skew: u64) -> LinkTally
+        ensures { CountsTally skew result [] }
+    {
         LinkTally {
             frames_a: 0,
             frames_b: 0,
@@ -68,7 +86,14 @@ impl LinkTally {
 
     /// Counts a frame with this sequence number.
     #[inline]
-    pub fn see(&mut self, network: Network, stamp: Stamp, number: u8) {
+    pub fn see(&mut self, network: Network, stamp: Stamp, number: u8)
+        ensures { (skew : ℕ) (frames : List SeenFrame) → length frames < 2 ^ 32
+            → CountsTally skew self.old frames → CountsTally skew self.new (record {
+              network = network;
+              number = number;
+              stamp = stamp.0;
+            } ∷ frames) }
+    {
         match network {
             Network::A => {
                 self.frames_a = self.frames_a.saturating_add(1);
@@ -83,7 +108,9 @@ impl LinkTally {
     }
 
     /// How many frames there are on a network.
-    pub fn frames(&self, network: Network) -> u64 {
+    pub fn frames(&self, network: Network) -> u64
+        ensures { result ≡ counted_on network self.now }
+    {
         match network {
             Network::A => self.frames_a,
             Network::B => self.frames_b,
@@ -91,12 +118,16 @@ impl LinkTally {
     }
 
     /// How many of them are copies.
-    pub fn copies(&self) -> u64 {
+    pub fn copies(&self) -> u64
+        ensures { result ≡ self.now.copies.count }
+    {
         self.copies.count()
     }
 
     /// The first frame on network B that network A has too, by its number, among the first of both.
-    pub fn meeting(&self) -> Option<Meeting> {
+    pub fn meeting(&self) -> Option<Meeting>
+        ensures { result ≡ meeting_of self.now }
+    {
         first_meeting(self.starts_a.as_slice(), self.starts_b.as_slice())
     }
 }

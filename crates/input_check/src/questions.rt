@@ -1,7 +1,11 @@
 //! What looks wrong with the inputs of a run, as questions: counts can't tell a wrong input from a strange
 //! network.
 
-ghost use Rattle.std.specs.Prelude.{◌≡◌};
+ghost use Rattle.std.specs.Prelude.{◌≡◌, ◌&&◌, ◌||◌, ◌++◌, not, IfOk, OnOk};
+ghost use Rattle.input_check.specs.Decide.{is_nearly_all};
+ghost use Rattle.input_check.specs.Parts.{constants_of, pairs_in};
+ghost use Rattle.input_check.specs.Taps.{are_same};
+ghost use Rattle.input_check.specs.Questions.{Appends, AreQuestions, AsksClocks, AsksFrames, IsDifference, IsMostCommon, asked_if, has_checks, meetings_of, of_networks, option_list, overlap_in, pairs_of};
 
 use crate::clocks::{Meeting, most_supported, support};
 use crate::decide::{
@@ -59,7 +63,9 @@ pub struct Look {
 
 impl Look {
     /// Whether the recordings overlap in time. None: one has no frame.
-    pub fn overlap(&self) -> Option<Overlap> {
+    pub fn overlap(&self) -> Option<Overlap>
+        ensures { result ≡ overlap_in self.now }
+    {
         Some(overlap_of(self.a?, self.b?))
     }
 }
@@ -73,7 +79,9 @@ struct Pairs {
     skew: u64,
 }
 
-fn pairs_of(inputs: &Inputs<'_>) -> Pairs {
+fn pairs_of(inputs: &Inputs<'_>) -> Pairs
+    ensures { result ≡ pairs_of (pairs_in inputs.now) }
+{
     let mut pairs = Pairs {
         a: 0,
         b: 0,
@@ -92,7 +100,9 @@ fn pairs_of(inputs: &Inputs<'_>) -> Pairs {
 }
 
 /// The frames that both taps have seen, one of each link with redundancy management on.
-fn meetings_of(alloc: Global, inputs: &Inputs<'_>) -> Result<Vec<Meeting>, AllocError> {
+fn meetings_of(alloc: Global, inputs: &Inputs<'_>) -> Result<Vec<Meeting>, AllocError>
+    ensures { IfOk result (λ meetings. meetings.items ≡ meetings_of (pairs_in inputs.now)) }
+{
     let mut meetings = Vec::new(alloc);
     for (link, tally) in inputs.links().iter().zip(inputs.tallies()) {
         if link.redundancy {
@@ -105,7 +115,9 @@ fn meetings_of(alloc: Global, inputs: &Inputs<'_>) -> Result<Vec<Meeting>, Alloc
 }
 
 /// How far the clocks are apart, if links agree on more than a skew.
-fn difference_of(meetings: &[Meeting], skew: u64) -> Option<Difference> {
+fn difference_of(meetings: &[Meeting], skew: u64) -> Option<Difference>
+    ensures { IsDifference meetings.now skew result }
+{
     if meetings.is_empty() {
         return None;
     }
@@ -133,7 +145,9 @@ fn clocks(
     alloc: Global,
     inputs: &Inputs<'_>,
     overlap: Option<Overlap>,
-) -> Result<Option<Question>, AllocError> {
+) -> Result<Option<Question>, AllocError>
+    ensures { IfOk result (λ asked. AsksClocks (pairs_in inputs.now) overlap (option_list asked)) }
+{
     let pairs = pairs_of(inputs);
     if !are_copies_few(pairs.copies, pairs.a, pairs.b) {
         return Ok(None);
@@ -149,13 +163,17 @@ fn clocks(
 }
 
 /// Do nearly all frames end with their check sequence?
-fn has_checks(tap: &TapTally) -> bool {
+fn has_checks(tap: &TapTally) -> bool
+    ensures { result ≡ has_checks tap.now }
+{
     let (checked, with_check) = tap.checks();
     is_nearly_all(with_check, checked)
 }
 
 /// The constant field beside the table's that most frames have, the first seen of several.
-fn most_common(constants: &[Constant]) -> Option<Constant> {
+fn most_common(constants: &[Constant]) -> Option<Constant>
+    ensures { IsMostCommon constants.now result }
+{
     let mut most: Option<Constant> = None;
     for constant in constants {
         let more = match most {
@@ -175,7 +193,10 @@ fn ask_of_networks(
     a: &TapTally,
     b: &TapTally,
     overlap: Option<Overlap>,
-) -> Result<(), AllocError> {
+) -> Result<(), AllocError>
+    ensures { OnOk result (questions.new.items
+        ≡ questions.old.items ++ of_networks a.now b.now overlap) }
+{
     if a.is_same(b) {
         questions.push(Question::SameRecording)?;
         return Ok(());
@@ -190,26 +211,65 @@ fn ask_of_networks(
 }
 
 /// Whether the frames are those of the table. Do they end with check sequences?
-fn ask_of_frames(questions: &mut Vec<Question>, inputs: &Inputs<'_>) -> Result<bool, AllocError> {
+fn ask_of_frames(questions: &mut Vec<Question>, inputs: &Inputs<'_>) -> Result<bool, AllocError>
+    ensures checks { IfOk result (λ checks.
+        checks ≡ (has_checks inputs.now.a || has_checks inputs.now.b)) }
+    ensures asked { IfOk result (λ _. Appends questions.old.items questions.new.items
+        (AsksFrames inputs.now.a inputs.now.b (constants_of inputs.now))) }
+{
     let (a, b) = (inputs.tap(Network::A), inputs.tap(Network::B));
     let of = a.frames().saturating_add(b.frames());
     let frames = a.foreign.saturating_add(b.foreign);
-    if is_nearly_all(frames, of) {
-        let most = most_common(inputs.constants());
-        questions.push(Question::Constant { frames, of, most })?;
-    }
+    let most = most_common(inputs.constants());
+    let foreign = Question::Constant { frames, of, most };
+    ask_if(questions, is_nearly_all(frames, of), foreign)?;
     let (of_a, of_b) = (has_checks(a), has_checks(b));
-    if of_a {
-        questions.push(Question::CheckSequence(Network::A))?;
-    }
-    if of_b {
-        questions.push(Question::CheckSequence(Network::B))?;
-    }
+    ask_if(questions, of_a, Question::CheckSequence(Network::A))?;
+    ask_if(questions, of_b, Question::CheckSequence(Network::B))?;
     let frames = a.long.saturating_add(b.long);
-    if !of_a && !of_b && is_nearly_all(frames, of) {
-        questions.push(Question::TooLong { frames, of })?;
-    }
+    let are_too_long = are_too_long(of_a, of_b, frames, of);
+    ask_if(questions, are_too_long, Question::TooLong { frames, of })?;
     Ok(of_a || of_b)
+}
+
+/// Are nearly all frames too long, and by more than check sequences?
+fn are_too_long(of_a: bool, of_b: bool, frames: u64, of: u64) -> bool
+    ensures { result ≡ (not of_a && (not of_b && is_nearly_all frames of)) }
+{
+    !of_a && !of_b && is_nearly_all(frames, of)
+}
+
+fn ask_if(questions: &mut Vec<Question>, holds: bool, question: Question) -> Result<(), AllocError>
+    ensures { OnOk result (questions.new.items
+        ≡ questions.old.items ++ asked_if holds question) }
+{
+    if holds {
+        questions.push(question)?;
+    }
+    Ok(())
+}
+
+/// Whether the clocks are apart.
+fn ask_of_clocks(
+    alloc: Global,
+    questions: &mut Vec<Question>,
+    inputs: &Inputs<'_>,
+    overlap: Option<Overlap>,
+) -> Result<(), AllocError>
+    ensures { IfOk result (λ _. Appends questions.old.items questions.new.items
+        (AsksClocks (pairs_in inputs.now) overlap)) }
+{
+    if let Some(question) = clocks(alloc, inputs, overlap)? {
+        questions.push(question)?;
+    }
+    Ok(())
+}
+
+/// Are the clocks no question?
+fn is_settled(has_checks: bool, a: &TapTally, b: &TapTally) -> bool
+    ensures { result ≡ (has_checks || are_same a.now b.now) }
+{
+    has_checks || a.is_same(b)
 }
 
 /// What looks wrong, in the order in which it is to be mended.
@@ -221,16 +281,16 @@ pub fn questions_of(
     alloc: Global,
     inputs: &Inputs<'_>,
     look: Look,
-) -> Result<Vec<Question>, AllocError> {
+) -> Result<Vec<Question>, AllocError>
+    ensures { IfOk result (λ questions. AreQuestions inputs.now look questions.items) }
+{
     let mut questions = Vec::new(alloc);
     let (a, b) = (inputs.tap(Network::A), inputs.tap(Network::B));
     let overlap = look.overlap();
     ask_of_networks(&mut questions, a, b, overlap)?;
     let has_checks = ask_of_frames(&mut questions, inputs)?;
-    if !has_checks && !a.is_same(b) {
-        if let Some(question) = clocks(alloc, inputs, overlap)? {
-            questions.push(question)?;
-        }
+    if !is_settled(has_checks, a, b) {
+        ask_of_clocks(alloc, &mut questions, inputs, overlap)?;
     }
     Ok(questions)
 }

@@ -1,6 +1,8 @@
 //! What is counted of one recording, whatever its links.
 
-ghost use Rattle.std.specs.Prelude.{◌≡◌};
+ghost use Rattle.std.specs.Prelude.{◌≡◌, ◌+◌, ◌<◌, ◌^◌, ◌&&◌, List, [], ◌∷◌, length};
+ghost use Rattle.input_check.specs.Checksum.{ends_with_check};
+ghost use Rattle.input_check.specs.Taps.{Classed, CountsTap, are_same, ends_of, is_checked, is_foreign, is_long, is_number, network_number, one_if};
 
 use crate::checksum::ends_with_check;
 use crate::decide::Marks;
@@ -36,7 +38,9 @@ const MULTIPLIER: u64 = 0x9e37_79b9_7f4a_7c15;
 
 impl TapTally {
     /// Of no frame.
-    pub fn new() -> TapTally {
+    pub fn new() -> TapTally
+        ensures { CountsTap result [] }
+    {
         TapTally {
             frames: 0,
             checked: 0,
@@ -51,26 +55,50 @@ impl TapTally {
 
     /// Counts a frame, and its class where there is a table.
     #[inline]
-    pub fn see(&mut self, frame: &TapFrame, class: Option<Class>) {
+    pub fn see(&mut self, frame: &TapFrame, class: Option<Class>)
+        ensures { (frames : List Classed) → length frames < 2 ^ 32 → CountsTap self.old frames
+            → CountsTap self.new (record {
+              frame = frame.now;
+              class = class;
+            } ∷ frames) }
+    {
         self.frames = self.frames.saturating_add(1);
+        self.see_class(class);
+        let bytes = frame.view().bytes();
+        let shape = ends_of(bytes) << 32 | u64::from(frame.whole());
+        self.digest = (self.digest ^ frame.stamp().0)
+            .wrapping_mul(MULTIPLIER)
+            .wrapping_add(shape);
+        self.see_source(bytes);
+        self.see_check(bytes, frame.whole());
+    }
+
+    /// Counts a frame of another constant field, or one that is too long.
+    #[inline]
+    fn see_class(&mut self, class: Option<Class>)
+        ensures { self.old.foreign < 2 ^ 32 → self.old.long < 2 ^ 32
+            → self.new ≡ record self.old {
+              foreign = one_if (is_foreign class) + self.old.foreign;
+              long = one_if (is_long class) + self.old.long;
+            } }
+    {
         match class {
             Some(Class::Foreign) => self.foreign = self.foreign.saturating_add(1),
             Some(Class::TooLong) => self.long = self.long.saturating_add(1),
             Some(_) | None => {}
         }
-        let bytes = frame.view().bytes();
-        let ends = match bytes {
-            [_, _, _, _, high, low, .., last] => {
-                u64::from(*high) << 24 | u64::from(*low) << 16 | u64::from(*last)
-            }
-            _ => 0,
-        };
-        let shape = ends << 32 | u64::from(frame.whole());
-        self.digest = (self.digest ^ frame.stamp().0)
-            .wrapping_mul(MULTIPLIER)
-            .wrapping_add(shape);
-        self.see_source(bytes);
-        if self.checked < CHECKED && bytes.len() == frame.whole() as usize {
+    }
+
+    /// Looks for the frame check sequence in the first frames that were recorded whole.
+    #[inline]
+    fn see_check(&mut self, bytes: &[u8], whole: u32)
+        ensures { self.old.with_check < 2 ^ 32 → self.new ≡ record self.old {
+          checked = one_if (is_checked self.old bytes.now whole) + self.old.checked;
+          with_check = one_if (is_checked self.old bytes.now whole && ends_with_check bytes.now)
+              + self.old.with_check;
+        } }
+    {
+        if self.checked < CHECKED && bytes.len() == whole as usize {
             self.checked += 1;
             if ends_with_check(bytes) {
                 self.with_check = self.with_check.saturating_add(1);
@@ -81,7 +109,12 @@ impl TapTally {
     /// Counts what network the source address names: its last byte begins with the bits 001 on network A, and
     /// with 010 on B (ARINC 664 Part 7).
     #[inline]
-    fn see_source(&mut self, bytes: &[u8]) {
+    fn see_source(&mut self, bytes: &[u8])
+        ensures { self.old.as_a < 2 ^ 32 → self.old.as_b < 2 ^ 32 → self.new ≡ record self.old {
+          as_a = one_if (is_number 1 (network_number bytes.now)) + self.old.as_a;
+          as_b = one_if (is_number 2 (network_number bytes.now)) + self.old.as_b;
+        } }
+    {
         match bytes.get(INTERFACE).map(|byte| *byte >> 5) {
             Some(1) => self.as_a = self.as_a.saturating_add(1),
             Some(2) => self.as_b = self.as_b.saturating_add(1),
@@ -119,7 +152,22 @@ impl TapTally {
 
     /// Have both recordings the same frames, by their number, timestamps, lengths and ends? Two taps never
     /// stamp all frames alike.
-    pub fn is_same(&self, other: &TapTally) -> bool {
+    pub fn is_same(&self, other: &TapTally) -> bool
+        ensures { result ≡ are_same self.now other.now }
+    {
         0 < self.frames && self.frames == other.frames && self.digest == other.digest
+    }
+}
+
+/// A frame's identifier and its last byte, as a number. 0 for a frame below 7 bytes.
+#[inline]
+fn ends_of(bytes: &[u8]) -> u64
+    ensures { result ≡ ends_of bytes.now }
+{
+    match bytes {
+        [_, _, _, _, high, low, .., last] => {
+            u64::from(*high) << 24 | u64::from(*low) << 16 | u64::from(*last)
+        }
+        _ => 0,
     }
 }

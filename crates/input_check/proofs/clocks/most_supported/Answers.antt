@@ -17,6 +17,7 @@ loop-index-preserved c =
             within = rw w.best-is c.loop-index-test.true;
             has = rw (w.best-is, w.most-is) here;
             most = rw w.most-is (most_more meetings c.loop-index.index c.support-count.result c.loop-index.most c.support-count.result here wide same c.loop-index.invariant.most);
+            first = rw (w.best-is, w.most-is) (λ k d lt. omega (arith, c.loop-index.invariant.most k d lt, w.if-most-count.true));
           })
       | else-most-count w ↦ (
           let same : c.loop-index.most ≤ c.loop-index.most = omega arith in
@@ -24,9 +25,14 @@ loop-index-preserved c =
             within = rw w.best-is c.loop-index.invariant.within;
             has = rw (w.best-is, w.most-is) c.loop-index.invariant.has;
             most = rw w.most-is (most_more meetings c.loop-index.index c.support-count.result c.loop-index.most c.loop-index.most here same w.if-most-count.false c.loop-index.invariant.most);
+            first = rw (w.best-is, w.most-is) c.loop-index.invariant.first;
           })
     ]
 
 pub returns-clause-most : goal.returns-clause-most
-returns-clause-most c =
-    (c.loop-index.most, c.loop-index.invariant.has, λ k d lt. c.loop-index.invariant.most k d (omega (arith, lt, c.loop-index-test.false)))
+returns-clause-most c = record {
+  most = c.loop-index.most;
+  has = c.loop-index.invariant.has;
+  no_more = λ k d lt. c.loop-index.invariant.most k d (omega (arith, lt, c.loop-index-test.false));
+  first = c.loop-index.invariant.first;
+}
