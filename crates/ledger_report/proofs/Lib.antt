@@ -1,9 +1,17 @@
+pub mod AccountSteps
+pub mod CopySteps
+pub mod CountsSteps
 pub mod Distances
 pub mod Ends
+pub mod Indexes
+pub mod KeepSteps
 pub mod LaneMoves
 pub mod LaneSteps
 pub mod LaneSums
+pub mod LinkSteps
 pub mod MarkMoves
+pub mod NetworkSteps
 pub mod Pendings
 pub mod Readings
+pub mod Spans
 pub mod Tallies

@@ -1,7 +1,11 @@
--- One more line of the ledger beside its counts.
-use Rattle.std.proofs.Common.{◌≡◌, ◌∙◌, ℕ, ◌<◌, ◌≤◌, false, List, [], ◌∷◌, ◌++◌, length, Option, Some, None, refl, sym, ap, subst, arith, length-append}
-use Rattle.std.proofs.lemmas.List.{append-nil}
+-- One more line of the ledger beside the numbers of its report.
+use Rattle.std.proofs.Common.{get_or, ◌&&◌, ◌^◌, ◌≡◌, ◌∙◌, ℕ, ◌<◌, ◌≤◌, false, List, [], ◌∷◌, ◌++◌, length, reverse, Option, Some, None, refl, sym, ap, subst, arith, length-append}
+use Rattle.std.proofs.lemmas.List.{append-nil, length-reverse, reverse-append}
 use Rattle.std.specs.Io.KnownBytes.{IsAtEnd, prepend_known}
+use Rattle.vl_config.specs.Link.{VirtualLink}
+use Rattle.ledger_text.specs.FrameText.{IsFrameLine}
+use Rattle.ledger_text.specs.Order.{IsLineAt}
+use Rattle.ledger_text.specs.declared.order.Stage.{Stage}
 use Rattle.ledger_text.specs.Ledger.{HasReadLines, ReadLine, frame_lines, frames_in, has_failed as ledger_failed, left_of, lent_of, stage_of}
 use Rattle.ledger_text.specs.Lines.{unread_of}
 use Rattle.ledger_text.specs.Reader.{IsFound, reading_of, source_of}
@@ -15,14 +19,40 @@ use Rattle.ledger_text.specs.declared.reader.LedgerReader.{LedgerReader}
 use Rattle.ledger_text.proofs.Ledgers.{found_one_more, frame_lines_one_more}
 use Rattle.pcap_io.specs.declared.device.TapSource.{Ghosts as SourceMembers}
 use Rattle.ledger_report.specs.Counting.{AreCountsOf}
-use Rattle.ledger_report.specs.Reading.{CountsLedger, HasCounted}
+use Rattle.ledger_report.specs.Keeping.{KeepsAccount}
+use Rattle.ledger_report.specs.Noting.{IsAccountOf}
+use Rattle.ledger_report.specs.CountsLines.{HasCounted}
+use Rattle.ledger_report.specs.Reading.{HasNoted, HasRead, TellsLedger, report_of}
+use Rattle.ledger_report.specs.Settling.{GainFates}
+use Rattle.ledger_report.specs.Deliveries.{is_deliver}
+use Rattle.ledger_report.specs.Links.{AreLinksOf}
+use Rattle.ledger_report.specs.Words.{is_seen_of}
+use Rattle.ledger_report.specs.Span.{HasSpan, KeepsSpan}
+use Rattle.ledger_report.specs.declared.link.LinkReport.{LinkReport}
+use Rattle.std.proofs.lemmas.List.Sums.{count_by-le-length}
 use Rattle.ledger_report.specs.declared.counts.FrameCounts.{FrameCounts}
+use Rattle.ledger_report.specs.declared.report.OutsideLink.{OutsideLink}
+use Rattle.ledger_report.specs.declared.counts_lines.CountsLines.{CountsLines}
+use Rattle.ledger_report.specs.declared.statistics.Statistics.{Statistics}
+use Rattle.ledger_report.proofs.CountsSteps.{counted_frame}
+use Rattle.ledger_report.proofs.Spans.{span_end, span_kept}
+use Rattle.ledger_report.proofs.AccountSteps.{keeps_links, keeps_networks, link_at}
 
 abbrev pub line_of : {S : Type 0} → LedgerReader S → LedgerLine → ReadLine
 line_of reader line = record { text = lent_of reader; line = line }
 
-abbrev pub IsCounting : {S : Type 0} → SourceMembers S → Option (List ℕ) → ℕ → LedgerReader S → FrameCounts → Type 0
-IsCounting s bytes failures ledger counts = (rs : List ReadLine) × HasCounted s bytes failures rs ledger counts
+abbrev pub IsNoting : {S : Type 0} → SourceMembers S → Option (List ℕ) → ℕ → List VirtualLink → LedgerReader S → FrameCounts → Statistics → CountsLines → Type 0
+IsNoting s bytes failures links ledger counts statistics counted = (rs : List ReadLine) × HasNoted s bytes failures links rs ledger counts statistics counted
+
+-- what the values of a frame's line are
+frame_at : (stage : Stage) (text : List ℕ) (v : FrameLine) → IsLineAt stage text (lines.Frame v) → IsFrameLine v
+frame_at stages.Head text v is = absurd is
+frame_at stages.Frames text v is = is.values
+frame_at (stages.Counts last) text v is = absurd is
+
+pub is_frame_line : {S : Type 0} (s : SourceMembers S) (old new : LedgerReader S) (v : FrameLine)
+    → IsFound (reading_of s.remaining s.failures old) (reading_of s.remaining s.failures new) (lent_of new) (found.Line (lines.Frame v)) → IsFrameLine v
+is_frame_line s old new v is = frame_at old.stage (lent_of new) v is.1.0
 
 one_frame : (line : LedgerLine) → length (frames_in line) ≤ 1
 one_frame (lines.Frame v) = omega arith
@@ -40,40 +70,72 @@ pub few_before : {S : Type 0} (s : SourceMembers S) (bytes : Option (List ℕ)) 
     → length (frame_lines rs) < MOST_LINES
 few_before s bytes failures rs old new line h is = omega (arith, few_frames rs, h.number, is.1.3)
 
-pub frame_counted : {S : Type 0} (s : SourceMembers S) (bytes : Option (List ℕ)) (failures : ℕ) (rs : List ReadLine) (old new : LedgerReader S)
-    (was now : FrameCounts) (v : FrameLine) → HasCounted s bytes failures rs old was
+pub few_lines : (rs : List ReadLine) → length (frame_lines rs) < MOST_LINES → length (reverse (frame_lines rs)) < MOST_LINES
+few_lines rs few = omega (arith, few, length-reverse (frame_lines rs))
+
+pub frame_noted : {S : Type 0} (s : SourceMembers S) (bytes : Option (List ℕ)) (failures : ℕ) (links : List VirtualLink) (rs : List ReadLine)
+    (old new : LedgerReader S) (was now : FrameCounts) (before after : Statistics) (counted : CountsLines) (v : FrameLine) → HasNoted s bytes failures links rs old was before counted
     → IsFound (reading_of s.remaining s.failures old) (reading_of s.remaining s.failures new) (lent_of new) (found.Line (lines.Frame v)) → ledger_failed new ≡ false
-    → AreCountsOf (frame_lines rs ++ v ∷ []) now → IsCounting s bytes failures new now
-frame_counted s bytes failures rs old new was now v h is sound counted = (
-  rs ++ line_of new (lines.Frame v) ∷ [],
-  record {
-    read = found_one_more s bytes failures rs old new (lines.Frame v) h.read is sound;
-    counts_are = subst (λ (vs : List FrameLine). AreCountsOf vs now) (sym (frame_lines_one_more rs (line_of new (lines.Frame v)))) counted;
-  },
-)
+    → length (frame_lines rs) < MOST_LINES → AreCountsOf (frame_lines rs ++ v ∷ []) now → IsAccountOf links (v ∷ reverse (frame_lines rs)) after
+    → HasSpan (v ∷ reverse (frame_lines rs)) after → IsNoting s bytes failures links new now after counted
+frame_noted s bytes failures links rs old new was now before after lines_counted v h is sound few counted account span =
+    let more = frame_lines_one_more rs (line_of new (lines.Frame v)) in (
+      rs ++ line_of new (lines.Frame v) ∷ [],
+      record {
+        read = found_one_more s bytes failures rs old new (lines.Frame v) h.read is sound;
+        counts_are = subst (λ (vs : List FrameLine). AreCountsOf vs now) (sym more) counted;
+        account = subst (λ (vs : List FrameLine). IsAccountOf links vs after)
+            (sym (ap (λ (vs : List FrameLine). reverse vs) more ∙ reverse-append (frame_lines rs) (v ∷ []))) account;
+        span = subst (λ (vs : List FrameLine). HasSpan vs after)
+            (sym (ap (λ (vs : List FrameLine). reverse vs) more ∙ reverse-append (frame_lines rs) (v ∷ []))) span;
+        counted_are = subst (λ (qs : List ReadLine). HasCounted links qs lines_counted) (sym (reverse-append rs (line_of new (lines.Frame v) ∷ [])))
+            (counted_frame links (reverse rs) lines_counted (lent_of new) v h.counted_are);
+        few = omega (arith, few, ap (λ (vs : List FrameLine). length vs) more, length-append (frame_lines rs) (v ∷ []));
+      },
+    )
 
-pub other_counted : {S : Type 0} (s : SourceMembers S) (bytes : Option (List ℕ)) (failures : ℕ) (rs : List ReadLine) (old new : LedgerReader S)
-    (counts : FrameCounts) (line : LedgerLine) → frames_in line ≡ [] → HasCounted s bytes failures rs old counts
+pub other_noted : {S : Type 0} (s : SourceMembers S) (bytes : Option (List ℕ)) (failures : ℕ) (links : List VirtualLink) (rs : List ReadLine)
+    (old new : LedgerReader S) (counts : FrameCounts) (statistics : Statistics) (was now : CountsLines) (line : LedgerLine) → frames_in line ≡ []
+    → HasNoted s bytes failures links rs old counts statistics was
     → IsFound (reading_of s.remaining s.failures old) (reading_of s.remaining s.failures new) (lent_of new) (found.Line line) → ledger_failed new ≡ false
-    → IsCounting s bytes failures new counts
-other_counted s bytes failures rs old new counts line none h is sound = (
-  rs ++ line_of new line ∷ [],
-  record {
-    read = found_one_more s bytes failures rs old new line h.read is sound;
-    counts_are = subst (λ (vs : List FrameLine). AreCountsOf vs counts)
-        (sym (frame_lines_one_more rs (line_of new line) ∙ ap (λ (vs : List FrameLine). frame_lines rs ++ vs) none ∙ append-nil (frame_lines rs))) h.counts_are;
-  },
-)
+    → HasCounted links (line_of new line ∷ reverse rs) now → IsNoting s bytes failures links new counts statistics now
+other_noted s bytes failures links rs old new counts statistics was now line none h is sound counted =
+    let same = frame_lines_one_more rs (line_of new line) ∙ ap (λ (vs : List FrameLine). frame_lines rs ++ vs) none ∙ append-nil (frame_lines rs) in (
+      rs ++ line_of new line ∷ [],
+      record {
+        read = found_one_more s bytes failures rs old new line h.read is sound;
+        counts_are = subst (λ (vs : List FrameLine). AreCountsOf vs counts) (sym same) h.counts_are;
+        account = subst (λ (vs : List FrameLine). IsAccountOf links (reverse vs) statistics) (sym same) h.account;
+        span = subst (λ (vs : List FrameLine). HasSpan (reverse vs) statistics) (sym same) h.span;
+        counted_are = subst (λ (qs : List ReadLine). HasCounted links qs now) (sym (reverse-append rs (line_of new line ∷ []))) counted;
+        few = omega (arith, h.few, ap (λ (vs : List FrameLine). length vs) same);
+      },
+    )
 
-pub ends_counting : {S : Type 0} (s : SourceMembers S) (bytes : Option (List ℕ)) (failures : ℕ) (rs : List ReadLine) (old : LedgerReader S) (counts : FrameCounts)
-    → HasCounted s bytes failures rs old counts → IsAtEnd (left_of s old) → CountsLedger bytes counts
-ends_counting s bytes failures rs old counts h at = record {
+-- a link's deliveries are some of the ledger's lines
+few_delivered : (links : List VirtualLink) (lines : List FrameLine) (reports : List LinkReport) → AreLinksOf links lines reports → length lines ≤ MOST_LINES →
+    (i : ℕ) (report : LinkReport) → i < length reports → (get_or reports i report).deliveries < 2 ^ 62
+few_delivered links lines reports are few i report within =
+    let below : i < length links = omega (arith, within, are.count) in
+    let link = link_at links i below in
+    let h = are.each i link report below in
+    let small = count_by-le-length (λ line. is_seen_of (get_or links i link).id.0 line && is_deliver line) lines in
+    omega (arith, h.deliveries, small, few)
+
+pub ends_noting : {S : Type 0} (s : SourceMembers S) (bytes : Option (List ℕ)) (failures : ℕ) (links : List VirtualLink) (rs : List ReadLine)
+    (old : LedgerReader S) (counts : FrameCounts) (statistics : Statistics) (counted : CountsLines) → HasNoted s bytes failures links rs old counts statistics counted
+    → IsAtEnd (left_of s old) → HasRead bytes links counts statistics counted
+ends_noting s bytes failures links rs old counts statistics counted h at = record {
   rs = rs;
   stage = stage_of old;
   left = left_of s old;
   lines = h.read.lines;
   ends = at;
   counts_are = h.counts_are;
+  account = h.account;
+  span = h.span;
+  counted_are = h.counted_are;
+  few = h.few;
 }
 
 prepend_none : (bytes : Option (List ℕ)) → bytes ≡ prepend_known [] bytes
@@ -93,3 +155,26 @@ reads_nothing {S = S} s source reader same none (stage, number, sound) = record 
   sound = sound;
   no_failure = ap (λ (x : S). s.failures x) same;
 }
+
+pub tells_ledger : (bytes : Option (List ℕ)) (links : List VirtualLink) (counts : FrameCounts) (old new : Statistics) (counted : CountsLines) → KeepsAccount old new → KeepsSpan old new
+    → GainFates old.links.items new.links.items → HasRead bytes links counts old counted → TellsLedger bytes links (report_of counts new counted)
+tells_ledger bytes links counts old new counted keeps kept gain h =
+    let lines = reverse (frame_lines h.rs) in
+    let few : length lines ≤ MOST_LINES = omega (arith, h.few, length-reverse (frame_lines h.rs)) in record {
+      rs = h.rs;
+      stage = h.stage;
+      left = h.left;
+      lines = h.lines;
+      ends = h.ends;
+      counts_are = h.counts_are;
+      networks_are = keeps_networks lines old new keeps h.account.networks_are;
+      links_are = keeps_links links lines old.links.items new.links.items keeps.links h.account.links_are;
+      start_is = (span_kept lines old new kept h.span).start;
+      end_is = span_end lines new (span_kept lines old new kept h.span);
+      counts_told = h.counted_are.told;
+      whole_is = h.counted_are.whole_is;
+      few_outside = subst (λ (xs : List OutsideLink). length xs ≤ 65536) (sym keeps.outside) h.account.outside;
+      fates = λ i report within. (
+          let below : i < length old.links.items = omega (arith, within, keeps.links.0) in
+          gain i report below (h.account.balanced i report below) (few_delivered links lines old.links.items h.account.links_are few i report below));
+    }

@@ -1,25 +1,84 @@
--- A ledger that is read to its end, and the counts of its report.
-use Rattle.std.specs.Prelude.{ℕ, List, Option}
+-- A ledger that is read to its end, and the numbers of its report.
+use Rattle.std.specs.Prelude.{◌≡◌, ℕ, ◌≤◌, List, Option, length, reverse, unwrap_or}
+use Rattle.std.specs.Option.{option_map_or}
 use Rattle.std.specs.Io.KnownBytes.{IsAtEnd}
 use Rattle.pcap_io.specs.declared.device.TapSource.{Ghosts as SourceMembers}
+use Rattle.afdx_frame.specs.declared.key.TheConstants.{VL_ID_COUNT}
+use Rattle.vl_config.specs.Link.{VirtualLink}
 use Rattle.ledger_text.specs.Ledger.{HasReadLines, ReadLine, ReadsLines, frame_lines}
+use Rattle.ledger_text.specs.declared.bounds.TheConstants.{MOST_LINES}
 use Rattle.ledger_text.specs.declared.order.Stage.{Stage}
 use Rattle.ledger_text.specs.declared.order.Stage.TheVariants as stages
 use Rattle.ledger_text.specs.declared.reader.LedgerReader.{LedgerReader}
 use Rattle.ledger_report.specs.Counting.{AreCountsOf}
+use Rattle.ledger_report.specs.CountsLines.{HasCounted, TellCounts, is_whole}
+use Rattle.ledger_report.specs.Links.{AreLinksOf}
+use Rattle.ledger_report.specs.Noting.{AreNetworksOf, IsAccountOf}
+use Rattle.ledger_report.specs.Settling.{HaveFates}
+use Rattle.ledger_report.specs.Span.{HasSpan, newest, oldest}
 use Rattle.ledger_report.specs.declared.counts.FrameCounts.{FrameCounts}
+use Rattle.ledger_report.specs.declared.counts_lines.CountsLines.{CountsLines}
+use Rattle.ledger_report.specs.declared.report.Report.{Report}
+use Rattle.ledger_report.specs.declared.statistics.Statistics.{Statistics}
 
--- The bytes are the lines of a ledger from its head on, and nothing is left after them; these are the counts of its lines of frames.
-pub record CountsLedger (bytes : Option (List ℕ)) (counts : FrameCounts) : Type 0 where
+-- The bytes are the lines of a ledger from its head on, and nothing is left after them. These are the counts of its lines of frames, and
+-- the numbers of both networks and of the table's links over them; each delivery of a link has one fate, and at most
+-- as many links outside the table are kept as there are identifiers. Each line of counts is that of the lines before it. The report
+-- starts and ends with the first and the last line of a frame, at 0 where there is none, and is whole exactly where the ledger has its last line.
+pub record TellsLedger (bytes : Option (List ℕ)) (links : List VirtualLink) (report : Report) : Type 0 where
+  pub rs : List ReadLine
+  pub stage : Stage
+  pub left : Option (List ℕ)
+  pub lines : ReadsLines stages.Head bytes rs stage left
+  pub ends : IsAtEnd left
+  pub counts_are : AreCountsOf (frame_lines rs) report.counts
+  pub networks_are : AreNetworksOf (reverse (frame_lines rs)) report.networks
+  pub links_are : AreLinksOf links (reverse (frame_lines rs)) report.links.items
+  pub fates : HaveFates report.links.items
+  pub few_outside : length report.outside.items ≤ VL_ID_COUNT
+  pub counts_told : TellCounts links (reverse rs)
+  pub start_is : report.start ≡ unwrap_or (oldest (reverse (frame_lines rs))) 0
+  pub end_is : report.end ≡ unwrap_or (newest (reverse (frame_lines rs))) 0
+  pub whole_is : report.whole ≡ is_whole (reverse rs)
+
+-- The same, where the deliveries aren't settled yet.
+pub record HasRead (bytes : Option (List ℕ)) (links : List VirtualLink) (counts : FrameCounts) (statistics : Statistics) (counted : CountsLines) : Type 0 where
   pub rs : List ReadLine
   pub stage : Stage
   pub left : Option (List ℕ)
   pub lines : ReadsLines stages.Head bytes rs stage left
   pub ends : IsAtEnd left
   pub counts_are : AreCountsOf (frame_lines rs) counts
+  pub account : IsAccountOf links (reverse (frame_lines rs)) statistics
+  pub span : HasSpan (reverse (frame_lines rs)) statistics
+  pub counted_are : HasCounted links (reverse rs) counted
+  pub few : length (frame_lines rs) ≤ MOST_LINES
 
--- These lines of the ledger were read and counted.
-pub record HasCounted {S : Type 0} (s : SourceMembers S) (bytes : Option (List ℕ)) (failures : ℕ) (rs : List ReadLine) (ledger : LedgerReader S)
-    (counts : FrameCounts) : Type 0 where
+-- These lines of the ledger were read and noted.
+pub record HasNoted {S : Type 0} (s : SourceMembers S) (bytes : Option (List ℕ)) (failures : ℕ) (links : List VirtualLink) (rs : List ReadLine)
+    (ledger : LedgerReader S) (counts : FrameCounts) (statistics : Statistics) (counted : CountsLines) : Type 0 where
   pub read : HasReadLines s bytes failures rs ledger
   pub counts_are : AreCountsOf (frame_lines rs) counts
+  pub account : IsAccountOf links (reverse (frame_lines rs)) statistics
+  pub span : HasSpan (reverse (frame_lines rs)) statistics
+  pub counted_are : HasCounted links (reverse rs) counted
+  pub few : length (frame_lines rs) ≤ MOST_LINES
+
+-- ---- the report of a reading
+
+-- the timestamp of the latest line, or of none
+abbrev pub end_stamp : Statistics → ℕ
+end_stamp statistics = option_map_or (λ latest. latest.0.stamp) statistics.latest statistics.start
+
+abbrev pub report_of : FrameCounts → Statistics → CountsLines → Report
+report_of counts statistics counted = record {
+  start = statistics.start;
+  end = end_stamp statistics;
+  width = statistics.width;
+  networks = statistics.networks;
+  links = statistics.links;
+  outside = statistics.outside;
+  counts = counts;
+  endings = counted.endings;
+  whole = counted.whole;
+}

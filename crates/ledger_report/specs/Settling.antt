@@ -1,10 +1,13 @@
 -- What became of a link's deliveries, and that each of them is counted once (this project's profile).
-use Rattle.std.specs.Prelude.{◌≡◌, ℕ, ◌+◌, ◌<◌, ◌^◌}
+use Rattle.std.specs.Prelude.{◌≡◌, ℕ, ◌+◌, ◌<◌, ◌^◌, List, length, slice_index_or}
 use Rattle.ledger_report.specs.Alone.{missed}
+use Rattle.ledger_report.specs.Marks.{mark_at}
 use Rattle.ledger_report.specs.Pending.{pending}
+use Rattle.ledger_report.specs.Sums.{saturated}
 use Rattle.ledger_report.specs.declared.link.Fates.{Fates}
 use Rattle.ledger_report.specs.declared.link.LinkReport.{LinkReport}
 use Rattle.ledger_report.specs.declared.signs.Mark.{Mark}
+use Rattle.ledger_report.specs.declared.signs.Sign.TheVariants.{Alone}
 
 -- the deliveries of a link whose fate is counted, or that a lane counts or holds
 abbrev pub counted : Mark → LinkReport → ℕ
@@ -30,3 +33,32 @@ AccountsSame old new = (none : Mark) → accounted none new ≡ accounted none o
 -- at the end
 abbrev pub fate_sum : Fates → ℕ
 fate_sum fates = fates.paired + fates.late + fates.first + fates.met + fates.uncovered + fates.alone
+
+-- Both lanes' deliveries that the other network didn't bring: those where it was silent or not recorded, and those where it was alive.
+pub record SumsLanes (link : LinkReport) : Type 0 where
+  pub uncovered : link.fates.uncovered ≡ saturated (link.lanes.a.uncovered + link.lanes.b.uncovered)
+  pub alone : (none : Mark)
+      → link.fates.alone ≡ saturated ((mark_at link.lanes.a.signs Alone none).count + (mark_at link.lanes.b.signs Alone none).count)
+
+-- ---- of each of some links
+
+abbrev pub AreBalanced : List LinkReport → Type 0
+AreBalanced reports = (i : ℕ) (report : LinkReport) → i < length reports → IsBalanced (slice_index_or reports i report)
+
+-- Each delivery of a link has one of the six fates, of which two are the sums of both lanes.
+abbrev pub HasFates : LinkReport → Type 0
+HasFates link = (link.deliveries ≡ fate_sum link.fates) × SumsLanes link
+
+abbrev pub HaveFates : List LinkReport → Type 0
+HaveFates reports = (i : ℕ) (report : LinkReport) → i < length reports → HasFates (slice_index_or reports i report)
+
+-- Each link's deliveries are counted as before.
+abbrev pub KeepBalance : List LinkReport → List LinkReport → Type 0
+KeepBalance old new = (i : ℕ) (report : LinkReport) → i < length old → AccountsSame (slice_index_or old i report) (slice_index_or new i report)
+
+-- The deliveries of a link that were each counted once have a fate each.
+abbrev pub GetFates : LinkReport → LinkReport → Type 0
+GetFates old new = IsBalanced old → old.deliveries < 2 ^ 62 → HasFates new
+
+abbrev pub GainFates : List LinkReport → List LinkReport → Type 0
+GainFates old new = (i : ℕ) (report : LinkReport) → i < length old → GetFates (slice_index_or old i report) (slice_index_or new i report)

@@ -26,6 +26,10 @@ is_same_network A B = false
 is_same_network B A = false
 is_same_network B B = true
 
+abbrev pub other_of : Network → Network
+other_of A = B
+other_of B = A
+
 abbrev pub is_on : Network → FrameLine → Bool
 is_on network line = is_same_network network line.network
 

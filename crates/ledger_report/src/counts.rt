@@ -204,6 +204,7 @@ impl FrameCounts {
 
     /// How many frames each filter accepts.
     pub fn filters(&self) -> &[u64]
+        ensures held { result.now ≡ self.now.filters }
         ensures count { length result.now ≡ 8 }
         ensures each { (lines : List FrameLine) (filter : ℕ) → AreCountsOf lines self.now → filter < 8
             → slice_index result.now filter ≡ filter_count lines filter }

@@ -1,5 +1,16 @@
 //! A ledger's lines of counts, compared with what its lines of frames give.
 
+ghost use Rattle.std.specs.Prelude.{◌≡◌, ◌+◌, ◌<◌, ◌++◌, List, [], codes, slice_index, true, OnOk};
+ghost use Rattle.std.specs.String.{string_bytes};
+ghost use Rattle.verdict_ledger.specs.Text.{classes_text, judged_text};
+ghost use Rattle.vl_config.specs.Link.{VirtualLink};
+ghost use Rattle.ledger_text.specs.declared.frame.FrameLine.{FrameLine};
+ghost use Rattle.ledger_text.specs.declared.order.Counts.TheVariants as kinds;
+ghost use Rattle.ledger_report.specs.Counting.{AreCountsOf};
+ghost use Rattle.ledger_report.specs.CountsLines.{HasCounted, IsCountsLine, Moves};
+ghost use Rattle.ledger_report.specs.CountsText.{IsFilterLine, IsTotalLine, totals_of};
+ghost use Rattle.ledger_report.specs.Words.{counts_of};
+
 use crate::counts::{Counts, FrameCounts};
 use crate::fault::{Refusal, WrongLine};
 use crate::sides::Sides;
@@ -43,7 +54,11 @@ pub struct CountsLines {
 }
 
 /// The counts of what the judgements say, at the end of a line.
-fn push_judged(text: &mut String, counts: &Counts) -> Result<(), AllocError> {
+#[tactic(auto, unfolding(verdict_ledger::specs::Text::judged_text, verdict_ledger::specs::Text::count_field))]
+fn push_judged(text: &mut String, counts: &Counts) -> Result<(), AllocError>
+    ensures { OnOk result (string_bytes text.new ++ codes "\n" ≡ string_bytes text.old ++ judged_text
+        counts.now.toolong counts.now.excess counts.now.out counts.now.copy counts.now.delivered) }
+{
     let Counts {
         toolong,
         excess,
@@ -58,13 +73,35 @@ fn push_judged(text: &mut String, counts: &Counts) -> Result<(), AllocError> {
     )
 }
 
+/// The counts of the frames that no judgement sees.
+#[tactic(auto, unfolding(verdict_ledger::specs::Text::classes_text, verdict_ledger::specs::Text::count_field))]
+fn push_classes(text: &mut String, counts: &Counts) -> Result<(), AllocError>
+    ensures { OnOk result (string_bytes text.new
+        ≡ string_bytes text.old ++ classes_text (totals_of counts.now)) }
+{
+    let Counts {
+        cut,
+        runt,
+        oversize,
+        foreign,
+        unconfigured,
+        ..
+    } = *counts;
+    write!(
+        text,
+        " cut {cut} runt {runt} oversize {oversize} foreign {foreign} unconfigured {unconfigured}"
+    )
+}
+
 /// What stands after the words that are expected.
 fn after<'a>(line: &'a [u8], words: &str) -> Option<&'a [u8]> {
     line.strip_prefix(words.as_bytes())
 }
 
 impl CountsLines {
-    pub(crate) fn new(alloc: Global) -> CountsLines {
+    pub(crate) fn new(alloc: Global) -> CountsLines
+        ensures { (links : List VirtualLink) → HasCounted links [] result }
+    {
         CountsLines {
             links: 0,
             filters: 0,
@@ -75,7 +112,9 @@ impl CountsLines {
     }
 
     /// Compares a line with the text that was made.
-    fn compare(&self, line: &[u8]) -> Result<(), Refusal> {
+    fn compare(&self, line: &[u8]) -> Result<(), Refusal>
+        ensures { OnOk result (string_bytes self.now.text ≡ line.now) }
+    {
         if self.text.as_bytes() == line {
             Ok(())
         } else {
@@ -91,7 +130,11 @@ impl CountsLines {
         counts: &FrameCounts,
         kind: CountsLine,
         line: &[u8],
-    ) -> Result<(), Refusal> {
+    ) -> Result<(), Refusal>
+        ensures line { OnOk result ((lines : List FrameLine) → AreCountsOf lines counts.now
+            → IsCountsLine config.now.links lines self.old.links self.old.filters kind line.now) }
+        ensures moves { OnOk result (Moves kind self.old self.new) }
+    {
         self.text.clear();
         match kind {
             CountsLine::Link => self.take_link(config, counts, line),
@@ -101,12 +144,19 @@ impl CountsLines {
         }
     }
 
+    #[tactic(auto, unfolding(verdict_ledger::specs::Text::link_line, verdict_ledger::specs::Text::count_field))]
     fn take_link(
         &mut self,
         config: &Config,
         counts: &FrameCounts,
         line: &[u8],
-    ) -> Result<(), Refusal> {
+    ) -> Result<(), Refusal>
+        requires { string_bytes self.old.text ≡ [] }
+        ensures line { OnOk result ((lines : List FrameLine) → AreCountsOf lines counts.now
+            → IsCountsLine config.now.links lines self.old.links self.old.filters kinds.Link line.now) }
+        ensures place { OnOk result (self.new.links ≡ self.old.links + 1) }
+        ensures rest { self.new ≡ record self.old { links = self.new.links; text = self.new.text } }
+    {
         let Some(link) = config.links().get(self.links) else {
             return Err(Refusal::Wrong(WrongLine::Counts));
         };
@@ -120,12 +170,19 @@ impl CountsLines {
         self.compare(line)
     }
 
+    #[tactic(auto, unfolding(verdict_ledger::specs::Text::filter_line, verdict_ledger::specs::Text::count_field))]
     fn take_filter(
         &mut self,
         config: &Config,
         counts: &FrameCounts,
         line: &[u8],
-    ) -> Result<(), Refusal> {
+    ) -> Result<(), Refusal>
+        requires { string_bytes self.old.text ≡ [] }
+        ensures line { OnOk result (IsFilterLine self.old.filters
+            (slice_index counts.now.filters self.old.filters) line.now) }
+        ensures place { OnOk result ((self.old.filters < 8) × (self.new.filters ≡ self.old.filters + 1)) }
+        ensures rest { self.new ≡ record self.old { filters = self.new.filters; text = self.new.text } }
+    {
         let filter = self.filters;
         let missing = self.links < config.links().len();
         let Some(accepted) = counts.filters().get(filter) else {
@@ -145,7 +202,9 @@ impl CountsLines {
         config: &Config,
         counts: &FrameCounts,
         line: &[u8],
-    ) -> Result<(), Refusal> {
+    ) -> Result<(), Refusal>
+        ensures rest { self.new ≡ record self.old { endings = self.new.endings } }
+    {
         let network = if self.endings.a.is_none() {
             Network::A
         } else {
@@ -162,23 +221,22 @@ impl CountsLines {
         }
     }
 
-    fn take_total(&mut self, counts: &FrameCounts, line: &[u8]) -> Result<(), Refusal> {
+    #[tactic(auto, unfolding(verdict_ledger::specs::Text::total_line, verdict_ledger::specs::Text::count_field))]
+    fn take_total(&mut self, counts: &FrameCounts, line: &[u8]) -> Result<(), Refusal>
+        requires { string_bytes self.old.text ≡ [] }
+        ensures line { OnOk result ((lines : List FrameLine) → AreCountsOf lines counts.now
+            → IsTotalLine (counts_of lines) line.now) }
+        ensures whole { OnOk result (self.new.whole ≡ true) }
+        ensures rest { self.new ≡ record self.old { whole = self.new.whole; text = self.new.text } }
+    {
         let all = counts.all();
         let Counts {
             frames,
             accepted,
-            cut,
-            runt,
-            oversize,
-            foreign,
-            unconfigured,
             ..
         } = all;
-        write!(
-            self.text,
-            "total frames {frames} accepted {accepted} cut {cut} runt {runt} oversize {oversize}"
-        )?;
-        write!(self.text, " foreign {foreign} unconfigured {unconfigured}")?;
+        write!(self.text, "total frames {frames} accepted {accepted}")?;
+        push_classes(&mut self.text, &all)?;
         push_judged(&mut self.text, &all)?;
         if self.endings.b.is_none() {
             return Err(Refusal::Wrong(WrongLine::Counts));

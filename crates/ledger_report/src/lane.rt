@@ -1,7 +1,9 @@
 //! A link on one network.
 
-ghost use Rattle.std.specs.Prelude.{◌≡◌, ◌≢◌, ◌+◌, List, ◌∷◌, max, Some, None, IfOk, IfSome, OnOk, if◌then◌else◌};
+ghost use Rattle.std.specs.Prelude.{◌≡◌, ◌≢◌, ◌+◌, ◌&&◌, nat_lt, List, ◌∷◌, max, Some, None, IfOk, IfSome, OnOk, if◌then◌else◌};
 ghost use Rattle.integrity.specs.Sequence.{next_number};
+ghost use Rattle.ledger_report.specs.Keeping.{KeepsNetwork};
+ghost use Rattle.ledger_report.specs.LinkLines.{is_silent_since};
 ghost use Rattle.ledger_report.specs.Sums.{saturated};
 ghost use Rattle.ledger_report.specs.Numbers.{distance, is_loss};
 ghost use Rattle.ledger_report.specs.Numbering.{IsPlain, counted_numbering, missing_in, numbering_of};
@@ -205,7 +207,8 @@ fn numbering_of(before: Option<u8>, number: u8) -> Numbering
 
 impl Lane {
     ghost use Rattle.std.specs.Prelude.{[]};
-    ghost use Rattle.ledger_report.specs.Alone.{KeepsAlone, MissesMore, missed};
+    ghost use Rattle.ledger_report.specs.Keeping.{HasLaneRoom, KeepsLane, KeepsRoom};
+    ghost use Rattle.ledger_report.specs.Alone.{KeepsAlone, MissesMore, MissesSame, missed};
     ghost use Rattle.ledger_report.specs.LaneLines.{number_amount};
     ghost use Rattle.ledger_report.specs.LaneParts.{TakesAmounts, TakesEarly, TakesInterval, TakesLine};
     ghost use Rattle.ledger_report.specs.LaneParts.{TakesNumber};
@@ -219,6 +222,7 @@ impl Lane {
     pub(crate) fn new(alloc: Global) -> Result<Lane, AllocError>
         ensures after { IfOk result (λ lane. (rules : LaneRules) → StandsAfter rules [] lane) }
         ensures missed { IfOk result (λ lane. (none : Mark) → missed none lane ≡ 0) }
+        ensures room { IfOk result HasLaneRoom }
     {
         Ok(Lane {
             frames: 0,
@@ -248,7 +252,10 @@ impl Lane {
 
     /// Is this line, the network's latest, the first of the lane after a silence?
     #[inline]
-    pub(crate) fn is_after_silence(&self, network: &NetworkReport) -> bool {
+    pub(crate) fn is_after_silence(&self, network: &NetworkReport) -> bool
+        ensures { result ≡ (nat_lt 0 self.now.frames
+            && is_silent_since self.now.ordinal network.now.silences.items) }
+    {
         self.frames > 0 && network.has_silence_since(self.ordinal)
     }
 
@@ -266,6 +273,7 @@ impl Lane {
         ensures numbering { IfOk result (λ numbering. numbering ≡ counted_numbering line.now.after_silence
             (numbering_in rules.now.integrity self.old line.now)) }
         ensures missed { OnOk result (MissesMore 0 self.old self.new) }
+        ensures room { OnOk result (KeepsRoom self.old self.new) }
     {
         self.note_interval(line, rules.least)?;
         self.note_line(line)?;
@@ -364,6 +372,7 @@ impl Lane {
         ensures alone { OnOk result (KeepsAlone self.old.signs self.new.signs) }
         ensures numbering { IfOk result (λ numbering. numbering ≡ counted_numbering line.now.after_silence
             (numbering_in integrity self.old line.now)) }
+        ensures room { OnOk result (KeepsRoom self.old self.new) }
     {
         let said = self.take_number(line, integrity);
         self.lost_after_silence = lost_with(self.lost_after_silence, line.after_silence, said);
@@ -384,6 +393,7 @@ impl Lane {
           previous = self.new.previous;
           lost_at = self.new.lost_at;
         } }
+        ensures room { KeepsRoom self.old self.new }
     {
         if !integrity {
             return Numbering::Follows;
@@ -416,7 +426,8 @@ impl Lane {
 
     /// Takes the loss of this number at most `window` before: one that is not seen since, nor taken before.
     fn take_loss(&mut self, number: u8, stamp: u64, window: u64) -> bool
-        ensures { self.new ≡ record self.old { lost_at = self.new.lost_at } }
+        ensures rest { self.new ≡ record self.old { lost_at = self.new.lost_at } }
+        ensures room { KeepsRoom self.old self.new }
     {
         match self.lost_at.get_mut(usize::from(number)) {
             Some(lost) => match *lost {
@@ -432,7 +443,8 @@ impl Lane {
 
     /// Sets when this number was lost, or that it needs no other loss.
     fn set_lost(&mut self, number: u8, when: Option<u64>)
-        ensures { self.new ≡ record self.old { lost_at = self.new.lost_at } }
+        ensures rest { self.new ≡ record self.old { lost_at = self.new.lost_at } }
+        ensures room { KeepsRoom self.old self.new }
     {
         if let Some(held) = self.lost_at.get_mut(usize::from(number)) {
             *held = when;
@@ -451,6 +463,8 @@ impl Lane {
     ) -> Result<u64, AllocError>
         ensures own { self.new ≡ record self.old { lost_at = self.new.lost_at } }
         ensures other { other.new ≡ record other.old { lost_at = other.new.lost_at } }
+        ensures room { KeepsRoom self.old self.new }
+        ensures other_room { KeepsRoom other.old other.new }
     {
         if self.lost_at.is_empty() {
             self.lost_at.resize(NUMBERS, None)?;
@@ -478,7 +492,9 @@ impl Lane {
         twin: &NetworkReport,
         own: &mut NetworkReport,
     ) -> Result<(), AllocError>
-        ensures { OnOk result (MissesMore 1 self.old self.new) }
+        ensures missed { OnOk result (MissesMore 1 self.old self.new) }
+        ensures lane { OnOk result (KeepsLane self.old self.new) }
+        ensures network { OnOk result (KeepsNetwork own.old own.new) }
     {
         match twin.covers(before) {
             Some(true) => {
@@ -505,7 +521,9 @@ impl Lane {
         twin: &NetworkReport,
         own: &mut NetworkReport,
     ) -> Result<(), AllocError>
-        ensures { OnOk result (MissesMore 0 self.old self.new) }
+        ensures missed { OnOk result (MissesMore 0 self.old self.new) }
+        ensures lane { OnOk result (KeepsLane self.old self.new) }
+        ensures network { OnOk result (KeepsNetwork own.old own.new) }
     {
         if self.held.count == 0 {
             return Ok(());
@@ -526,12 +544,16 @@ impl Lane {
     pub(crate) fn drop_held(&mut self)
         ensures missed { MissesMore 0 self.old self.new }
         ensures none { self.new.held.count ≡ 0 }
+        ensures lane { KeepsLane self.old self.new }
     {
         self.uncovered = self.uncovered.saturating_add(self.held.count);
         self.held.clear();
     }
 
-    pub(crate) fn fold(&mut self) {
+    pub(crate) fn fold(&mut self)
+        ensures lane { KeepsLane self.old self.new }
+        ensures missed { MissesSame self.old self.new }
+    {
         self.signs.fold();
         self.lines.fold();
         self.loads.fold();

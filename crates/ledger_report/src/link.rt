@@ -1,7 +1,12 @@
 //! A link on both networks.
 
 ghost use Rattle.std.specs.Prelude.{◌≡◌, ◌+◌, ◌<◌, Some, None, IfOk, IfSome, OnOk, slice_index_or};
+ghost use Rattle.ledger_report.specs.Keeping.{KeepsNetworks};
+ghost use Rattle.ledger_report.specs.Both.{side_of};
+ghost use Rattle.ledger_report.specs.Deliveries.{is_deliver};
+ghost use Rattle.ledger_report.specs.LaneLines.{one_where};
 ghost use Rattle.ledger_report.specs.Marks.{IsRule};
+ghost use Rattle.ledger_report.specs.Noting.{seen_line};
 ghost use Rattle.ledger_report.specs.Pending.{fate_pends, pends};
 
 use crate::absence::{Absence, Absences};
@@ -78,13 +83,48 @@ pub struct LinkReport {
     runs: Absences,
 }
 
+/// Counts a line so often for a sign of its network.
+#[inline]
+fn hit_network(
+    networks: &mut Sides<NetworkReport>,
+    sign: Sign,
+    at: &Moment,
+    amount: u64,
+) -> Result<(), AllocError>
+    ensures { KeepsNetworks networks.old networks.new }
+{
+    match at.network {
+        Network::A => networks.a.signs.hit(sign, at.bin, at.place, amount),
+        Network::B => networks.b.signs.hit(sign, at.bin, at.place, amount),
+    }
+}
+
+/// Notes the skew of a copy for its network.
+#[inline]
+fn put_skew(networks: &mut Sides<NetworkReport>, at: &Moment, skew: u64) -> Result<(), AllocError>
+    ensures { KeepsNetworks networks.old networks.new }
+{
+    match at.network {
+        Network::A => networks.a.skews.put(at.bin, skew),
+        Network::B => networks.b.skews.put(at.bin, skew),
+    }
+}
+
 impl LinkReport {
     ghost use Rattle.std.specs.Prelude.{ℕ, ◌^◌};
-    ghost use Rattle.ledger_report.specs.Settling.{AccountsMore, IsBalanced, accounted, counted, fate_sum};
+    ghost use Rattle.std.specs.Prelude.{[]};
+    ghost use Rattle.ledger_report.specs.Copies.{KeepsCopies, KeepsLatest, NotesCopy, NotesLatest};
+    ghost use Rattle.ledger_report.specs.Copies.{TakesCopy, TakesLatest};
+    ghost use Rattle.ledger_report.specs.Copies.{skew_in};
+    ghost use Rattle.ledger_report.specs.Keeping.{KeepsLink, NotesLane};
+    ghost use Rattle.ledger_report.specs.Links.{IsLinkOf, row_of};
+    ghost use Rattle.ledger_report.specs.Settling.{AccountsMore, AccountsSame, IsBalanced, SumsLanes};
+    ghost use Rattle.ledger_report.specs.Settling.{accounted, counted, fate_sum};
     ghost use Rattle.ledger_report.specs.declared.signs.Mark.{Mark};
 
     pub(crate) fn new(alloc: Global, link: &Link) -> Result<LinkReport, AllocError>
-        ensures { IfOk result (λ report. (report.deliveries ≡ 0) × IsBalanced report) }
+        ensures balanced { IfOk result (λ report. (report.deliveries ≡ 0) × IsBalanced report) }
+        ensures lines { IfOk result (IsLinkOf (row_of link.now) []) }
     {
         Ok(LinkReport {
             id: link.id,
@@ -145,40 +185,66 @@ impl LinkReport {
         width: u64,
         networks: &mut Sides<NetworkReport>,
     ) -> Result<(), Refusal>
-        ensures { OnOk result (IsBalanced self.old → self.old.deliveries + 2 < 2 ^ 64
+        ensures balanced { OnOk result (IsBalanced self.old → self.old.deliveries + 2 < 2 ^ 64
             → IsBalanced self.new) }
+        ensures deliveries { OnOk result (self.old.deliveries + 1 < 2 ^ 64
+            → self.new.deliveries ≡ self.old.deliveries + one_where (is_deliver line.now)) }
+        ensures copies { OnOk result (NotesCopy line.now number at.now self.old self.new) }
+        ensures latest { OnOk result (NotesLatest line.now number at.now self.old self.new) }
+        ensures lanes { OnOk result (NotesLane (seen_line (side_of at.now.network self.old.lanes)
+            (side_of at.now.network networks.old) line.now number at.now) self.old self.new) }
+        ensures networks { OnOk result (KeepsNetworks networks.old networks.new) }
     {
         self.check_words(line)?;
-        let rule = rule_of(line);
-        let own = networks.of(at.network);
-        let seen = LaneLine {
-            at: *at,
-            ordinal: own.frames,
-            number,
-            rule,
-            kept: line.kept,
-            after_silence: self.lanes.of(at.network).is_after_silence(own),
-        };
+        let seen = self.lane_line(line, number, at, networks);
         let numbering = self.note_lane(&seen)?;
         self.note_numbering(numbering, at, networks)?;
         self.note_discarded(&seen)?;
         self.runs.note(at.network, at.place.stamp, networks);
-        match line.redundancy {
-            Some(Redundancy::Copy) => self.note_copy(number, at, networks)?,
-            Some(Redundancy::Deliver) => {
-                self.note_delivery(number, at, start, width, networks)?;
-            }
-            Some(Redundancy::Both) | None => {}
+        let Some(word) = line.redundancy else {
+            return Ok(());
+        };
+        match word {
+            Redundancy::Copy => self.note_copy(number, at, networks)?,
+            Redundancy::Deliver => self.note_delivery(number, at, start, width, networks)?,
+            Redundancy::Both => {}
         }
         Ok(())
+    }
+
+    /// The line as its lane takes it.
+    #[inline]
+    fn lane_line(
+        &self,
+        line: &FrameLine,
+        number: u8,
+        at: &Moment,
+        networks: &Sides<NetworkReport>,
+    ) -> LaneLine
+        ensures line { result ≡ seen_line (side_of at.now.network self.now.lanes)
+            (side_of at.now.network networks.now) line.now number at.now }
+        ensures rule { IfSome result.rule IsRule }
+    {
+        let own = networks.of(at.network);
+        LaneLine {
+            at: *at,
+            ordinal: own.frames,
+            number,
+            rule: rule_of(line),
+            kept: line.kept,
+            after_silence: self.lanes.of(at.network).is_after_silence(own),
+        }
     }
 
     /// Notes the line for its lane, and says what its sequence number says.
     #[inline]
     fn note_lane(&mut self, line: &LaneLine) -> Result<Numbering, AllocError>
         requires rule { IfSome line.now.rule IsRule }
+        ensures lanes { OnOk result (NotesLane line.now self.old self.new) }
         ensures accounts { OnOk result (AccountsMore 0 self.old self.new) }
         ensures deliveries { self.new.deliveries ≡ self.old.deliveries }
+        ensures copies { KeepsCopies self.old self.new }
+        ensures pairing { self.new.pairing ≡ self.old.pairing }
     {
         let rules = LaneRules {
             least: self.bag.saturating_sub(self.jitter),
@@ -201,6 +267,9 @@ impl LinkReport {
     fn note_discarded(&mut self, line: &LaneLine) -> Result<(), AllocError>
         ensures accounts { OnOk result (AccountsMore 0 self.old self.new) }
         ensures deliveries { self.new.deliveries ≡ self.old.deliveries }
+        ensures copies { KeepsCopies self.old self.new }
+        ensures link { OnOk result (KeepsLink self.old self.new) }
+        ensures latest { OnOk result (KeepsLatest self.old.pairing self.new.pairing) }
     {
         if line.rule.is_none() || !self.redundancy {
             return Ok(());
@@ -240,6 +309,10 @@ impl LinkReport {
     ) -> Result<(), AllocError>
         ensures accounts { OnOk result (AccountsMore 0 self.old self.new) }
         ensures deliveries { self.new.deliveries ≡ self.old.deliveries }
+        ensures copies { KeepsCopies self.old self.new }
+        ensures link { OnOk result (KeepsLink self.old self.new) }
+        ensures networks { OnOk result (KeepsNetworks networks.old networks.new) }
+        ensures pairing { self.new.pairing ≡ self.old.pairing }
     {
         let (sign, amount) = match numbering {
             Numbering::Follows => return Ok(()),
@@ -250,10 +323,7 @@ impl LinkReport {
                 (Sign::Lost, u64::from(missing))
             }
         };
-        networks
-            .of_mut(at.network)
-            .signs
-            .hit(sign, at.bin, at.place, amount)?;
+        hit_network(networks, sign, at, amount)?;
         Ok(())
     }
 
@@ -261,6 +331,9 @@ impl LinkReport {
     fn note_loss(&mut self, previous: u8, lost: u8, at: &Moment) -> Result<(), AllocError>
         ensures accounts { OnOk result (AccountsMore 0 self.old self.new) }
         ensures deliveries { self.new.deliveries ≡ self.old.deliveries }
+        ensures copies { KeepsCopies self.old self.new }
+        ensures link { OnOk result (KeepsLink self.old self.new) }
+        ensures pairing { self.new.pairing ≡ self.old.pairing }
     {
         let both = self.lose(previous, lost, at)?;
         if both > 0 {
@@ -276,6 +349,9 @@ impl LinkReport {
     fn lose(&mut self, previous: u8, lost: u8, at: &Moment) -> Result<u64, AllocError>
         ensures accounts { AccountsMore 0 self.old self.new }
         ensures deliveries { self.new.deliveries ≡ self.old.deliveries }
+        ensures copies { KeepsCopies self.old self.new }
+        ensures link { OnOk result (KeepsLink self.old self.new) }
+        ensures pairing { self.new.pairing ≡ self.old.pairing }
     {
         let window = self.window();
         let stamp = at.place.stamp;
@@ -296,6 +372,11 @@ impl LinkReport {
     ) -> Result<(), Refusal>
         ensures accounts { OnOk result (AccountsMore 0 self.old self.new) }
         ensures deliveries { self.new.deliveries ≡ self.old.deliveries }
+        ensures copies { OnOk result (TakesCopy (skew_in self.old number at.now.place.stamp)
+            self.old self.new) }
+        ensures latest { OnOk result (KeepsLatest self.old.pairing self.new.pairing) }
+        ensures link { OnOk result (KeepsLink self.old self.new) }
+        ensures networks { OnOk result (KeepsNetworks networks.old networks.new) }
     {
         let delivery = match self.pairing.latest(number) {
             Some(delivery) if delivery.network != at.network => delivery,
@@ -311,7 +392,7 @@ impl LinkReport {
         self.skew_greatest = self.skew_greatest.max(skew);
         self.classes.add(skew)?;
         self.skews.of_mut(at.network).put(at.bin, skew)?;
-        networks.of_mut(at.network).skews.put(at.bin, skew)?;
+        put_skew(networks, at, skew)?;
         Ok(())
     }
 
@@ -320,6 +401,9 @@ impl LinkReport {
     fn pair(&mut self, number: u8) -> Result<(), AllocError>
         ensures accounts { OnOk result (AccountsMore 0 self.old self.new) }
         ensures deliveries { self.new.deliveries ≡ self.old.deliveries }
+        ensures copies { KeepsCopies self.old self.new }
+        ensures link { OnOk result (KeepsLink self.old self.new) }
+        ensures latest { OnOk result (KeepsLatest self.old.pairing self.new.pairing) }
     {
         let Some(delivery) = self.pairing.latest(number) else {
             return Ok(());
@@ -354,6 +438,13 @@ impl LinkReport {
             → accounted none self.new ≡ accounted none self.old + 1) }
         ensures deliveries { self.old.deliveries + 1 < 2 ^ 64
             → self.new.deliveries ≡ self.old.deliveries + 1 }
+        ensures copies { KeepsCopies self.old self.new }
+        ensures link { OnOk result (KeepsLink self.old self.new) }
+        ensures networks { OnOk result (KeepsNetworks networks.old networks.new) }
+        ensures latest { OnOk result (TakesLatest number (record {
+          network = at.now.network;
+          place = at.now.place;
+        }) self.old.pairing self.new.pairing) }
     {
         self.deliveries = self.deliveries.saturating_add(1);
         let fate = self.settle_before(number, at, start, width, networks)?;
@@ -384,6 +475,9 @@ impl LinkReport {
             + pends (slice_index_or self.old.pairing.deliveries.items number None) + 1) }
         ensures pairing { self.new.pairing ≡ self.old.pairing }
         ensures deliveries { self.new.deliveries ≡ self.old.deliveries }
+        ensures copies { KeepsCopies self.old self.new }
+        ensures link { OnOk result (KeepsLink self.old self.new) }
+        ensures networks { OnOk result (KeepsNetworks networks.old networks.new) }
     {
         let fate = self.fate_so_far(number, at);
         let Some(before) = self.pairing.latest(number) else {
@@ -422,16 +516,16 @@ impl LinkReport {
         ensures accounts { OnOk result (AccountsMore 2 self.old self.new) }
         ensures pairing { self.new.pairing ≡ self.old.pairing }
         ensures deliveries { self.new.deliveries ≡ self.old.deliveries }
+        ensures copies { KeepsCopies self.old self.new }
+        ensures link { OnOk result (KeepsLink self.old self.new) }
+        ensures networks { OnOk result (KeepsNetworks networks.old networks.new) }
     {
         self.fates.late = self.fates.late.saturating_add(1);
         self.fates.first = self.fates.first.saturating_add(1);
         self.late_greatest = self.late_greatest.max(skew);
         self.late_skews.of_mut(at.network).put(at.bin, skew)?;
         self.hit_late(at)?;
-        networks
-            .of_mut(at.network)
-            .signs
-            .hit(Sign::Late, at.bin, at.place, 1)?;
+        hit_network(networks, Sign::Late, at, 1)?;
         Ok(())
     }
 
@@ -440,6 +534,8 @@ impl LinkReport {
         ensures accounts { AccountsMore 0 self.old self.new }
         ensures pairing { self.new.pairing ≡ self.old.pairing }
         ensures deliveries { self.new.deliveries ≡ self.old.deliveries }
+        ensures copies { KeepsCopies self.old self.new }
+        ensures link { OnOk result (KeepsLink self.old self.new) }
     {
         match at.network {
             Network::A => self.lanes.a.signs.hit(Sign::Late, at.bin, at.place, 1),
@@ -458,6 +554,9 @@ impl LinkReport {
         ensures accounts { OnOk result (AccountsMore (fate_pends delivery.fate) self.old self.new) }
         ensures pairing { self.new.pairing ≡ self.old.pairing }
         ensures deliveries { self.new.deliveries ≡ self.old.deliveries }
+        ensures copies { KeepsCopies self.old self.new }
+        ensures link { OnOk result (KeepsLink self.old self.new) }
+        ensures networks { OnOk result (KeepsNetworks networks.old networks.new) }
     {
         match delivery.fate {
             Fate::Late | Fate::Paired => Ok(()),
@@ -482,6 +581,9 @@ impl LinkReport {
         ensures accounts { OnOk result (AccountsMore 1 self.old self.new) }
         ensures pairing { self.new.pairing ≡ self.old.pairing }
         ensures deliveries { self.new.deliveries ≡ self.old.deliveries }
+        ensures copies { KeepsCopies self.old self.new }
+        ensures link { OnOk result (KeepsLink self.old self.new) }
+        ensures networks { OnOk result (KeepsNetworks networks.old networks.new) }
     {
         let place = delivery.place;
         let before = delivery.before;
@@ -508,8 +610,14 @@ impl LinkReport {
         width: u64,
         networks: &mut Sides<NetworkReport>,
     ) -> Result<(), AllocError>
-        ensures { OnOk result (IsBalanced self.old → self.old.deliveries < 2 ^ 62
-            → (self.new.deliveries ≡ self.old.deliveries) × (self.new.deliveries ≡ fate_sum self.new.fates)) }
+        ensures balanced { OnOk result (IsBalanced self.old → self.old.deliveries < 2 ^ 62
+            → self.new.deliveries ≡ fate_sum self.new.fates) }
+        ensures sums { OnOk result (SumsLanes self.new) }
+        ensures deliveries { OnOk result (self.new.deliveries ≡ self.old.deliveries) }
+        ensures copies { OnOk result (KeepsCopies self.old self.new) }
+        ensures link { OnOk result (KeepsLink self.old self.new) }
+        ensures networks { OnOk result (KeepsNetworks networks.old networks.new) }
+        ensures pairing { OnOk result (self.new.pairing ≡ self.old.pairing) }
     {
         self.settle_latest(start, width, networks)?;
         self.settle_lanes(networks)?;
@@ -534,6 +642,10 @@ impl LinkReport {
         ensures counts { OnOk result ((none : Mark) → accounted none self.old < 2 ^ 62
             → counted none self.new ≡ accounted none self.old) }
         ensures deliveries { OnOk result (self.new.deliveries ≡ self.old.deliveries) }
+        ensures copies { OnOk result (KeepsCopies self.old self.new) }
+        ensures link { OnOk result (KeepsLink self.old self.new) }
+        ensures networks { OnOk result (KeepsNetworks networks.old networks.new) }
+        ensures pairing { OnOk result (self.new.pairing ≡ self.old.pairing) }
     {
         for number in 0..NUMBERS {
             self.settle_number(number as u8, start, width, networks)?;
@@ -553,6 +665,9 @@ impl LinkReport {
             (pends (slice_index_or self.old.pairing.deliveries.items number None)) self.old self.new) }
         ensures pairing { self.new.pairing ≡ self.old.pairing }
         ensures deliveries { self.new.deliveries ≡ self.old.deliveries }
+        ensures copies { KeepsCopies self.old self.new }
+        ensures link { OnOk result (KeepsLink self.old self.new) }
+        ensures networks { OnOk result (KeepsNetworks networks.old networks.new) }
     {
         match self.pairing.latest(number) {
             Some(delivery) => {
@@ -569,6 +684,10 @@ impl LinkReport {
             → counted none self.new ≡ counted none self.old) }
         ensures held { OnOk result ((self.new.lanes.a.held.count ≡ 0) × (self.new.lanes.b.held.count ≡ 0)) }
         ensures deliveries { OnOk result (self.new.deliveries ≡ self.old.deliveries) }
+        ensures copies { OnOk result (KeepsCopies self.old self.new) }
+        ensures link { OnOk result (KeepsLink self.old self.new) }
+        ensures networks { OnOk result (KeepsNetworks networks.old networks.new) }
+        ensures pairing { OnOk result (self.new.pairing ≡ self.old.pairing) }
     {
         self.lanes.a.settle_held(&networks.b, &mut networks.a)?;
         self.lanes.b.settle_held(&networks.a, &mut networks.b)?;
@@ -582,7 +701,11 @@ impl LinkReport {
         requires held { (self.old.lanes.a.held.count ≡ 0) × (self.old.lanes.b.held.count ≡ 0) }
         ensures sum { (none : Mark) → counted none self.old < 2 ^ 62
             → fate_sum self.new.fates ≡ counted none self.old }
+        ensures lanes { SumsLanes self.new }
         ensures deliveries { self.new.deliveries ≡ self.old.deliveries }
+        ensures copies { KeepsCopies self.old self.new }
+        ensures link { KeepsLink self.old self.new }
+        ensures pairing { self.new.pairing ≡ self.old.pairing }
     {
         self.fates.uncovered = self
             .lanes
@@ -593,7 +716,13 @@ impl LinkReport {
         self.fates.alone = alone.saturating_add(self.lanes.b.signs.of(Sign::Alone).count);
     }
 
-    pub(crate) fn fold(&mut self) {
+    pub(crate) fn fold(&mut self)
+        ensures link { KeepsLink self.old self.new }
+        ensures accounts { AccountsSame self.old self.new }
+        ensures deliveries { self.new.deliveries ≡ self.old.deliveries }
+        ensures copies { KeepsCopies self.old self.new }
+        ensures pairing { self.new.pairing ≡ self.old.pairing }
+    {
         self.lanes.a.fold();
         self.lanes.b.fold();
         self.skews.a.fold();

@@ -1,5 +1,8 @@
 //! The median of skews, from counts of classes of them.
 
+ghost use Rattle.std.specs.Prelude.{◌≤◌, vec_len};
+ghost use Rattle.ledger_report.specs.declared.median.TheConstants.{CLASSES};
+
 use std::alloc::{AllocError, Global};
 
 /// How many classes there are: values below 32 have one each, and each octave above has 16, up to 2^31.
@@ -9,6 +12,7 @@ const CLASSES: usize = 448;
 #[derive(Debug, Drop)]
 pub struct Classes {
     counts: Vec<u64>,
+    ghost room: { vec_len counts ≤ CLASSES },
 }
 
 #[inline]

@@ -1,5 +1,15 @@
 //! What is kept of a network.
 
+ghost use Rattle.std.specs.Prelude.{◌≡◌, ◌+◌, ◌==◌, ◌&&◌, ◌<◌, List, ◌∷◌, if◌then◌else◌, length, nat_le, nat_lt, true, false, IfOk, OnOk};
+ghost use Rattle.afdx_frame.specs.declared.key.Network.{Network};
+ghost use Rattle.ledger_text.specs.declared.bounds.TheConstants.{MOST_LINES};
+ghost use Rattle.ledger_text.specs.declared.frame.FrameLine.{FrameLine};
+ghost use Rattle.std.specs.Option.{option_map_or};
+ghost use Rattle.ledger_report.specs.Sums.{saturated};
+ghost use Rattle.ledger_report.specs.LinkLines.{is_silent_since};
+ghost use Rattle.ledger_report.specs.Words.{is_on};
+ghost use Rattle.ledger_report.specs.declared.bounds.TheConstants.{SILENT_LINES};
+
 use crate::bounds::{MOST_SILENCES, SILENT_LINES};
 use crate::moment::Moment;
 use crate::series::{Merge, Series};
@@ -45,7 +55,13 @@ pub struct NetworkReport {
 }
 
 impl NetworkReport {
-    pub(crate) fn new(alloc: Global) -> Result<NetworkReport, AllocError> {
+    ghost use Rattle.std.specs.Prelude.{[]};
+    ghost use Rattle.ledger_report.specs.Keeping.{KeepsNetwork};
+    ghost use Rattle.ledger_report.specs.Networks.{HasSilences, IsNetworkOf};
+
+    pub(crate) fn new(alloc: Global) -> Result<NetworkReport, AllocError>
+        ensures { IfOk result (λ report. (network : Network) → IsNetworkOf network [] report) }
+    {
         Ok(NetworkReport {
             frames: 0,
             first: 0,
@@ -63,13 +79,33 @@ impl NetworkReport {
 
     /// Notes a line of the other network.
     #[inline]
-    pub(crate) fn pass(&mut self) {
+    pub(crate) fn pass(&mut self)
+        ensures { (network : Network) (line : FrameLine) (lines : List FrameLine) → length lines < MOST_LINES
+            → is_on network line ≡ false → IsNetworkOf network lines self.old
+            → IsNetworkOf network (line ∷ lines) self.new }
+    {
         self.since = self.since.saturating_add(1);
     }
 
+    /// Has the network a line, and do many of the other network's stand after it?
+    #[inline]
+    fn is_silent(&self) -> bool
+        ensures { result ≡ (nat_le SILENT_LINES self.now.since && nat_lt 0 self.now.frames) }
+    {
+        self.since >= SILENT_LINES && self.frames > 0
+    }
+
     /// Notes that the network has been silent, if it has, up to this line.
-    fn end_silence(&mut self, stamp: u64) -> Result<(), AllocError> {
-        if self.since < SILENT_LINES || self.frames == 0 {
+    fn end_silence(&mut self, stamp: u64) -> Result<(), AllocError>
+        ensures silences { OnOk result ((network : Network) (line : FrameLine) (lines : List FrameLine)
+            → length lines < MOST_LINES → is_on network line ≡ true → line.stamp.0 ≡ stamp
+            → IsNetworkOf network lines self.old → HasSilences network (line ∷ lines) self.new) }
+        ensures rest { OnOk result (self.new ≡ record self.old {
+          silences = self.new.silences;
+          more_silences = self.new.more_silences;
+        }) }
+    {
+        if !self.is_silent() {
             return Ok(());
         }
         if self.silences.len() >= MOST_SILENCES {
@@ -87,20 +123,53 @@ impl NetworkReport {
 
     /// Notes a line of the network.
     #[inline]
-    pub(crate) fn note(&mut self, at: &Moment, kept: Option<u32>) -> Result<(), AllocError> {
+    pub(crate) fn note(&mut self, at: &Moment, kept: Option<u32>) -> Result<(), AllocError>
+        ensures { OnOk result ((network : Network) (line : FrameLine) (lines : List FrameLine)
+            → length lines < MOST_LINES → is_on network line ≡ true → line.stamp.0 ≡ at.now.place.stamp
+            → line.kept ≡ kept → IsNetworkOf network lines self.old
+            → IsNetworkOf network (line ∷ lines) self.new) }
+    {
         let stamp = at.place.stamp;
         self.end_silence(stamp)?;
+        self.count_line(stamp);
+        self.put_line(at.bin, kept)?;
+        Ok(())
+    }
+
+    /// Counts a line of the network.
+    #[inline]
+    fn count_line(&mut self, stamp: u64)
+        ensures { self.new ≡ record self.old {
+          frames = saturated (self.old.frames + 1);
+          first = if self.old.frames == 0 then stamp else self.old.first;
+          last = stamp;
+          since = 0;
+        } }
+    {
         self.since = 0;
         if self.frames == 0 {
             self.first = stamp;
         }
         self.last = stamp;
         self.frames = self.frames.saturating_add(1);
-        self.lines.put(at.bin, 1)?;
+    }
+
+    /// Counts a line and its bytes, where they are known, by time.
+    #[inline]
+    fn put_line(&mut self, bin: usize, kept: Option<u32>) -> Result<(), AllocError>
+        ensures bytes { OnOk result (self.new.bytes
+            ≡ option_map_or (λ kept. saturated (self.old.bytes + (kept + 24))) kept self.old.bytes) }
+        ensures rest { self.new ≡ record self.old {
+          bytes = self.new.bytes;
+          lines = self.new.lines;
+          loads = self.new.loads;
+        } }
+    {
+        self.lines.put(bin, 1)?;
         if let Some(kept) = kept {
             let bytes = u64::from(kept) + WIRE_BYTES;
             self.bytes = self.bytes.saturating_add(bytes);
-            self.loads.put(at.bin, bytes)?;
+            self.loads.put(bin, bytes)?;
         }
         Ok(())
     }
@@ -119,7 +188,9 @@ impl NetworkReport {
 
     /// Does a silence stand after this line of the network, counted from 1?
     #[inline]
-    pub(crate) fn has_silence_since(&self, line: u64) -> bool {
+    pub(crate) fn has_silence_since(&self, line: u64) -> bool
+        ensures { result ≡ is_silent_since line self.now.silences.items }
+    {
         match self.silences.last() {
             Some(silence) => silence.after >= line,
             None => false,
@@ -139,7 +210,9 @@ impl NetworkReport {
         }
     }
 
-    pub(crate) fn fold(&mut self) {
+    pub(crate) fn fold(&mut self)
+        ensures { KeepsNetwork self.old self.new }
+    {
         self.signs.fold();
         self.lines.fold();
         self.loads.fold();

@@ -41,8 +41,12 @@ pub struct Pairing {
 }
 
 impl Pairing {
+    ghost use Rattle.std.specs.Prelude.{ℕ};
+    ghost use Rattle.ledger_report.specs.Copies.{KeepsLatest, TakesLatest, spot_at, spot_in};
+
     pub(crate) fn new(alloc: Global) -> Pairing
-        ensures { pending result.deliveries.items ≡ 0 }
+        ensures pending { pending result.deliveries.items ≡ 0 }
+        ensures none { (number : ℕ) → spot_at result number ≡ None }
     {
         Pairing {
             deliveries: Vec::new(alloc),
@@ -64,14 +68,28 @@ impl Pairing {
     /// Sets the latest delivery of a number.
     #[inline]
     pub(crate) fn set(&mut self, number: u8, delivery: Delivery) -> Result<(), AllocError>
-        ensures { OnOk result (pending self.new.deliveries.items
+        ensures latest { OnOk result (TakesLatest number (spot_in delivery) self.old self.new) }
+        ensures pending { OnOk result (pending self.new.deliveries.items
             + pends (slice_index_or self.old.deliveries.items number None)
             ≡ pending self.old.deliveries.items + pends (Some delivery)) }
+    {
+        self.reserve()?;
+        self.deliveries[usize::from(number)] = Some(delivery);
+        Ok(())
+    }
+
+    /// Makes room for the latest delivery of each number.
+    #[inline]
+    fn reserve(&mut self) -> Result<(), AllocError>
+        ensures room { OnOk result (vec_len self.new.deliveries ≡ 256) }
+        ensures same { OnOk result ((number : ℕ) → slice_index_or self.new.deliveries.items number None
+            ≡ slice_index_or self.old.deliveries.items number None) }
+        ensures pending { OnOk result (pending self.new.deliveries.items
+            ≡ pending self.old.deliveries.items) }
     {
         if self.deliveries.is_empty() {
             self.deliveries.resize(NUMBERS, None)?;
         }
-        self.deliveries[usize::from(number)] = Some(delivery);
         Ok(())
     }
 
@@ -83,7 +101,9 @@ impl Pairing {
         stamp: u64,
         window: u64,
     ) -> Result<(), AllocError>
-        ensures { OnOk result (pending self.new.deliveries.items ≡ pending self.old.deliveries.items) }
+        ensures latest { OnOk result (KeepsLatest self.old self.new) }
+        ensures pending { OnOk result (pending self.new.deliveries.items
+            ≡ pending self.old.deliveries.items) }
     {
         if self.discarded.is_empty() {
             for _ in 0..NUMBERS {
@@ -105,7 +125,9 @@ impl Pairing {
         stamp: u64,
         window: u64,
     ) -> Result<(), AllocError>
-        ensures { OnOk result (pending self.new.deliveries.items ≡ pending self.old.deliveries.items) }
+        ensures latest { OnOk result (KeepsLatest self.old self.new) }
+        ensures pending { OnOk result (pending self.new.deliveries.items
+            ≡ pending self.old.deliveries.items) }
     {
         let Some(delivery) = self.latest(number) else {
             return Ok(());

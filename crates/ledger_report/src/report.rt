@@ -2,8 +2,12 @@
 
 ghost use Rattle.std.specs.Prelude.{◌≡◌, ℕ, List, [], Option, IfOk, false};
 ghost use Rattle.ledger_text.specs.Ledger.{has_failed as ledger_failed};
+ghost use Rattle.vl_config.specs.Link.{VirtualLink};
 ghost use Rattle.ledger_report.specs.Counting.{AreCountsOf};
-ghost use Rattle.ledger_report.specs.Reading.{CountsLedger, HasCounted};
+ghost use Rattle.ledger_report.specs.Noting.{IsAccountOf};
+ghost use Rattle.ledger_report.specs.CountsLines.{HasCounted};
+ghost use Rattle.ledger_report.specs.Span.{HasSpan};
+ghost use Rattle.ledger_report.specs.Reading.{HasNoted, HasRead, TellsLedger, report_of};
 
 use crate::counts::FrameCounts;
 use crate::counts_lines::{CountsLines, TapEnding};
@@ -64,8 +68,12 @@ pub struct Report {
 }
 
 impl Report {
+    ghost use Rattle.ledger_report.specs.Outside.{outside_of};
+
     /// The links outside the table that have a frame.
-    pub fn outside_link(&self, id: VlId) -> Option<OutsideLink> {
+    pub fn outside_link(&self, id: VlId) -> Option<OutsideLink>
+        ensures { result ≡ outside_of self.now.outside.items id.0 }
+    {
         match self.outside.get(usize::from(id.0)) {
             Some(link) if link.frames > 0 => Some(*link),
             _ => None,
@@ -108,16 +116,19 @@ fn read_lines<S: TapSource>(
     reading: &mut Reading,
 ) -> Result<(), ReportFault>
     requires sound { ledger_failed ledger.old ≡ false }
-    ensures { (bytes : Option (List ℕ)) (failures : ℕ)
-        → HasCounted S.TapSource bytes failures [] ledger.old reading.old.counts
-        → IfOk result (λ _. CountsLedger bytes reading.new.counts) }
+    ensures { (bytes : Option (List ℕ)) (failures : ℕ) (links : List VirtualLink)
+        → links ≡ config.now.links
+        → HasNoted S.TapSource bytes failures links [] ledger.old reading.old.counts reading.old.statistics
+        reading.old.lines
+        → IfOk result (λ _. HasRead bytes links reading.new.counts reading.new.statistics reading.new.lines) }
 {
     loop {
         match ledger.advance() {
             Ok(Found::Line(LedgerLine::Frame(frame))) => {
                 reading.counts.count(&frame);
-                if let Err(refusal) = reading.statistics.note(&frame) {
-                    return Err(line_fault(ledger.number(), refusal));
+                match reading.statistics.note(&frame) {
+                    Ok(()) => {}
+                    Err(refusal) => return Err(line_fault(ledger.number(), refusal)),
                 }
             }
             Ok(Found::Line(LedgerLine::Head)) => {}
@@ -150,7 +161,7 @@ pub fn read_report<S: TapSource + Drop>(
     config: &Config,
     source: S,
 ) -> Result<Report, ReportFault>
-    ensures { IfOk result (λ report. CountsLedger (S.remaining source) report.counts) }
+    ensures { IfOk result (TellsLedger (S.remaining source) config.now.links) }
 {
     let mut ledger = match LedgerReader::new(alloc, source) {
         Ok(ledger) => ledger,
@@ -169,7 +180,10 @@ pub fn read_report<S: TapSource + Drop>(
 
 impl Reading {
     fn new(alloc: Global, config: &Config) -> Result<Reading, AllocError>
-        ensures { IfOk result (λ reading. AreCountsOf [] reading.counts) }
+        ensures counts { IfOk result (λ reading. AreCountsOf [] reading.counts) }
+        ensures account { IfOk result (λ reading. IsAccountOf config.now.links [] reading.statistics) }
+        ensures span { IfOk result (λ reading. HasSpan [] reading.statistics) }
+        ensures lines { IfOk result (λ reading. (links : List VirtualLink) → HasCounted links [] reading.lines) }
     {
         Ok(Reading {
             counts: FrameCounts::new(alloc)?,
@@ -179,7 +193,7 @@ impl Reading {
     }
 
     fn into_report(self) -> Report
-        ensures { result.counts ≡ self.counts }
+        ensures { result ≡ report_of self.counts self.statistics self.lines }
     {
         let Reading {
             counts,

@@ -1,5 +1,8 @@
 //! One value for each network.
 
+ghost use Rattle.std.specs.Prelude.{◌≡◌};
+ghost use Rattle.ledger_report.specs.Words.{other_of};
+
 use afdx_frame::Network;
 
 /// One value for each of the two networks.
@@ -12,9 +15,15 @@ pub struct Sides<T> {
 }
 
 impl<T> Sides<T> {
+    ghost use Rattle.std.specs.Borrow.{sem};
+    ghost use Rattle.ledger_report.specs.Both.{side_of};
+    ghost use Rattle.ledger_report.specs.Lending.{lends_side};
+
     /// The value of a network.
     #[inline(always)]
-    pub fn of(&self, network: Network) -> &T {
+    pub fn of(&self, network: Network) -> &T
+        ensures { result.now ≡ side_of network self.now }
+    {
         match network {
             Network::A => &self.a,
             Network::B => &self.b,
@@ -23,7 +32,10 @@ impl<T> Sides<T> {
 
     /// The value of a network, to be changed.
     #[inline(always)]
-    pub fn of_mut(&mut self, network: Network) -> &mut T {
+    pub fn of_mut(&mut self, network: Network) -> &mut T
+        ensures* lends { sem 𝓛 (lends_side T.row self.entry network result) }
+        ensures value { result.now ≡ side_of network self.old }
+    {
         match network {
             Network::A => &mut self.a,
             Network::B => &mut self.b,
@@ -33,7 +45,9 @@ impl<T> Sides<T> {
 
 /// The other network.
 #[inline(always)]
-pub fn other(network: Network) -> Network {
+pub fn other(network: Network) -> Network
+    ensures { result ≡ other_of network }
+{
     match network {
         Network::A => Network::B,
         Network::B => Network::A,

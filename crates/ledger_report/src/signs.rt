@@ -157,6 +157,8 @@ impl Sign {
 impl Signs {
     ghost use Rattle.std.specs.Prelude.{[], IfOk};
     ghost use Rattle.ledger_report.specs.Places.{IsMarkOf};
+    ghost use Rattle.ledger_report.specs.Keeping.{tally_of};
+    ghost use Rattle.ledger_report.specs.declared.signs.Sign.{Sign};
     ghost use Rattle.ledger_report.specs.Marks.{HasHits, KeepsOthers, TakesHit, mark_at};
     ghost use Rattle.ledger_report.specs.declared.signs.Mark.{Mark};
 
@@ -208,7 +210,10 @@ impl Signs {
         self.marks[sign.index()].absorb(other)
     }
 
-    pub(crate) fn fold(&mut self) {
+    pub(crate) fn fold(&mut self)
+        ensures { (sign : Sign) (none : Mark) → tally_of (mark_at self.new sign none)
+            ≡ tally_of (mark_at self.old sign none) }
+    {
         for mark in self.marks.iter_mut() {
             mark.bins.fold();
         }

@@ -1,7 +1,22 @@
 //! What each line adds to the numbers of its network and its link.
 
-ghost use Rattle.std.specs.Prelude.{◌≡◌, ◌-◌, ◌/◌, ◌<◌, IfSome};
+ghost use Rattle.std.specs.Prelude.{◌≡◌, ◌-◌, ◌/◌, ◌<◌, ◌≤◌, List, [], ◌∷◌, Some, length, slice_index_or, true, false, IfOk, IfSome, OnOk};
+ghost use Rattle.afdx_frame.specs.declared.key.Network.{Network};
+ghost use Rattle.afdx_frame.specs.declared.key.TheConstants.{VL_ID_COUNT};
+ghost use Rattle.vl_config.specs.Link.{VirtualLink};
+ghost use Rattle.vl_config.specs.declared.class.Class.TheVariants as class;
+ghost use Rattle.verdict_ledger.specs.Tally.{is_class};
+ghost use Rattle.ledger_text.specs.FrameText.{IsFrameLine};
+ghost use Rattle.ledger_text.specs.declared.bounds.TheConstants.{MOST_LINES};
+ghost use Rattle.ledger_text.specs.declared.frame.FrameLine.{FrameLine};
+ghost use Rattle.ledger_report.specs.Keeping.{KeepsLinks, KeepsNetworks};
+ghost use Rattle.ledger_report.specs.LinkLines.{place_of};
+ghost use Rattle.ledger_report.specs.Links.{AreLinksOf};
 ghost use Rattle.ledger_report.specs.Marks.{IsRule};
+ghost use Rattle.ledger_report.specs.Networks.{IsNetworkOf};
+ghost use Rattle.ledger_report.specs.Noting.{IsIndexOf};
+ghost use Rattle.ledger_report.specs.Settling.{AreBalanced, GainFates, KeepBalance};
+ghost use Rattle.ledger_report.specs.Words.{is_on};
 ghost use Rattle.ledger_report.specs.Words.{rule_of};
 
 use crate::bounds::{BINS, FIRST_WIDTH};
@@ -11,7 +26,7 @@ use crate::link::LinkReport;
 use crate::moment::{Moment, Place};
 use crate::network::NetworkReport;
 use crate::report::OutsideLink;
-use crate::sides::{Sides, other};
+use crate::sides::Sides;
 use crate::signs::Sign;
 use afdx_frame::{Network, VL_ID_COUNT, VlId};
 use ledger_text::FrameLine;
@@ -68,18 +83,22 @@ pub struct Statistics {
 }
 
 /// By identifier, the index of a table's link.
-fn index_of(alloc: Global, config: &Config) -> Result<Vec<u16>, AllocError> {
+fn index_of(alloc: Global, config: &Config) -> Result<Vec<u16>, AllocError>
+    ensures { IfOk result (λ index. IsIndexOf config.now.links index.items) }
+{
     let mut index = vec![in alloc; NO_LINK; VL_ID_COUNT]?;
-    for (place, link) in config.links().iter().enumerate() {
-        if let Some(held) = index.get_mut(usize::from(link.id.0)) {
-            *held = place.min(usize::from(NO_LINK)) as u16;
-        }
+    let links = config.links();
+    for (place, link) in links.iter().enumerate() {
+        index[usize::from(link.id.0)] = place.min(usize::from(NO_LINK)) as u16;
     }
     Ok(index)
 }
 
 /// A report of no line for each link.
-fn links_of(alloc: Global, config: &Config) -> Result<Vec<LinkReport>, AllocError> {
+fn links_of(alloc: Global, config: &Config) -> Result<Vec<LinkReport>, AllocError>
+    ensures links { IfOk result (λ links. AreLinksOf config.now.links [] links.items) }
+    ensures balanced { IfOk result (λ links. AreBalanced links.items) }
+{
     let mut links = Vec::with_capacity(alloc, config.links().len())?;
     for link in config.links() {
         links.push(LinkReport::new(alloc, link)?)?;
@@ -87,8 +106,64 @@ fn links_of(alloc: Global, config: &Config) -> Result<Vec<LinkReport>, AllocErro
     Ok(links)
 }
 
+/// Is its link none of the table's?
+#[inline]
+fn is_unconfigured(line: &FrameLine) -> bool
+    ensures { result ≡ is_class class.Unconfigured line.now.class }
+{
+    matches!(line.class, Class::Unconfigured)
+}
+
+/// Notes a line for its network, and that the other one is passed.
+#[inline]
+fn note_on(
+    own: &mut NetworkReport,
+    other: &mut NetworkReport,
+    line: &FrameLine,
+    at: &Moment,
+) -> Result<(), AllocError>
+    ensures own { OnOk result ((network : Network) (lines : List FrameLine) → length lines < MOST_LINES
+        → is_on network line.now ≡ true → at.now.place ≡ place_of line.now → IsNetworkOf network lines own.old
+        → IsNetworkOf network (line.now ∷ lines) own.new) }
+    ensures other { OnOk result ((network : Network) (lines : List FrameLine) → length lines < MOST_LINES
+        → is_on network line.now ≡ false → IsNetworkOf network lines other.old
+        → IsNetworkOf network (line.now ∷ lines) other.new) }
+{
+    other.pass();
+    own.note(at, line.kept)?;
+    if let Some(rule) = rule_of(line) {
+        own.signs.hit(rule, at.bin, at.place, 1)?;
+    }
+    Ok(())
+}
+
+/// Settles what is left of each link.
+fn end_links(
+    links: &mut Vec<LinkReport>,
+    start: u64,
+    width: u64,
+    networks: &mut Sides<NetworkReport>,
+) -> Result<(), AllocError>
+    ensures links { OnOk result (KeepsLinks links.old.items links.new.items) }
+    ensures networks { OnOk result (KeepsNetworks networks.old networks.new) }
+    ensures fates { OnOk result (GainFates links.old.items links.new.items) }
+{
+    for link in links.iter_mut() {
+        link.end(start, width, networks)?;
+    }
+    Ok(())
+}
+
 impl Statistics {
-    pub(crate) fn new(alloc: Global, config: &Config) -> Result<Statistics, AllocError> {
+    ghost use Rattle.ledger_report.specs.Keeping.{KeepsAccount};
+    ghost use Rattle.ledger_report.specs.Noting.{AreNetworksOf, IsAccountOf, IsMomentOf};
+    ghost use Rattle.ledger_report.specs.Reading.{end_stamp};
+    ghost use Rattle.ledger_report.specs.Span.{HasSpan, KeepsSpan, TakesPlace};
+
+    pub(crate) fn new(alloc: Global, config: &Config) -> Result<Statistics, AllocError>
+        ensures account { IfOk result (λ statistics. IsAccountOf config.now.links [] statistics) }
+        ensures span { IfOk result (HasSpan []) }
+    {
         Ok(Statistics {
             start: 0,
             width: FIRST_WIDTH,
@@ -104,7 +179,9 @@ impl Statistics {
     }
 
     /// The timestamp of the latest line, or of none.
-    pub(crate) fn end_stamp(&self) -> u64 {
+    pub(crate) fn end_stamp(&self) -> u64
+        ensures { result ≡ end_stamp self.now }
+    {
         match self.latest {
             Some((place, _)) => place.stamp,
             None => self.start,
@@ -113,7 +190,13 @@ impl Statistics {
 
     /// Checks that a line comes after the latest one, and remembers it.
     #[inline]
-    fn take_place(&mut self, place: Place, network: Network) -> Result<(), WrongLine> {
+    fn take_place(&mut self, place: Place, network: Network) -> Result<(), WrongLine>
+        ensures rest { self.new ≡ record self.old {
+          start = self.new.start;
+          latest = self.new.latest;
+        } }
+        ensures span { OnOk result (TakesPlace place self.old self.new) }
+    {
         match self.latest {
             None => self.start = place.stamp,
             Some((held, side)) => {
@@ -129,7 +212,11 @@ impl Statistics {
 
     /// The bin of a timestamp, after as many doublings of the width as it needs.
     #[inline]
-    fn reach(&mut self, stamp: u64) -> usize {
+    fn reach(&mut self, stamp: u64) -> usize
+        ensures span { KeepsSpan self.old self.new }
+        ensures account { KeepsAccount self.old self.new }
+        ensures balance { KeepBalance self.old.links.items self.new.links.items }
+    {
         for _ in 0..64 {
             let bin = bin_of(self.start, self.width, stamp);
             if bin < BINS {
@@ -140,7 +227,11 @@ impl Statistics {
         BINS - 1
     }
 
-    fn fold(&mut self) {
+    fn fold(&mut self)
+        ensures span { KeepsSpan self.old self.new }
+        ensures account { KeepsAccount self.old self.new }
+        ensures balance { KeepBalance self.old.links.items self.new.links.items }
+    {
         self.width = self.width.saturating_mul(2);
         self.networks.a.fold();
         self.networks.b.fold();
@@ -150,7 +241,13 @@ impl Statistics {
     }
 
     /// Notes the ledger's next line of a frame.
-    pub(crate) fn note(&mut self, line: &FrameLine) -> Result<(), Refusal> {
+    pub(crate) fn note(&mut self, line: &FrameLine) -> Result<(), Refusal>
+        ensures account { OnOk result ((links : List VirtualLink) (lines : List FrameLine)
+            → IsFrameLine line.now → length lines < MOST_LINES → IsAccountOf links lines self.old
+            → IsAccountOf links (line.now ∷ lines) self.new) }
+        ensures span { OnOk result ((lines : List FrameLine) → HasSpan lines self.old
+            → HasSpan (line.now ∷ lines) self.new) }
+    {
         let place = Place {
             stamp: line.stamp.0,
             number: line.number,
@@ -161,18 +258,45 @@ impl Statistics {
             place,
             bin: self.reach(place.stamp),
         };
-        self.networks.of_mut(other(at.network)).pass();
-        let network = self.networks.of_mut(at.network);
-        network.note(&at, line.kept)?;
-        if let Some(rule) = rule_of(line) {
-            network.signs.hit(rule, at.bin, at.place, 1)?;
+        self.note_networks(line, &at)?;
+        let Some(id) = line.link else {
+            return Ok(());
+        };
+        let Some(number) = line.sequence else {
+            return Ok(());
+        };
+        self.note_link(line, id, number, &at)?;
+        Ok(())
+    }
+
+    /// Notes the line for both networks.
+    #[inline]
+    fn note_networks(&mut self, line: &FrameLine, at: &Moment) -> Result<(), AllocError>
+        ensures networks { OnOk result ((lines : List FrameLine) → length lines < MOST_LINES
+            → IsMomentOf line.now at.now → AreNetworksOf lines self.old.networks
+            → AreNetworksOf (line.now ∷ lines) self.new.networks) }
+        ensures rest { self.new ≡ record self.old { networks = self.new.networks } }
+    {
+        let networks = &mut self.networks;
+        match at.network {
+            Network::A => note_on(&mut networks.a, &mut networks.b, line, at)?,
+            Network::B => note_on(&mut networks.b, &mut networks.a, line, at)?,
         }
-        match (line.link, line.sequence) {
-            (Some(id), Some(number)) => self.note_link(line, id, number, &at),
-            _ => Ok(()),
+        Ok(())
+    }
+
+    /// Where the link of an identifier stands in the table; past its end where it has none.
+    #[inline]
+    fn place_of(&self, id: VlId) -> usize
+        ensures { result ≡ slice_index_or self.now.index.items id.0 NO_LINK }
+    {
+        match self.index.get(usize::from(id.0)) {
+            Some(index) => usize::from(*index),
+            None => usize::from(NO_LINK),
         }
     }
 
+    /// Notes the line of a link.
     #[inline]
     fn note_link(
         &mut self,
@@ -180,25 +304,37 @@ impl Statistics {
         id: VlId,
         number: u8,
         at: &Moment,
-    ) -> Result<(), Refusal> {
-        let index = match self.index.get(usize::from(id.0)) {
-            Some(index) => usize::from(*index),
-            None => self.links.len(),
-        };
-        let unconfigured = line.class == Class::Unconfigured;
-        match self.links.get_mut(index) {
-            Some(_) if unconfigured => Err(Refusal::Wrong(WrongLine::KnownLink)),
-            Some(link) => link.note(line, number, at, self.start, self.width, &mut self.networks),
-            None if unconfigured => {
-                self.note_outside(id, at)?;
-                Ok(())
+    ) -> Result<(), Refusal>
+        ensures account { OnOk result ((links : List VirtualLink) (lines : List FrameLine) → IsFrameLine line.now
+            → length lines < MOST_LINES → IsMomentOf line.now at.now → line.now.link ≡ Some id → line.now.sequence ≡ Some number
+            → AreNetworksOf (line.now ∷ lines) self.old.networks → AreLinksOf links lines self.old.links.items
+            → IsIndexOf links self.old.index.items → AreBalanced self.old.links.items
+            → length self.old.outside.items ≤ VL_ID_COUNT
+            → IsAccountOf links (line.now ∷ lines) self.new) }
+        ensures span { KeepsSpan self.old self.new }
+    {
+        let index = self.place_of(id);
+        let unconfigured = is_unconfigured(line);
+        if index >= self.links.len() {
+            if !unconfigured {
+                return Err(Refusal::Wrong(WrongLine::UnknownLink));
             }
-            None => Err(Refusal::Wrong(WrongLine::UnknownLink)),
+            self.note_outside(id, at)?;
+            return Ok(());
         }
+        if unconfigured {
+            return Err(Refusal::Wrong(WrongLine::KnownLink));
+        }
+        self.links[index].note(line, number, at, self.start, self.width, &mut self.networks)?;
+        Ok(())
     }
 
     /// Notes a frame of a link outside the table.
-    fn note_outside(&mut self, id: VlId, at: &Moment) -> Result<(), AllocError> {
+    fn note_outside(&mut self, id: VlId, at: &Moment) -> Result<(), AllocError>
+        ensures rest { self.new ≡ record self.old { outside = self.new.outside } }
+        ensures room { length self.old.outside.items ≤ VL_ID_COUNT
+            → length self.new.outside.items ≤ VL_ID_COUNT }
+    {
         if self.outside.is_empty() {
             self.outside.resize(VL_ID_COUNT, OutsideLink::none())?;
         }
@@ -213,10 +349,12 @@ impl Statistics {
     }
 
     /// Settles what is left once the ledger has ended.
-    pub(crate) fn end(&mut self) -> Result<(), AllocError> {
-        for link in self.links.iter_mut() {
-            link.end(self.start, self.width, &mut self.networks)?;
-        }
+    pub(crate) fn end(&mut self) -> Result<(), AllocError>
+        ensures span { KeepsSpan self.old self.new }
+        ensures account { OnOk result (KeepsAccount self.old self.new) }
+        ensures fates { OnOk result (GainFates self.old.links.items self.new.links.items) }
+    {
+        end_links(&mut self.links, self.start, self.width, &mut self.networks)?;
         Ok(())
     }
 }

@@ -1,15 +1,18 @@
 use Rattle.std.proofs.Common.{◌≡◌, ◌-◌, ℕ, List, Option, [], false}
+use Rattle.vl_config.specs.Link.{VirtualLink}
 use Rattle.ledger_text.specs.Ledger.{ReadLine, has_failed as ledger_failed, number_of}
 use Rattle.ledger_text.specs.declared.bounds.TheConstants.{MOST_LINES}
-use Rattle.ledger_report.specs.Reading.{HasCounted}
+use Rattle.ledger_report.specs.Reading.{HasNoted}
 use Rattle.ledger_report.proofs.report.read_lines.Given as goal
 
--- these lines were read and counted
+-- these lines were read and noted
 abbrev pub invariant-loop-frame : goal.invariant-loop-frame
 invariant-loop-frame g l =
     record {
-      counted : (bytes : Option (List ℕ)) (failures : ℕ) → HasCounted g.S.TapSource bytes failures [] l.fn.ledger l.fn.reading.counts
-          → (rs : List ReadLine) × HasCounted g.S.TapSource bytes failures rs l.ledger l.reading.counts;
+      noted : (bytes : Option (List ℕ)) (failures : ℕ) (links : List VirtualLink)
+          → links ≡ l.fn.config.links
+          → HasNoted g.S.TapSource bytes failures links [] l.fn.ledger l.fn.reading.counts l.fn.reading.statistics l.fn.reading.lines
+          → (rs : List ReadLine) × HasNoted g.S.TapSource bytes failures links rs l.ledger l.reading.counts l.reading.statistics l.reading.lines;
       sound : ledger_failed l.ledger ≡ false;
     }
 

@@ -3,6 +3,7 @@ use Rattle.std.proofs.Common.{◌∙◌, ◌+◌, ◌<◌, ◌^◌, None, ap, ar
 use Rattle.ledger_report.specs.Pending.{pending, pends}
 use Rattle.ledger_report.specs.Settling.{accounted}
 use Rattle.ledger_report.specs.declared.pairing.Pairing.{Pairing}
+use Rattle.ledger_report.proofs.KeepSteps.{keeps_link_on, keeps_networks_on}
 use Rattle.ledger_report.proofs.Pendings.{pending-drop}
 use Rattle.ledger_report.proofs.link.LinkReport.settle_latest.Goals as goal
 
@@ -21,4 +22,8 @@ loop-number-preserved c = record {
       omega (arith, old, drops, here, same, after, c.in_ok-settle_number.ensures.accounts none room));
   pairing = c.settle_number.ensures.pairing ∙ c.loop-number.invariant.pairing;
   deliveries = c.settle_number.ensures.deliveries ∙ c.loop-number.invariant.deliveries;
+  copies = c.settle_number.ensures.copies ∙ c.loop-number.invariant.copies;
+  link = keeps_link_on c.args.self.now c.loop-number.self c.settle_number.new.self c.loop-number.invariant.link c.in_ok-settle_number.ensures.link;
+  networks = keeps_networks_on c.args.networks.now c.loop-number.networks c.settle_number.new.networks c.loop-number.invariant.networks
+      c.in_ok-settle_number.ensures.networks;
 }

@@ -1,5 +1,7 @@
 -- The numbers below are settled.
 use Rattle.std.proofs.Common.{◌≡◌, ◌+◌, ◌<◌, ◌^◌, drop}
+use Rattle.ledger_report.specs.Copies.{KeepsCopies}
+use Rattle.ledger_report.specs.Keeping.{KeepsLink, KeepsNetworks}
 use Rattle.ledger_report.specs.Pending.{pending}
 use Rattle.ledger_report.specs.Settling.{accounted, counted}
 use Rattle.ledger_report.specs.declared.signs.Mark.{Mark}
@@ -11,4 +13,7 @@ invariant-loop-number l = record {
       → counted none l.self + pending (drop l.number l.initial.self.pairing.deliveries.items) ≡ accounted none l.initial.self;
   pairing : l.self.pairing ≡ l.initial.self.pairing;
   deliveries : l.self.deliveries ≡ l.initial.self.deliveries;
+  copies : KeepsCopies l.initial.self l.self;
+  link : KeepsLink l.initial.self l.self;
+  networks : KeepsNetworks l.initial.networks l.networks;
 }

@@ -1,0 +1,52 @@
+-- What a line says of the copies and of the latest deliveries, by its word of redundancy management.
+use Rattle.std.proofs.Common.{◌≡◌, ◌∙◌, ℕ, ◌+◌, ◌-◌, ◌<◌, ◌^◌, ◌==◌, max, Bool, false, Option, Some, if◌then◌else◌, sym, ap, subst}
+use Rattle.std.specs.Option.{option_map_or}
+use Rattle.redundancy.specs.declared.verdict.Redundancy.{Redundancy}
+use Rattle.redundancy.specs.declared.verdict.Redundancy.TheVariants.{Deliver, Copy}
+use Rattle.ledger_text.specs.declared.frame.FrameLine.{FrameLine}
+use Rattle.ledger_report.specs.Copies.{CopyNumbers, KeepsCopies, KeepsLatest, NotesCopy, NotesCopyWhere, NotesLatest, NotesLatestWhere, Spot, TakesCopy, TakesLatest, copy_numbers, skew_in, spot_at}
+use Rattle.ledger_report.specs.Deliveries.{says_copy, says_deliver}
+use Rattle.ledger_report.specs.Sums.{saturated}
+use Rattle.ledger_report.specs.declared.link.LinkReport.{LinkReport}
+use Rattle.ledger_report.specs.declared.moment.Moment.{Moment}
+use Rattle.ledger_report.specs.declared.pairing.Pairing.{Pairing}
+
+takes_copy_from : (number stamp : ℕ) (old mid new : LinkReport) → KeepsCopies old mid → KeepsLatest old.pairing mid.pairing →
+    TakesCopy (skew_in mid number stamp) mid new → TakesCopy (skew_in old number stamp) old new
+takes_copy_from number stamp old mid new same latest takes few =
+    let skew : skew_in mid number stamp ≡ skew_in old number stamp =
+    ap (λ (o : Option Spot). stamp - option_map_or (λ (s : Spot). s.place.stamp) o 0) (latest number) in
+    takes (subst (λ n. n + 1 < 2 ^ 64) (sym (ap (λ (c : CopyNumbers). c.copies) same)) few)
+    ∙ ap (λ (c : CopyNumbers). with_skew c (skew_in mid number stamp)) same
+    ∙ ap (λ n. with_skew (copy_numbers old) n) skew
+  where
+    with_skew : CopyNumbers → ℕ → CopyNumbers
+    with_skew c skew = record { copies = c.copies + 1; skew_sum = saturated (c.skew_sum + skew); skew_greatest = max c.skew_greatest skew }
+
+pub copies_on : (line : FrameLine) (number : ℕ) (at : Moment) (old mid new : LinkReport) → line.redundancy ≡ Some Copy → KeepsCopies old mid →
+    KeepsLatest old.pairing mid.pairing → TakesCopy (skew_in mid number at.place.stamp) mid new → NotesCopy line number at old new
+copies_on line number at old mid new is same latest takes =
+    subst (λ (o : Option Redundancy). NotesCopyWhere (option_map_or says_copy o false) (skew_in old number at.place.stamp) old new) (sym is)
+    (takes_copy_from number at.place.stamp old mid new same latest takes)
+
+pub copies_off : (line : FrameLine) (number : ℕ) (at : Moment) (old new : LinkReport) (word : Option Redundancy) → line.redundancy ≡ word →
+    option_map_or says_copy word false ≡ false → KeepsCopies old new → NotesCopy line number at old new
+copies_off line number at old new word is off same =
+    subst (λ (b : Bool). NotesCopyWhere b (skew_in old number at.place.stamp) old new) (sym (ap (λ (o : Option Redundancy). option_map_or says_copy o false) is ∙ off)) same
+
+pub latest_on : (line : FrameLine) (number : ℕ) (at : Moment) (old mid new : LinkReport) → line.redundancy ≡ Some Deliver → KeepsLatest old.pairing mid.pairing →
+    TakesLatest number (record { network = at.network; place = at.place }) mid.pairing new.pairing → NotesLatest line number at old new
+latest_on line number at old mid new is latest takes =
+    subst (λ (o : Option Redundancy). NotesLatestWhere (option_map_or says_deliver o false) number (record { network = at.network; place = at.place }) old.pairing new.pairing)
+    (sym is)
+    (λ n. takes n ∙ ap (λ (o : Option Spot). if n == number then Some (record { network = at.network; place = at.place }) else o) (latest n))
+
+pub latest_off : (line : FrameLine) (number : ℕ) (at : Moment) (old new : LinkReport) (word : Option Redundancy) → line.redundancy ≡ word →
+    option_map_or says_deliver word false ≡ false → KeepsLatest old.pairing new.pairing → NotesLatest line number at old new
+latest_off line number at old new word is off same =
+    subst (λ (b : Bool). NotesLatestWhere b number (record { network = at.network; place = at.place }) old.pairing new.pairing)
+    (sym (ap (λ (o : Option Redundancy). option_map_or says_deliver o false) is ∙ off)) same
+
+pub keeps_latest_on : (old lane numbered discarded : LinkReport) → lane.pairing ≡ old.pairing → numbered.pairing ≡ lane.pairing →
+    KeepsLatest numbered.pairing discarded.pairing → KeepsLatest old.pairing discarded.pairing
+keeps_latest_on old lane numbered discarded one two three n = three n ∙ ap (λ (p : Pairing). spot_at p n) (two ∙ one)
