@@ -1,0 +1,2 @@
+mod MoreHeads
+mod MoreRows

@@ -1,0 +1,32 @@
+//! What a document specifies of one link.
+
+ghost use Rattle.std.specs.Prelude.{◌≡◌, ◌≤◌, ℕ, Some};
+
+use afdx_frame::VlId;
+
+/// What a document specifies of a virtual link, in the units and the ranges of a table. None: it leaves that
+/// out.
+#[derive(Debug, Drop)]
+pub struct IcdLink {
+    /// The identifier.
+    pub id: VlId,
+    /// The name: 1 to 32 ASCII letters, digits, `_` and `-`.
+    pub name: Option<String>,
+    /// The bandwidth allocation gap: 1, 2, 4, 8, 16, 32, 64 or 128 milliseconds.
+    pub bag_ms: Option<u64>,
+    /// The greatest jitter, in microseconds: at most 100000.
+    pub jitter_us: Option<u64>,
+    /// The size of the largest frame with its frame check sequence: 64 to 1518 bytes.
+    pub smax: Option<u64>,
+    /// Is integrity checking on?
+    pub integrity: Option<bool>,
+    /// Is redundancy management on?
+    pub redundancy: Option<bool>,
+    /// The greatest difference of time between the two copies of a frame, in microseconds: at most 1000000.
+    pub skew_us: Option<u64>,
+    ghost bag_within: { (ms : ℕ) → bag_ms ≡ Some ms → ms ≤ 128 },
+    ghost jitter_within: { (us : ℕ) → jitter_us ≡ Some us → us ≤ 100000 },
+    ghost least: { (len : ℕ) → smax ≡ Some len → 64 ≤ len },
+    ghost greatest: { (len : ℕ) → smax ≡ Some len → len ≤ 1518 },
+    ghost skew_within: { (us : ℕ) → skew_us ≡ Some us → us ≤ 1000000 },
+}
