@@ -3,77 +3,26 @@
 ghost use Rattle.std.specs.Prelude.{◌≡◌, ◌<◌};
 
 use crate::estimate::{Estimate, MAX_JITTER_US, needed_by, not_next};
-use afdx_frame::{Stamp, VlId};
-use link_estimate::{Arrivals, BAGS};
+use crate::known::{Known, bag_ms};
+use afdx_frame::Stamp;
+use link_estimate::Arrivals;
 use pcap_io::Ending;
-use std::alloc::{AllocError, Global};
+use std::alloc::AllocError;
 use survey_run::{Field, LinkSurvey, Recorded, Survey};
 
-/// How the recordings of networks A and B were read. None: there is none.
-#[derive(Clone, Copy, Debug)]
-pub struct Recordings {
-    pub a: Option<Recorded>,
-    pub b: Option<Recorded>,
-}
-
-impl Recordings {
-    /// How far a timestamp lies below the greatest one before it, in microseconds, rounded up.
-    fn late_us(&self) -> u64 {
-        let a = self.a.map_or(0, |a| a.late);
-        let b = self.b.map_or(0, |b| b.late);
-        a.max(b).div_ceil(1000)
-    }
-}
-
-const HEADER: &str = "\
+/// How a draft begins.
+pub const HEADER: &str = "\
 # A draft of the table of virtual links: what was seen in recordings, and not what was specified.
 # Check each value against the ICD.
 ";
 
-/// The draft of a table from a survey, a TOML document.
-///
-/// # Errors
-///
-/// `AllocError` if the system is out of memory.
-pub fn draft_of(
-    alloc: Global,
-    survey: &Survey,
-    recordings: Recordings,
-) -> Result<String, AllocError> {
-    let mut text = String::new(alloc);
-    text.push_str(HEADER)?;
-    write_ending(&mut text, "A", recordings.a)?;
-    write_ending(&mut text, "B", recordings.b)?;
-    if survey.unusable() > 0 {
-        let unusable = survey.unusable();
-        write!(
-            text,
-            "# {unusable} frames weren't recorded whole, or aren't of 60 to 1514 bytes.\n"
-        )?;
-    }
-    let Some(main) = survey.main_field() else {
-        text.push_str(
-            "# No frame has a constant field with bits 24 and 25 set.\nconstant = 50331648\n",
-        )?;
-        return Ok(text);
-    };
-    write_constants(&mut text, survey, main)?;
-    let late = recordings.late_us();
-    if late > 0 {
-        write!(
-            text,
-            "late_us = {late}  # a frame came so much after one of a later timestamp\n"
-        )?;
-    }
-    for id in 0u16..=u16::MAX {
-        if let Some(link) = main.links.link(VlId(id)) {
-            write_link(&mut text, link)?;
-        }
-    }
-    Ok(text)
-}
+/// How a draft begins that a document has a part in.
+pub const ICD_HEADER: &str = "\
+# A draft of the table of virtual links: what an ICD specifies, and what was seen in recordings where it leaves a value out.
+";
 
-fn write_ending(
+/// How a network's recording was read.
+pub fn write_ending(
     text: &mut String,
     network: &str,
     recorded: Option<Recorded>,
@@ -97,7 +46,7 @@ fn write_ending(
 }
 
 /// The constant field, and in comments the others.
-fn write_constants(text: &mut String, survey: &Survey, main: &Field) -> Result<(), AllocError> {
+pub fn write_constants(text: &mut String, survey: &Survey, main: &Field) -> Result<(), AllocError> {
     for field in survey.fields() {
         if field.constant != main.constant {
             let Field {
@@ -130,18 +79,31 @@ fn write_constants(text: &mut String, survey: &Survey, main: &Field) -> Result<(
     write!(text, "\nconstant = {constant}  # {frames} frames\n")
 }
 
-/// A link's table.
-fn write_link(text: &mut String, link: &LinkSurvey) -> Result<(), AllocError> {
-    let estimate = Estimate::of(link);
-    let id = link.id.0;
-    write!(text, "\n[[link]]\n")?;
+/// In comments what was seen of a link, which the draft has with this BAG.
+pub fn write_seen(text: &mut String, link: &LinkSurvey, bag: usize) -> Result<(), AllocError>
+    requires { bag < 8 }
+{
     write_arrivals(text, "A", &link.a)?;
     write_arrivals(text, "B", &link.b)?;
-    write_need(text, "A", &link.a, estimate.bag)?;
-    write_need(text, "B", &link.b, estimate.bag)?;
+    write_need(text, "A", &link.a, bag)?;
+    write_need(text, "B", &link.b, bag)?;
     let copies = link.copies.count();
-    write!(text, "# {copies} frames came on both networks.\n")?;
-    let bag = BAGS[estimate.bag] / 1_000_000;
+    write!(text, "# {copies} frames came on both networks.\n")
+}
+
+/// The keys of a link.
+pub fn write_keys(
+    text: &mut String,
+    link: &Known<'_>,
+    drafted: Estimate,
+) -> Result<(), AllocError> {
+    let id = link.id.0;
+    write!(text, "id = {id}\n")?;
+    match link.name() {
+        Some(name) => write!(text, "name = \"{name}\"\n")?,
+        None => write!(text, "name = \"vl_{id}\"\n")?,
+    }
+    let bag = bag_ms(drafted.bag);
     let Estimate {
         jitter_us,
         smax,
@@ -149,11 +111,8 @@ fn write_link(text: &mut String, link: &LinkSurvey) -> Result<(), AllocError> {
         redundancy,
         skew_us,
         ..
-    } = estimate;
-    write!(
-        text,
-        "id = {id}\nname = \"vl_{id}\"\nbag_ms = {bag}\njitter_us = {jitter_us}\n"
-    )?;
+    } = drafted;
+    write!(text, "bag_ms = {bag}\njitter_us = {jitter_us}\n")?;
     write!(
         text,
         "smax = {smax}\nintegrity = {integrity}\nredundancy = {redundancy}\n"

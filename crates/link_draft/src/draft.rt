@@ -1,0 +1,179 @@
+//! A draft: its text, and how what was seen stands to what is specified.
+
+ghost use Rattle.std.specs.Prelude.{◌≡◌, IfOk, None, string_bytes};
+ghost use Rattle.vl_config.specs.Document.{first_fault};
+ghost use Rattle.link_draft.specs.declared.draft.DraftFault.TheVariants.{Memory};
+
+use crate::beside::{Comparison, write_beside};
+use crate::known::Known;
+use crate::recordings::Recordings;
+use crate::text::{HEADER, ICD_HEADER, write_constants, write_ending, write_keys, write_seen};
+use afdx_frame::VlId;
+use icd_links::IcdLinks;
+use std::alloc::{AllocError, Global};
+use survey_run::{Field, Survey};
+use vl_config::{Config, ConfigFault};
+
+/// The constant field of a draft where none was seen or asked for: the bits of a group address, locally
+/// administered (IEEE 802.3), and nothing else.
+const USUAL_CONSTANT: u32 = 0x0300_0000;
+
+/// What a draft is made of.
+#[derive(Clone, Copy)]
+pub struct Sources<'a> {
+    /// What was seen.
+    pub survey: &'a Survey,
+    pub recordings: Recordings,
+    /// The constant field that was asked for.
+    pub constant: Option<u32>,
+    /// What is specified.
+    pub icd: Option<&'a IcdLinks>,
+}
+
+/// The draft of a table.
+#[derive(Debug, Drop)]
+pub struct Draft {
+    /// A TOML document that [`Config::read`] takes.
+    pub text: String,
+    /// How what was seen stands to what is specified.
+    pub comparison: Comparison,
+}
+
+/// Why there is no draft.
+#[derive(Clone, Copy, Debug, PartialEq, Eq)]
+pub enum DraftFault {
+    /// Its text would be no table: there are too many links, or two have one name.
+    NoTable(ConfigFault),
+    Memory,
+}
+
+impl From<AllocError> for DraftFault {
+    ghost from_gives = { λ _ e. e ≡ Memory };
+
+    fn from(_e: AllocError) -> DraftFault {
+        DraftFault::Memory
+    }
+}
+
+/// The draft of a table, a TOML document. It is read back before it is given, so [`Config::read`] takes it.
+///
+/// # Errors
+///
+/// `NoTable` if the document and the recordings have more than 4096 links together, or the document gives a
+/// link the name that the draft has for another. `Memory` if the system is out of memory.
+pub fn draft_of(alloc: Global, sources: &Sources<'_>) -> Result<Draft, DraftFault>
+    ensures reads_back { IfOk result (λ draft. first_fault (string_bytes draft.text) ≡ None) }
+{
+    let mut text = String::new(alloc);
+    write_head(&mut text, sources)?;
+    let main = sources.survey.main_field();
+    write_constant(&mut text, sources, main)?;
+    let comparison = write_links(&mut text, sources, main)?;
+    match Config::read(alloc, text.as_str()) {
+        Ok(_) => Ok(Draft { text, comparison }),
+        Err(ConfigFault::Memory) => Err(DraftFault::Memory),
+        Err(fault) => Err(DraftFault::NoTable(fault)),
+    }
+}
+
+/// What the draft is, and how the recordings were read.
+fn write_head(text: &mut String, sources: &Sources<'_>) -> Result<(), AllocError> {
+    match sources.icd {
+        Some(_) => text.push_str(ICD_HEADER)?,
+        None => text.push_str(HEADER)?,
+    }
+    write_ending(text, "A", sources.recordings.a)?;
+    write_ending(text, "B", sources.recordings.b)?;
+    let unusable = sources.survey.unusable();
+    if unusable > 0 {
+        write!(
+            text,
+            "# {unusable} frames weren't recorded whole, or aren't of 60 to 1514 bytes.\n"
+        )?;
+    }
+    Ok(())
+}
+
+/// The constant field, and how late a frame may come.
+fn write_constant(
+    text: &mut String,
+    sources: &Sources<'_>,
+    main: Option<&Field>,
+) -> Result<(), AllocError> {
+    match (main, sources.constant) {
+        (Some(main), _) => write_constants(text, sources.survey, main)?,
+        (None, Some(constant)) => {
+            write!(
+                text,
+                "# No frame has this constant field.\nconstant = {constant}\n"
+            )?;
+        }
+        (None, None) => {
+            let constant = USUAL_CONSTANT;
+            write!(
+                text,
+                "# No frame has a constant field with bits 24 and 25 set.\nconstant = {constant}\n"
+            )?;
+        }
+    }
+    let late = sources.recordings.late_us();
+    if late > 0 && main.is_some() {
+        write!(
+            text,
+            "late_us = {late}  # a frame came so much after one of a later timestamp\n"
+        )?;
+    }
+    Ok(())
+}
+
+/// The links that are specified or seen, by rising identifier.
+fn write_links(
+    text: &mut String,
+    sources: &Sources<'_>,
+    main: Option<&Field>,
+) -> Result<Comparison, AllocError> {
+    let mut comparison = Comparison::new();
+    // The links of the document come by rising identifier too: so many of them were met.
+    let mut met = 0u32;
+    for id in 0u16..=u16::MAX {
+        let link = known_of(sources.icd, met, main, VlId(id));
+        met = met.saturating_add(u32::from(link.specified.is_some()));
+        if link.specified.is_some() || link.seen.is_some() {
+            write_link(text, sources, &link, &mut comparison)?;
+        }
+    }
+    Ok(comparison)
+}
+
+/// What is known of a link: what the document's next link specifies, if it is this one, and what was seen.
+fn known_of<'a>(
+    icd: Option<&'a IcdLinks>,
+    next: u32,
+    main: Option<&'a Field>,
+    id: VlId,
+) -> Known<'a> {
+    let next = icd.and_then(|icd| icd.links().get(next as usize));
+    Known {
+        id,
+        specified: next.filter(|link| link.id == id),
+        seen: main.and_then(|main| main.links.link(id)),
+    }
+}
+
+/// A link's table.
+fn write_link(
+    text: &mut String,
+    sources: &Sources<'_>,
+    link: &Known<'_>,
+    comparison: &mut Comparison,
+) -> Result<(), AllocError> {
+    let drafted = link.drafted();
+    text.push_str("\n[[link]]\n")?;
+    if let Some(seen) = link.seen {
+        write_seen(text, seen, drafted.bag)?;
+    }
+    if sources.icd.is_some() {
+        write_beside(text, link, drafted, sources.recordings, comparison)?;
+    }
+    write_keys(text, link, drafted)
+}

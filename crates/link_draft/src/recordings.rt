@@ -1,0 +1,29 @@
+//! The recordings of which a draft is made.
+
+use survey_run::Recorded;
+
+/// How the recordings of networks A and B were read. None: there is none.
+#[derive(Clone, Copy, Debug)]
+pub struct Recordings {
+    pub a: Option<Recorded>,
+    pub b: Option<Recorded>,
+}
+
+impl Recordings {
+    /// How far a timestamp lies below the greatest one before it, in microseconds, rounded up.
+    pub fn late_us(&self) -> u64 {
+        let a = self.a.map_or(0, |a| a.late);
+        let b = self.b.map_or(0, |b| b.late);
+        a.max(b).div_ceil(1000)
+    }
+
+    /// Are both networks recorded?
+    pub fn are_both(&self) -> bool {
+        self.a.is_some() && self.b.is_some()
+    }
+
+    /// Is a network recorded?
+    pub fn is_any(&self) -> bool {
+        self.a.is_some() || self.b.is_some()
+    }
+}
