@@ -44,7 +44,7 @@ _afdxmon() {
             ;;
         capture:-*) _afdxmon_words '--code --filter --source --pcapng -o --output -h --help' "$current" ;;
         debug:-*) _afdxmon_words '--filter --source --tap -h --help' "$current" ;;
-        links:-*) _afdxmon_words '--a --b --constant -h --help' "$current" ;;
+        links:-*) _afdxmon_words '--a --b --constant --icd -h --help' "$current" ;;
         cut:-*)
             _afdxmon_words '--ledger --a --b --config --link --network --verdict --from --to --filters --around --ledger-only --pcapng -o --output -h --help' "$current"
             ;;

@@ -59,6 +59,7 @@ set -l links '__fish_seen_subcommand_from links'
 complete -c afdxmon -n $links -l a -r -F -d 'The recording of network A'
 complete -c afdxmon -n $links -l b -r -F -d 'The recording of network B'
 complete -c afdxmon -n $links -l constant -x -d 'The constant field of the links'
+complete -c afdxmon -n $links -l icd -r -F -d 'What is specified, comma-separated values'
 
 set -l report '__fish_seen_subcommand_from report'
 complete -c afdxmon -n $report -l config -r -F -d 'The table of virtual links'

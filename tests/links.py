@@ -100,32 +100,55 @@ def copies_of(frames):
     return skews
 
 
-def link_text(link, frames):
-    sides = [Side([(stamp, length, number) for on, stamp, length, number in frames if on == network]) for network in "AB"]
-    bag = min(side.bag() for side in sides)
-    text = "\n[[link]]\n" + sides[0].seen("A") + sides[1].seen("B")
-    needs = [side.needed(network, bag) for network, side in zip("AB", sides)]
+def estimate(frames, bag=None):
+    """What is drafted of a link's frames, where the BAG is given with the jitter that they need at it."""
+    sides = sides_of(frames)
+    bag = bag or min(side.bag() for side in sides)
+    most = max(side.needed(network, bag)[0] for network, side in zip("AB", sides))
     skews = copies_of([(on, stamp, number) for on, stamp, _, number in frames])
     fewer = min(len(side.stamps) for side in sides)
     both = fewer > 0 and len(skews) * 2 >= fewer
     size = max(side.size for side in sides) + 4
-    text += needs[0][1] + needs[1][1] + f"# {len(skews)} frames came on both networks.\n"
-    values = {
-        "id": link,
-        "name": f'"vl_{link}"',
+    return {
         "bag_ms": bag // MS,
-        "jitter_us": min(max(needs[0][0], needs[1][0]), 100_000),
+        "jitter_us": min(most, 100_000),
         "smax": max(size + size % 2, 64),
-        "integrity": str(sum(s.follow for s in sides) >= sum(s.others for s in sides)).lower(),
-        "redundancy": str(both).lower(),
+        "integrity": sum(s.follow for s in sides) >= sum(s.others for s in sides),
+        "redundancy": both,
         "skew_us": min(-(-max(skews) // 1000), 10**6) if both else 0,
     }
-    return text + "".join(f"{key} = {value}\n" for key, value in values.items())
+
+
+def sides_of(frames):
+    return [Side([(stamp, length, number) for on, stamp, length, number in frames if on == network]) for network in "AB"]
+
+
+def seen_text(frames, bag):
+    sides = sides_of(frames)
+    text = sides[0].seen("A") + sides[1].seen("B")
+    text += "".join(side.needed(network, bag)[1] for network, side in zip("AB", sides))
+    copies = len(copies_of([(on, stamp, number) for on, stamp, _, number in frames]))
+    return text + f"# {copies} frames came on both networks.\n"
+
+
+def keys_text(link, name, values):
+    text = f'id = {link}\nname = "{name}"\n'
+    return text + "".join(f"{key} = {str(value).lower()}\n" for key, value in values.items())
+
+
+def link_text(link, frames):
+    values = estimate(frames)
+    return "\n[[link]]\n" + seen_text(frames, values["bag_ms"] * MS) + keys_text(link, f"vl_{link}", values)
 
 
 def draft(a, b, wanted=None):
     """The draft of two recordings, each bytes or None."""
-    text, frames, unusable, late = HEAD, [], 0, 0
+    return drafted(HEAD, a, b, wanted, lambda links: "".join(link_text(link, links[link]) for link in sorted(links)))
+
+
+def drafted(head, a, b, wanted, texts):
+    """A draft with this head, and the text of all links, by their frames."""
+    text, frames, unusable, late = head, [], 0, 0
     for network, recording in (("A", a), ("B", b)):
         if recording is None:
             continue
@@ -149,7 +172,8 @@ def draft(a, b, wanted=None):
         fields.setdefault(constant, []).append((link, network, stamp, length, data[-1]))
     text += f"# {unusable} frames weren't recorded whole, or aren't of 60 to 1514 bytes.\n" if unusable else ""
     if not fields:
-        return text + "# No frame has a constant field with bits 24 and 25 set.\nconstant = 50331648\n"
+        none = "this constant field" if wanted is not None else "a constant field with bits 24 and 25 set"
+        return text + f"# No frame has {none}.\nconstant = {GROUP if wanted is None else wanted}\n" + texts({})
     main = max(fields, key=lambda constant: len(fields[constant]))
     for constant, of in fields.items():
         text += f"# Another constant field: {constant}, in {len(of)} frames.\n" if constant != main else ""
@@ -159,7 +183,7 @@ def draft(a, b, wanted=None):
     links = {}
     for link, network, stamp, length, number in fields[main]:
         links.setdefault(link, []).append((network, stamp, length, number))
-    return text + "".join(link_text(link, links[link]) for link in sorted(links))
+    return text + texts(links)
 
 
 # ---- recordings of known tables

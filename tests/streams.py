@@ -270,8 +270,8 @@ def misuse(files):
         ("cut", ["--ledger", "l", "--ledger-only", "--pcapng"], "NoPackets"),
         ("cut", ["--ledger", "l", "--a", "a", "--ledger-only", "--pcapng", "--network", "C"], "NoPackets"),
         ("cut", ["--ledger", "l", "--pcapng"], "NoRecording"),
-        ("links", [], "NoRecording"),
-        ("links", ["--constant", "0x03000000"], "NoRecording"),
+        ("links", [], "NoLinks"),
+        ("links", ["--constant", "0x03000000"], "NoLinks"),
     ):
         whole = usage_error(command, MISUSE[name])
         ran = run([command, *more], input=b"", stdout=subprocess.PIPE)

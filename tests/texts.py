@@ -241,16 +241,20 @@ Example: keep the frames that policing discarded
   afdxmon cut --ledger flight.ledger --a a.pcap --b b.pcap --verdict excess -o excess.pcap
 """,
     "links": r"""
-Usage: afdxmon links [OPTIONS] <--a <FILE>|--b <FILE>>
+Usage: afdxmon links [OPTIONS] <--a <FILE>|--b <FILE>|--icd <FILE>>
 
 Options:
       --a <FILE>           The recording of network A, a pcap or pcapng file
       --b <FILE>           The recording of network B, a pcap or pcapng file
       --constant <NUMBER>  The constant field of the links' frames, as 0x03000000
+      --icd <FILE>         The links that are specified, comma-separated values
   -h, --help               Print help
 
-The draft says what was seen and not what was specified: check it against the ICD. Without --constant
-the draft has the most common constant field with bits 24 and 25 set. '-' is standard input.
+The draft says what was seen and not what was specified: check it against the ICD. With --icd it says
+what the ICD specifies, and what was seen where that leaves a value out; comments say where both differ.
+The ICD is comma-separated values: the heads of its columns are id and any of name, bag_ms, jitter_us,
+smax, integrity, redundancy and skew_us, others are passed over. Without --constant the draft has the
+most common constant field with bits 24 and 25 set. '-' is standard input.
 
 Example: a table from two recordings, and a run with it
   afdxmon links --a a.pcap --b b.pcap > draft.toml
@@ -311,6 +315,7 @@ MISUSE = {
     "NoFilter": "no filter is given",
     "TwoFilters": "more than one filter is given",
     "NoRecording": "no recording is given: --a, --b or both name one",
+    "NoLinks": "no recording is given: --a, --b or both name one, or --icd an ICD",
     "Unfiltered": "--capture needs --filter, which says what frames it is to have",
     "Uncaptured": "--pcapng needs --capture: it says how the capture is written",
     "NoPackets": "--pcapng says how packets are written, and --ledger-only leaves them out",

@@ -1,11 +1,14 @@
-//! The table of virtual links that is drafted from recordings.
+//! The table of virtual links that is drafted from recordings and a document.
 use crate::interface::{Choices, Skipped};
-use crate::{Ended, NO_RUN, Refused, open_tap, recording_of, refuse_several_of_both};
+use crate::{Ended, NO_RUN, Refused, open_tap, recording_of, refuse_several_of_both, text_of};
 use afdx_frame::Network;
 use analyser::{Exit, Fault, FileOption, LinksArguments};
-use link_draft::{Recordings, draft_of};
+use icd_links::IcdLinks;
+use link_draft::{Comparison, DraftFault, Recordings, Sources, draft_of};
 use pcap_io::{Ending, ReadSource};
-use survey_run::{Recorded, Survey, SurveyRun, survey_recordings};
+use std::io;
+use std::io::IsTerminal;
+use survey_run::{Survey, SurveyRun, survey_recordings};
 
 /// The bits that a constant field has set (ARINC 664 Part 7).
 const GROUP_BITS: u32 = 0x0300_0000;
@@ -35,34 +38,64 @@ fn exit_of(a: Ending, b: Ending) -> Exit {
     }
 }
 
-/// Prints the draft.
-fn print_draft(
-    rt: &HostRuntime,
-    given: &LinksArguments<'_>,
-    survey: &Survey,
-    a: Recorded,
-    b: Recorded,
-) -> Exit {
-    let recordings = Recordings {
-        a: given.a.map(|_| a),
-        b: given.b.map(|_| b),
+/// What a document specifies of links, if one is given.
+fn icd_of(rt: &HostRuntime, path: Option<&str>) -> Result<Option<IcdLinks>, Fault> {
+    let Some(path) = path else {
+        return Ok(None);
     };
-    let Ok(draft) = draft_of(rt.alloc(), survey, recordings) else {
-        return Exit::Fault(NO_RUN);
-    };
-    match rt.print(&draft) {
-        Ok(()) => exit_of(a.ending, b.ending),
-        Err(_) => Exit::Fault(Fault::File(FileOption::Standard)),
+    let text = text_of(rt, path, FileOption::Icd)?;
+    match IcdLinks::read(rt.alloc(), &text) {
+        Ok(links) => Ok(Some(links)),
+        Err(fault) => Err(Fault::Icd(fault)),
     }
 }
 
-/// Prints a draft of the table of virtual links that recordings have.
+/// Tells a person at a terminal how many links differ, of each kind that there is.
+fn tell_comparison(rt: &HostRuntime, comparison: Comparison) -> io::Result<()> {
+    if comparison.is_empty() || !rt.stderr().is_terminal() {
+        return Ok(());
+    }
+    eprintln!(rt; "afdxmon: note: {comparison}. The draft's comments say how")
+}
+
+/// The fault of a draft that isn't made.
+fn fault_of(fault: DraftFault) -> Fault {
+    match fault {
+        DraftFault::NoTable(fault) => Fault::Draft(fault),
+        DraftFault::Memory => NO_RUN,
+    }
+}
+
+/// Prints the draft.
+fn print_draft<'s>(
+    rt: &HostRuntime,
+    survey: &'s Survey,
+    icd: &'s Option<IcdLinks>,
+    recordings: Recordings,
+    constant: Option<u32>,
+) -> Result<(), Fault> {
+    let sources = Sources {
+        survey,
+        recordings,
+        constant,
+        icd: icd.as_ref(),
+    };
+    let draft = draft_of(rt.alloc(), &sources).map_err(fault_of)?;
+    if rt.print(&draft.text).is_err() {
+        return Err(Fault::File(FileOption::Standard));
+    }
+    let _ = tell_comparison(rt, draft.comparison);
+    Ok(())
+}
+
+/// Prints a draft of the table of virtual links that recordings have and a document specifies.
 pub fn links(
     rt: &HostRuntime,
     given: &LinksArguments<'_>,
     choices: Choices,
 ) -> Result<Ended, Refused> {
     let constant = constant_of(given.constant)?;
+    let icd = icd_of(rt, given.icd)?;
     let a = open_tap(rt, given.a, Network::A, None)?;
     let b = open_tap(rt, given.b, Network::B, None)?;
     refuse_several_of_both(rt, given.a, given.b, choices)?;
@@ -71,7 +104,16 @@ pub fn links(
     let SurveyRun { outcome, a, b } = survey_recordings(rt.alloc(), constant, a, b);
     let skipped = Skipped::two(a.skipped(), b.skipped());
     let exit = match outcome {
-        Ok((survey, a, b)) => print_draft(rt, given, &survey, a, b),
+        Ok((survey, a, b)) => {
+            let recordings = Recordings {
+                a: given.a.map(|_| a),
+                b: given.b.map(|_| b),
+            };
+            match print_draft(rt, &survey, &icd, recordings, constant) {
+                Ok(()) => exit_of(a.ending, b.ending),
+                Err(fault) => Exit::Fault(fault),
+            }
+        }
         Err(fault) => Exit::Fault(Fault::Watch(fault)),
     };
     Ok(Ended {

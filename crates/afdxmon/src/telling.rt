@@ -10,6 +10,7 @@ use analyser::{
 };
 use bpf_asm::AsmFault;
 use config_place::{key_offset, slip_of};
+use icd_links::IcdFault;
 use pcap_io::{Ending, HeaderFault};
 use std::alloc::Global;
 use std::fmt::{Display, Formatter};
@@ -77,6 +78,7 @@ fn given<'a>(command: Invocation<'a>, file: FileOption) -> Option<&'a str> {
         (Invocation::Cut(given), FileOption::Output) => Some(given.output),
         (Invocation::Links(given), FileOption::A) => given.a,
         (Invocation::Links(given), FileOption::B) => given.b,
+        (Invocation::Links(given), FileOption::Icd) => given.icd,
         (Invocation::Check(given), FileOption::Config) => Some(given.config),
         (Invocation::Check(given), FileOption::Filter) => given.filter,
         (Invocation::Check(given), FileOption::A) => given.a,
@@ -189,11 +191,9 @@ fn reason_of_input(rt: &HostRuntime, path: &str, file: FileOption) -> Option<Rea
         return None;
     }
     match file {
-        FileOption::Config | FileOption::Filter | FileOption::Source => reason_of_text(
-            rt,
-            path,
-            found.len(),
-        ),
+        FileOption::Config | FileOption::Filter | FileOption::Source | FileOption::Icd => {
+            reason_of_text(rt, path, found.len())
+        }
         _ => reason_of_recording(rt, path),
     }
 }
@@ -325,6 +325,15 @@ fn explain_table(rt: &HostRuntime, command: Invocation<'_>, fault: ConfigFault) 
     rt.eprintln(slip.allowed.as_str())
 }
 
+/// Tells what is wrong in a line of a document of links.
+fn explain_icd(rt: &HostRuntime, name: Option<&str>, fault: IcdFault) -> io::Result<()> {
+    let advice = advice(&Fault::Icd(fault));
+    match (name, fault.line()) {
+        (Some(name), Some(line)) => eprintln!(rt; "{name}:{line}: {advice}"),
+        _ => advise(rt, name, advice),
+    }
+}
+
 /// Shows where in a filter's source a fault lies.
 fn explain_source(
     rt: &HostRuntime,
@@ -453,6 +462,7 @@ fn explain(
             explain_header(rt, command, file, fault)
         }
         (Fault::Config(fault), _) => explain_table(rt, command, fault),
+        (Fault::Icd(fault), _) => explain_icd(rt, name, fault),
         (Fault::Asm(fault), _) => explain_source(rt, command, fault, source),
         (Fault::Numeric { filter, .. } | Fault::Load { filter, .. }, _) => {
             explain_filter(rt, command, fault, filter)

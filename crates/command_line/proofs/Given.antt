@@ -75,9 +75,15 @@ cut_is f ledger a b config link network verdict from to filters around ledger_on
   e14 ∙ first_value-rows f (codes "output"),
 )
 
-pub links_is : (f : Found) (a b constant : Option Text) → a ≡ first_value f (codes "a") → b ≡ first_value f (codes "b") → constant ≡ first_value f (codes "constant") →
-    record { a = a; b = b; constant = constant } ≡ links_in (rows_of f)
-links_is f a b constant e1 e2 e3 = cc (e1 ∙ first_value-rows f (codes "a"), e2 ∙ first_value-rows f (codes "b"), e3 ∙ first_value-rows f (codes "constant"))
+pub links_is : (f : Found) (a b constant icd : Option Text) → a ≡ first_value f (codes "a") → b ≡ first_value f (codes "b") →
+    constant ≡ first_value f (codes "constant") → icd ≡ first_value f (codes "icd") →
+    record { a = a; b = b; constant = constant; icd = icd } ≡ links_in (rows_of f)
+links_is f a b constant icd e1 e2 e3 e4 = cc (
+  e1 ∙ first_value-rows f (codes "a"),
+  e2 ∙ first_value-rows f (codes "b"),
+  e3 ∙ first_value-rows f (codes "constant"),
+  e4 ∙ first_value-rows f (codes "icd"),
+)
 
 pub report_is : (f : Found) (config ledger : Option Text) (json : Option Bool) (output : Option Text) → config ≡ first_value f (codes "config") →
     ledger ≡ first_value f (codes "ledger") → json ≡ option_and_then flag_in (one_text f (codes "json")) → output ≡ first_value f (codes "output") →

@@ -100,7 +100,8 @@ cut_app =
     with_rule (with_rule (with_rule (with_rule (cut_selection (cut_files (new_app (codes "cut")))) around_rule) (flag_rule (codes "ledger-only"))) (flag_rule (codes "pcapng"))) output_rule
 
 unfoldable pub links_app : App
-links_app = with_option (codes "constant") false (with_option (codes "b") false (with_option (codes "a") false (new_app (codes "links"))))
+links_app =
+    with_option (codes "icd") false (with_option (codes "constant") false (with_option (codes "b") false (with_option (codes "a") false (new_app (codes "links")))))
 
 unfoldable pub report_app : App
 report_app =
@@ -199,11 +200,12 @@ pub record CutWords : Type 0 where
   pub pcapng : Bool
   pub output : Text
 
--- recordings, and the constant field of the links that are drafted from them
+-- recordings, the constant field of the links that are drafted from them, and the document that specifies links
 pub record LinksWords : Type 0 where
   pub a : Option Text
   pub b : Option Text
   pub constant : Option Text
+  pub icd : Option Text
 
 -- a table and a ledger, and what is written of them
 pub record ReportWords : Type 0 where
@@ -353,11 +355,16 @@ checked_cut w =
 
 -- what the options of links give
 abbrev pub links_in : List Row → LinksWords
-links_in rows = record { a = first_of (codes "a") rows; b = first_of (codes "b") rows; constant = first_of (codes "constant") rows }
+links_in rows = record {
+  a = first_of (codes "a") rows;
+  b = first_of (codes "b") rows;
+  constant = first_of (codes "constant") rows;
+  icd = first_of (codes "icd") rows;
+}
 
--- there is a recording
+-- there is a recording or a document
 abbrev pub checked_links : LinksWords → Result LinksWords Misuse
-checked_links w = if not (is_some w.a) && not (is_some w.b) then Err misuse.NoRecording else Ok w
+checked_links w = if not (is_some w.a) && not (is_some w.b) && not (is_some w.icd) then Err misuse.NoLinks else Ok w
 
 abbrev pub report_with : Option Text → Option Text → Option Bool → Option Text → Option ReportWords
 report_with (Some config) (Some ledger) (Some json) (Some output) = Some (record { config = config; ledger = ledger; json = json; output = output })
@@ -402,6 +409,7 @@ abbrev pub misuse_kind : Misuse → ErrorKind
 misuse_kind misuse.TwoFilters = kind.ArgumentConflict
 misuse_kind misuse.NoFilter = kind.MissingRequiredArgument
 misuse_kind misuse.NoRecording = kind.MissingRequiredArgument
+misuse_kind misuse.NoLinks = kind.MissingRequiredArgument
 misuse_kind misuse.Unfiltered = kind.MissingRequiredArgument
 misuse_kind misuse.NoNetwork = kind.InvalidValue
 misuse_kind misuse.Uncaptured = kind.MissingRequiredArgument
@@ -464,7 +472,12 @@ cut_words c = record {
 }
 
 abbrev pub links_words : LinksArguments → LinksWords
-links_words l = record { a = option_map text_of l.a; b = option_map text_of l.b; constant = option_map text_of l.constant }
+links_words l = record {
+  a = option_map text_of l.a;
+  b = option_map text_of l.b;
+  constant = option_map text_of l.constant;
+  icd = option_map text_of l.icd;
+}
 
 abbrev pub report_words : ReportArguments → ReportWords
 report_words r = record { config = r.config.now; ledger = r.ledger.now; json = r.json; output = r.output.now }

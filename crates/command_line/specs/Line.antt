@@ -23,6 +23,9 @@ use Rattle.ledger_text.specs.declared.fault.FrameFault.{FrameFault}
 use Rattle.ledger_text.specs.declared.fault.FrameFault.TheVariants as field
 use Rattle.ledger_text.specs.declared.fault.LineFault.{LineFault}
 use Rattle.ledger_text.specs.declared.fault.LineFault.TheVariants as line
+use Rattle.icd_links.specs.declared.fault.IcdFault.{IcdFault}
+use Rattle.icd_links.specs.declared.fault.IcdFault.TheVariants as icd
+use Rattle.vl_config.specs.Keys.{key_name}
 use Rattle.cut_run.specs.declared.fault.CutFault.{CutFault}
 use Rattle.cut_run.specs.declared.fault.CutFault.TheVariants as cut
 use Rattle.cut_run.specs.declared.fault.CutSource.{CutSource}
@@ -103,6 +106,7 @@ file_part file.Ledger = codes "--ledger"
 file_part file.Source = codes "--source"
 file_part file.Recording = codes "RECORDING"
 file_part file.Output = codes "--output"
+file_part file.Icd = codes "--icd"
 
 abbrev pub header_part : HeaderFault → List ℕ
 header_part header.Short = codes "1 Short"
@@ -184,6 +188,16 @@ report_part (report.Contradiction at found) = codes "2 Contradiction at " ++ dec
 report_part report.Read = codes "3 Read Ledger"
 report_part report.Memory = codes "4 Memory"
 
+-- where a document of links is wrong, and what is: the heads, a row's length, the column of a value, or what an earlier row has
+abbrev pub icd_part : IcdFault → List ℕ
+icd_part (icd.Head at) = codes "2 Icd at " ++ decimal at ++ codes " head"
+icd_part (icd.Cells at) = codes "2 Icd at " ++ decimal at ++ codes " cells"
+icd_part (icd.Value at column) = codes "2 Icd at " ++ decimal at ++ codes " " ++ key_name column
+icd_part (icd.TwiceId at) = codes "2 Icd at " ++ decimal at ++ codes " twiceid"
+icd_part (icd.TwiceName at) = codes "2 Icd at " ++ decimal at ++ codes " twicename"
+icd_part (icd.TooMany at) = codes "2 Icd at " ++ decimal at ++ codes " toomany"
+icd_part icd.Memory = codes "4 Memory"
+
 -- the option whose text selects nothing
 abbrev pub selection_part : SelectionOption → List ℕ
 selection_part selection.Link = codes "link"
@@ -213,4 +227,6 @@ line_of (fault.Selection option item) = codes "afdxmon: cut 8 Selection " ++ sel
 line_of (fault.Interfaces f) = codes "afdxmon: interfaces " ++ file_part f
 line_of (fault.Report f) = codes "afdxmon: report " ++ report_part f
 line_of fault.Constant = codes "afdxmon: links 1 Constant"
+line_of (fault.Icd f) = codes "afdxmon: links " ++ icd_part f
+line_of (fault.Draft f) = codes "afdxmon: links 3 Draft " ++ config_part f
 line_of fault.Unsound = codes "afdxmon: check 1 Unsound"

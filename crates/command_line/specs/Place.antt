@@ -10,6 +10,8 @@ use Rattle.cut_run.specs.declared.fault.CutFault.{CutFault}
 use Rattle.cut_run.specs.declared.fault.CutFault.TheVariants as cut
 use Rattle.cut_run.specs.declared.fault.CutSource.{CutSource}
 use Rattle.cut_run.specs.declared.fault.CutSource.TheVariants as source
+use Rattle.icd_links.specs.declared.fault.IcdFault.{IcdFault}
+use Rattle.icd_links.specs.declared.fault.IcdFault.TheVariants as icd
 use Rattle.command_line.specs.declared.fault.ReportFault.{ReportFault}
 use Rattle.command_line.specs.declared.fault.ReportFault.TheVariants as report
 use Rattle.command_line.specs.declared.fault.FileOption.{FileOption}
@@ -62,6 +64,16 @@ file_of_report (report.Contradiction at found) = Some file.Ledger
 file_of_report report.Read = Some file.Ledger
 file_of_report report.Memory = None
 
+-- the document, whose line it is
+abbrev pub file_of_icd : IcdFault → Option FileOption
+file_of_icd (icd.Head at) = Some file.Icd
+file_of_icd (icd.Cells at) = Some file.Icd
+file_of_icd (icd.Value at column) = Some file.Icd
+file_of_icd (icd.TwiceId at) = Some file.Icd
+file_of_icd (icd.TwiceName at) = Some file.Icd
+file_of_icd (icd.TooMany at) = Some file.Icd
+file_of_icd icd.Memory = None
+
 abbrev pub file_of : Fault → Option FileOption
 file_of (fault.File f) = Some f
 file_of (fault.Shared output other) = Some output
@@ -77,4 +89,6 @@ file_of (fault.Selection option item) = None
 file_of (fault.Interfaces f) = Some f
 file_of (fault.Report f) = file_of_report f
 file_of fault.Constant = None
+file_of (fault.Icd f) = file_of_icd f
+file_of (fault.Draft f) = None
 file_of fault.Unsound = None

@@ -36,6 +36,7 @@ named_by files file.Tap = named.Other
 named_by files file.Source = named.Other
 named_by files file.Recording = named.Other
 named_by files file.Output = named.Other
+named_by files file.Icd = named.Other
 
 -- the first of these options that names the file of an output
 abbrev pub twin_of : WatchFiles → FileOption → List FileOption → Option FileOption

@@ -77,7 +77,7 @@ cut_inputs c =
     stream_of file.Ledger (is_standard c.ledger.now) ∷ stream_of file.A (given_if c.a) ∷ stream_of file.B (given_if c.b) ∷ stream_of file.Config (given_if c.config) ∷ []
 
 abbrev pub links_inputs : LinksArguments → List Stream
-links_inputs l = stream_of file.A (given_if l.a) ∷ stream_of file.B (given_if l.b) ∷ []
+links_inputs l = stream_of file.Icd (given_if l.icd) ∷ stream_of file.A (given_if l.a) ∷ stream_of file.B (given_if l.b) ∷ []
 
 abbrev pub report_inputs : ReportArguments → List Stream
 report_inputs r = stream_of file.Config (is_standard r.config.now) ∷ stream_of file.Ledger (is_standard r.ledger.now) ∷ []

@@ -5,6 +5,12 @@ ghost use Rattle.clap.specs.declared.error.kind.ErrorKind.TheVariants.{OutOfMemo
 ghost use Rattle.command_line.specs.Arguments.{IsAsm, IsCapture, IsCheck, IsCut, IsDebug, IsLinks, IsReport, IsWatch, afdxmon_app, around_rule, capture_in, capture_words, check_in, check_words, checked, checked_cut, checked_links, cut_in, cut_words, debug_in, debug_words, filter_in, filter_words, flag_rule, is_network, kinds_asked, links_in, links_words, mapped, meant_asked, meant_by, meant_in, misuse_kind, misuse_kinds, one_filter, option_rule, output_rule, program_app, recording_rule, report_in, report_words, text_of, watch_in, watch_words, workers_rule};
 
 use crate::misuse::Misuse;
+use crate::usage::{
+    A_HELP, ASM_EXAMPLE, B_HELP, CAPTURE_EXAMPLE, CAPTURE_USAGE, CHECK_EXAMPLE, CHECK_USAGE,
+    COMMENTED_HELP, CUT_EXAMPLE, CUT_USAGE, DEBUG_EXAMPLE, DEBUG_USAGE, LINES_HELP, LINKS_EXAMPLE,
+    LINKS_USAGE, NUMERIC_HELP, OUTPUT_HELP, QUIET_HELP, REPORT_EXAMPLE, REPORT_USAGE, SOURCE_HELP,
+    TABLE_HELP, WATCH_EXAMPLE, WATCH_USAGE,
+};
 use clap::{Arg, ArgAction, ArgMatches, Command, Error};
 use std::alloc::{AllocError, Global};
 
@@ -122,13 +128,15 @@ pub struct CutArguments<'a> {
 /// The recordings from which a table is drafted. `-` is standard input.
 #[derive(Clone, Copy, Debug, PartialEq, Eq)]
 pub struct LinksArguments<'a> {
-    /// The recording of network A. One of the two is given.
+    /// The recording of network A. One of the two is given, or a document.
     pub a: Option<&'a str>,
     /// The recording of network B.
     pub b: Option<&'a str>,
     /// The text of the constant field that the links' frames have, a number of 32 bits. Without it the
     /// draft has the most common one.
     pub constant: Option<&'a str>,
+    /// The document that specifies links, comma-separated values.
+    pub icd: Option<&'a str>,
 }
 
 /// A table and a ledger, and the page or the numbers that are written of them. `-` is standard input or
@@ -163,20 +171,6 @@ pub struct CheckArguments<'a> {
 /// The version that `--version` prints. In a copy of the linked program `tools/stamp` puts the commit in the
 /// place of the 12 letters.
 const VERSION: &str = "0.1.0 (commit unknown-tree)";
-
-const NUMERIC_HELP: &str = "The filter in the numeric form, as `afdxmon asm` prints it";
-
-const SOURCE_HELP: &str = "The filter's source, as `afdxmon asm` reads it";
-
-const A_HELP: &str = "The recording of network A, a pcap or pcapng file";
-
-const B_HELP: &str = "The recording of network B, a pcap or pcapng file";
-
-const OUTPUT_HELP: &str = "The capture to write, a nanosecond pcap file";
-
-const TABLE_HELP: &str = "The table of virtual links, a TOML document";
-
-const COMMENTED_HELP: &str = "Write the capture as pcapng, with verdicts as packet comments";
 
 /// An option with a value.
 fn option<'a>(
@@ -230,16 +224,6 @@ fn recording_word<'a>(alloc: Global) -> Arg<'a>
         .action(ArgAction::Set)
 }
 
-const CAPTURE_USAGE: &str = "\
-afdxmon capture [OPTIONS] <--code <TEXT>|--filter <FILE>|--source <FILE>> [RECORDING]";
-
-/// What stands after the options in the help of `capture`.
-const CAPTURE_EXAMPLE: &str = "\
-One of --code, --filter and --source gives the filter. '-' is standard input, or standard output.
-
-Example: keep the frames of virtual link 5
-  afdxmon capture --code \"$(tcpdump -y EN10MB -ddd 'ether[4:2] = 5')\" recording.pcap -o link5.pcap";
-
 /// The command `capture`.
 fn capture_command<'a>(alloc: Global) -> Result<Command<'a>, AllocError>
     ensures { IfOk result IsCapture }
@@ -262,11 +246,6 @@ fn capture_command<'a>(alloc: Global) -> Result<Command<'a>, AllocError>
         .arg(recording_word(alloc))
 }
 
-/// What stands after the options in the help of `asm`.
-const ASM_EXAMPLE: &str = "\
-Example: keep the frames of virtual link 5
-  printf 'ldh [4]\\njne #5, drop\\nret #-1\\ndrop: ret #0\\n' | afdxmon asm";
-
 /// The command `asm`.
 fn asm_command<'a>(alloc: Global) -> Command<'a>
     ensures { IsAsm result }
@@ -275,18 +254,6 @@ fn asm_command<'a>(alloc: Global) -> Command<'a>
         .about("Assembles a filter's source from standard input, and prints its numeric form")
         .after_help(ASM_EXAMPLE)
 }
-
-const WATCH_USAGE: &str = "\
-afdxmon watch [OPTIONS] --config <FILE> --ledger <FILE> <--a <FILE>|--b <FILE>>";
-
-/// What stands after the options in the help of `watch`.
-const WATCH_EXAMPLE: &str = "\
-A network whose recording isn't given has no frames. Without --filter no frame is accepted, and
---capture can't be given. '-' is standard input, or standard output.
-
-Example: keep the frames that examples/flight.filter accepts, and judge them all
-  afdxmon watch --config flight.toml --filter flight.filter --a a.pcap --b b.pcap \\
-    --capture kept.pcap --ledger verdicts.ledger";
 
 /// The option that names the number of workers.
 fn workers_option<'a>(alloc: Global) -> Arg<'a>
@@ -303,8 +270,6 @@ fn workers_option<'a>(alloc: Global) -> Arg<'a>
     .value_parser(clap::value_parser!(u8))
     .default_value("2")
 }
-
-const QUIET_HELP: &str = "Leave out progress and summary at a terminal";
 
 /// The command `watch`.
 fn watch_command<'a>(alloc: Global) -> Result<Command<'a>, AllocError>
@@ -331,16 +296,6 @@ fn watch_command<'a>(alloc: Global) -> Result<Command<'a>, AllocError>
         .arg(flag(alloc, "pcapng", COMMENTED_HELP))
 }
 
-const DEBUG_USAGE: &str = "\
-afdxmon debug --tap <FILE> <--filter <FILE>|--source <FILE>>";
-
-/// What stands after the options in the help of `debug`.
-const DEBUG_EXAMPLE: &str = "\
-Commands: select <n>, step [+|-]<n>, cont, breakpoint <n>, disassemble, tally, quit
-
-Example: the state before the filter's first three instructions on frame 0
-  printf 'select 0\\nstep 1\\nstep 1\\n' | afdxmon debug --filter flight.filter --tap a.pcap";
-
 /// The command `debug`.
 fn debug_command<'a>(alloc: Global) -> Result<Command<'a>, AllocError>
     ensures { IfOk result IsDebug }
@@ -362,19 +317,6 @@ fn debug_command<'a>(alloc: Global) -> Result<Command<'a>, AllocError>
         ))
 }
 
-const CUT_USAGE: &str = "\
-afdxmon cut [OPTIONS] --ledger <FILE> <--a <FILE>|--b <FILE>|--ledger-only>";
-
-/// What stands after the options in the help of `cut`.
-const CUT_EXAMPLE: &str = "\
-Frames are written whole, as recorded, in the ledger's order. A frame is selected if it meets every
-option from --link to --filters that is given. With --around the ledger is read twice: it has to be
-a file. A TIME is '2027-01-15T08:00:12.119534506Z', the '08:00:12.1195' of the recording's day in
-UTC, or nanoseconds since 1970. '-' is standard input, or standard output.
-
-Example: keep the frames that policing discarded
-  afdxmon cut --ledger flight.ledger --a a.pcap --b b.pcap --verdict excess -o excess.pcap";
-
 /// The option that takes frames around those that are selected.
 fn around_option<'a>(alloc: Global) -> Arg<'a>
     ensures rule { rule_of result ≡ around_rule }
@@ -385,8 +327,6 @@ fn around_option<'a>(alloc: Global) -> Arg<'a>
         .value_parser(clap::value_parser!(u16))
         .default_value("0")
 }
-
-const LINES_HELP: &str = "Print the ledger's lines of the selected frames in place of packets";
 
 /// The command `cut`.
 fn cut_command<'a>(alloc: Global) -> Result<Command<'a>, AllocError>
@@ -423,42 +363,21 @@ fn cut_command<'a>(alloc: Global) -> Result<Command<'a>, AllocError>
         .arg(output_option(alloc, output))
 }
 
-const LINKS_USAGE: &str = "\
-afdxmon links [OPTIONS] <--a <FILE>|--b <FILE>>";
-
-/// What stands after the options in the help of `links`.
-const LINKS_EXAMPLE: &str = "\
-The draft says what was seen and not what was specified: check it against the ICD. Without --constant
-the draft has the most common constant field with bits 24 and 25 set. '-' is standard input.
-
-Example: a table from two recordings, and a run with it
-  afdxmon links --a a.pcap --b b.pcap > draft.toml
-  afdxmon watch --config draft.toml --a a.pcap --b b.pcap --ledger verdicts.ledger";
-
 /// The command `links`.
 fn links_command<'a>(alloc: Global) -> Result<Command<'a>, AllocError>
     ensures { IfOk result IsLinks }
 {
     let constant = "The constant field of the links' frames, as 0x03000000";
+    let icd = "The links that are specified, comma-separated values";
     Command::new(alloc, "links")
         .about("Prints a draft of the table of virtual links that recordings have")
         .override_usage(LINKS_USAGE)
         .after_help(LINKS_EXAMPLE)
         .arg(option(alloc, "a", "FILE", A_HELP, false))?
         .arg(option(alloc, "b", "FILE", B_HELP, false))?
-        .arg(option(alloc, "constant", "NUMBER", constant, false))
+        .arg(option(alloc, "constant", "NUMBER", constant, false))?
+        .arg(option(alloc, "icd", "FILE", icd, false))
 }
-
-const REPORT_USAGE: &str = "\
-afdxmon report [OPTIONS] --config <FILE> --ledger <FILE>";
-
-/// What stands after the options in the help of `report`.
-const REPORT_EXAMPLE: &str = "\
-The page is one file without scripts and links. Without -o a terminal is shown the first part as text.
-'-' is standard input, or standard output.
-
-Example: a page on a run
-  afdxmon report --config flight.toml --ledger verdicts.ledger -o report.html";
 
 /// The command `report`.
 fn report_command<'a>(alloc: Global) -> Result<Command<'a>, AllocError>
@@ -480,16 +399,6 @@ fn report_command<'a>(alloc: Global) -> Result<Command<'a>, AllocError>
         .arg(flag(alloc, "json", json))?
         .arg(output_option(alloc, "The page to write, or the JSON text"))
 }
-
-const CHECK_USAGE: &str = "afdxmon check [OPTIONS] --config <FILE>";
-
-/// What stands after the options in the help of `check`.
-const CHECK_EXAMPLE: &str = "\
-The answer goes to standard output; nothing else is written. Of each recording the first 1000000
-frames are read. The exit status is 0 where a run would be sound, else 1. '-' is standard input.
-
-Example: whether a table, a filter and two recordings belong together
-  afdxmon check --config flight.toml --filter flight.filter --a a.pcap --b b.pcap";
 
 /// The command `check`.
 fn check_command<'a>(alloc: Global) -> Result<Command<'a>, AllocError>
@@ -682,15 +591,16 @@ fn links_arguments<'a>(given: &ArgMatches<'a>) -> LinksArguments<'a>
         a: given.get_str("a"),
         b: given.get_str("b"),
         constant: given.get_str("constant"),
+        icd: given.get_str("icd"),
     }
 }
 
-/// Refuses a draft of no recording.
+/// Refuses a draft of no recording and no document.
 fn checked_links(given: LinksArguments<'_>) -> Result<LinksArguments<'_>, Misuse>
     ensures { mapped links_words result ≡ checked_links (links_words given.entry) }
 {
-    if given.a.is_none() && given.b.is_none() {
-        return Err(Misuse::NoRecording);
+    if given.a.is_none() && given.b.is_none() && given.icd.is_none() {
+        return Err(Misuse::NoLinks);
     }
     Ok(given)
 }

@@ -1,5 +1,6 @@
 //! Why a command was aborted, and the line that says so.
 ghost use Rattle.std.specs.Prelude.{◌≡◌, IfOk, string_bytes};
+ghost use Rattle.vl_config.specs.Keys.{key_name};
 ghost use Rattle.command_line.specs.Line.{debug_part, field_part, contradiction_part, file_part, header_part, line_fault_part, line_of, network_part, selection_part, source_part};
 
 use afdx_frame::Network;
@@ -9,13 +10,14 @@ use bpf_isa::NumericFault;
 use bpf_loader::LoadFault;
 use bpf_text::TextFault;
 use cut_run::{CutFault, CutSource};
+use icd_links::IcdFault;
 use ledger_text::{FrameFault, LineFault};
 use pcap_io::HeaderFault;
 use run_outcome::{Output, WatchFault};
 use std::alloc::{AllocError, Global};
 use std::fmt;
 use std::fmt::{Display, Formatter};
-use vl_config::ConfigFault;
+use vl_config::{ConfigFault, Key};
 
 /// A file, by the option that names it.
 #[derive(Clone, Copy, Debug, PartialEq, Eq)]
@@ -34,6 +36,8 @@ pub enum FileOption {
     Recording,
     /// The file that `capture` writes.
     Output,
+    /// The document that specifies links.
+    Icd,
 }
 
 /// An option whose text selects frames of a ledger.
@@ -113,6 +117,10 @@ pub enum Fault {
     Report(ReportFault),
     /// A text that isn't the constant field of a draft's links.
     Constant,
+    /// The document that specifies a draft's links.
+    Icd(IcdFault),
+    /// A draft that isn't a table of virtual links.
+    Draft(ConfigFault),
     /// A run with what `check` was given would not be sound: its answer says why.
     Unsound,
 }
@@ -283,6 +291,7 @@ fn file_name(file: FileOption) -> &'static str
         FileOption::Source => "--source",
         FileOption::Recording => "RECORDING",
         FileOption::Output => "--output",
+        FileOption::Icd => "--icd",
     }
 }
 
@@ -456,6 +465,39 @@ impl Display for ReportPart {
     }
 }
 
+/// The number and name of the fault of a document of links, and the line and what is wrong there.
+#[derive(Clone, Copy)]
+struct IcdPart(IcdFault);
+
+impl Display for IcdPart {
+    ghost use Rattle.std.specs.Prelude.{Some};
+    ghost use Rattle.command_line.specs.Line.{icd_part};
+
+    ghost output = { λ part. Some (icd_part part.0) };
+
+    fn fmt<W: fmt::Write>(&self, f: &mut Formatter<W>) -> fmt::Result {
+        match self.0 {
+            IcdFault::Head { line } => write!(f, "2 Icd at {line} head"),
+            IcdFault::Cells { line } => write!(f, "2 Icd at {line} cells"),
+            IcdFault::Value { line, column } => {
+                let column = column_name(column);
+                write!(f, "2 Icd at {line} {column}")
+            }
+            IcdFault::TwiceId { line } => write!(f, "2 Icd at {line} twiceid"),
+            IcdFault::TwiceName { line } => write!(f, "2 Icd at {line} twicename"),
+            IcdFault::TooMany { line } => write!(f, "2 Icd at {line} toomany"),
+            IcdFault::Memory => f.write_str("4 Memory"),
+        }
+    }
+}
+
+/// The head of a key's column.
+fn column_name(key: Key) -> &'static str
+    ensures { result.now ≡ key_name key }
+{
+    key.name()
+}
+
 fn selection_name(option: SelectionOption) -> &'static str
     ensures { result.now ≡ selection_part option }
 {
@@ -541,6 +583,14 @@ impl Display for Fault {
                 write!(f, "afdxmon: report {fault}")
             }
             Fault::Constant => f.write_str("afdxmon: links 1 Constant"),
+            Fault::Icd(fault) => {
+                let fault = IcdPart(fault);
+                write!(f, "afdxmon: links {fault}")
+            }
+            Fault::Draft(fault) => {
+                let fault = ConfigPart(fault);
+                write!(f, "afdxmon: links 3 Draft {fault}")
+            }
             Fault::Unsound => f.write_str("afdxmon: check 1 Unsound"),
         }
     }

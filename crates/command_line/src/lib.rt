@@ -15,6 +15,7 @@ mod refused;
 mod shared;
 mod standard;
 mod summary;
+mod usage;
 
 pub use arguments::{
     CaptureArguments, CheckArguments, CutArguments, DebugArguments, FilterArgument, Invocation,

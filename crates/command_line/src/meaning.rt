@@ -9,12 +9,13 @@ use bpf_isa::NumericFault;
 use bpf_loader::LoadFault;
 use bpf_text::TextFault;
 use cut_run::{CutFault, CutSource};
+use icd_links::IcdFault;
 use ledger_text::LineFault;
 use pcap_io::{BadReason, Ending, HeaderFault};
 use run_outcome::{Output, WatchFault};
 use std::fmt;
 use std::fmt::{Display, Formatter};
-use vl_config::ConfigFault;
+use vl_config::{ConfigFault, Key};
 
 /// What to do with a text that isn't the numeric form of a filter, by what it looks like.
 pub fn numeric_advice(fault: NumericFault, written: Written) -> &'static str {
@@ -182,6 +183,7 @@ fn file_advice(file: FileOption) -> &'static str {
         FileOption::Filter => {
             "--filter needs a filter in the numeric form, at most 16 MiB of UTF-8"
         }
+        FileOption::Icd => "--icd needs comma-separated values, at most 16 MiB of UTF-8",
         FileOption::Source => "--source needs a filter's source, at most 16 MiB of UTF-8",
         FileOption::Recording =>
             "RECORDING needs a recording that can be read: a pcap or pcapng file, or a pipe",
@@ -212,7 +214,7 @@ fn shared_advice(other: FileOption) -> &'static str {
         FileOption::Ledger => "it is the file of --ledger too: name another file to write",
         FileOption::Source => "it is the file of --source too: name another file to write",
         FileOption::Recording => "it is the recording too: name another file to write",
-        FileOption::Standard | FileOption::Tap | FileOption::Output => {
+        FileOption::Standard | FileOption::Tap | FileOption::Output | FileOption::Icd => {
             "it is another file too: name another to write"
         }
     }
@@ -227,6 +229,7 @@ fn taken_advice(by: FileOption) -> &'static str {
         FileOption::Source => "'-' stands for --source already: name a file",
         FileOption::A => "'-' stands for --a already: name a file",
         FileOption::Capture => "'-' stands for --capture already: name a file",
+        FileOption::Icd => "'-' stands for --icd already: name a file",
         FileOption::Tap
         | FileOption::B
         | FileOption::Ledger
@@ -352,6 +355,36 @@ fn report_advice(fault: ReportFault) -> &'static str {
     }
 }
 
+/// Why a draft isn't a table.
+fn draft_advice(fault: ConfigFault) -> &'static str {
+    match fault {
+        ConfigFault::TooMany => "the ICD and the recordings have more than 4096 links together",
+        ConfigFault::TwiceName { .. } => {
+            "the ICD gives a link the name vl_ID of another, which has none in it: name that too"
+        }
+        _ => config_advice(fault),
+    }
+}
+
+/// What a column of a document of links takes.
+fn icd_advice(fault: IcdFault) -> &'static str {
+    match fault {
+        IcdFault::Head { .. } => {
+            "the first row has the columns' heads: id, and any of name, bag_ms, jitter_us, smax, integrity, redundancy, skew_us"
+        }
+        IcdFault::Cells { .. } => "the row has more or fewer cells than the first",
+        IcdFault::Value {
+            column: Key::Integrity | Key::Redundancy,
+            ..
+        } => "a flag is true or false, yes or no, 1 or 0",
+        IcdFault::Value { column, .. } => column.allowed(),
+        IcdFault::TwiceId { .. } => "an earlier row has the identifier",
+        IcdFault::TwiceName { .. } => "an earlier row has the name",
+        IcdFault::TooMany { .. } => "there are at most 4096 links in a table",
+        IcdFault::Memory => OUT_OF_MEMORY,
+    }
+}
+
 /// What a fault line means and what to do, in plain words, for a person at a terminal.
 pub fn advice(fault: &Fault) -> &'static str {
     match *fault {
@@ -368,6 +401,8 @@ pub fn advice(fault: &Fault) -> &'static str {
         Fault::Selection { option, .. } => selection_advice(option),
         Fault::Interfaces(_) => CHOOSE_INTERFACE,
         Fault::Report(fault) => report_advice(fault),
+        Fault::Icd(fault) => icd_advice(fault),
+        Fault::Draft(fault) => draft_advice(fault),
         Fault::Constant => "--constant is a number of 32 bits, as 0x03000000 or 50331648",
         Fault::Unsound => "a run with these inputs would not be sound: the answer says why",
     }

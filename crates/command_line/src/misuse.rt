@@ -13,6 +13,8 @@ pub enum Misuse {
     TwoFilters,
     /// A run, or a cut that is to have packets, has neither of the two recordings.
     NoRecording,
+    /// A draft has neither a recording nor a document that specifies links.
+    NoLinks,
     /// A capture is to be written, and no filter says of which frames.
     Unfiltered,
     /// A network is given that is neither A nor B.
@@ -35,6 +37,7 @@ impl Misuse {
             Misuse::NoNetwork => ErrorKind::InvalidValue,
             Misuse::NoFilter
             | Misuse::NoRecording
+            | Misuse::NoLinks
             | Misuse::Unfiltered
             | Misuse::Uncaptured
             | Misuse::Incomplete => ErrorKind::MissingRequiredArgument,
@@ -47,6 +50,7 @@ impl Misuse {
             Misuse::NoFilter => "no filter is given",
             Misuse::TwoFilters => "more than one filter is given",
             Misuse::NoRecording => "no recording is given: --a, --b or both name one",
+            Misuse::NoLinks => "no recording is given: --a, --b or both name one, or --icd an ICD",
             Misuse::Unfiltered => "--capture needs --filter, which says what frames it is to have",
             Misuse::NoNetwork => "--network is A or B",
             Misuse::Uncaptured => "--pcapng needs --capture: it says how the capture is written",

@@ -1,10 +1,11 @@
 //! Which file a fault is of, for a person who is told its path.
 ghost use Rattle.std.specs.Prelude.{◌≡◌};
-ghost use Rattle.command_line.specs.Place.{file_of, file_of_cut, file_of_report, file_of_source, input_of, output_of, refused_filter};
+ghost use Rattle.command_line.specs.Place.{file_of, file_of_cut, file_of_icd, file_of_report, file_of_source, input_of, output_of, refused_filter};
 
 use crate::fault::{Fault, FileOption, ReportFault};
 use afdx_frame::Network;
 use cut_run::{CutFault, CutSource};
+use icd_links::IcdFault;
 use run_outcome::{Output, WatchFault};
 
 fn input_of(network: Network) -> FileOption
@@ -71,6 +72,16 @@ fn report_file(fault: ReportFault) -> Option<FileOption>
     }
 }
 
+/// The document that a fault is of.
+fn icd_file(fault: IcdFault) -> Option<FileOption>
+    ensures { result ≡ file_of_icd fault }
+{
+    match fault {
+        IcdFault::Memory => None,
+        _ => Some(FileOption::Icd),
+    }
+}
+
 /// The file that a fault is of. `A` is the one recording of `capture` and `debug` too. None: the fault is
 /// of no file.
 pub fn file_of(fault: &Fault) -> Option<FileOption>
@@ -82,6 +93,7 @@ pub fn file_of(fault: &Fault) -> Option<FileOption>
         | Fault::Taken { file, .. }
         | Fault::Interfaces(file) => Some(file),
         Fault::Config(_) => Some(FileOption::Config),
+        Fault::Icd(fault) => icd_file(fault),
         Fault::Asm(_) => Some(FileOption::Standard),
         Fault::Numeric { filter, .. } | Fault::Load { filter, .. } => Some(filter_file(filter)),
         Fault::Watch(WatchFault::Header { network, .. } | WatchFault::Read { network }) => {
@@ -98,6 +110,7 @@ pub fn file_of(fault: &Fault) -> Option<FileOption>
         | Fault::Debug(_)
         | Fault::Selection { .. }
         | Fault::Constant
+        | Fault::Draft(_)
         | Fault::Unsound => None,
         Fault::Cut(fault) => cut_file(fault),
         Fault::Report(fault) => report_file(fault),

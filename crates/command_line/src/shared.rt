@@ -80,7 +80,8 @@ impl<'a> WatchFiles<'a> {
             | FileOption::Tap
             | FileOption::Source
             | FileOption::Recording
-            | FileOption::Output => Named::Other,
+            | FileOption::Output
+            | FileOption::Icd => Named::Other,
         }
     }
 

@@ -149,6 +149,7 @@ impl Invocation<'_> {
                 stream_if(FileOption::Config, given.config),
             ]),
             Invocation::Links(given) => refuse_second(&[
+                stream_if(FileOption::Icd, given.icd),
                 stream_if(FileOption::A, given.a),
                 stream_if(FileOption::B, given.b),
             ]),

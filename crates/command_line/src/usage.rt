@@ -1,0 +1,121 @@
+//! What the help of the commands says of their arguments. The texts stand in the man page too.
+
+/// What `--filter` takes.
+pub const NUMERIC_HELP: &str = "The filter in the numeric form, as `afdxmon asm` prints it";
+
+/// What `--source` takes.
+pub const SOURCE_HELP: &str = "The filter's source, as `afdxmon asm` reads it";
+
+/// What `--a` takes.
+pub const A_HELP: &str = "The recording of network A, a pcap or pcapng file";
+
+/// What `--b` takes.
+pub const B_HELP: &str = "The recording of network B, a pcap or pcapng file";
+
+/// What `--output` of `capture` takes.
+pub const OUTPUT_HELP: &str = "The capture to write, a nanosecond pcap file";
+
+/// What `--config` takes.
+pub const TABLE_HELP: &str = "The table of virtual links, a TOML document";
+
+/// What `--pcapng` does where a ledger stands beside.
+pub const COMMENTED_HELP: &str = "Write the capture as pcapng, with verdicts as packet comments";
+
+/// How `capture` is called.
+pub const CAPTURE_USAGE: &str = "\
+afdxmon capture [OPTIONS] <--code <TEXT>|--filter <FILE>|--source <FILE>> [RECORDING]";
+
+/// What stands after the options in the help of `capture`.
+pub const CAPTURE_EXAMPLE: &str = "\
+One of --code, --filter and --source gives the filter. '-' is standard input, or standard output.
+
+Example: keep the frames of virtual link 5
+  afdxmon capture --code \"$(tcpdump -y EN10MB -ddd 'ether[4:2] = 5')\" recording.pcap -o link5.pcap";
+
+/// What stands after the options in the help of `asm`.
+pub const ASM_EXAMPLE: &str = "\
+Example: keep the frames of virtual link 5
+  printf 'ldh [4]\\njne #5, drop\\nret #-1\\ndrop: ret #0\\n' | afdxmon asm";
+
+/// How `watch` is called.
+pub const WATCH_USAGE: &str = "\
+afdxmon watch [OPTIONS] --config <FILE> --ledger <FILE> <--a <FILE>|--b <FILE>>";
+
+/// What stands after the options in the help of `watch`.
+pub const WATCH_EXAMPLE: &str = "\
+A network whose recording isn't given has no frames. Without --filter no frame is accepted, and
+--capture can't be given. '-' is standard input, or standard output.
+
+Example: keep the frames that examples/flight.filter accepts, and judge them all
+  afdxmon watch --config flight.toml --filter flight.filter --a a.pcap --b b.pcap \\
+    --capture kept.pcap --ledger verdicts.ledger";
+
+/// What `--quiet` does.
+pub const QUIET_HELP: &str = "Leave out progress and summary at a terminal";
+
+/// How `debug` is called.
+pub const DEBUG_USAGE: &str = "\
+afdxmon debug --tap <FILE> <--filter <FILE>|--source <FILE>>";
+
+/// What stands after the options in the help of `debug`.
+pub const DEBUG_EXAMPLE: &str = "\
+Commands: select <n>, step [+|-]<n>, cont, breakpoint <n>, disassemble, tally, quit
+
+Example: the state before the filter's first three instructions on frame 0
+  printf 'select 0\\nstep 1\\nstep 1\\n' | afdxmon debug --filter flight.filter --tap a.pcap";
+
+/// How `cut` is called.
+pub const CUT_USAGE: &str = "\
+afdxmon cut [OPTIONS] --ledger <FILE> <--a <FILE>|--b <FILE>|--ledger-only>";
+
+/// What stands after the options in the help of `cut`.
+pub const CUT_EXAMPLE: &str = "\
+Frames are written whole, as recorded, in the ledger's order. A frame is selected if it meets every
+option from --link to --filters that is given. With --around the ledger is read twice: it has to be
+a file. A TIME is '2027-01-15T08:00:12.119534506Z', the '08:00:12.1195' of the recording's day in
+UTC, or nanoseconds since 1970. '-' is standard input, or standard output.
+
+Example: keep the frames that policing discarded
+  afdxmon cut --ledger flight.ledger --a a.pcap --b b.pcap --verdict excess -o excess.pcap";
+
+/// What `--ledger-only` does.
+pub const LINES_HELP: &str = "Print the ledger's lines of the selected frames in place of packets";
+
+/// How `links` is called.
+pub const LINKS_USAGE: &str = "\
+afdxmon links [OPTIONS] <--a <FILE>|--b <FILE>|--icd <FILE>>";
+
+/// What stands after the options in the help of `links`.
+pub const LINKS_EXAMPLE: &str = "\
+The draft says what was seen and not what was specified: check it against the ICD. With --icd it says
+what the ICD specifies, and what was seen where that leaves a value out; comments say where both differ.
+The ICD is comma-separated values: the heads of its columns are id and any of name, bag_ms, jitter_us,
+smax, integrity, redundancy and skew_us, others are passed over. Without --constant the draft has the
+most common constant field with bits 24 and 25 set. '-' is standard input.
+
+Example: a table from two recordings, and a run with it
+  afdxmon links --a a.pcap --b b.pcap > draft.toml
+  afdxmon watch --config draft.toml --a a.pcap --b b.pcap --ledger verdicts.ledger";
+
+/// How `report` is called.
+pub const REPORT_USAGE: &str = "\
+afdxmon report [OPTIONS] --config <FILE> --ledger <FILE>";
+
+/// What stands after the options in the help of `report`.
+pub const REPORT_EXAMPLE: &str = "\
+The page is one file without scripts and links. Without -o a terminal is shown the first part as text.
+'-' is standard input, or standard output.
+
+Example: a page on a run
+  afdxmon report --config flight.toml --ledger verdicts.ledger -o report.html";
+
+/// How `check` is called.
+pub const CHECK_USAGE: &str = "afdxmon check [OPTIONS] --config <FILE>";
+
+/// What stands after the options in the help of `check`.
+pub const CHECK_EXAMPLE: &str = "\
+The answer goes to standard output; nothing else is written. Of each recording the first 1000000
+frames are read. The exit status is 0 where a run would be sound, else 1. '-' is standard input.
+
+Example: whether a table, a filter and two recordings belong together
+  afdxmon check --config flight.toml --filter flight.filter --a a.pcap --b b.pcap";

@@ -1,0 +1,359 @@
+"""`afdxmon links --icd` as a program: drafts of documents and recordings, byte by byte, and documents that are refused.
+
+The documents are written and read by Python's csv, what was seen comes of tests/links.py, and how both stand is said here in
+closed form. `watch` takes each draft.
+"""
+import csv
+import io
+import os
+import random
+import subprocess
+import tempfile
+
+from harness import FAULT, SUCCESS, USAGE, difference, frame, header, record, run, run_at_terminal, say
+from links import GROUP, MS, START, copies_of, drafted, estimate, keys_text, seen_text, sent, sides_of
+
+HEAD = """\
+# A draft of the table of virtual links: what an ICD specifies, and what was seen in recordings where it leaves a value out.
+"""
+KEYS = ("bag_ms", "jitter_us", "smax", "integrity", "redundancy", "skew_us")
+HEADS = ("id", "name", *KEYS)
+# What a draft has of a key that is neither specified nor seen.
+NEITHER = {"bag_ms": 128, "jitter_us": 0, "smax": 64, "integrity": True, "redundancy": False, "skew_us": 0}
+LETTERS = "abcdefghijklmnopqrstuvwxyzABCDEFGHIJKLMNOPQRSTUVWXYZ0123456789_-"
+BOUNDS = {
+    "id": (0, 1, 255, 256, 32768, 65535),
+    "name": (1, 2, 16, 17, 20, 31, 32),
+    "bag_ms": (1, 2, 4, 8, 16, 32, 64, 128),
+    "jitter_us": (0, 1, 500, 99_999, 100_000),
+    "smax": (64, 65, 500, 1517, 1518),
+    "integrity": (True, False),
+    "redundancy": (True, False),
+    "skew_us": (0, 1, 1000, 999_999, 1_000_000),
+}
+
+
+def written(rows, heads=HEADS, **how):
+    """A document of rows, each a dictionary: what one lacks is blank."""
+    out = io.StringIO()
+    writer = csv.writer(out, **{"lineterminator": "\n", **how})
+    writer.writerow(heads)
+    for row in rows:
+        writer.writerow([str(row.get(head, "")).lower() if head != "name" else row.get(head, "") for head in heads])
+    return out.getvalue()
+
+
+# ---- how what was seen stands to what is specified
+
+
+def seen_values(frames, bag, both):
+    """What the frames say: of BAG and jitter only where there are intervals, of integrity where a number follows or doesn't, of
+    redundancy where both networks are recorded, and of skew where there are copies."""
+    if not frames:
+        return {}
+    sides = sides_of(frames)
+    values, at_bag = estimate(frames), estimate(frames, bag * MS)
+    gaps = any(side.gaps for side in sides)
+    found = {"smax": values["smax"]}
+    if gaps:
+        found.update(bag_ms=values["bag_ms"], jitter_us=at_bag["jitter_us"], integrity=values["integrity"])
+    if both:
+        found["redundancy"] = values["redundancy"]
+    if copies_of([(on, stamp, number) for on, stamp, _, number in frames]):
+        found["skew_us"] = values["skew_us"]
+    return found
+
+
+def stand(key, specified, seen):
+    if specified == seen:
+        return "same"
+    if key in ("integrity", "redundancy"):
+        return "beyond"
+    return "beyond" if (seen < specified if key == "bag_ms" else seen > specified) else "within"
+
+
+def listed(heading, words):
+    return f"# {heading}: {', '.join(words)}.\n" if words else ""
+
+
+def link_text(link, row, frames, a, b, counts):
+    """A link's table; `counts` gains what it is."""
+    if row is None:
+        counts["unspecified"] += 1
+        values = estimate(frames)
+        return "\n[[link]]\n" + seen_text(frames, values["bag_ms"] * MS) + "# The ICD has no such link.\n" + keys_text(link, f"vl_{link}", values)
+    bag = row.get("bag_ms") or (estimate(frames)["bag_ms"] if frames else NEITHER["bag_ms"])
+    seen = seen_values(frames, bag, a and b)
+    values = {**(estimate(frames, bag * MS) if frames else NEITHER), "bag_ms": bag, **{key: row[key] for key in KEYS if key in row}}
+    text = "\n[[link]]\n" + (seen_text(frames, bag * MS) if frames else "")
+    if not frames and (a or b):
+        counts["unseen"] += 1
+        text += "# No frame was seen.\n"
+    text += listed("Not in the ICD, but seen", [key for key in KEYS if key not in row and key in seen])
+    text += listed("Neither in the ICD nor seen", [key for key in KEYS if key not in row and key not in seen])
+    stands = {key: stand(key, row[key], seen[key]) for key in KEYS if key in row and key in seen}
+    for how in ("beyond", "within"):
+        text += listed(f"Seen {how} the ICD", [f"{key} {str(seen[key]).lower()}" for key in KEYS if stands.get(key) == how])
+    if "beyond" in stands.values():
+        counts["beyond"] += 1
+    elif "within" in stands.values():
+        counts["within"] += 1
+    return text + keys_text(link, row.get("name") or f"vl_{link}", values)
+
+
+def expected(rows, a=None, b=None, wanted=None):
+    """The draft, and what a terminal is told beside it."""
+    counts = dict.fromkeys(("beyond", "within", "unseen", "unspecified"), 0)
+    specified = {row["id"]: row for row in rows}
+
+    def texts(links):
+        ids = sorted({*specified, *links})
+        return "".join(link_text(link, specified.get(link), links.get(link, []), a is not None, b is not None, counts) for link in ids)
+
+    text = drafted(HEAD, a, b, wanted, texts)
+    words = {"beyond": "links seen beyond the ICD", "within": "within it", "unseen": "not seen", "unspecified": "seen and not in it"}
+    told = ", ".join(f"{words[kind]}: {count}" for kind, count in counts.items() if count)
+    return text, f"afdxmon: note: {told}. The draft's comments say how\n" if told else ""
+
+
+# ---- cases
+
+
+def named(chance, length, taken):
+    while True:
+        name = "".join(chance.choice(LETTERS) for _ in range(length))
+        if name not in taken:
+            taken.add(name)
+            return name
+
+
+def row_of(chance, link, keys, taken):
+    row = {"id": link}
+    for key in keys:
+        bound = chance.choice(BOUNDS[key])
+        row[key] = named(chance, max(bound, 3), taken) if key == "name" else bound
+    return row
+
+
+class Desk:
+    """A folder with a document and recordings, and the runs on them."""
+
+    def __init__(self, work):
+        self.work = work
+
+    def path(self, name):
+        return os.path.join(self.work, name)
+
+    def put(self, name, data):
+        with open(self.path(name), "wb") as file:
+            file.write(data if isinstance(data, bytes) else data.encode())
+        return self.path(name)
+
+    def arguments(self, document, a=None, b=None, more=()):
+        given = ["links", "--icd", self.put("icd.csv", document), *more]
+        for option, recording in (("a", a), ("b", b)):
+            if recording is not None:
+                given += [f"--{option}", self.put(option, recording)]
+        return given
+
+    def drafts(self, name, document, rows, a=None, b=None, wanted=None):
+        """The draft whole, at a terminal with what stands beside it, and `watch` takes it."""
+        more = () if wanted is None else ("--constant", str(wanted))
+        arguments = self.arguments(document, a, b, more)
+        text, told = expected(rows, a, b, wanted)
+        ran = run(arguments, stdout=subprocess.PIPE)
+        say(f"icd: {name}", difference(ran, SUCCESS, "", text.encode()))
+        at_terminal = run_at_terminal(arguments, stdin=subprocess.DEVNULL)
+        say(f"icd: {name}, at a terminal", "" if at_terminal.stderr == told else f"{at_terminal.stderr!r}, not {told!r}")
+        self.put("draft.toml", text)
+        taken = run(["watch", "--config", self.path("draft.toml"), "--a", self.put("empty", header()), "--ledger", self.path("ledger")], stdout=subprocess.PIPE)
+        say(f"icd: {name}, watch takes it", f"status {taken.returncode}, {taken.stderr!r}" if taken.returncode else "")
+
+    def refuses(self, name, document, line, status=FAULT, **given):
+        ran = run(self.arguments(document, **given), stdout=subprocess.PIPE)
+        say(f"icd: {name} is refused", difference(ran, status, line, b""))
+
+
+def documents(desk):
+    """Documents alone: each key at its bounds and between, and with any of the columns."""
+    chance, taken = random.Random(31), set()
+    for key, bounds in BOUNDS.items():
+        rows = []
+        for at, bound in enumerate(bounds):
+            row = row_of(chance, at + 1000, HEADS[1:], taken)
+            row[key] = named(chance, max(bound, 2), taken) if key == "name" else bound
+            rows.append(row)
+        desk.drafts(f"{key} at its bounds and between", written(rows), rows)
+    one = {"id": 7, "name": "x", "bag_ms": 1}
+    desk.drafts("a name of one letter", written([one]), [one])
+    for lacking in KEYS:
+        keys = [key for key in HEADS[1:] if key != lacking]
+        rows = [row_of(chance, link, keys, taken) for link in (3, 9)]
+        desk.drafts(f"no column {lacking}", written(rows, ["id", *keys]), rows)
+    desk.drafts("a column of identifiers alone", "id\n5\n4\n65535\n", [{"id": 4}, {"id": 5}, {"id": 65535}])
+    desk.drafts("heads alone", "id,name\n", [])
+    for count in (1, 2, 4095, 4096):
+        rows = [row_of(chance, link, ("bag_ms", "smax"), taken) for link in chance.sample(range(65536), count)]
+        desk.drafts(f"{count} links", written(rows, ("id", "bag_ms", "smax")), rows)
+    for wanted in (GROUP, 0x07000000, 2**32 - 1):
+        desk.drafts(f"--constant {wanted}", written([one]), [one], wanted=wanted)
+
+
+def forms(desk):
+    """One table, written in the ways that spreadsheets write."""
+    chance, taken = random.Random(32), set()
+    rows = [row_of(chance, link, HEADS[1:], taken) for link in (1, 500, 65535)]
+    plain = written(rows)
+    backwards = written(rows, HEADS[::-1])
+    wide = written([{**row, "remark": 'a "b", c', "Latency": 12} for row in rows], ("remark", *HEADS, "Latency"))
+    for name, document in (
+        ("lines that end in a carriage return", written(rows, lineterminator="\r\n")),
+        ("a byte order mark", "\ufeff" + plain),
+        ("semicolons", written(rows, delimiter=";")),
+        ("semicolons, and a comma in a cell", written(rows, delimiter=";") .replace("id;", "id;remark, if any;", 1).replace("\n1;", "\n1;a, b;").replace("\n500;", "\n500;;").replace("\n65535;", "\n65535;c;")),
+        ("every cell in quotes", written(rows, quoting=csv.QUOTE_ALL)),
+        ("white space around cells", plain.replace(",", " ,\t")),
+        ("heads in capitals", plain.replace(",".join(HEADS), ",".join(HEADS).upper())),
+        ("columns the other way round", backwards),
+        ("other columns", wide),
+        ("no line break at the end", plain.rstrip("\n")),
+        ("blank rows and rows of blank cells", plain.replace("\n500,", "\n\n" + "," * 7 + "\n  ,,,,,,,\n500,")),
+        ("identifiers in hexadecimal digits", plain.replace("\n500,", "\n0x1f4,").replace("\n65535,", "\n0xFFFF,")),
+        ("flags in capitals", plain.replace("true", "TRUE").replace("false", "False")),
+        ("flags as yes and no", plain.replace("true", "yes").replace("false", "NO")),
+        ("flags as 1 and 0", plain.replace("true", "1").replace("false", "0")),
+    ):
+        desk.drafts(name, document, rows)
+
+
+def recorded(desk):
+    """Documents and recordings of the same links: what one has and the other, within and beyond."""
+    chance = random.Random(33)
+    known = [(10, 4 * MS, 200), (20, 8 * MS, 640), (30, 128 * MS, 1514), (40, MS, 60)]
+    a, b = sent(chance, known, 60, skew=90_000)
+    exact = {}
+    for row_id, bag, size in known:
+        exact[row_id] = {"id": row_id, "bag_ms": bag // MS, "jitter_us": 500, "smax": size + 4, "integrity": True, "redundancy": True, "skew_us": 100}
+    for name, one, other in (("both networks", a, b), ("network A", a, None), ("network B", None, b)):
+        desk.drafts(f"nothing specified but identifiers, {name}", written([{"id": link} for link in exact]), [{"id": link} for link in exact], one, other)
+        desk.drafts(f"all specified, {name}", written(exact.values()), list(exact.values()), one, other)
+        for key in KEYS:
+            for bound in BOUNDS[key]:
+                rows = [{**row, key: bound} for row in exact.values()]
+                desk.drafts(f"{key} {bound}, {name}", written(rows), rows, one, other)
+            rows = [{k: v for k, v in row.items() if k != key} for row in exact.values()]
+            desk.drafts(f"{key} left out, {name}", written(rows), rows, one, other)
+    rows = [exact[10], {"id": 11, "name": "unseen", "bag_ms": 2}, {"id": 65535}]
+    desk.drafts("links of either", written(rows), rows, a, b)
+    single = header() + record(START, frame(10, 80, 1))
+    desk.drafts("one frame", written([exact[10]]), [exact[10]], single, header())
+    desk.drafts("no frame", written([exact[10]]), [exact[10]], header(), None)
+
+
+def refused(desk):
+    """Documents that are refused, and the first thing that is wrong with each."""
+    good = "id,name,bag_ms,jitter_us,smax,integrity,redundancy,skew_us\n1,one,1,0,64,true,true,0\n"
+    wrong = {
+        "id": ("", "-1", "65536", "x", "1.0", "0x", "0x10000", "1 2", "08", '"""1"""'),
+        "name": ("a" * 33, "a b", "a.b", "\u00e4", "a/b", "'a'"),
+        "bag_ms": ("0", "3", "129", "256", "-1", "1.0", "x", "true", "1ms"),
+        "jitter_us": ("-1", "100001", "0.5", "x", "1e3"),
+        "smax": ("0", "63", "1519", "-64", "x"),
+        "integrity": ("2", "x", "on", "truee", "-1"),
+        "redundancy": ("2", "x", "off", "t"),
+        "skew_us": ("-1", "1000001", "x"),
+    }
+    for key, texts in wrong.items():
+        for text in texts:
+            cells = ["2", "two", "2", "1", "65", "true", "false", "1"]
+            cells[HEADS.index(key)] = text
+            desk.refuses(f"{key} '{text[:12]}'", good + ",".join(cells) + "\n", f"afdxmon: links 2 Icd at 3 {key}")
+    for name, document, what in (
+        ("an empty document", "", "1 head"),
+        ("a document of line breaks", "\n\n\n", "1 head"),
+        ("no column id", "name,bag_ms\none,1\n", "1 head"),
+        ("a column twice", "id,smax,id\n1,64,1\n", "1 head"),
+        ("another column twice, in another case", "id,smax, SMAX \n1,64,64\n", "1 head"),
+        ("heads after blank lines", "\n\nname\nx\n", "3 head"),
+        ("a row that is too short", good + "2,two,2\n", "3 cells"),
+        ("a row that is too long", good + "2,two,2,1,65,true,false,1,\n", "3 cells"),
+        ("a row that is too short, after blank lines", good + "\n\n2\n", "5 cells"),
+        ("lengths before values", "id,smax\n1,0\n2\n", "3 cells"),
+        ("an identifier twice", "id\n5\n6\n5\n", "4 twiceid"),
+        ("an identifier twice, once in hexadecimal digits", "id\n16\n0x10\n", "3 twiceid"),
+        ("a name twice", "id,name\n5,x\n6,y\n7,x\n", "4 twicename"),
+        ("an identifier and its name twice", "id,name\n5,x\n5,x\n", "3 twiceid"),
+        ("an earlier row first", "id,smax\n5,64\n6,0\n5,64\n", "3 smax"),
+        ("the first wrong cell of a row first", "skew_us,id,smax\nx,x,x\n", "2 id"),
+        ("a row of several lines before it", 'id,remark\n1,"a\nb\nc"\nx,\n', "5 id"),
+        ("a mark before the heads", "\ufeffid\nx\n", "2 id"),
+        ("a mark before the heads, far down", "\ufeffid\n" + "".join(f"{link}\n" for link in range(999)) + "x\n", "1001 id"),
+        ("carriage returns", "id\r\n1\r\n\r\nx\r\n", "4 id"),
+        ("4097 links", "id\n" + "".join(f"{link}\n" for link in range(4097)), "4098 toomany"),
+        ("4097 links of which one stands twice", "id\n" + "".join(f"{link}\n" for link in range(4096)) + "0\n", "4098 twiceid"),
+    ):
+        desk.refuses(name, document, f"afdxmon: links 2 Icd at {what}")
+    desk.refuses("a name that is drafted for another link", "id,name\n5,vl_6\n6,\n", "afdxmon: links 3 Draft 7 TwiceName link 1")
+    many = header() + b"".join(record(START + k, frame(60_000 + k, 60, 1)) for k in range(2))
+    full = "id\n" + "".join(f"{link}\n" for link in range(4095))
+    desk.refuses("4097 links together", full, "afdxmon: links 3 Draft 8 TooMany", a=many)
+    desk.refuses("text that isn't UTF-8", b"id\n\xff\n", "afdxmon: file --icd")
+    desk.refuses("more than 16 MiB", "id\n" + "#" * 2**24, "afdxmon: file --icd")
+
+
+def told(desk):
+    """What a terminal is told of a document that is refused: its line, and what the column takes."""
+    for document, line, advice in (
+        ("id,smax\n5,0\n", "2 Icd at 2 smax", ":2: smax is an integer, 64 to 1518"),
+        ("id,bag_ms\n5,3\n", "2 Icd at 2 bag_ms", ":2: bag_ms is 1, 2, 4, 8, 16, 32, 64 or 128"),
+        ("id,integrity\n5,on\n", "2 Icd at 2 integrity", ":2: a flag is true or false, yes or no, 1 or 0"),
+        ("name\nx\n", "2 Icd at 1 head", ":1: the first row has the columns' heads: id, and any of name, bag_ms, jitter_us, smax, integrity, redundancy, skew_us"),
+        ("id,smax\n5\n", "2 Icd at 2 cells", ":2: the row has more or fewer cells than the first"),
+        ("id\n5\n5\n", "2 Icd at 3 twiceid", ":3: an earlier row has the identifier"),
+        ("id,name\n5,x\n6,x\n", "2 Icd at 3 twicename", ":3: an earlier row has the name"),
+    ):
+        ran = run_at_terminal(desk.arguments(document), stdin=subprocess.DEVNULL)
+        whole = f"afdxmon: links {line}\n{desk.path('icd.csv')}{advice}\n"
+        say(f"icd: {line}, at a terminal", "" if (ran.returncode, ran.stderr) == (FAULT, whole) else f"status {ran.returncode}, {ran.stderr!r}, not {whole!r}")
+
+
+def unreadable(desk):
+    """What a terminal is told of a document that can't be read: why, and what is needed."""
+    needs = "--icd needs comma-separated values, at most 16 MiB of UTF-8\n"
+    for name, path, why in (
+        ("missing", desk.path("none"), "No such file or directory (os error 2)"),
+        ("too long", desk.put("long.csv", b"#" * (2**24 + 1)), "it has 16777217 bytes"),
+        ("not UTF-8", desk.put("latin.csv", b"id\n\xff\n"), "not UTF-8 at byte 3"),
+    ):
+        ran = run_at_terminal(["links", "--icd", path], stdin=subprocess.DEVNULL)
+        whole = f"afdxmon: file --icd\n{path}: {why}\n{needs}"
+        say(f"icd: a file that is {name}, at a terminal", "" if ran.stderr == whole else f"{ran.stderr!r}, not {whole!r}")
+
+
+def streams(desk):
+    """The document from standard input, and files that can't be had."""
+    rows = [{"id": 5, "name": "five"}]
+    text, _ = expected(rows)
+    document = written(rows, ("id", "name")).encode()
+    ran = run(["links", "--icd", "-"], input=document, stdout=subprocess.PIPE)
+    say("icd: from standard input", difference(ran, SUCCESS, "", text.encode()))
+    ran = run(["links", "--icd", "-", "--a", "-"], input=document, stdout=subprocess.PIPE)
+    say("icd: standard input twice", difference(ran, FAULT, "afdxmon: file --a", b""))
+    for name, path in (("missing", desk.path("none")), ("directory", desk.work)):
+        ran = run(["links", "--icd", path], stdout=subprocess.PIPE)
+        say(f"icd: a {name} file", difference(ran, FAULT, "afdxmon: file --icd", b""))
+    ran = run(["links"], stdout=subprocess.PIPE)
+    fits = "no recording is given: --a, --b or both name one, or --icd an ICD"
+    say("icd: nothing given", difference(ran, USAGE, lambda text: fits in text, b""))
+
+
+def cases():
+    with tempfile.TemporaryDirectory() as work:
+        desk = Desk(work)
+        documents(desk)
+        forms(desk)
+        recorded(desk)
+        refused(desk)
+        told(desk)
+        unreadable(desk)
+        streams(desk)
