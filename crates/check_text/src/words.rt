@@ -8,6 +8,7 @@ use std::fmt;
 use std::fmt::{Display, Formatter};
 use vl_config::ConfigFault;
 
+/// The letter of a network.
 pub fn letter_of(network: Network) -> &'static str {
     match network {
         Network::A => "A",
@@ -42,6 +43,7 @@ pub fn format_words(format: Option<Format>) -> &'static str {
     }
 }
 
+/// How a recording ends, in one word.
 pub fn ending_word(ending: Ending) -> &'static str {
     match ending {
         Ending::Clean(_) => "clean",

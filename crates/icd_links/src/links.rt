@@ -37,9 +37,9 @@ impl IcdLinks {
     ///
     /// # Errors
     ///
-    /// Of a row of another length than the first, wherever it stands; then of the heads; then row by row of the
-    /// first cell that has none of its column's values, of an identifier and of a name that an earlier row has, and
-    /// of the row after the first [`MAX_LINKS`]. `Memory` if there is none.
+    /// Of a row of another length than the first, wherever it stands; then of the heads; then row by row of
+    /// the first cell that has none of its column's values, of an identifier and of a name that an earlier
+    /// row has, and of the row after the first [`MAX_LINKS`]. `Memory` if there is none.
     pub fn read(alloc: Global, text: &str) -> Result<IcdLinks, IcdFault>
         ensures links { IfOk result (λ icd. AreLinks text.now icd.links.items) }
     {

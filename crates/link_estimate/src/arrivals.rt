@@ -35,7 +35,7 @@ impl Arrivals {
     }
 
     /// Counts a frame: when it came, its length on the wire in bytes without the frame check sequence, and
-    /// its sequence number. A timestamp below that of the frame before counts as the same one.
+    /// its sequence number. Before a timestamp below that of the frame before the gap counts as 0.
     #[inline(always)]
     pub fn see(&mut self, stamp: Stamp, len: u32, number: u8)
         ensures { (frames : List Received) → length frames < 2 ^ 32 → CountsArrivals self.old frames
