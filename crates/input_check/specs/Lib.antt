@@ -4,5 +4,6 @@ pub mod Decide
 pub mod Formats
 pub mod Parts
 pub mod Questions
+pub mod Seen
 pub mod Tallies
 pub mod Taps

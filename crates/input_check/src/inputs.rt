@@ -1,6 +1,9 @@
 //! The counts of both recordings against a table.
 
-ghost use Rattle.std.specs.Prelude.{◌≡◌, ◌≤◌, IfOk, length, vec_len};
+ghost use Rattle.std.specs.Prelude.{◌≡◌, ◌≤◌, ◌^◌, [], IfOk, length, vec_len};
+ghost use Rattle.afdx_frame.specs.declared.key.Network.TheVariants.{A, B};
+ghost use Rattle.input_check.specs.Seen.{CountsNetwork};
+ghost use Rattle.input_check.specs.Taps.{CountsTap};
 
 use crate::link::LinkTally;
 use crate::tap::TapTally;
@@ -197,18 +200,39 @@ impl<'a> Inputs<'a> {
     }
 }
 
+impl<'a> Inputs<'a> {
+    /// Counts a frame for the table, if there is one, and says its class.
+    #[inline(always)]
+    fn see_listed(&mut self, frame: &TapFrame) -> Result<Option<Class>, AllocError>
+        ensures a { self.new.a ≡ self.old.a }
+        ensures b { self.new.b ≡ self.old.b }
+    {
+        match &mut self.listed {
+            Some(listed) => Ok(Some(listed.see(frame)?)),
+            None => Ok(None),
+        }
+    }
+}
+
 impl Observer for Inputs<'_> {
+    // No more frames than 2^32 are counted exactly.
+    ghost has_seen = { λ first frames last. CountsTap first.a [] → CountsTap first.b []
+        → length frames ≤ 2 ^ 32
+        → CountsNetwork A last.a frames × CountsNetwork B last.b frames };
+
     #[inline]
     fn see(&mut self, alloc: Global, frame: &TapFrame) -> Result<(), AllocError> {
         let _ = alloc;
-        let class = match &mut self.listed {
-            Some(listed) => Some(listed.see(frame)?),
-            None => None,
-        };
+        let class = self.see_listed(frame)?;
         match frame.network() {
-            Network::A => self.a.see(frame, class),
-            Network::B => self.b.see(frame, class),
+            Network::A => {
+                self.a.see(frame, class);
+                Ok(())
+            }
+            Network::B => {
+                self.b.see(frame, class);
+                Ok(())
+            }
         }
-        Ok(())
     }
 }

@@ -2,4 +2,10 @@ pub mod Counting
 pub mod Fields
 pub mod Keeping
 pub mod Linking
+pub mod Pairing
+pub mod Shortening
+pub mod Showing
 pub mod Surveying
+pub mod Tapping
+pub mod Timing
+pub mod Unkept

@@ -46,6 +46,13 @@ entry_found frame constant id number is a b d =
     ∙ ap (λ o. entry_with frame o (link_of frame.bytes) (sequence_of frame.bytes)) a ∙ ap (λ o. entry_with frame (Some constant) o (sequence_of frame.bytes)) b
     ∙ ap (entry_with frame (Some constant) (Some id)) d
 
+-- the entry of a frame of which these parts are known
+pub parts_found : (whole frame : Frame) (constant : ℕ) (id : VlId) (number : ℕ) → entry_of whole ≡ entry_with frame (constant_of frame.bytes) (link_of frame.bytes) (sequence_of frame.bytes) →
+    constant_of frame.bytes ≡ Some constant → link_of frame.bytes ≡ Some id → sequence_of frame.bytes ≡ Some number → entry_of whole ≡ Some (entry_from frame constant id number)
+parts_found whole frame constant id number is a b d =
+    is ∙ ap (λ o. entry_with frame o (link_of frame.bytes) (sequence_of frame.bytes)) a ∙ ap (λ o. entry_with frame (Some constant) o (sequence_of frame.bytes)) b
+    ∙ ap (entry_with frame (Some constant) (Some id)) d
+
 -- ---- how many there are
 
 entries_few : (frames : List Frame) → length (entries_of frames) ≤ length frames

@@ -1,6 +1,6 @@
 //! The links of one constant field.
 
-ghost use Rattle.std.specs.Prelude.{◌≡◌, ◌≤◌, ◌<◌, ◌^◌, ℕ, List, [], ◌∷◌, length, option_copied, IfOk, vec_len};
+ghost use Rattle.std.specs.Prelude.{◌≡◌, ◌≤◌, ◌<◌, ◌^◌, ℕ, List, [], ◌∷◌, length, option_copied, slice_index, IfOk, vec_len};
 
 use afdx_frame::{LentFrame, Network, Stamp, VL_ID_COUNT, VlId};
 use link_estimate::{Arrivals, Copies};
@@ -113,6 +113,31 @@ impl Links {
             self.links[place].see(network, stamp, len, number);
             return Ok(());
         }
+        self.see_first(id, network, stamp, len, number)
+    }
+
+    /// Counts the first frame of a link, or one of a link beyond the most. It stands apart since a link takes
+    /// much of the stack, which is cleared at each call.
+    #[cold]
+    #[inline(never)]
+    fn see_first(
+        &mut self,
+        id: VlId,
+        network: Network,
+        stamp: Stamp,
+        len: u32,
+        number: u8,
+    ) -> Result<(), AllocError>
+        requires { vec_len self.old.links ≤ slice_index self.old.places.items id.0 }
+        ensures { IfOk result (λ _. (frames : List Sighting) → length frames < 2 ^ 32
+            → CountsLinks self.old frames → CountsLinks self.new (record {
+              id = id.0;
+              network = network;
+              stamp = stamp.0;
+              len = len;
+              number = number;
+            } ∷ frames)) }
+    {
         if self.links.len() >= MAX_LINKS {
             self.refused = self.refused.saturating_add(1);
             return Ok(());

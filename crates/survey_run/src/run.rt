@@ -1,76 +1,25 @@
 //! Both recordings, a frame at a time.
 
-ghost use Rattle.std.specs.Prelude.{◌≡◌};
+ghost use Rattle.std.specs.Prelude.{◌≡◌, ◌⊎◌, ◌++◌, ◌∷◌, List, [], IfErr, IfOk, OnErr, OnOk};
+ghost use Rattle.afdx_frame.specs.Frame.{Frame};
+ghost use Rattle.pcap_io.specs.Reader.{reading_of};
+ghost use Rattle.run_outcome.specs.Device.{SourceView, source_at};
+ghost use Rattle.survey_run.specs.Kept.{ShowsKept, StopsKept};
+ghost use Rattle.survey_run.specs.Pass.{IsShown, IsShownSome, ShowsBoth, StopsShowing, StopsSurvey, SurveysBoth};
+ghost use Rattle.survey_run.specs.Reading.{AgreeTo, AreOver, IsPair, StopsPair};
+ghost use Rattle.survey_run.specs.declared.recorded.Extent.{Extent};
 
+use crate::keeper::{Keeper, KeepsAll, KeepsShort};
+use crate::observer::{Observer, ShortSurvey};
+use crate::pair::Pair;
+use crate::recorded::{Extent, Recorded};
 use crate::survey::Survey;
-use afdx_frame::{Network, TapFrame};
-use ordered_merge::Merger;
-use pcap_io::{Ending, Item, OpenRefused, ReadFault, TapReader, TapSource};
-use run_outcome::{MAX_FRAMES, WatchFault, fault_of_open};
+use afdx_frame::TapFrame;
+use pcap_io::TapSource;
+use run_outcome::WatchFault;
 use std::alloc::{AllocError, Global};
-
-/// How far a timestamp may lie below the greatest one before it in its recording, in nanoseconds: a second,
-/// as far as the window of a table reaches.
-const LATE: u64 = 1_000_000_000;
-
-/// How many frames are read, and how many are counted, in one go.
-const ROUND: usize = 1024;
-
-/// The timestamps of a recording, in nanoseconds since 1970.
-#[derive(Clone, Copy, Debug)]
-pub struct Span {
-    pub least: u64,
-    pub greatest: u64,
-}
-
-/// How a recording was read.
-#[derive(Clone, Copy, Debug)]
-pub struct Recorded {
-    /// The ending. Of a recording that wasn't read whole: clean, after the frames that were read.
-    pub ending: Ending,
-    /// Was it read up to its ending?
-    pub whole: bool,
-    /// The timestamps of the frames that were read. None: there is no frame.
-    pub span: Option<Span>,
-    /// How far, in nanoseconds, a timestamp lies below the greatest one before it, at most.
-    pub late: u64,
-}
-
-/// How far recordings are read.
-#[derive(Clone, Copy, Debug)]
-pub struct Extent {
-    /// The most frames that are read of each.
-    pub frames: u64,
-    /// How far a timestamp may lie below the greatest one before it in its recording, in nanoseconds.
-    pub late: u64,
-}
-
-impl Extent {
-    /// Whole recordings, whose timestamps may lie as far below as the window of a table reaches: a second.
-    pub fn whole() -> Extent {
-        Extent {
-            frames: MAX_FRAMES,
-            late: LATE,
-        }
-    }
-}
-
-/// What is shown the frames of both recordings, in the order of timestamp, network and number.
-pub trait Observer {
-    /// Sees the next frame.
-    ///
-    /// # Errors
-    ///
-    /// `AllocError` if the system is out of memory.
-    fn see(&mut self, alloc: Global, frame: &TapFrame) -> Result<(), AllocError>;
-}
-
-impl Observer for Survey {
-    #[inline]
-    fn see(&mut self, alloc: Global, frame: &TapFrame) -> Result<(), AllocError> {
-        self.count(alloc, frame)
-    }
-}
+use std::num::NonZeroUsize;
+use tap_merge::{ROUND, Unopened};
 
 /// A pass that has ended, with the sources that it was given.
 #[derive(Debug, Drop)]
@@ -94,140 +43,103 @@ pub struct SurveyRun<S, T> {
     pub b: T,
 }
 
-/// A recording, and how it was read so far.
-#[derive(Drop)]
-struct Tap<S> {
-    network: Network,
-    reader: TapReader<S>,
-    /// How many frames were read, and how many are at most.
-    frames: u64,
-    most: u64,
-    recorded: Recorded,
-}
-
-impl<S: TapSource> Tap<S> {
-    fn open(source: S, network: Network, extent: Extent) -> Result<Tap<S>, (WatchFault, S)> {
-        match TapReader::open(source, network, MAX_FRAMES, extent.late) {
-            Ok(reader) => Ok(Tap {
-                network,
-                reader,
-                frames: 0,
-                most: extent.frames,
-                recorded: Recorded {
-                    ending: Ending::Clean(0),
-                    whole: true,
-                    span: None,
-                    late: 0,
-                },
-            }),
-            Err(OpenRefused { source, fault }) => Err((fault_of_open(network, fault), source)),
-        }
-    }
-
-    /// Reads the next frame into the merger, or that there is none.
-    #[inline]
-    fn advance(&mut self, alloc: Global, merger: &mut Merger) -> Result<(), WatchFault> {
-        match self.reader.next(alloc) {
-            Ok(Item::Frame(frame)) if self.frames < self.most => self.hand_on(frame, merger),
-            Ok(Item::Frame(_)) => {
-                self.recorded.ending = Ending::Clean(self.most);
-                self.recorded.whole = false;
-                merger.end(self.network);
-                Ok(())
-            }
-            Ok(Item::End(ending)) => {
-                self.recorded.ending = ending;
-                merger.end(self.network);
-                Ok(())
-            }
-            Err(ReadFault::Memory) => Err(WatchFault::Memory),
-            Err(ReadFault::Device | ReadFault::Failed) => Err(WatchFault::Read {
-                network: self.network,
-            }),
-        }
-    }
-
-    /// Notes the timestamp of a frame.
-    #[inline]
-    fn note(&mut self, stamp: u64) {
-        self.frames = self.frames.saturating_add(1);
-        let Some(span) = self.recorded.span else {
-            self.recorded.span = Some(Span {
-                least: stamp,
-                greatest: stamp,
-            });
-            return;
-        };
-        let late = span.greatest.saturating_sub(stamp);
-        self.recorded.late = self.recorded.late.max(late);
-        self.recorded.span = Some(Span {
-            least: span.least.min(stamp),
-            greatest: span.greatest.max(stamp),
-        });
-    }
-
-    #[inline]
-    fn hand_on(&mut self, frame: TapFrame, merger: &mut Merger) -> Result<(), WatchFault> {
-        self.note(frame.stamp().0);
-        if !merger.can_fetch(&frame) {
-            // The reader has the merger's window, so this is not met.
-            return Err(WatchFault::Read {
-                network: self.network,
-            });
-        }
-        match merger.fetch(frame) {
-            Ok(()) => Ok(()),
-            Err(_) => Err(WatchFault::Memory),
-        }
-    }
-}
-
-/// Reads the next frames of the recording that lags. Have both ended?
-fn fetch_round<S: TapSource, T: TapSource>(
-    alloc: Global,
-    a: &mut Tap<S>,
-    b: &mut Tap<T>,
-    merger: &mut Merger,
-) -> Result<bool, WatchFault> {
-    for _ in 0..ROUND {
-        match merger.wants() {
-            Some(Network::A) => a.advance(alloc, merger)?,
-            Some(Network::B) => b.advance(alloc, merger)?,
-            None => return Ok(true),
-        }
-    }
-    Ok(false)
-}
-
-/// Shows the next frames that none may precede any more. Were there any?
+/// Shows the frames of a round.
+#[inline]
 fn show_round<O: Observer>(
     alloc: Global,
-    merger: &mut Merger,
+    round: &[TapFrame],
     observer: &mut O,
-) -> Result<bool, WatchFault> {
-    let round = merger.cut(ROUND)?;
-    for frame in &round {
+) -> Result<(), AllocError>
+    ensures shown { OnOk result (IsShown O.Observer round.now observer.old observer.new) }
+    ensures given_up { OnErr result ((shown : List Frame) × (next : Frame) × (others : List Frame)
+        × (round.now ≡ shown ++ next ∷ others) × (middle : O)
+        × IsShown O.Observer shown observer.old middle × O.gives_up next middle observer.new) }
+{
+    for frame in round {
         observer.see(alloc, frame)?;
     }
-    Ok(!round.is_empty())
+    Ok(())
 }
 
-/// Shows the frames of both recordings up to their endings.
-fn show_both<S: TapSource, T: TapSource, O: Observer>(
+/// Shows the frames of both recordings, as far as they are read.
+fn show_rounds<S: TapSource, T: TapSource, K: Keeper, O: Observer>(
     alloc: Global,
-    late: u64,
-    a: &mut Tap<S>,
-    b: &mut Tap<T>,
+    pair: &mut Pair<S, T, K>,
     observer: &mut O,
-) -> Result<(), WatchFault> {
-    let mut merger = Merger::new(alloc, late);
-    for _ in 0..u64::MAX {
-        let have_ended = fetch_round(alloc, a, b, &mut merger)?;
-        if !show_round(alloc, &mut merger, observer)? && have_ended {
-            break;
-        }
+) -> Result<(), WatchFault>
+    requires { AgreeTo pair.old }
+    ensures shown { OnOk result ((extent : Extent) (a b : SourceView) (frames_a frames_b : List Frame)
+        → IsPair K.kept_bytes S.TapSource T.TapSource extent a b frames_a frames_b [] pair.old
+        → (more_a : List Frame) × (more_b : List Frame) × (cut : List Frame)
+        × IsPair K.kept_bytes S.TapSource T.TapSource extent a b more_a more_b cut pair.new
+        × IsShown O.Observer cut observer.old observer.new) }
+    ensures ended { OnOk result (AreOver pair.new × (pair.new.merger.pending ≡ [])) }
+    ensures stopped { IfErr result (λ fault. (extent : Extent) (a b : SourceView)
+        (frames_a frames_b : List Frame)
+        → IsPair K.kept_bytes S.TapSource T.TapSource extent a b frames_a frames_b [] pair.old
+        → (cut : List Frame) × StopsPair K.kept_bytes extent fault a b cut
+        (reading_of S.remaining S.failures pair.new.a.reader)
+        (reading_of T.remaining T.failures pair.new.b.reader)
+        × IsShownSome O.Observer fault cut observer.old observer.new) }
+{
+    let most = NonZeroUsize::new(ROUND).unwrap();
+    while let Some(round) = pair.next_round(alloc, most)? {
+        show_round(alloc, &round, observer)?;
     }
     Ok(())
+}
+
+/// Reads both recordings once, as far as it is told, and shows what is kept of their frames to the observer.
+fn show_kept<S: TapSource, T: TapSource, K: Keeper, O: Observer>(
+    alloc: Global,
+    extent: Extent,
+    a: S,
+    b: T,
+    keeper: K,
+    observer: &mut O,
+) -> Pass<S, T>
+    ensures shown { IfOk result.outcome (λ recorded. ShowsKept K.kept_bytes O.Observer extent
+        (source_at S.TapSource a) (source_at T.TapSource b)
+        (source_at S.TapSource result.a) (source_at T.TapSource result.b)
+        recorded.0 recorded.1 observer.old observer.new) }
+    ensures stopped { IfErr result.outcome (λ fault. StopsKept K.kept_bytes O.Observer extent fault
+        (source_at S.TapSource a) (source_at T.TapSource b)
+        (source_at S.TapSource result.a) (source_at T.TapSource result.b)
+        observer.old observer.new) }
+{
+    let mut pair = match Pair::open(alloc, extent, a, b, keeper) {
+        Ok(pair) => pair,
+        Err(Unopened { fault, a, b }) => {
+            return Pass {
+                outcome: Err(fault),
+                a,
+                b,
+            };
+        }
+    };
+    let shown = show_rounds(alloc, &mut pair, observer);
+    let Pair {
+        a,
+        b,
+        merger: _,
+        keeper: _,
+    } = pair;
+    match shown {
+        Ok(()) => {
+            let (a, of_a) = a.finish(extent.frames);
+            let (b, of_b) = b.finish(extent.frames);
+            Pass {
+                outcome: Ok((of_a, of_b)),
+                a,
+                b,
+            }
+        }
+        Err(fault) => Pass {
+            outcome: Err(fault),
+            a: a.into_source(),
+            b: b.into_source(),
+        },
+    }
 }
 
 /// Reads both recordings once, as far as it is told, and shows their frames to the observer. Both sources
@@ -244,42 +156,23 @@ pub fn show_recordings<S: TapSource, T: TapSource, O: Observer>(
     a: S,
     b: T,
     observer: &mut O,
-) -> Pass<S, T> {
-    let mut a = match Tap::open(a, Network::A, extent) {
-        Ok(tap) => tap,
-        Err((fault, a)) => {
-            return Pass {
-                outcome: Err(fault),
-                a,
-                b,
-            };
-        }
-    };
-    let mut b = match Tap::open(b, Network::B, extent) {
-        Ok(tap) => tap,
-        Err((fault, b)) => {
-            return Pass {
-                outcome: Err(fault),
-                a: a.reader.into_source(),
-                b,
-            };
-        }
-    };
-    let outcome = match show_both(alloc, extent.late, &mut a, &mut b, observer) {
-        Ok(()) => Ok((a.recorded, b.recorded)),
-        Err(fault) => Err(fault),
-    };
-    Pass {
-        outcome,
-        a: a.reader.into_source(),
-        b: b.reader.into_source(),
-    }
+) -> Pass<S, T>
+    ensures shown { IfOk result.outcome (λ recorded. ShowsBoth O.Observer extent
+        (source_at S.TapSource a) (source_at T.TapSource b)
+        (source_at S.TapSource result.a) (source_at T.TapSource result.b)
+        recorded.0 recorded.1 observer.old observer.new) }
+    ensures stopped { IfErr result.outcome (λ fault. StopsShowing O.Observer extent fault
+        (source_at S.TapSource a) (source_at T.TapSource b)
+        (source_at S.TapSource result.a) (source_at T.TapSource result.b)
+        observer.old observer.new) }
+{
+    show_kept(alloc, extent, a, b, KeepsAll, observer)
 }
 
 /// Reads both recordings to their endings, once, and says what was seen. Both sources come back.
 ///
-/// Timestamps may lie up to a second below the greatest one before them: the frames of so much time wait in
-/// memory.
+/// Timestamps may lie up to a second below the greatest one before them: of the frames of so much time what
+/// is counted waits in memory.
 ///
 /// # Errors
 ///
@@ -289,12 +182,30 @@ pub fn survey_recordings<S: TapSource, T: TapSource>(
     wanted: Option<u32>,
     a: S,
     b: T,
-) -> SurveyRun<S, T> {
-    let mut survey = Survey::new(alloc, wanted);
-    let Pass { outcome, a, b } = show_recordings(alloc, Extent::whole(), a, b, &mut survey);
-    let outcome = match outcome {
-        Ok((of_a, of_b)) => Ok((survey, of_a, of_b)),
-        Err(fault) => Err(fault),
+) -> SurveyRun<S, T>
+    ensures surveyed { IfOk result.outcome (λ done. SurveysBoth wanted
+        (source_at S.TapSource a) (source_at T.TapSource b)
+        (source_at S.TapSource result.a) (source_at T.TapSource result.b)
+        done.0 done.1 done.2) }
+    ensures stopped { IfErr result.outcome (λ fault. StopsSurvey fault
+        (source_at S.TapSource a) (source_at T.TapSource b)
+        (source_at S.TapSource result.a) (source_at T.TapSource result.b)) }
+{
+    let mut short = ShortSurvey {
+        survey: Survey::new(alloc, wanted),
     };
-    SurveyRun { outcome, a, b }
+    let keeper = KeepsShort::new(alloc);
+    let Pass { outcome, a, b } = show_kept(alloc, Extent::whole(), a, b, keeper, &mut short);
+    match outcome {
+        Ok((of_a, of_b)) => SurveyRun {
+            outcome: Ok((short.survey, of_a, of_b)),
+            a,
+            b,
+        },
+        Err(fault) => SurveyRun {
+            outcome: Err(fault),
+            a,
+            b,
+        },
+    }
 }

@@ -2,7 +2,8 @@
 
 ghost use Rattle.std.specs.Prelude.{◌≡◌, ◌<◌, ◌^◌, ℕ, Option, List, [], ◌∷◌, length, option_copied, IfOk};
 ghost use Rattle.afdx_frame.specs.Frame.{Frame};
-ghost use Rattle.survey_run.specs.NetworkFrames.{IsMainField, IsPlaceOf, Surveys, is_wanted};
+ghost use Rattle.afdx_frame.specs.View.{constant_of, link_of, sequence_of};
+ghost use Rattle.survey_run.specs.NetworkFrames.{IsMainField, IsPlaceOf, Surveys, entry_of, entry_with, is_ethernet, is_wanted};
 
 use crate::links::Links;
 use afdx_frame::{Network, TapFrame, VlId};
@@ -17,6 +18,17 @@ const GROUP_BITS: u32 = 0x0300_0000;
 const LEAST_LENGTH: u32 = 60;
 
 const GREATEST_LENGTH: u32 = 1514;
+
+/// Was a frame recorded whole, and has it an Ethernet frame's length?
+#[inline(always)]
+pub(crate) fn is_ethernet(frame: &TapFrame) -> bool
+    ensures { result ≡ is_ethernet frame.now }
+{
+    let whole = frame.whole();
+    whole as usize <= frame.view().bytes().len()
+        && LEAST_LENGTH <= whole
+        && whole <= GREATEST_LENGTH
+}
 
 /// The frames of one constant field.
 #[derive(Debug, Drop)]
@@ -61,17 +73,28 @@ impl Survey {
             → length frames < 2 ^ 32 → Surveys wanted self.old frames
             → Surveys wanted self.new (frame.now ∷ frames)) }
     {
+        if !is_ethernet(frame) {
+            self.unusable = self.unusable.saturating_add(1);
+            return Ok(());
+        }
+        self.count_parts(alloc, frame)
+    }
+
+    /// Counts a frame by its first six bytes and its last, whatever its length.
+    #[inline]
+    pub(crate) fn count_parts(&mut self, alloc: Global, frame: &TapFrame) -> Result<(), AllocError>
+        ensures { IfOk result (λ _. (wanted : Option ℕ) (frames : List Frame) (whole : Frame)
+            → entry_of whole ≡ entry_with frame.now (constant_of frame.now.bytes)
+            (link_of frame.now.bytes) (sequence_of frame.now.bytes)
+            → length frames < 2 ^ 32 → Surveys wanted self.old frames
+            → Surveys wanted self.new (whole ∷ frames)) }
+    {
         let view = frame.view();
-        let whole = frame.whole();
         let (Some(constant), Some(id), Some(number)) = (view.constant(), view.vl(), view.sequence())
         else {
             self.unusable = self.unusable.saturating_add(1);
             return Ok(());
         };
-        if view.bytes().len() < whole as usize || whole < LEAST_LENGTH || whole > GREATEST_LENGTH {
-            self.unusable = self.unusable.saturating_add(1);
-            return Ok(());
-        }
         let Some(place) = self.place_of(alloc, constant)? else {
             self.others = self.others.saturating_add(1);
             return Ok(());
@@ -81,7 +104,7 @@ impl Survey {
                 field.frames = field.frames.saturating_add(1);
                 field
                     .links
-                    .see(id, frame.network(), frame.stamp(), whole, number)
+                    .see(id, frame.network(), frame.stamp(), frame.whole(), number)
             }
             None => Ok(()),
         }

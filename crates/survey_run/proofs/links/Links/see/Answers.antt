@@ -1,11 +1,10 @@
--- The link is kept, is new, or is refused.
-use Rattle.std.proofs.Common.{◌≡◌, ◌∙◌, ◌<◌, ◌≤◌, length, get_or, refl, sym, subst, ap, arith}
+-- The link is kept already, or it is its first frame.
+use Rattle.std.proofs.Common.{◌≡◌, ◌∙◌, ◌<◌, length, get_or, refl, sym, subst, ap, arith}
 use Rattle.std.proofs.lemmas.List.{get_or_default, get_or_read}
 use Rattle.std.proofs.Math.ListN.{set}
-use Rattle.afdx_frame.specs.declared.key.VlId.{VlId}
 use Rattle.survey_run.specs.LinkFrames.{CountsLink, Sighting}
 use Rattle.survey_run.specs.declared.links.LinkSurvey.{LinkSurvey}
-use Rattle.survey_run.proofs.Linking.{links_full, links_known, links_new, missing_few}
+use Rattle.survey_run.proofs.Linking.{links_known}
 use Rattle.survey_run.proofs.links.Links.see.Goals as goal
 
 pub returns-then-place-len : goal.returns-then-place-len
@@ -21,26 +20,8 @@ returns-then-place-len c = λ frames few held.
     (λ none more short counts. c.see.ensures.after more c.args.id.0 short (subst (λ (l : LinkSurvey). CountsLink l more) (sym (read none)) counts))
     refl (ap (λ n. set old.links.items n c.see.new.self) place) refl)
 
-pub returns-then-len-ge-MAX_LINKS : goal.returns-then-len-ge-MAX_LINKS
-returns-then-len-ge-MAX_LINKS c = λ frames few held.
-    (let old = c.args.self.now in
-    let frame : Sighting = record { id = c.args.id.0; network = c.args.network; stamp = c.args.stamp.0; len = c.args.len; number = c.args.number } in
+pub see_first-requires : goal.see_first-requires
+see_first-requires c =
+    let old = c.args.self.now in
     let place : c.from-place.result ≡ get_or old.places.items c.args.id.0 0 = c.from-place.ensures ∙ get_or_read old.places.items c.from.result c.index.result.now (omega (arith, old.complete)) c.index.ensures 0 ∙ ap (λ n. get_or old.places.items n 0) c.from.ensures in
-    let beyond : length old.links.items ≤ get_or old.places.items c.args.id.0 0 = omega (arith, place, c.if-place-len.false, c.len.ensures) in
-    let small : c.args.id.0 < 65536 = omega arith in
-    let full : 4096 ≤ length old.links.items = omega (arith, c.if-len-ge-MAX_LINKS.true, c.len-2.ensures) in
-    links_full old frames frame held few small _ beyond full refl refl (omega (arith, c.saturating_add-self.ensures, missing_few old frames held, few)))
-
-pub returns : goal.returns
-returns c = λ frames few held.
-    (let old = c.args.self.now in
-    let frame : Sighting = record { id = c.args.id.0; network = c.args.network; stamp = c.args.stamp.0; len = c.args.len; number = c.args.number } in
-    let place : c.from-place.result ≡ get_or old.places.items c.args.id.0 0 = c.from-place.ensures ∙ get_or_read old.places.items c.from.result c.index.result.now (omega (arith, old.complete)) c.index.ensures 0 ∙ ap (λ n. get_or old.places.items n 0) c.from.ensures in
-    let beyond : length old.links.items ≤ get_or old.places.items c.args.id.0 0 = omega (arith, place, c.if-place-len.false, c.len.ensures) in
-    let small : c.args.id.0 < 65536 = omega arith in
-    let short : length old.links.items < 4096 = omega (arith, c.if-len-ge-MAX_LINKS.false, c.len-2.ensures) in
-    let len : length old.places.items ≡ 65536 = omega (arith, old.complete) in
-    let count : c.len-3.result ≡ length old.links.items = omega (arith, c.len-3.ensures) in
-    links_new old frames frame held few small _ c.new-link.result c.see-2.new.self len beyond short (ap (λ (v : VlId). v.0) c.new-link.ensures.id) c.see-2.ensures.id
-    c.new-link.ensures.none (λ more some counts. c.see-2.ensures.after more c.args.id.0 some counts)
-    (ap (λ n. set old.places.items n c.len-3.result) c.from-2.ensures ∙ ap (λ n. set old.places.items c.args.id.0 n) count) c.in_ok-push.ensures.items refl)
+    omega (arith, place, c.if-place-len.false, c.len.ensures)
