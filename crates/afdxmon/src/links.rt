@@ -9,6 +9,7 @@ use pcap_io::{Ending, ReadSource};
 use std::io;
 use std::io::IsTerminal;
 use survey_run::{Survey, SurveyRun, survey_recordings};
+use vl_config::ConfigFault;
 
 /// The bits that a constant field has set (ARINC 664 Part 7).
 const GROUP_BITS: u32 = 0x0300_0000;
@@ -62,6 +63,7 @@ fn tell_comparison(rt: &HostRuntime, comparison: Comparison) -> io::Result<()> {
 fn fault_of(fault: DraftFault) -> Fault {
     match fault {
         DraftFault::NoTable(fault) => Fault::Draft(fault),
+        DraftFault::Unlike => Fault::Draft(ConfigFault::Text),
         DraftFault::Memory => NO_RUN,
     }
 }

@@ -1,2 +1,4 @@
+pub mod Comparing
+pub mod Drafts
 pub mod Estimates
 pub mod Rules

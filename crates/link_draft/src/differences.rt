@@ -1,5 +1,8 @@
 //! Where a link was seen otherwise than it is specified.
 
+ghost use Rattle.std.specs.Prelude.{◌≡◌};
+ghost use Rattle.link_draft.specs.Comparing.{all_differences, bag_difference, flag_difference, has_stand, limit_difference, no_difference, stand_to};
+
 use crate::known::Seen;
 use icd_links::IcdLink;
 use std::fmt;
@@ -45,7 +48,9 @@ pub struct Difference {
 pub const COMPARED: usize = 6;
 
 /// How the greatest that was seen stands to a limit.
-fn stand_of_limit(limit: u64, seen: u64) -> Stand {
+fn stand_of_limit(limit: u64, seen: u64) -> Stand
+    ensures { result ≡ stand_to limit seen }
+{
     if seen > limit {
         Stand::Beyond
     } else if seen < limit {
@@ -55,7 +60,9 @@ fn stand_of_limit(limit: u64, seen: u64) -> Stand {
     }
 }
 
-fn of_limit(key: Key, limit: Option<u64>, seen: Option<u64>) -> Difference {
+fn of_limit(key: Key, limit: Option<u64>, seen: Option<u64>) -> Difference
+    ensures { result ≡ limit_difference key limit seen }
+{
     match (limit, seen) {
         (Some(limit), Some(seen)) => Difference {
             key,
@@ -67,7 +74,9 @@ fn of_limit(key: Key, limit: Option<u64>, seen: Option<u64>) -> Difference {
 }
 
 /// The BAG is the least interval: a longer one that was seen is within it.
-fn of_bag(specified: Option<u64>, seen: Option<u64>) -> Difference {
+fn of_bag(specified: Option<u64>, seen: Option<u64>) -> Difference
+    ensures { result ≡ bag_difference specified seen }
+{
     match (specified, seen) {
         (Some(specified), Some(seen)) => Difference {
             key: Key::BagMs,
@@ -78,7 +87,9 @@ fn of_bag(specified: Option<u64>, seen: Option<u64>) -> Difference {
     }
 }
 
-fn of_flag(key: Key, specified: Option<bool>, seen: Option<bool>) -> Difference {
+fn of_flag(key: Key, specified: Option<bool>, seen: Option<bool>) -> Difference
+    ensures { result ≡ flag_difference key specified seen }
+{
     match (specified, seen) {
         (Some(specified), Some(seen)) => Difference {
             key,
@@ -93,7 +104,9 @@ fn of_flag(key: Key, specified: Option<bool>, seen: Option<bool>) -> Difference 
     }
 }
 
-fn same(key: Key) -> Difference {
+fn same(key: Key) -> Difference
+    ensures { result ≡ no_difference key }
+{
     Difference {
         key,
         seen: SeenValue::Number(0),
@@ -102,7 +115,9 @@ fn same(key: Key) -> Difference {
 }
 
 /// How the values of a link that were seen stand to those that are specified.
-pub fn differences(specified: &IcdLink, seen: &Seen) -> [Difference; COMPARED] {
+pub fn differences(specified: &IcdLink, seen: &Seen) -> [Difference; COMPARED]
+    ensures { result ≡ all_differences specified.now seen.now }
+{
     [
         of_bag(specified.bag_ms, seen.bag_ms),
         of_limit(Key::JitterUs, specified.jitter_us, seen.jitter_us),
@@ -114,7 +129,9 @@ pub fn differences(specified: &IcdLink, seen: &Seen) -> [Difference; COMPARED] {
 }
 
 /// Does one of them stand so?
-pub fn has(differences: &[Difference], stand: Stand) -> bool {
+pub fn has(differences: &[Difference], stand: Stand) -> bool
+    ensures { result ≡ has_stand stand differences.now }
+{
     differences
         .iter()
         .any(|difference| difference.stand == stand)

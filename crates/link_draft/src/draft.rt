@@ -1,10 +1,14 @@
 //! A draft: its text, and how what was seen stands to what is specified.
 
-ghost use Rattle.std.specs.Prelude.{◌≡◌, IfOk, None, string_bytes};
+ghost use Rattle.std.specs.Prelude.{◌≡◌, ◌<◌, ◌^◌, ℕ, List, IfOk, None, Option, length, option_copied, string_bytes};
+ghost use Rattle.afdx_frame.specs.Frame.{Frame};
+ghost use Rattle.survey_run.specs.NetworkFrames.{Surveys};
+ghost use Rattle.link_draft.specs.Drafts.{SaysDraft, icd_list};
 ghost use Rattle.vl_config.specs.Document.{first_fault};
 ghost use Rattle.link_draft.specs.declared.draft.DraftFault.TheVariants.{Memory};
 
 use crate::beside::{Comparison, write_beside};
+use crate::checked::is_draft_of;
 use crate::known::Known;
 use crate::recordings::Recordings;
 use crate::text::{HEADER, ICD_HEADER, write_constants, write_ending, write_keys, write_seen};
@@ -16,7 +20,7 @@ use vl_config::{Config, ConfigFault};
 
 /// The constant field of a draft where none was seen or asked for: the bits of a group address, locally
 /// administered (IEEE 802.3), and nothing else.
-const USUAL_CONSTANT: u32 = 0x0300_0000;
+pub const USUAL_CONSTANT: u32 = 0x0300_0000;
 
 /// What a draft is made of.
 #[derive(Clone, Copy)]
@@ -44,6 +48,8 @@ pub struct Draft {
 pub enum DraftFault {
     /// Its text would be no table: there are too many links, or two have one name.
     NoTable(ConfigFault),
+    /// The table that its text says isn't what the draft is to have. No input is known that leads here.
+    Unlike,
     Memory,
 }
 
@@ -55,7 +61,9 @@ impl From<AllocError> for DraftFault {
     }
 }
 
-/// The draft of a table, a TOML document. It is read back before it is given, so [`Config::read`] takes it.
+/// The draft of a table, a TOML document. It is read back before it is given: [`Config::read`] takes it, and
+/// the table has the constant field, and the links that are specified or seen, each with its values, and no
+/// other.
 ///
 /// # Errors
 ///
@@ -63,6 +71,11 @@ impl From<AllocError> for DraftFault {
 /// link the name that the draft has for another. `Memory` if the system is out of memory.
 pub fn draft_of(alloc: Global, sources: &Sources<'_>) -> Result<Draft, DraftFault>
     ensures reads_back { IfOk result (λ draft. first_fault (string_bytes draft.text) ≡ None) }
+    ensures table { IfOk result (λ draft. (wanted : Option ℕ) (frames : List Frame)
+        → length frames < 2 ^ 32
+        → Surveys wanted sources.now.survey.now frames
+        → SaysDraft (icd_list (option_copied sources.now.icd)) sources.now.constant
+        sources.now.recordings sources.now.survey.now frames (string_bytes draft.text)) }
 {
     let mut text = String::new(alloc);
     write_head(&mut text, sources)?;
@@ -70,7 +83,8 @@ pub fn draft_of(alloc: Global, sources: &Sources<'_>) -> Result<Draft, DraftFaul
     write_constant(&mut text, sources, main)?;
     let comparison = write_links(&mut text, sources, main)?;
     match Config::read(alloc, text.as_str()) {
-        Ok(_) => Ok(Draft { text, comparison }),
+        Ok(table) if is_draft_of(&table, sources, main) => Ok(Draft { text, comparison }),
+        Ok(_) => Err(DraftFault::Unlike),
         Err(ConfigFault::Memory) => Err(DraftFault::Memory),
         Err(fault) => Err(DraftFault::NoTable(fault)),
     }

@@ -1,6 +1,12 @@
 //! What is known of a link: what a document specifies, what was seen, and which of both a draft has.
 
-ghost use Rattle.std.specs.Prelude.{◌≤◌, ◌<◌, IfSome};
+ghost use Rattle.std.specs.Prelude.{◌≡◌, ◌≤◌, ◌<◌, ◌*◌, ◌^◌, ◌||◌, ℕ, List, length, IfSome, is_none, is_some, max, min, option_copied, option_map, slice_index, string_bytes, unwrap_or};
+ghost use Rattle.std.specs.Int.{div_ceil};
+ghost use Rattle.afdx_frame.specs.declared.key.Network.TheVariants.{A, B};
+ghost use Rattle.link_estimate.specs.declared.needs.TheConstants.{BAGS as bags};
+ghost use Rattle.survey_run.specs.LinkFrames.{CountsLink, Sighting, received_on};
+ghost use Rattle.link_draft.specs.Rules.{IsJitter};
+ghost use Rattle.link_draft.specs.Drafts.{HasValues, IsEstimateAt, IsSeenOf, given, skew_micros, skew_where};
 
 use crate::estimate::{Estimate, MAX_JITTER_US, MAX_SKEW_US, needed_by, not_next};
 use afdx_frame::VlId;
@@ -47,6 +53,17 @@ fn bag_index(ms: u64) -> usize
         .min(7)
 }
 
+/// The BAG that is specified, by its index.
+fn specified_bag(specified: &IcdLink) -> Option<usize>
+    ensures few { IfSome result (λ index. index < 8) }
+    ensures same { is_none result ≡ is_none specified.now.bag_ms }
+{
+    match specified.bag_ms {
+        Some(ms) => Some(bag_index(ms)),
+        None => None,
+    }
+}
+
 /// A BAG in milliseconds, by its index.
 pub fn bag_ms(index: usize) -> u64
     requires { index < 8 }
@@ -57,7 +74,9 @@ pub fn bag_ms(index: usize) -> u64
 /// The jitter that a link's frames need at a BAG, in microseconds, rounded up.
 fn jitter_us(link: &LinkSurvey, bag: usize) -> u64
     requires { bag < 8 }
-    ensures { result ≤ MAX_JITTER_US }
+    ensures bound { result ≤ MAX_JITTER_US }
+    ensures jitter { (frames : List Sighting) → CountsLink link.now frames
+        → IsJitter (slice_index bags bag) (received_on A frames) (received_on B frames) result }
 {
     let needed = needed_by(&link.a, bag).max(needed_by(&link.b, bag));
     needed.div_ceil(1000).min(MAX_JITTER_US)
@@ -65,7 +84,8 @@ fn jitter_us(link: &LinkSurvey, bag: usize) -> u64
 
 /// The greatest difference of time between copies, in microseconds, rounded up.
 fn skew_us(link: &LinkSurvey) -> u64
-    ensures { result ≤ 1000000 }
+    ensures bound { result ≤ 1000000 }
+    ensures skew { (frames : List Sighting) → CountsLink link.now frames → result ≡ skew_micros frames }
 {
     link.copies.greatest_skew().div_ceil(1000).min(MAX_SKEW_US)
 }
@@ -80,8 +100,25 @@ fn has_steps(arrivals: &Arrivals) -> bool {
 }
 
 impl<'a> Known<'a> {
+    /// Is it specified or seen?
+    pub fn is_any(&self) -> bool
+        ensures { result ≡ (is_some self.now.specified || is_some self.now.seen) }
+    {
+        self.specified.is_some() || self.seen.is_some()
+    }
+
+    /// The BAG that is specified, in milliseconds.
+    pub fn bag_ms(&self) -> Option<u64>
+        ensures { result ≡ given (λ link. link.bag_ms) (option_copied self.now.specified) }
+    {
+        self.specified?.bag_ms
+    }
+
     /// The name that is specified.
-    pub fn name(&self) -> Option<&'a str> {
+    pub fn name(&self) -> Option<&'a str>
+        ensures { option_copied result
+            ≡ option_map string_bytes (given (λ link. link.name) (option_copied self.now.specified)) }
+    {
         match &self.specified?.name {
             Some(name) => Some(name.as_str()),
             None => None,
@@ -93,36 +130,40 @@ impl Known<'_> {
     /// The estimate of the frames, with the jitter that they need at a BAG.
     fn estimate_at(&self, bag: Option<usize>) -> Estimate
         requires { IfSome bag (λ index. index < 8) }
+        ensures { (frames : List Sighting) → length frames < 2 ^ 32
+            → IsSeenOf frames (option_copied self.now.seen) → IsEstimateAt bag frames result }
     {
         let Some(link) = self.seen else {
             return UNKNOWN;
         };
         let estimate = Estimate::of(link);
-        match bag {
-            Some(bag) => Estimate {
-                bag: estimate.bag,
-                jitter_us: jitter_us(link, bag),
-                smax: estimate.smax,
-                integrity: estimate.integrity,
-                redundancy: estimate.redundancy,
-                skew_us: estimate.skew_us,
-            },
-            None => estimate,
+        let bag = bag.unwrap_or(estimate.bag);
+        Estimate {
+            bag: estimate.bag,
+            jitter_us: jitter_us(link, bag),
+            smax: estimate.smax,
+            integrity: estimate.integrity,
+            redundancy: estimate.redundancy,
+            skew_us: estimate.skew_us,
         }
     }
 
     /// What the draft has: of each key what is specified, and otherwise what was seen. The jitter that was
     /// seen is that which the frames need at the draft's BAG.
-    pub fn drafted(&self) -> Estimate {
+    pub fn drafted(&self) -> Estimate
+        ensures { (frames : List Sighting) → length frames < 2 ^ 32
+            → IsSeenOf frames (option_copied self.now.seen)
+            → HasValues (option_copied self.now.specified) frames result }
+    {
         let Some(specified) = self.specified else {
             return self.estimate_at(None);
         };
-        let bag = specified.bag_ms.map(bag_index);
+        let bag = specified_bag(specified);
         let seen = self.estimate_at(bag);
         Estimate {
             bag: bag.unwrap_or(seen.bag),
             jitter_us: specified.jitter_us.unwrap_or(seen.jitter_us),
-            smax: specified.smax.map_or(seen.smax, |smax| smax as u32),
+            smax: specified.smax.unwrap_or(u64::from(seen.smax)) as u32,
             integrity: specified.integrity.unwrap_or(seen.integrity),
             redundancy: specified.redundancy.unwrap_or(seen.redundancy),
             skew_us: specified
@@ -133,7 +174,9 @@ impl Known<'_> {
 
     /// The skew of a link whose document leaves it out: none where the draft has redundancy management off.
     fn skew_beside(&self, specified: &IcdLink, estimate: Estimate) -> u64
-        ensures { result ≤ 1000000 }
+        ensures bound { result ≤ 1000000 }
+        ensures skew { (frames : List Sighting) → IsSeenOf frames (option_copied self.now.seen)
+            → result ≡ skew_where (unwrap_or specified.now.redundancy estimate.redundancy) frames }
     {
         match self.seen {
             Some(link) if specified.redundancy.unwrap_or(estimate.redundancy) => skew_us(link),

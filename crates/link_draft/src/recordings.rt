@@ -10,8 +10,13 @@ pub struct Recordings {
 }
 
 impl Recordings {
+    ghost use Rattle.std.specs.Prelude.{◌≡◌};
+    ghost use Rattle.link_draft.specs.Drafts.{late_micros};
+
     /// How far a timestamp lies below the greatest one before it, in microseconds, rounded up.
-    pub fn late_us(&self) -> u64 {
+    pub fn late_us(&self) -> u64
+        ensures { result ≡ late_micros self.now }
+    {
         let a = self.a.map_or(0, |a| a.late);
         let b = self.b.map_or(0, |b| b.late);
         a.max(b).div_ceil(1000)

@@ -18,7 +18,8 @@ pub const HEADER: &str = "\
 
 /// How a draft begins that a document has a part in.
 pub const ICD_HEADER: &str = "\
-# A draft of the table of virtual links: what an ICD specifies, and what was seen in recordings where it leaves a value out.
+# A draft of the table of virtual links: what an ICD specifies, and what was seen in \
+recordings where it leaves a value out.
 ";
 
 /// How a network's recording was read.
