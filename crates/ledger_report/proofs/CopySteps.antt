@@ -1,10 +1,10 @@
 -- What a line says of the copies and of the latest deliveries, by its word of redundancy management.
-use Rattle.std.proofs.Common.{◌≡◌, ◌∙◌, ℕ, ◌+◌, ◌-◌, ◌<◌, ◌^◌, ◌==◌, max, Bool, false, Option, Some, if◌then◌else◌, sym, ap, subst}
+use Rattle.std.proofs.Common.{◌≡◌, ◌∙◌, ℕ, List, ◌+◌, ◌-◌, ◌<◌, ◌≤◌, ◌^◌, ◌==◌, max, Bool, false, Option, Some, if◌then◌else◌, sym, ap, subst}
 use Rattle.std.specs.Option.{option_map_or}
 use Rattle.redundancy.specs.declared.verdict.Redundancy.{Redundancy}
 use Rattle.redundancy.specs.declared.verdict.Redundancy.TheVariants.{Deliver, Copy}
 use Rattle.ledger_text.specs.declared.frame.FrameLine.{FrameLine}
-use Rattle.ledger_report.specs.Copies.{CopyNumbers, KeepsCopies, KeepsLatest, NotesCopy, NotesCopyWhere, NotesLatest, NotesLatestWhere, Spot, TakesCopy, TakesLatest, copy_numbers, skew_in, spot_at}
+use Rattle.ledger_report.specs.Copies.{CopyNumbers, CountsMore, KeepsCopies, KeepsLatest, NotesCopy, NotesCopyWhere, NotesLatest, NotesLatestWhere, Spot, TakesCopy, TakesLatest, skew_in, spot_at}
 use Rattle.ledger_report.specs.Deliveries.{says_copy, says_deliver}
 use Rattle.ledger_report.specs.Sums.{saturated}
 use Rattle.ledger_report.specs.declared.link.LinkReport.{LinkReport}
@@ -14,14 +14,20 @@ use Rattle.ledger_report.specs.declared.pairing.Pairing.{Pairing}
 takes_copy_from : (number stamp : ℕ) (old mid new : LinkReport) → KeepsCopies old mid → KeepsLatest old.pairing mid.pairing →
     TakesCopy (skew_in mid number stamp) mid new → TakesCopy (skew_in old number stamp) old new
 takes_copy_from number stamp old mid new same latest takes few =
+    let bound = ap (λ (c : CopyNumbers). c.skew_max) same in
     let skew : skew_in mid number stamp ≡ skew_in old number stamp =
     ap (λ (o : Option Spot). stamp - option_map_or (λ (s : Spot). s.place.stamp) o 0) (latest number) in
-    takes (subst (λ n. n + 1 < 2 ^ 64) (sym (ap (λ (c : CopyNumbers). c.copies) same)) few)
-    ∙ ap (λ (c : CopyNumbers). with_skew c (skew_in mid number stamp)) same
-    ∙ ap (λ n. with_skew (copy_numbers old) n) skew
-  where
-    with_skew : CopyNumbers → ℕ → CopyNumbers
-    with_skew c skew = record { copies = c.copies + 1; skew_sum = saturated (c.skew_sum + skew); skew_greatest = max c.skew_greatest skew }
+    let taken = takes (subst (λ n. n + 1 < 2 ^ 64) (sym (ap (λ (c : CopyNumbers). c.copies) same)) few) in record {
+      within = subst (λ n. n ≤ old.skew_max) skew (subst (λ n. skew_in mid number stamp ≤ n) bound taken.within);
+      skew_max = taken.skew_max ∙ bound;
+      copies = taken.copies ∙ ap (λ (c : CopyNumbers). c.copies + 1) same;
+      skew_sum = taken.skew_sum ∙ ap (λ (c : CopyNumbers). saturated (c.skew_sum + skew_in mid number stamp)) same
+          ∙ ap (λ n. saturated (old.skew_sum + n)) skew;
+      skew_greatest = taken.skew_greatest ∙ ap (λ (c : CopyNumbers). max c.skew_greatest (skew_in mid number stamp)) same
+          ∙ ap (λ n. max old.skew_greatest n) skew;
+      classes = subst (λ n. CountsMore n old.classes.counts.items new.classes.counts.items) skew
+          (subst (λ (c : List ℕ). CountsMore (skew_in mid number stamp) c new.classes.counts.items) (ap (λ (c : CopyNumbers). c.classes) same) taken.classes);
+    }
 
 pub copies_on : (line : FrameLine) (number : ℕ) (at : Moment) (old mid new : LinkReport) → line.redundancy ≡ Some Copy → KeepsCopies old mid →
     KeepsLatest old.pairing mid.pairing → TakesCopy (skew_in mid number at.place.stamp) mid new → NotesCopy line number at old new

@@ -7,7 +7,7 @@ use Rattle.ledger_report.specs.LaneLines.{bytes_of, early_amount, excess_lead, h
 use Rattle.ledger_report.specs.LaneParts.{TakesAmounts, TakesInterval, TakesLine, TakesNumber, TakesRule, interval_in, numbering_in}
 use Rattle.ledger_report.specs.Lanes.{IsLaneSign, StandsAfter, Step, amount_of, counted_at, excess_leads, hits, interval_of, intervals, missing_after_silence, newest, numbering_at, oldest, steps}
 use Rattle.ledger_report.specs.Alone.{KeepsAlone, MissesMore}
-use Rattle.ledger_report.specs.Marks.{HasHits, IsRule, mark_at, sign_index}
+use Rattle.ledger_report.specs.Marks.{HasHits, IsRule, KeepsHits, mark_at, sign_index}
 use Rattle.ledger_report.specs.Numbering.{counted_numbering, missing_in, numbering_of}
 use Rattle.ledger_report.specs.Extremes.{Hit}
 use Rattle.ledger_report.specs.Sums.{saturated, total_of}
@@ -20,6 +20,7 @@ use Rattle.ledger_report.specs.declared.signs.Mark.{Mark}
 use Rattle.ledger_report.specs.declared.signs.Sign.{Sign}
 use Rattle.ledger_report.specs.declared.signs.Sign.TheVariants.{Cut, Runt, Oversize, Foreign, Unconfigured, TooLong, Excess, Out, Lost, Repeat, Reset, Alone, Late, Early}
 use Rattle.ledger_report.specs.declared.signs.Signs.{Signs}
+use Rattle.ledger_report.proofs.MarkMoves.{rule_gone, rule_none, rule_some}
 use Rattle.ledger_report.proofs.LaneSums.{bytes_more, count_more, greatest_more, least_more, sum_more, total_where}
 
 -- ---- the line before
@@ -175,3 +176,21 @@ missed_same rules line s0 s1 s2 s3 s4 t1 t2 t3 t4 k1 k3 k4 none few =
     let alone : (mark_at s4.signs Alone none).count ≡ (mark_at s0.signs Alone none).count =
     ap (λ (m : Mark). m.count) (k4 none ∙ k3 none ∙ ap (λ (l : Lane). mark_at l.signs Alone none) t2.rest ∙ k1 none) in
     omega (arith, uncovered, held, alone)
+
+-- no line of a lane is late by itself
+late_rule : (line : LaneLine) → IfSome line.rule IsRule → rule_amount line Late ≡ 0
+late_rule line is = cases (is_out_after_silence line) refl line.rule refl is
+  where
+    cases : (gone : Bool) → is_out_after_silence line ≡ gone → (rule : Option Sign) → line.rule ≡ rule → IfSome rule IsRule → rule_amount line Late ≡ 0
+    cases true out rule some is = rule_gone line Late out
+    cases false out None none is = rule_none line Late out none
+    cases false out (Some rule) some is =
+        rule_some line rule Late out some ∙ ap (λ (b : Bool). if b then 1 else 0) (ne_eqb (sign_index rule) 12 (omega (arith, is)))
+
+pub late_same : (rules : LaneRules) (line : LaneLine) (s0 s1 s2 s3 s4 : Lane) → IfSome line.rule IsRule → TakesInterval rules.least line s0 s1 → TakesLine line s1 s2
+    → TakesRule line s2 s3 → TakesNumber rules.integrity line s3 s4 → KeepsHits Late s0.signs s4.signs
+late_same rules line s0 s1 s2 s3 s4 is t1 t2 t3 t4 hits has =
+    let first = t1.signs Late hits has in
+    let second = subst (λ (s : Signs). HasHits s Late hits) (sym (ap (λ (l : Lane). l.signs) t2.rest)) first in
+    let third = subst (λ n. HasHits s3.signs Late (cons_option (hit_of line.at.place n) hits)) (late_rule line is) (t3.signs Late hits second) in
+    t4.signs Late hits third

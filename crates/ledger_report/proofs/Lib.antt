@@ -1,8 +1,14 @@
 pub mod AccountSteps
+pub mod AloneSteps
+pub mod Classes
 pub mod CopySteps
 pub mod CountsSteps
+pub mod Coverings
 pub mod Distances
 pub mod Ends
+pub mod FateLines
+pub mod FateNotes
+pub mod FateSteps
 pub mod Indexes
 pub mod KeepSteps
 pub mod LaneMoves
@@ -10,8 +16,12 @@ pub mod LaneSteps
 pub mod LaneSums
 pub mod LinkSteps
 pub mod MarkMoves
+pub mod Medians
 pub mod NetworkSteps
+pub mod OutsideSteps
 pub mod Pendings
 pub mod Readings
+pub mod RuleSteps
 pub mod Spans
 pub mod Tallies
+pub mod Widths

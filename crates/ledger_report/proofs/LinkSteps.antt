@@ -1,21 +1,24 @@
 -- One more line of the ledger, for a link.
-use Rattle.std.proofs.Common.{◌≡◌, ℕ, ◌+◌, ◌-◌, ◌==◌, max, if◌then◌else◌, ◌<◌, ◌^◌, ◌&&◌, Bool, true, false, nat_lt, cond, List, [], ◌∷◌, length, map, filter, find, Option, Some, None, unwrap_or, refl, sym, ap, ◌∙◌, subst, arith}
+use Rattle.std.proofs.Common.{◌≡◌, ℕ, ◌+◌, ◌-◌, ◌*◌, ◌==◌, max, if◌then◌else◌, ◌<◌, ◌≤◌, ◌^◌, ◌&&◌, Bool, true, false, nat_lt, cond, List, [], ◌∷◌, length, map, filter, find, Option, Some, None, unwrap_or, refl, sym, ap, ◌∙◌, subst, arith}
 use Rattle.std.specs.List.{cons_option, count_by}
 use Rattle.std.proofs.lemmas.List.Sums.{count_by-le-length}
 use Rattle.std.specs.Option.{IfSome, option_map, option_map_or}
-use Rattle.std.proofs.lemmas.Bool.{and_from, and_left, and_parts, and_right, eq-eqb, eqb-false, eqb-true, lt-ltb, ne_eqb}
+use Rattle.std.proofs.lemmas.Bool.{and_from, and_left, and_parts, and_right, lt-ltb}
 use Rattle.std.proofs.lemmas.Option.{none-some}
 use Rattle.afdx_frame.specs.declared.key.Network.{Network}
 use Rattle.afdx_frame.specs.declared.key.Network.TheVariants.{A, B}
+use Rattle.ledger_text.specs.FrameText.{IsFrameLine}
 use Rattle.ledger_text.specs.declared.frame.FrameLine.{FrameLine}
 use Rattle.ledger_report.specs.Extremes.{Hit, IsFirst, IsLast}
 use Rattle.ledger_report.specs.Keeping.{KeepsLane, KeepsLink, KeepsReport, LaneNumbers, NotesLane, NotesLaneOn, TakesLaneLine, Tally, tally_of}
+use Rattle.ledger_report.specs.Classes.{CountsClasses}
 use Rattle.ledger_report.specs.Copies.{CopyNumbers, HasLatest, NotesCopy, NotesCopyWhere, NotesLatest, NotesLatestWhere, Spot, delivers, latest_delivery, skew_after, skew_in, skews, spot_at, spot_of}
 use Rattle.ledger_report.specs.Deliveries.{copy_count, is_copy, is_deliver}
 use Rattle.ledger_report.specs.LaneLines.{one_where, stamp_of}
 use Rattle.ledger_report.specs.Lanes.{IsLaneSign, StandsAfter, hits, newest, oldest}
 use Rattle.ledger_report.specs.LinkLines.{is_after_silence, is_lane_line, is_silent_since, lane_line, lane_lines, latest_ordinal, ordinal_of, place_of}
-use Rattle.ledger_report.specs.Links.{IsLinkOf, Row, lane_rules, row_in}
+use Rattle.ledger_report.specs.Links.{CountsMet, IsLinkOf, Row, lane_rules, pairing_rules, row_in}
+use Rattle.ledger_report.specs.Pairs.{HasFatesOf, NotesFates}
 use Rattle.ledger_report.specs.Marks.{HasHits, mark_at}
 use Rattle.ledger_report.specs.Networks.{IsNetworkOf}
 use Rattle.ledger_report.specs.Noting.{AreNetworksOf, IsMomentOf, seen_line}
@@ -38,12 +41,14 @@ use Rattle.ledger_report.specs.declared.signs.Sign.{Sign}
 use Rattle.ledger_report.specs.declared.signs.Sign.TheVariants.{Cut, Runt, Oversize, Foreign, Unconfigured, TooLong, Excess, Out, Lost, Repeat, Reset, Alone, Late, Early}
 use Rattle.ledger_report.specs.declared.signs.Signs.{Signs}
 use Rattle.ledger_report.specs.declared.sides.Sides.{Sides}
+use Rattle.ledger_report.proofs.FateLines.{fates_more, fates_other, keeps_fates, settled_other, settled_own}
+use Rattle.ledger_report.proofs.FateSteps.{eq_swap}
 use Rattle.ledger_report.proofs.KeepSteps.{keeps_lane_on}
 use Rattle.ledger_report.proofs.NetworkSteps.{count_cons, frames_own}
 
 -- ---- what stays
 
-mark_same : (old new : Mark) (hits : List Hit) → tally_of new ≡ tally_of old → IsMarkOf hits old → IsMarkOf hits new
+pub mark_same : (old new : Mark) (hits : List Hit) → tally_of new ≡ tally_of old → IsMarkOf hits old → IsMarkOf hits new
 mark_same old new hits same is = record {
   count = ap (λ (t : Tally). t.count) same ∙ is.count;
   first = subst (λ (p : Option Place). IsFirst p hits) (sym (ap (λ (t : Tally). t.first) same)) is.first;
@@ -69,13 +74,16 @@ keeps_lane rules lines old new (is, marks, room) h = record {
 }
 
 pub keeps_link : (row : Row) (lines : List FrameLine) (old new : LinkReport) → KeepsReport old new → IsLinkOf row lines old → IsLinkOf row lines new
-keeps_link row lines old new ((is, a, b), deliveries, copies, pairing) h = record {
+keeps_link row lines old new ((is, a, b), deliveries, copies, pairing, fates) h = record {
   says = is ∙ h.says;
   deliveries = deliveries ∙ h.deliveries;
   copies = ap (λ (c : CopyNumbers). c.copies) copies ∙ h.copies;
   skew_sum = ap (λ (c : CopyNumbers). c.skew_sum) copies ∙ h.skew_sum;
   skew_greatest = ap (λ (c : CopyNumbers). c.skew_greatest) copies ∙ h.skew_greatest;
+  within = h.within;
+  classes = subst (CountsClasses (skews row.id lines)) (sym (ap (λ (c : CopyNumbers). c.classes) copies)) h.classes;
   latest = subst (HasLatest row.id lines) (sym pairing) h.latest;
+  fates_are = keeps_fates (pairing_rules row) lines old new pairing fates.numbers fates.signs h.fates_are;
   room = (a.2 h.room.0, b.2 h.room.1);
   a = keeps_lane (lane_rules row) (lane_lines row.id A lines) old.lanes.a new.lanes.a a h.a;
   b = keeps_lane (lane_rules row) (lane_lines row.id B lines) old.lanes.b new.lanes.b b h.b;
@@ -111,18 +119,25 @@ latest_other id number line lines off =
     ap (λ (b : Bool). cond b (Some line) (latest_delivery id number lines))
     (and_left (is_seen_of id line) (is_deliver line && option_map_or (λ n. n == number) line.sequence false) off)
 
-eq_swap : (n m : ℕ) → (n == m) ≡ (m == n)
-eq_swap n m = cases (n == m) refl
-  where
-    cases : (b : Bool) → (n == m) ≡ b → (n == m) ≡ (m == n)
-    cases true same = same ∙ sym (eq-eqb m n (sym (eqb-true n m same)))
-    cases false differ = differ ∙ sym (ne_eqb m n (λ (e : m ≡ n). eqb-false n m differ (sym e)))
-
 -- what a line of the link adds to its copies
 pub record CopiesOf (id : ℕ) (lines : List FrameLine) (report : LinkReport) : Type 0 where
   pub copies : report.copies ≡ copy_count id lines
   pub skew_sum : report.skew_sum ≡ saturated (total_of (skews id lines))
   pub skew_greatest : report.skew_greatest ≡ greatest_of (skews id lines)
+  pub within : greatest_of (skews id lines) ≤ report.skew_max
+  pub classes : CountsClasses (skews id lines) report.classes.counts.items
+
+-- each copy has a skew
+pub skews_count : (id : ℕ) (lines : List FrameLine) → length (skews id lines) ≡ copy_count id lines
+skews_count id [] = refl
+skews_count id (line ∷ lines) =
+    at (is_seen_of id line && is_copy line) (skew_after id line lines)
+    ∙ ap (λ n. cond (is_seen_of id line && is_copy line) 1 0 + n) (skews_count id lines)
+    ∙ sym (count_cons (λ l. is_seen_of id l && is_copy l) line lines (cond (is_seen_of id line && is_copy line) 1 0) refl)
+  where
+    at : (b : Bool) (skew : ℕ) → length (cons_option (if b then Some skew else None) (skews id lines)) ≡ cond b 1 0 + length (skews id lines)
+    at true skew = omega arith
+    at false skew = omega arith
 
 copies_own : (id : ℕ) (line : FrameLine) (lines : List FrameLine) (skew : ℕ) (says : Bool) (old new : LinkReport) → is_seen_of id line ≡ true → is_copy line ≡ says →
     length lines < 2 ^ 34 → skew ≡ skew_after id line lines → NotesCopyWhere says skew old new → CopiesOf id lines old → CopiesOf id (line ∷ lines) new
@@ -134,11 +149,14 @@ copies_own id line lines skew true old new on says few same notes h =
     ap (λ (b : Bool). cons_option (if b then Some (skew_after id line lines) else None) (skews id lines)) test in
     let moved = notes (omega (arith, h.copies, small, few)) in
     record {
-      copies = ap (λ (c : CopyNumbers). c.copies) moved ∙ omega (arith, more, h.copies);
-      skew_sum = ap (λ (c : CopyNumbers). c.skew_sum) moved ∙ omega (arith, h.skew_sum, same)
-          ∙ sym (ap (λ (xs : List ℕ). saturated (total_of xs)) is);
-      skew_greatest = ap (λ (c : CopyNumbers). c.skew_greatest) moved ∙ ap (λ n. max n skew) h.skew_greatest ∙ ap (λ n. max (greatest_of (skews id lines)) n) same
+      within = subst (λ (xs : List ℕ). greatest_of xs ≤ new.skew_max) (sym is) (omega (arith, h.within, moved.within, moved.skew_max, same));
+      copies = moved.copies ∙ omega (arith, more, h.copies);
+      skew_sum = moved.skew_sum ∙ omega (arith, h.skew_sum, same) ∙ sym (ap (λ (xs : List ℕ). saturated (total_of xs)) is);
+      skew_greatest = moved.skew_greatest ∙ ap (λ n. max n skew) h.skew_greatest ∙ ap (λ n. max (greatest_of (skews id lines)) n) same
           ∙ sym (ap (λ (xs : List ℕ). greatest_of xs) is);
+      classes = subst (λ (xs : List ℕ). CountsClasses xs new.classes.counts.items) (sym is)
+          (subst (λ n. CountsClasses (n ∷ skews id lines) new.classes.counts.items) same
+          (moved.classes (skews id lines) (omega (arith, skews_count id lines, small, few)) h.classes));
     }
 copies_own id line lines skew false old new on says few same notes h =
     let test : (is_seen_of id line && is_copy line) ≡ false = and_right (is_seen_of id line) (is_copy line) says in
@@ -146,9 +164,12 @@ copies_own id line lines skew false old new on says few same notes h =
     let is : skews id (line ∷ lines) ≡ skews id lines =
     ap (λ (b : Bool). cons_option (if b then Some (skew_after id line lines) else None) (skews id lines)) test in
     record {
+      within = subst (λ (xs : List ℕ). greatest_of xs ≤ new.skew_max) (sym is) (omega (arith, h.within, ap (λ (c : CopyNumbers). c.skew_max) notes));
       copies = ap (λ (c : CopyNumbers). c.copies) notes ∙ omega (arith, more, h.copies);
       skew_sum = ap (λ (c : CopyNumbers). c.skew_sum) notes ∙ h.skew_sum ∙ sym (ap (λ (xs : List ℕ). saturated (total_of xs)) is);
       skew_greatest = ap (λ (c : CopyNumbers). c.skew_greatest) notes ∙ h.skew_greatest ∙ sym (ap (λ (xs : List ℕ). greatest_of xs) is);
+      classes = subst (λ (xs : List ℕ). CountsClasses xs new.classes.counts.items) (sym is)
+          (subst (CountsClasses (skews id lines)) (sym (ap (λ (c : CopyNumbers). c.classes) notes)) h.classes);
     }
 
 -- the latest delivery of each number, with a line of the link
@@ -183,7 +204,10 @@ link_other row line lines report off h = record {
   copies = h.copies ∙ sym (count_other row.id is_copy line lines off);
   skew_sum = h.skew_sum ∙ sym (ap (λ (xs : List ℕ). saturated (total_of xs)) (skews_other row.id line lines off));
   skew_greatest = h.skew_greatest ∙ sym (ap (λ (xs : List ℕ). greatest_of xs) (skews_other row.id line lines off));
+  within = subst (λ (xs : List ℕ). greatest_of xs ≤ row.skew_max) (sym (skews_other row.id line lines off)) h.within;
+  classes = subst (λ (xs : List ℕ). CountsClasses xs report.classes.counts.items) (sym (skews_other row.id line lines off)) h.classes;
   latest = λ number. h.latest number ∙ sym (ap (λ (o : Option FrameLine). option_map spot_of o) (latest_other row.id number line lines off));
+  fates_are = fates_other (pairing_rules row) line lines report off h.fates_are;
   a = subst (λ (ls : List LaneLine). StandsAfter (lane_rules row) ls report.lanes.a)
       (sym (lines_other row.id A line lines (and_left (is_seen_of row.id line) (is_on A line) off))) h.a;
   b = subst (λ (ls : List LaneLine). StandsAfter (lane_rules row) ls report.lanes.b)
@@ -317,11 +341,11 @@ stamp_at (Some line) = refl
 -- one more line of the link
 pub link_more : (row : Row) (line : FrameLine) (lines : List FrameLine) (number : ℕ) (at : Moment) (networks : Sides NetworkReport) (old new : LinkReport) → length lines < 2 ^ 34 →
     (old.deliveries + 1 < 2 ^ 64 → new.deliveries ≡ old.deliveries + one_where (is_deliver line)) →
-    NotesCopy line number at old new → NotesLatest line number at old new →
+    NotesCopy line number at old new → NotesLatest line number at old new → NotesFates line number at old new → IsFrameLine line →
     is_seen_of row.id line ≡ true → line.sequence ≡ Some number → IsMomentOf line at → AreNetworksOf (line ∷ lines) networks →
     NotesLane (seen_line (side_of at.network old.lanes) (side_of at.network networks) line number at) old new →
     IsLinkOf row lines old → IsLinkOf row (line ∷ lines) new
-link_more row line lines number at networks old new few delivers copies latest seen sequence moment are (is, notes) h =
+link_more row line lines number at networks old new few delivers copies latest fates reached seen sequence moment are (is, notes) h =
     at_network line.network refl (subst at_side moment.network notes)
   where
     skew_same : skew_in old number at.place.stamp ≡ skew_after row.id line lines
@@ -331,16 +355,27 @@ link_more row line lines number at networks old new few delivers copies latest s
         ∙ ap (λ n. line.stamp.0 - n) (stamp_at (latest_delivery row.id number lines))
         ∙ ap (λ (o : Option ℕ). line.stamp.0 - option_map_or (λ (l : FrameLine). l.stamp.0) (latest_delivery row.id (unwrap_or o 0) lines) 0) (sym sequence)
 
+    bound : old.skew_max ≡ row.skew_max
+    bound = ap (λ (r : Row). r.skew_max) h.says
+
     own_copies : CopiesOf row.id (line ∷ lines) new
     own_copies =
         copies_own row.id line lines (skew_in old number at.place.stamp) (is_copy line) old new seen refl few skew_same copies
-        (record { copies = h.copies; skew_sum = h.skew_sum; skew_greatest = h.skew_greatest })
+        (record { copies = h.copies; skew_sum = h.skew_sum; skew_greatest = h.skew_greatest; within = subst (λ n. greatest_of (skews row.id lines) ≤ n) (sym bound) h.within; classes = h.classes })
+
+    own_within : greatest_of (skews row.id (line ∷ lines)) ≤ row.skew_max
+    own_within = subst (λ n. greatest_of (skews row.id (line ∷ lines)) ≤ n) (ap (λ (r : Row). r.skew_max) is ∙ bound) own_copies.within
 
     own_latest : HasLatest row.id (line ∷ lines) new.pairing
     own_latest =
         latest_own row.id number line lines (record { network = at.network; place = at.place }) (is_deliver line) old.pairing new.pairing seen refl sequence
         (ap (λ (n : Network). record { network = n; place = at.place }) moment.network ∙ ap (λ (p : Place). record { network = line.network; place = p }) moment.place)
         latest h.latest
+
+    own_fates : HasFatesOf (pairing_rules row) (line ∷ lines) new
+    own_fates =
+        fates_more (pairing_rules row) line lines number seen sequence at old new few moment.network moment.place
+        (ap (λ (r : Row). saturated (r.bag * 127)) h.says) (ap (λ (r : Row). r.redundancy) h.says) reached fates h.fates_are
 
     at_side : Network → Type 0
     at_side n = NotesLaneOn n (lane_rules (row_in old)) (seen_line (side_of n old.lanes) (side_of n networks) line number at) old.lanes new.lanes
@@ -368,7 +403,10 @@ link_more row line lines number at networks old new few delivers copies latest s
       copies = own_copies.copies;
       skew_sum = own_copies.skew_sum;
       skew_greatest = own_copies.skew_greatest;
+      within = own_within;
+      classes = own_copies.classes;
       latest = own_latest;
+      fates_are = own_fates;
       a = lane_more row A line lines number at old.lanes.a new.lanes.a networks.a (own_line A here refl) sequence moment.place are.a
           (with_row _ old.lanes.a new.lanes.a own) h.a;
       b = stays B old.lanes.b new.lanes.b (other_line B A here refl) other h.b;
@@ -380,11 +418,26 @@ link_more row line lines number at networks old new few delivers copies latest s
       copies = own_copies.copies;
       skew_sum = own_copies.skew_sum;
       skew_greatest = own_copies.skew_greatest;
+      within = own_within;
+      classes = own_copies.classes;
       latest = own_latest;
+      fates_are = own_fates;
       a = stays A old.lanes.a new.lanes.a (other_line A B here refl) other h.a;
       b = lane_more row B line lines number at old.lanes.b new.lanes.b networks.b (own_line B here refl) sequence moment.place are.b
           (with_row _ old.lanes.b new.lanes.b own) h.b;
     }
+
+-- a line of another link settles nothing
+pub met_other : (row : Row) (line : FrameLine) (lines : List FrameLine) (report : LinkReport) → is_seen_of row.id line ≡ false →
+    CountsMet row lines report → CountsMet row (line ∷ lines) report
+met_other row line lines report off h = h ∙ sym (settled_other (pairing_rules row) line lines off)
+
+-- one more line of the link settles the delivery of its number before
+pub met_own : (row : Row) (line : FrameLine) (lines : List FrameLine) (number : ℕ) (at : Moment) (old new : LinkReport) → length lines < 2 ^ 34 →
+    is_seen_of row.id line ≡ true → line.sequence ≡ Some number → IsMomentOf line at → IsFrameLine line → NotesFates line number at old new →
+    IsLinkOf row lines old → CountsMet row lines old → CountsMet row (line ∷ lines) new
+met_own row line lines number at old new few seen sequence moment reached notes is h =
+    settled_own (pairing_rules row) line lines number seen sequence at old new few (ap (λ (r : Row). r.redundancy) is.says) reached notes is.fates_are h
 
 -- the lane of a line has taken it, and later steps keep that
 pub notes_then : (line : LaneLine) (old mid new : LinkReport) → NotesLane line old mid → KeepsLink mid new → NotesLane line old new

@@ -6,7 +6,7 @@ use Rattle.ledger_report.specs.Extremes.{Hit}
 use Rattle.ledger_report.specs.Places.{IsMarkOf}
 use Rattle.ledger_report.specs.LaneLines.{early_amount, hit_of, is_out_after_silence, is_rule, lead_of, number_amount, one_where, rule_amount}
 use Rattle.ledger_report.specs.LaneParts.{TakesAmounts}
-use Rattle.ledger_report.specs.Marks.{HasHits, TakesHit, hits_with, sign_index}
+use Rattle.ledger_report.specs.Marks.{HasHits, KeepsHits, KeepsOthers, TakesHit, hits_with, sign_index}
 use Rattle.ledger_report.specs.declared.lane.LaneLine.{LaneLine}
 use Rattle.ledger_report.specs.declared.lane.Numbering.TheVariants.{Follows, Restarts, Repeats, Skips}
 use Rattle.ledger_report.specs.declared.moment.Place.{Place}
@@ -175,3 +175,9 @@ rule_none line other is none = rule_of-line line false None other is none
 pub rule_some : (line : LaneLine) (rule other : Sign) → is_out_after_silence line ≡ false → line.rule ≡ Some rule →
     rule_amount line other ≡ (if sign_index rule == sign_index other then 1 else 0)
 rule_some line rule other is some = rule_of-line line false (Some rule) other is some
+
+-- ---- late deliveries
+
+-- what happens to the sign `alone` leaves them
+pub kept_late : (old new : Signs) → KeepsOthers Alone old new → KeepsHits Late old new
+kept_late old new others hits has none = subst (IsMarkOf hits) (sym (others Late none refl)) (has none)

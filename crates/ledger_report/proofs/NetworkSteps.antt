@@ -15,6 +15,7 @@ use Rattle.ledger_report.specs.Sums.{saturated, total_of}
 use Rattle.ledger_report.specs.Words.{is_on}
 use Rattle.ledger_report.specs.declared.network.NetworkReport.{NetworkReport}
 use Rattle.ledger_report.specs.declared.network.Silence.{Silence}
+use Rattle.ledger_report.specs.declared.signs.Signs.{Signs}
 
 -- ---- what it adds
 
@@ -206,6 +207,18 @@ network_own network line lines stamp kept old mid counted new few on at kept_is 
     }
 
 -- ---- what stays
+
+-- the network's own signs are no numbers of it
+pub signs_changed : (network : Network) (lines : List FrameLine) (report : NetworkReport) (signs : Signs) → IsNetworkOf network lines report →
+    IsNetworkOf network lines (record report { signs = signs })
+signs_changed network lines report signs h = record {
+  frames = h.frames;
+  first = h.first;
+  last = h.last;
+  bytes = h.bytes;
+  silences = record { kept = h.silences.kept; more = h.silences.more };
+  since = h.since;
+}
 
 pub keeps_network : (network : Network) (lines : List FrameLine) (old new : NetworkReport) → KeepsNetwork old new →
     IsNetworkOf network lines old → IsNetworkOf network lines new

@@ -21,22 +21,27 @@ use Rattle.pcap_io.specs.declared.device.TapSource.{Ghosts as SourceMembers}
 use Rattle.ledger_report.specs.Counting.{AreCountsOf}
 use Rattle.ledger_report.specs.Keeping.{KeepsAccount}
 use Rattle.ledger_report.specs.Noting.{IsAccountOf}
+use Rattle.ledger_report.specs.Copies.{skews}
 use Rattle.ledger_report.specs.CountsLines.{HasCounted}
 use Rattle.ledger_report.specs.Reading.{HasNoted, HasRead, TellsLedger, report_of}
 use Rattle.ledger_report.specs.Settling.{GainFates}
-use Rattle.ledger_report.specs.Deliveries.{is_deliver}
-use Rattle.ledger_report.specs.Links.{AreLinksOf}
+use Rattle.ledger_report.specs.Deliveries.{is_copy, is_deliver}
+use Rattle.ledger_report.specs.Links.{AreEach, AreLinksOf, HasMet, pairing_rules, row_of}
+use Rattle.ledger_report.specs.OutsideLines.{IsOutsideOf}
 use Rattle.ledger_report.specs.Words.{is_seen_of}
+use Rattle.ledger_report.specs.SkewMedians.{GainMedians}
 use Rattle.ledger_report.specs.Span.{HasSpan, KeepsSpan}
 use Rattle.ledger_report.specs.declared.link.LinkReport.{LinkReport}
 use Rattle.std.proofs.lemmas.List.Sums.{count_by-le-length}
 use Rattle.ledger_report.specs.declared.counts.FrameCounts.{FrameCounts}
-use Rattle.ledger_report.specs.declared.report.OutsideLink.{OutsideLink}
 use Rattle.ledger_report.specs.declared.counts_lines.CountsLines.{CountsLines}
 use Rattle.ledger_report.specs.declared.statistics.Statistics.{Statistics}
+use Rattle.ledger_report.proofs.FateLines.{all_met, all_open}
 use Rattle.ledger_report.proofs.CountsSteps.{counted_frame}
 use Rattle.ledger_report.proofs.Spans.{span_end, span_kept}
 use Rattle.ledger_report.proofs.AccountSteps.{keeps_links, keeps_networks, link_at}
+use Rattle.ledger_report.proofs.LinkSteps.{skews_count}
+use Rattle.ledger_report.proofs.OutsideSteps.{outside_few}
 
 abbrev pub line_of : {S : Type 0} → LedgerReader S → LedgerLine → ReadLine
 line_of reader line = record { text = lent_of reader; line = line }
@@ -157,10 +162,15 @@ reads_nothing {S = S} s source reader same none (stage, number, sound) = record 
 }
 
 pub tells_ledger : (bytes : Option (List ℕ)) (links : List VirtualLink) (counts : FrameCounts) (old new : Statistics) (counted : CountsLines) → KeepsAccount old new → KeepsSpan old new
-    → GainFates old.links.items new.links.items → HasRead bytes links counts old counted → TellsLedger bytes links (report_of counts new counted)
-tells_ledger bytes links counts old new counted keeps kept gain h =
+    → GainFates old.links.items new.links.items → GainMedians old.links.items new.links.items → HasRead bytes links counts old counted → TellsLedger bytes links (report_of counts new counted)
+tells_ledger bytes links counts old new counted keeps kept gain middle h =
     let lines = reverse (frame_lines h.rs) in
-    let few : length lines ≤ MOST_LINES = omega (arith, h.few, length-reverse (frame_lines h.rs)) in record {
+    let few : length lines ≤ MOST_LINES = omega (arith, h.few, length-reverse (frame_lines h.rs)) in
+    let told_met : AreEach HasMet links lines new.links.items =
+    λ i link report within. (
+    let at : i < length old.links.items = omega (arith, within, h.account.links_are.count) in
+    all_met (pairing_rules (row_of (get_or links i link))) lines (get_or old.links.items i report) (get_or new.links.items i report) few
+    (h.account.links_are.each i link report within).fates_are (h.account.met_are i link report within) (gain i report at).1) in record {
       rs = h.rs;
       stage = h.stage;
       left = h.left;
@@ -171,10 +181,25 @@ tells_ledger bytes links counts old new counted keeps kept gain h =
       links_are = keeps_links links lines old.links.items new.links.items keeps.links h.account.links_are;
       start_is = (span_kept lines old new kept h.span).start;
       end_is = span_end lines new (span_kept lines old new kept h.span);
+      width_is = (span_kept lines old new kept h.span).width;
       counts_told = h.counted_are.told;
       whole_is = h.counted_are.whole_is;
-      few_outside = subst (λ (xs : List OutsideLink). length xs ≤ 65536) (sym keeps.outside) h.account.outside;
+      few_outside = outside_few lines new.outside.items (subst (IsOutsideOf lines) (sym keeps.outside) h.account.outside);
+      outside_are = subst (IsOutsideOf lines) (sym keeps.outside) h.account.outside;
       fates = λ i report within. (
           let below : i < length old.links.items = omega (arith, within, keeps.links.0) in
-          gain i report below (h.account.balanced i report below) (few_delivered links lines old.links.items h.account.links_are few i report below));
+          (gain i report below).0 (h.account.balanced i report below) (few_delivered links lines old.links.items h.account.links_are few i report below));
+      met_are = told_met;
+      open_are = λ i link report within. (
+          let at : i < length old.links.items = omega (arith, within, h.account.links_are.count) in
+          all_open (row_of (get_or links i link)) lines (get_or new.links.items i report)
+          ((keeps_links links lines old.links.items new.links.items keeps.links h.account.links_are).each i link report within)
+          ((gain i report at).0 (h.account.balanced i report at) (few_delivered links lines old.links.items h.account.links_are few i report at)).0
+          (told_met i link report within));
+      medians = λ i link report within.
+          (let id = (get_or links i link).id.0 in
+          let own = h.account.links_are.each i link report within in
+          let count = skews_count id lines in
+          let small = count_by-le-length (λ line. is_seen_of id line && is_copy line) lines in
+          middle i report (omega (arith, within, h.account.links_are.count)) (skews id lines) (omega (arith, count, small, few)) (own.copies ∙ sym count) own.classes);
     }

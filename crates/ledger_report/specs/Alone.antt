@@ -1,7 +1,19 @@
 -- What a step of a lane does to the deliveries that the other network didn't bring.
-use Rattle.std.specs.Prelude.{◌≡◌, ℕ, ◌+◌, ◌<◌, ◌^◌}
-use Rattle.ledger_report.specs.Marks.{mark_at}
+use Rattle.std.specs.Prelude.{◌≡◌, ℕ, ◌+◌, ◌<◌, ◌^◌, Bool, true, false, List, [], ◌∷◌, ◌++◌, length, map, Option, Some, None}
+use Rattle.afdx_frame.specs.declared.key.Network.{Network}
+use Rattle.afdx_frame.specs.declared.key.Network.TheVariants.{A, B}
+use Rattle.ledger_text.specs.declared.frame.FrameLine.{FrameLine}
+use Rattle.ledger_report.specs.Covered.{covered_so_far, is_covered}
+use Rattle.ledger_report.specs.Extremes.{Hit}
+use Rattle.ledger_report.specs.Marks.{HasHits, mark_at}
+use Rattle.ledger_report.specs.Networks.{IsNetworkOf}
+use Rattle.ledger_report.specs.Places.{IsMarkOf}
+use Rattle.ledger_report.specs.Standings.{frames_on}
+use Rattle.ledger_report.specs.Sums.{saturated}
 use Rattle.ledger_report.specs.declared.lane.Lane.{Lane}
+use Rattle.ledger_report.specs.declared.moment.Place.{Place}
+use Rattle.ledger_report.specs.declared.network.NetworkReport.{NetworkReport}
+use Rattle.ledger_report.specs.declared.sides.Sides.{Sides}
 use Rattle.ledger_report.specs.declared.signs.Mark.{Mark}
 use Rattle.ledger_report.specs.declared.signs.Sign.TheVariants.{Alone}
 use Rattle.ledger_report.specs.declared.signs.Signs.{Signs}
@@ -21,3 +33,62 @@ MissesSame old new = (none : Mark) → missed none new ≡ missed none old
 -- the mark `alone` stays
 abbrev pub KeepsAlone : Signs → Signs → Type 0
 KeepsAlone old new = (none : Mark) → mark_at new Alone none ≡ mark_at old Alone none
+
+-- ---- which of them
+
+-- the places of those that are alone, as the other network covers them; of those that are held, as nothing is known of it yet; and how many
+-- the other network doesn't cover
+pub record Missed : Type 0 where
+  pub alone : List Place
+  pub held : List Place
+  pub uncovered : ℕ
+
+abbrev pub no_missed : Missed
+no_missed = record { alone = []; held = []; uncovered = 0 }
+
+-- each of these places counts once
+abbrev pub hits_at : List Place → List Hit
+hits_at places = map (λ place. record { place = place; amount = 1 }) places
+
+-- The lane has them so.
+pub record HasMissed (missed : Missed) (lane : Lane) : Type 0 where
+  pub alone : HasHits lane.signs Alone (hits_at missed.alone)
+  pub held : IsMarkOf (hits_at missed.held) lane.held
+  pub uncovered : lane.uncovered ≡ saturated missed.uncovered
+
+-- What is known now, of the place of all that are held, settles them.
+abbrev pub settled_by : Option Bool → Missed → Missed
+settled_by None missed = missed
+settled_by (Some true) missed = record missed { alone = missed.held ++ missed.alone; held = [] }
+settled_by (Some false) missed = record missed { held = []; uncovered = length missed.held + missed.uncovered }
+
+-- One more, of whose place so much is known. Where nothing is, those that are held are settled first, so that all have one place among the
+-- other network's lines.
+abbrev pub with_missed : Option Bool → Option Bool → Place → Missed → Missed
+with_missed (Some true) held_known place missed = record missed { alone = place ∷ missed.alone }
+with_missed (Some false) held_known place missed = record missed { uncovered = missed.uncovered + 1 }
+with_missed None held_known place missed =
+    record (settled_by held_known missed) { held = place ∷ (settled_by held_known missed).held }
+
+-- They stay as they are.
+abbrev pub KeepsMissed : Lane → Lane → Type 0
+KeepsMissed old new = (new.held_before ≡ old.held_before) × ((missed : Missed) → HasMissed missed old → HasMissed missed new)
+
+-- At the end those that are held are alone where the other network covers their place, by all lines of the ledger, and uncovered elsewhere.
+abbrev pub EndsHeld : Network → NetworkReport → Lane → Lane → Type 0
+EndsHeld other twin old new =
+    (later earlier : List FrameLine) → IsNetworkOf other (later ++ earlier) twin → frames_on other earlier ≡ old.held_before
+    → (missed : Missed) → HasMissed missed old → HasMissed (settled_by (Some (is_covered other later earlier)) missed) new
+
+-- The lane takes one more at this place, with so many lines of the other network before it.
+abbrev pub TakesMissed : Network → NetworkReport → ℕ → Place → Lane → Lane → Type 0
+TakesMissed other twin before place old new =
+    (later earlier held_later held_earlier : List FrameLine) → IsNetworkOf other (later ++ earlier) twin → frames_on other earlier ≡ before
+    → held_later ++ held_earlier ≡ later ++ earlier → frames_on other held_earlier ≡ old.held_before
+    → (missed : Missed) → HasMissed missed old
+    → HasMissed (with_missed (covered_so_far other later earlier) (covered_so_far other held_later held_earlier) place missed) new
+
+-- that of the delivery's network, and the other lane stays
+abbrev pub NotesMissedOn : Network → ℕ → Place → Sides NetworkReport → Sides Lane → Sides Lane → Type 0
+NotesMissedOn A before place networks old new = TakesMissed B networks.b before place old.a new.a × (new.b ≡ old.b)
+NotesMissedOn B before place networks old new = TakesMissed A networks.a before place old.b new.b × (new.a ≡ old.a)

@@ -1,8 +1,9 @@
 -- The skews of a link's copies, over the ledger's lines of frames, the newest first (this project's profile). Times are in nanoseconds.
-use Rattle.std.specs.Prelude.{◌≡◌, ℕ, ◌+◌, ◌-◌, ◌<◌, ◌^◌, ◌==◌, max, Bool, true, false, ◌&&◌, List, filter_map, find, slice_index_or, Option, Some, None, unwrap_or, if◌then◌else◌}
+use Rattle.std.specs.Prelude.{◌≡◌, ℕ, ◌+◌, ◌-◌, ◌<◌, ◌≤◌, ◌^◌, ◌==◌, max, Bool, true, false, ◌&&◌, List, ◌∷◌, length, filter_map, find, slice_index_or, Option, Some, None, unwrap_or, if◌then◌else◌}
 use Rattle.std.specs.Option.{option_map, option_map_or}
 use Rattle.afdx_frame.specs.declared.key.Network.{Network}
 use Rattle.ledger_text.specs.declared.frame.FrameLine.{FrameLine}
+use Rattle.ledger_report.specs.Classes.{CountsClasses}
 use Rattle.ledger_report.specs.Deliveries.{is_copy, is_deliver}
 use Rattle.ledger_report.specs.LinkLines.{place_of}
 use Rattle.ledger_report.specs.Standings.{Standing, standings}
@@ -62,17 +63,21 @@ KeepsLatest old new = (number : ℕ) → spot_at new number ≡ spot_at old numb
 abbrev pub TakesLatest : ℕ → Spot → Pairing → Pairing → Type 0
 TakesLatest number spot old new = (n : ℕ) → spot_at new n ≡ (if n == number then Some spot else spot_at old n)
 
--- what the report says of the copies
+-- what the report says of the copies, what it counts for their median, and their bound
 pub record CopyNumbers : Type 0 where
   pub copies : ℕ
   pub skew_sum : ℕ
   pub skew_greatest : ℕ
+  pub classes : List ℕ
+  pub skew_max : ℕ
 
 abbrev pub copy_numbers : LinkReport → CopyNumbers
 copy_numbers report = record {
   copies = report.copies;
   skew_sum = report.skew_sum;
   skew_greatest = report.skew_greatest;
+  classes = report.classes.counts.items;
+  skew_max = report.skew_max;
 }
 
 abbrev pub KeepsCopies : LinkReport → LinkReport → Type 0
@@ -82,14 +87,21 @@ KeepsCopies old new = copy_numbers new ≡ copy_numbers old
 abbrev pub skew_in : LinkReport → ℕ → ℕ → ℕ
 skew_in report number stamp = stamp - option_map_or (λ spot. spot.place.stamp) (spot_at report.pairing number) 0
 
+-- one more skew is counted
+abbrev pub CountsMore : ℕ → List ℕ → List ℕ → Type 0
+CountsMore skew old new = (skews : List ℕ) → length skews < 2 ^ 62 → CountsClasses skews old → CountsClasses (skew ∷ skews) new
+
+-- SkewMax at most
+pub record AddsSkew (skew : ℕ) (old new : CopyNumbers) : Type 0 where
+  pub within : skew ≤ old.skew_max
+  pub skew_max : new.skew_max ≡ old.skew_max
+  pub copies : new.copies ≡ old.copies + 1
+  pub skew_sum : new.skew_sum ≡ saturated (old.skew_sum + skew)
+  pub skew_greatest : new.skew_greatest ≡ max old.skew_greatest skew
+  pub classes : CountsMore skew old.classes new.classes
+
 abbrev pub TakesCopy : ℕ → LinkReport → LinkReport → Type 0
-TakesCopy skew old new =
-    old.copies + 1 < 2 ^ 64
-    → copy_numbers new ≡ record {
-      copies = old.copies + 1;
-      skew_sum = saturated (old.skew_sum + skew);
-      skew_greatest = max old.skew_greatest skew;
-    }
+TakesCopy skew old new = old.copies + 1 < 2 ^ 64 → AddsSkew skew (copy_numbers old) (copy_numbers new)
 
 -- A line that says `copy` adds its skew, and no other does.
 abbrev pub NotesCopyWhere : Bool → ℕ → LinkReport → LinkReport → Type 0

@@ -1,11 +1,12 @@
 -- What the steps of a report leave as it was.
-use Rattle.std.specs.Prelude.{◌≡◌, ℕ, ◌<◌, ◌≤◌, List, ◌∷◌, length, slice_index_or, Option}
+use Rattle.std.specs.Prelude.{◌≡◌, ℕ, ◌<◌, ◌≤◌, List, ◌∷◌, length, map, take, slice_index_or, Option}
 use Rattle.afdx_frame.specs.declared.key.Network.{Network}
 use Rattle.afdx_frame.specs.declared.key.Network.TheVariants.{A, B}
 use Rattle.ledger_report.specs.Copies.{KeepsCopies}
 use Rattle.ledger_report.specs.Lanes.{IsLaneSign, StandsAfter}
 use Rattle.ledger_report.specs.Links.{lane_rules, row_in}
 use Rattle.ledger_report.specs.Marks.{mark_at}
+use Rattle.ledger_report.specs.Pairs.{KeepsSettled}
 use Rattle.ledger_report.specs.declared.bounds.TheConstants.{NUMBERS}
 use Rattle.ledger_report.specs.declared.lane.Lane.{Lane}
 use Rattle.ledger_report.specs.declared.lane.LaneLine.{LaneLine}
@@ -20,9 +21,24 @@ use Rattle.ledger_report.specs.declared.signs.Sign.{Sign}
 use Rattle.ledger_report.specs.declared.signs.Signs.{Signs}
 use Rattle.ledger_report.specs.declared.statistics.Statistics.{Statistics}
 
+-- ---- marks
+
+-- a mark without its bins
+pub record Tally : Type 0 where
+  pub count : ℕ
+  pub first : Option Place
+  pub last : Option Place
+
+abbrev pub tally_of : Mark → Tally
+tally_of mark = record { count = mark.count; first = mark.first; last = mark.last }
+
+-- those of the signs of rules
+abbrev pub rule_tallies : Signs → List Tally
+rule_tallies signs = take 8 (map tally_of signs.marks.items)
+
 -- ---- networks
 
--- a network's own numbers: all but its signs and what it has by time
+-- a network's own numbers: all but the signs that are not of rules and what it has by time
 pub record NetworkNumbers : Type 0 where
   pub frames : ℕ
   pub first : ℕ
@@ -31,6 +47,7 @@ pub record NetworkNumbers : Type 0 where
   pub silences : List Silence
   pub more_silences : ℕ
   pub since : ℕ
+  pub rules : List Tally
 
 abbrev pub network_numbers : NetworkReport → NetworkNumbers
 network_numbers report = record {
@@ -41,6 +58,7 @@ network_numbers report = record {
   silences = report.silences.items;
   more_silences = report.more_silences;
   since = report.since;
+  rules = rule_tallies report.signs;
 }
 
 abbrev pub KeepsNetwork : NetworkReport → NetworkReport → Type 0
@@ -50,15 +68,6 @@ abbrev pub KeepsNetworks : Sides NetworkReport → Sides NetworkReport → Type 
 KeepsNetworks old new = KeepsNetwork old.a new.a × KeepsNetwork old.b new.b
 
 -- ---- lanes
-
--- a mark without its bins
-pub record Tally : Type 0 where
-  pub count : ℕ
-  pub first : Option Place
-  pub last : Option Place
-
-abbrev pub tally_of : Mark → Tally
-tally_of mark = record { count = mark.count; first = mark.first; last = mark.last }
 
 -- the marks of the signs that a lane's lines say by themselves
 abbrev pub KeepsMarks : Signs → Signs → Type 0
@@ -127,9 +136,9 @@ NotesLane line old new = (row_in new ≡ row_in old) × NotesLaneOn line.at.netw
 
 -- ---- all of a report
 
--- and its count of deliveries, what it says of copies, and the latest delivery of each number
+-- and its count of deliveries, what it says of copies, the latest delivery of each number, and how many are paired, late and the first of two
 abbrev pub KeepsReport : LinkReport → LinkReport → Type 0
-KeepsReport old new = KeepsLink old new × (new.deliveries ≡ old.deliveries) × KeepsCopies old new × (new.pairing ≡ old.pairing)
+KeepsReport old new = KeepsLink old new × (new.deliveries ≡ old.deliveries) × KeepsCopies old new × (new.pairing ≡ old.pairing) × KeepsSettled old new
 
 abbrev pub KeepsLinks : List LinkReport → List LinkReport → Type 0
 KeepsLinks old new =

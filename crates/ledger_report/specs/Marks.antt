@@ -44,6 +44,14 @@ hits_with sign hit other hits = if sign_index sign == sign_index other then hit 
 abbrev pub TakesHit : Sign → Hit → Signs → Signs → Type 0
 TakesHit sign hit old new = (other : Sign) (hits : List Hit) → HasHits old other hits → HasHits new other (hits_with sign hit other hits)
 
+-- The mark of a sign is that of the same hits.
+abbrev pub KeepsHits : Sign → Signs → Signs → Type 0
+KeepsHits sign old new = (hits : List Hit) → HasHits old sign hits → HasHits new sign hits
+
+-- It has one more hit.
+abbrev pub GainsHit : Sign → Hit → Signs → Signs → Type 0
+GainsHit sign hit old new = (hits : List Hit) → HasHits old sign hits → HasHits new sign (hit ∷ hits)
+
 -- All marks stay but that of the sign.
 abbrev pub KeepsOthers : Sign → Signs → Signs → Type 0
 KeepsOthers sign old new = (other : Sign) (none : Mark) → (sign_index sign == sign_index other) ≡ false → mark_at new other none ≡ mark_at old other none

@@ -1,12 +1,13 @@
 -- What a report holds of the ledger's lines of frames so far, the newest first.
-use Rattle.std.specs.Prelude.{◌≡◌, ℕ, ◌<◌, ◌≤◌, ◌&&◌, nat_lt, List, length, slice_index_or}
+use Rattle.std.specs.Prelude.{◌≡◌, ℕ, ◌<◌, ◌&&◌, nat_lt, List, length, slice_index_or}
 use Rattle.afdx_frame.specs.declared.key.Network.TheVariants.{A, B}
-use Rattle.afdx_frame.specs.declared.key.TheConstants.{VL_ID_COUNT}
 use Rattle.vl_config.specs.Link.{VirtualLink}
 use Rattle.ledger_text.specs.declared.frame.FrameLine.{FrameLine}
-use Rattle.ledger_report.specs.Links.{AreLinksOf}
+use Rattle.ledger_report.specs.Links.{AreEach, AreLinksOf, CountsMet}
 use Rattle.ledger_report.specs.LinkLines.{is_silent_since, place_of}
 use Rattle.ledger_report.specs.Networks.{IsNetworkOf}
+use Rattle.ledger_report.specs.OutsideLines.{IsOutsideOf}
+use Rattle.ledger_report.specs.RuleMarks.{HaveRules}
 use Rattle.ledger_report.specs.Settling.{AreBalanced}
 use Rattle.ledger_report.specs.Words.{rule_of}
 use Rattle.ledger_report.specs.declared.lane.Lane.{Lane}
@@ -37,6 +38,7 @@ seen_line lane network line number at = record {
 pub record AreNetworksOf (lines : List FrameLine) (networks : Sides NetworkReport) : Type 0 where
   pub a : IsNetworkOf A lines networks.a
   pub b : IsNetworkOf B lines networks.b
+  pub rules : HaveRules lines networks
 
 -- by identifier, where the link stands in the table
 pub record IsIndexOf (links : List VirtualLink) (index : List ℕ) : Type 0 where
@@ -51,4 +53,5 @@ pub record IsAccountOf (links : List VirtualLink) (lines : List FrameLine) (stat
   pub links_are : AreLinksOf links lines statistics.links.items
   pub index_is : IsIndexOf links statistics.index.items
   pub balanced : AreBalanced statistics.links.items
-  pub outside : length statistics.outside.items ≤ VL_ID_COUNT
+  pub met_are : AreEach CountsMet links lines statistics.links.items
+  pub outside : IsOutsideOf lines statistics.outside.items

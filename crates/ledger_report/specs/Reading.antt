@@ -12,19 +12,23 @@ use Rattle.ledger_text.specs.declared.order.Stage.TheVariants as stages
 use Rattle.ledger_text.specs.declared.reader.LedgerReader.{LedgerReader}
 use Rattle.ledger_report.specs.Counting.{AreCountsOf}
 use Rattle.ledger_report.specs.CountsLines.{HasCounted, TellCounts, is_whole}
-use Rattle.ledger_report.specs.Links.{AreLinksOf}
+use Rattle.ledger_report.specs.Links.{AreEach, AreLinksOf, HasMet, HasOpen}
 use Rattle.ledger_report.specs.Noting.{AreNetworksOf, IsAccountOf}
+use Rattle.ledger_report.specs.OutsideLines.{IsOutsideOf}
 use Rattle.ledger_report.specs.Settling.{HaveFates}
-use Rattle.ledger_report.specs.Span.{HasSpan, newest, oldest}
+use Rattle.ledger_report.specs.SkewMedians.{HaveMedians}
+use Rattle.ledger_report.specs.Span.{HasSpan, duration, newest, oldest}
+use Rattle.ledger_report.specs.Widths.{IsWidth}
 use Rattle.ledger_report.specs.declared.counts.FrameCounts.{FrameCounts}
 use Rattle.ledger_report.specs.declared.counts_lines.CountsLines.{CountsLines}
 use Rattle.ledger_report.specs.declared.report.Report.{Report}
 use Rattle.ledger_report.specs.declared.statistics.Statistics.{Statistics}
 
 -- The bytes are the lines of a ledger from its head on, and nothing is left after them. These are the counts of its lines of frames, and
--- the numbers of both networks and of the table's links over them; each delivery of a link has one fate, and at most
--- as many links outside the table are kept as there are identifiers. Each line of counts is that of the lines before it. The report
--- starts and ends with the first and the last line of a frame, at 0 where there is none, and is whole exactly where the ledger has its last line.
+-- the numbers of both networks and of the table's links over them, with the median of each link's skews; each delivery of a link has one fate,
+-- by definition over the lines, and at most as many links outside the table are kept as there are identifiers, each with its lines. Each line of
+-- counts is that of the lines before it. The report starts and ends with the first and the last line of a frame, at 0 where there is none; its
+-- bins are as wide as this time needs. It is whole exactly where the ledger has its last line.
 pub record TellsLedger (bytes : Option (List ℕ)) (links : List VirtualLink) (report : Report) : Type 0 where
   pub rs : List ReadLine
   pub stage : Stage
@@ -35,10 +39,15 @@ pub record TellsLedger (bytes : Option (List ℕ)) (links : List VirtualLink) (r
   pub networks_are : AreNetworksOf (reverse (frame_lines rs)) report.networks
   pub links_are : AreLinksOf links (reverse (frame_lines rs)) report.links.items
   pub fates : HaveFates report.links.items
+  pub met_are : AreEach HasMet links (reverse (frame_lines rs)) report.links.items
+  pub medians : HaveMedians links (reverse (frame_lines rs)) report.links.items
+  pub open_are : AreEach HasOpen links (reverse (frame_lines rs)) report.links.items
   pub few_outside : length report.outside.items ≤ VL_ID_COUNT
+  pub outside_are : IsOutsideOf (reverse (frame_lines rs)) report.outside.items
   pub counts_told : TellCounts links (reverse rs)
   pub start_is : report.start ≡ unwrap_or (oldest (reverse (frame_lines rs))) 0
   pub end_is : report.end ≡ unwrap_or (newest (reverse (frame_lines rs))) 0
+  pub width_is : IsWidth (duration (reverse (frame_lines rs))) report.width
   pub whole_is : report.whole ≡ is_whole (reverse rs)
 
 -- The same, where the deliveries aren't settled yet.

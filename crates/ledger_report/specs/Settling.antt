@@ -2,6 +2,7 @@
 use Rattle.std.specs.Prelude.{◌≡◌, ℕ, ◌+◌, ◌<◌, ◌^◌, List, length, slice_index_or}
 use Rattle.ledger_report.specs.Alone.{missed}
 use Rattle.ledger_report.specs.Marks.{mark_at}
+use Rattle.ledger_report.specs.Pairs.{KeepsFates, MeetsOf, met_with}
 use Rattle.ledger_report.specs.Pending.{pending}
 use Rattle.ledger_report.specs.Sums.{saturated}
 use Rattle.ledger_report.specs.declared.link.Fates.{Fates}
@@ -52,13 +53,16 @@ HasFates link = (link.deliveries ≡ fate_sum link.fates) × SumsLanes link
 abbrev pub HaveFates : List LinkReport → Type 0
 HaveFates reports = (i : ℕ) (report : LinkReport) → i < length reports → HasFates (slice_index_or reports i report)
 
--- Each link's deliveries are counted as before.
-abbrev pub KeepBalance : List LinkReport → List LinkReport → Type 0
-KeepBalance old new = (i : ℕ) (report : LinkReport) → i < length old → AccountsSame (slice_index_or old i report) (slice_index_or new i report)
+-- A link's deliveries and their fates are counted as before.
+abbrev pub KeepsCounts : LinkReport → LinkReport → Type 0
+KeepsCounts old new = AccountsSame old new × KeepsFates old new
 
--- The deliveries of a link that were each counted once have a fate each.
+abbrev pub KeepBalance : List LinkReport → List LinkReport → Type 0
+KeepBalance old new = (i : ℕ) (report : LinkReport) → i < length old → KeepsCounts (slice_index_or old i report) (slice_index_or new i report)
+
+-- The deliveries of a link that were each counted once have a fate each, and the latest of each number that are met are counted.
 abbrev pub GetFates : LinkReport → LinkReport → Type 0
-GetFates old new = IsBalanced old → old.deliveries < 2 ^ 62 → HasFates new
+GetFates old new = (IsBalanced old → old.deliveries < 2 ^ 62 → HasFates new) × MeetsOf (met_with 256 old.pairing old.fates.met) old new
 
 abbrev pub GainFates : List LinkReport → List LinkReport → Type 0
 GainFates old new = (i : ℕ) (report : LinkReport) → i < length old → GetFates (slice_index_or old i report) (slice_index_or new i report)

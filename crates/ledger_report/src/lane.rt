@@ -206,15 +206,22 @@ fn numbering_of(before: Option<u8>, number: u8) -> Numbering
 }
 
 impl Lane {
-    ghost use Rattle.std.specs.Prelude.{[]};
+    ghost use Rattle.std.specs.Prelude.{[], ◌++◌, false, is_some};
+    ghost use Rattle.afdx_frame.specs.declared.key.Network.{Network};
+    ghost use Rattle.ledger_text.specs.declared.frame.FrameLine.{FrameLine};
     ghost use Rattle.ledger_report.specs.Keeping.{HasLaneRoom, KeepsLane, KeepsRoom};
-    ghost use Rattle.ledger_report.specs.Alone.{KeepsAlone, MissesMore, MissesSame, missed};
+    ghost use Rattle.ledger_report.specs.Alone.{HasMissed, KeepsAlone, KeepsMissed, Missed};
+    ghost use Rattle.ledger_report.specs.Alone.{MissesMore, MissesSame, missed, no_missed, settled_by};
+    ghost use Rattle.ledger_report.specs.Alone.{with_missed};
+    ghost use Rattle.ledger_report.specs.Covered.{covered_so_far};
+    ghost use Rattle.ledger_report.specs.Networks.{IsNetworkOf};
+    ghost use Rattle.ledger_report.specs.Standings.{frames_on};
     ghost use Rattle.ledger_report.specs.LaneLines.{number_amount};
     ghost use Rattle.ledger_report.specs.LaneParts.{TakesAmounts, TakesEarly, TakesInterval, TakesLine};
     ghost use Rattle.ledger_report.specs.LaneParts.{TakesNumber};
     ghost use Rattle.ledger_report.specs.LaneParts.{TakesRule, interval_in, numbering_in};
     ghost use Rattle.ledger_report.specs.Lanes.{StandsAfter};
-    ghost use Rattle.ledger_report.specs.Marks.{IsRule};
+    ghost use Rattle.ledger_report.specs.Marks.{HasHits, IsRule, KeepsHits};
     ghost use Rattle.ledger_report.specs.declared.lane.LaneLine.{LaneLine};
     ghost use Rattle.ledger_report.specs.declared.lane.LaneRules.{LaneRules};
     ghost use Rattle.ledger_report.specs.declared.signs.Mark.{Mark};
@@ -222,7 +229,9 @@ impl Lane {
     pub(crate) fn new(alloc: Global) -> Result<Lane, AllocError>
         ensures after { IfOk result (λ lane. (rules : LaneRules) → StandsAfter rules [] lane) }
         ensures missed { IfOk result (λ lane. (none : Mark) → missed none lane ≡ 0) }
+        ensures places { IfOk result (HasMissed no_missed) }
         ensures room { IfOk result HasLaneRoom }
+        ensures late { IfOk result (λ lane. HasHits lane.signs signs.Late []) }
     {
         Ok(Lane {
             frames: 0,
@@ -273,7 +282,9 @@ impl Lane {
         ensures numbering { IfOk result (λ numbering. numbering ≡ counted_numbering line.now.after_silence
             (numbering_in rules.now.integrity self.old line.now)) }
         ensures missed { OnOk result (MissesMore 0 self.old self.new) }
+        ensures places { OnOk result (KeepsMissed self.old self.new) }
         ensures room { OnOk result (KeepsRoom self.old self.new) }
+        ensures late { OnOk result (KeepsHits signs.Late self.old.signs self.new.signs) }
     {
         self.note_interval(line, rules.least)?;
         self.note_line(line)?;
@@ -493,7 +504,20 @@ impl Lane {
         own: &mut NetworkReport,
     ) -> Result<(), AllocError>
         ensures missed { OnOk result (MissesMore 1 self.old self.new) }
+        ensures takes { OnOk result ((network : Network)
+            (later earlier held_later held_earlier : List FrameLine)
+            → IsNetworkOf network (later ++ earlier) twin.now → frames_on network earlier ≡ before
+            → held_later ++ held_earlier ≡ later ++ earlier
+            → frames_on network held_earlier ≡ self.old.held_before
+            → (missed : Missed) → HasMissed missed self.old
+            → HasMissed (with_missed (covered_so_far network later earlier)
+            (covered_so_far network held_later held_earlier) place missed) self.new) }
+        ensures before { OnOk result ((network : Network) (later earlier : List FrameLine)
+            → IsNetworkOf network (later ++ earlier) twin.now → frames_on network earlier ≡ before
+            → self.new.held_before
+            ≡ (if is_some (covered_so_far network later earlier) then self.old.held_before else before)) }
         ensures lane { OnOk result (KeepsLane self.old self.new) }
+        ensures late { OnOk result (KeepsHits signs.Late self.old.signs self.new.signs) }
         ensures network { OnOk result (KeepsNetwork own.old own.new) }
     {
         match twin.covers(before) {
@@ -522,7 +546,14 @@ impl Lane {
         own: &mut NetworkReport,
     ) -> Result<(), AllocError>
         ensures missed { OnOk result (MissesMore 0 self.old self.new) }
+        ensures settles { OnOk result ((network : Network) (later earlier : List FrameLine)
+            → IsNetworkOf network (later ++ earlier) twin.now
+            → frames_on network earlier ≡ self.old.held_before
+            → (missed : Missed) → HasMissed missed self.old
+            → HasMissed (settled_by (covered_so_far network later earlier) missed) self.new) }
+        ensures before { OnOk result (self.new.held_before ≡ self.old.held_before) }
         ensures lane { OnOk result (KeepsLane self.old self.new) }
+        ensures late { OnOk result (KeepsHits signs.Late self.old.signs self.new.signs) }
         ensures network { OnOk result (KeepsNetwork own.old own.new) }
     {
         if self.held.count == 0 {
@@ -543,8 +574,12 @@ impl Lane {
     /// Counts the deliveries that are held as not covered.
     pub(crate) fn drop_held(&mut self)
         ensures missed { MissesMore 0 self.old self.new }
+        ensures drops { (missed : Missed) → HasMissed missed self.old
+            → HasMissed (settled_by (Some false) missed) self.new }
+        ensures before { self.new.held_before ≡ self.old.held_before }
         ensures none { self.new.held.count ≡ 0 }
         ensures lane { KeepsLane self.old self.new }
+        ensures late { KeepsHits signs.Late self.old.signs self.new.signs }
     {
         self.uncovered = self.uncovered.saturating_add(self.held.count);
         self.held.clear();
@@ -552,7 +587,9 @@ impl Lane {
 
     pub(crate) fn fold(&mut self)
         ensures lane { KeepsLane self.old self.new }
+        ensures late { KeepsHits signs.Late self.old.signs self.new.signs }
         ensures missed { MissesSame self.old self.new }
+        ensures places { KeepsMissed self.old self.new }
     {
         self.signs.fold();
         self.lines.fold();

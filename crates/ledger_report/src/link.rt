@@ -1,11 +1,11 @@
 //! A link on both networks.
 
-ghost use Rattle.std.specs.Prelude.{◌≡◌, ◌+◌, ◌<◌, Some, None, IfOk, IfSome, OnOk, slice_index_or};
+ghost use Rattle.std.specs.Prelude.{◌≡◌, ◌+◌, ◌<◌, ◌≤◌, ◌&&◌, false, is_some, Some, None, IfOk, IfSome, OnOk, slice_index_or};
 ghost use Rattle.ledger_report.specs.Keeping.{KeepsNetworks};
 ghost use Rattle.ledger_report.specs.Both.{side_of};
 ghost use Rattle.ledger_report.specs.Deliveries.{is_deliver};
 ghost use Rattle.ledger_report.specs.LaneLines.{one_where};
-ghost use Rattle.ledger_report.specs.Marks.{IsRule};
+ghost use Rattle.ledger_report.specs.Marks.{IsRule, sign_index};
 ghost use Rattle.ledger_report.specs.Noting.{seen_line};
 ghost use Rattle.ledger_report.specs.Pending.{fate_pends, pends};
 
@@ -91,7 +91,7 @@ fn hit_network(
     at: &Moment,
     amount: u64,
 ) -> Result<(), AllocError>
-    ensures { KeepsNetworks networks.old networks.new }
+    ensures { 8 ≤ sign_index sign → KeepsNetworks networks.old networks.new }
 {
     match at.network {
         Network::A => networks.a.signs.hit(sign, at.bin, at.place, amount),
@@ -113,18 +113,30 @@ fn put_skew(networks: &mut Sides<NetworkReport>, at: &Moment, skew: u64) -> Resu
 impl LinkReport {
     ghost use Rattle.std.specs.Prelude.{ℕ, ◌^◌};
     ghost use Rattle.std.specs.Prelude.{[]};
+    ghost use Rattle.afdx_frame.specs.declared.key.Network.TheVariants.{A, B};
+    ghost use Rattle.ledger_report.specs.Alone.{EndsHeld, NotesMissedOn};
     ghost use Rattle.ledger_report.specs.Copies.{KeepsCopies, KeepsLatest, NotesCopy, NotesLatest};
     ghost use Rattle.ledger_report.specs.Copies.{TakesCopy, TakesLatest};
     ghost use Rattle.ledger_report.specs.Copies.{skew_in};
     ghost use Rattle.ledger_report.specs.Keeping.{KeepsLink, NotesLane};
+    ghost use Rattle.ledger_report.specs.Fates.{ends_met};
     ghost use Rattle.ledger_report.specs.Links.{IsLinkOf, row_of};
+    ghost use Rattle.ledger_report.specs.Pairs.{DiscardsWhere, GainsLateOn, GainsLateWhere, KeepsFates};
+    ghost use Rattle.ledger_report.specs.Pairs.{KeepsLate};
+    ghost use Rattle.ledger_report.specs.Pairs.{MeetsOf, NotesFates, PairsCopy};
+    ghost use Rattle.ledger_report.specs.Pairs.{TakesDelivery, comes_late, fate_numbers, fate_so_far, gone_in};
+    ghost use Rattle.ledger_report.specs.Pairs.{counted_where, is_gone_by, is_held, met_with, settled_numbers};
+    ghost use Rattle.ledger_report.specs.Pairs.{window_in, with_late};
+    ghost use Rattle.ledger_report.specs.Words.{other_of};
     ghost use Rattle.ledger_report.specs.Settling.{AccountsMore, AccountsSame, IsBalanced, SumsLanes};
     ghost use Rattle.ledger_report.specs.Settling.{accounted, counted, fate_sum};
+    ghost use Rattle.ledger_report.specs.SkewMedians.{GetMedian};
     ghost use Rattle.ledger_report.specs.declared.signs.Mark.{Mark};
 
     pub(crate) fn new(alloc: Global, link: &Link) -> Result<LinkReport, AllocError>
         ensures balanced { IfOk result (λ report. (report.deliveries ≡ 0) × IsBalanced report) }
         ensures lines { IfOk result (IsLinkOf (row_of link.now) []) }
+        ensures met { IfOk result (λ report. report.fates.met ≡ 0) }
     {
         Ok(LinkReport {
             id: link.id,
@@ -171,7 +183,9 @@ impl LinkReport {
     }
 
     /// The time in which a number is taken for the same frame.
-    fn window(&self) -> u64 {
+    fn window(&self) -> u64
+        ensures { result ≡ window_in self.now }
+    {
         self.bag.saturating_mul(WINDOW_BAGS)
     }
 
@@ -191,6 +205,7 @@ impl LinkReport {
             → self.new.deliveries ≡ self.old.deliveries + one_where (is_deliver line.now)) }
         ensures copies { OnOk result (NotesCopy line.now number at.now self.old self.new) }
         ensures latest { OnOk result (NotesLatest line.now number at.now self.old self.new) }
+        ensures fates { OnOk result (NotesFates line.now number at.now self.old self.new) }
         ensures lanes { OnOk result (NotesLane (seen_line (side_of at.now.network self.old.lanes)
             (side_of at.now.network networks.old) line.now number at.now) self.old self.new) }
         ensures networks { OnOk result (KeepsNetworks networks.old networks.new) }
@@ -244,6 +259,8 @@ impl LinkReport {
         ensures accounts { OnOk result (AccountsMore 0 self.old self.new) }
         ensures deliveries { self.new.deliveries ≡ self.old.deliveries }
         ensures copies { KeepsCopies self.old self.new }
+        ensures late { OnOk result (KeepsLate self.old self.new) }
+        ensures fates { KeepsFates self.old self.new }
         ensures pairing { self.new.pairing ≡ self.old.pairing }
     {
         let rules = LaneRules {
@@ -268,6 +285,10 @@ impl LinkReport {
         ensures accounts { OnOk result (AccountsMore 0 self.old self.new) }
         ensures deliveries { self.new.deliveries ≡ self.old.deliveries }
         ensures copies { KeepsCopies self.old self.new }
+        ensures late { KeepsLate self.old self.new }
+        ensures fates { KeepsFates self.old self.new }
+        ensures pairing { OnOk result (DiscardsWhere (is_some line.now.rule && self.old.redundancy)
+            line.now.number line.now.at (window_in self.old) self.old.pairing self.new.pairing) }
         ensures link { OnOk result (KeepsLink self.old self.new) }
         ensures latest { OnOk result (KeepsLatest self.old.pairing self.new.pairing) }
     {
@@ -310,21 +331,21 @@ impl LinkReport {
         ensures accounts { OnOk result (AccountsMore 0 self.old self.new) }
         ensures deliveries { self.new.deliveries ≡ self.old.deliveries }
         ensures copies { KeepsCopies self.old self.new }
+        ensures late { KeepsLate self.old self.new }
+        ensures fates { KeepsFates self.old self.new }
         ensures link { OnOk result (KeepsLink self.old self.new) }
         ensures networks { OnOk result (KeepsNetworks networks.old networks.new) }
         ensures pairing { self.new.pairing ≡ self.old.pairing }
     {
-        let (sign, amount) = match numbering {
-            Numbering::Follows => return Ok(()),
-            Numbering::Restarts => (Sign::Reset, 1),
-            Numbering::Repeats => (Sign::Repeat, 1),
+        match numbering {
+            Numbering::Follows => Ok(()),
+            Numbering::Restarts => hit_network(networks, Sign::Reset, at, 1),
+            Numbering::Repeats => hit_network(networks, Sign::Repeat, at, 1),
             Numbering::Skips { previous, missing } => {
                 self.note_loss(previous, missing, at)?;
-                (Sign::Lost, u64::from(missing))
+                hit_network(networks, Sign::Lost, at, u64::from(missing))
             }
-        };
-        hit_network(networks, sign, at, amount)?;
-        Ok(())
+        }
     }
 
     /// Notes that so many numbers are lost, and counts those that the other network lost too.
@@ -332,6 +353,8 @@ impl LinkReport {
         ensures accounts { OnOk result (AccountsMore 0 self.old self.new) }
         ensures deliveries { self.new.deliveries ≡ self.old.deliveries }
         ensures copies { KeepsCopies self.old self.new }
+        ensures late { KeepsLate self.old self.new }
+        ensures fates { KeepsFates self.old self.new }
         ensures link { OnOk result (KeepsLink self.old self.new) }
         ensures pairing { self.new.pairing ≡ self.old.pairing }
     {
@@ -350,6 +373,8 @@ impl LinkReport {
         ensures accounts { AccountsMore 0 self.old self.new }
         ensures deliveries { self.new.deliveries ≡ self.old.deliveries }
         ensures copies { KeepsCopies self.old self.new }
+        ensures late { KeepsLate self.old self.new }
+        ensures fates { KeepsFates self.old self.new }
         ensures link { OnOk result (KeepsLink self.old self.new) }
         ensures pairing { self.new.pairing ≡ self.old.pairing }
     {
@@ -375,6 +400,7 @@ impl LinkReport {
         ensures copies { OnOk result (TakesCopy (skew_in self.old number at.now.place.stamp)
             self.old self.new) }
         ensures latest { OnOk result (KeepsLatest self.old.pairing self.new.pairing) }
+        ensures pairs { OnOk result (PairsCopy number self.old self.new) }
         ensures link { OnOk result (KeepsLink self.old self.new) }
         ensures networks { OnOk result (KeepsNetworks networks.old networks.new) }
     {
@@ -404,6 +430,7 @@ impl LinkReport {
         ensures copies { KeepsCopies self.old self.new }
         ensures link { OnOk result (KeepsLink self.old self.new) }
         ensures latest { OnOk result (KeepsLatest self.old.pairing self.new.pairing) }
+        ensures pairs { OnOk result (PairsCopy number self.old self.new) }
     {
         let Some(delivery) = self.pairing.latest(number) else {
             return Ok(());
@@ -439,6 +466,9 @@ impl LinkReport {
         ensures deliveries { self.old.deliveries + 1 < 2 ^ 64
             → self.new.deliveries ≡ self.old.deliveries + 1 }
         ensures copies { KeepsCopies self.old self.new }
+        ensures takes { OnOk result (TakesDelivery number at.now self.old self.new) }
+        ensures late { OnOk result (GainsLateWhere (comes_late number at.now self.old)
+            at.now.network at.now.place self.old.lanes self.new.lanes) }
         ensures link { OnOk result (KeepsLink self.old self.new) }
         ensures networks { OnOk result (KeepsNetworks networks.old networks.new) }
         ensures latest { OnOk result (TakesLatest number (record {
@@ -476,6 +506,12 @@ impl LinkReport {
         ensures pairing { self.new.pairing ≡ self.old.pairing }
         ensures deliveries { self.new.deliveries ≡ self.old.deliveries }
         ensures copies { KeepsCopies self.old self.new }
+        ensures late { OnOk result (GainsLateWhere (comes_late number at.now self.old)
+            at.now.network at.now.place self.old.lanes self.new.lanes) }
+        ensures numbers { OnOk result (fate_numbers self.new ≡ settled_numbers number at.now self.old) }
+        ensures fate { IfOk result (λ fate. fate ≡ fate_so_far (comes_late number at.now self.old)
+            (is_gone_by at.now.place.stamp (window_in self.old)
+            (gone_in self.old.pairing number (other_of at.now.network)))) }
         ensures link { OnOk result (KeepsLink self.old self.new) }
         ensures networks { OnOk result (KeepsNetworks networks.old networks.new) }
     {
@@ -483,11 +519,8 @@ impl LinkReport {
         let Some(before) = self.pairing.latest(number) else {
             return Ok(fate);
         };
-        let skew = at.place.stamp.saturating_sub(before.place.stamp);
-        if matches!(before.fate, Fate::Open)
-            && before.network != at.network
-            && skew <= self.window()
-        {
+        if before.awaits(at.network, at.place.stamp, self.window()) {
+            let skew = at.place.stamp.saturating_sub(before.place.stamp);
             self.note_late(skew, at, networks)?;
             return Ok(Fate::Late);
         }
@@ -498,7 +531,9 @@ impl LinkReport {
     /// What is known of a delivery by the lines before it.
     #[inline]
     fn fate_so_far(&self, number: u8, at: &Moment) -> Fate
-        ensures { fate_pends result ≡ 1 }
+        ensures pends { fate_pends result ≡ 1 }
+        ensures fate { result ≡ fate_so_far false (is_gone_by at.now.place.stamp (window_in self.now)
+            (gone_in self.now.pairing number (other_of at.now.network))) }
     {
         let met = self
             .pairing
@@ -517,6 +552,8 @@ impl LinkReport {
         ensures pairing { self.new.pairing ≡ self.old.pairing }
         ensures deliveries { self.new.deliveries ≡ self.old.deliveries }
         ensures copies { KeepsCopies self.old self.new }
+        ensures late { OnOk result (GainsLateOn at.now.network at.now.place self.old.lanes self.new.lanes) }
+        ensures numbers { OnOk result (fate_numbers self.new ≡ with_late skew self.old) }
         ensures link { OnOk result (KeepsLink self.old self.new) }
         ensures networks { OnOk result (KeepsNetworks networks.old networks.new) }
     {
@@ -535,6 +572,8 @@ impl LinkReport {
         ensures pairing { self.new.pairing ≡ self.old.pairing }
         ensures deliveries { self.new.deliveries ≡ self.old.deliveries }
         ensures copies { KeepsCopies self.old self.new }
+        ensures late { GainsLateOn at.now.network at.now.place self.old.lanes self.new.lanes }
+        ensures fates { KeepsFates self.old self.new }
         ensures link { OnOk result (KeepsLink self.old self.new) }
     {
         match at.network {
@@ -555,6 +594,9 @@ impl LinkReport {
         ensures pairing { self.new.pairing ≡ self.old.pairing }
         ensures deliveries { self.new.deliveries ≡ self.old.deliveries }
         ensures copies { KeepsCopies self.old self.new }
+        ensures late { OnOk result (KeepsLate self.old self.new) }
+        ensures numbers { OnOk result (MeetsOf
+            (counted_where (ends_met delivery.fate) self.old.fates.met) self.old self.new) }
         ensures link { OnOk result (KeepsLink self.old self.new) }
         ensures networks { OnOk result (KeepsNetworks networks.old networks.new) }
     {
@@ -578,10 +620,14 @@ impl LinkReport {
         bin: usize,
         networks: &mut Sides<NetworkReport>,
     ) -> Result<(), AllocError>
+        ensures places { OnOk result (NotesMissedOn delivery.now.network delivery.now.before
+            delivery.now.place networks.old self.old.lanes self.new.lanes) }
         ensures accounts { OnOk result (AccountsMore 1 self.old self.new) }
         ensures pairing { self.new.pairing ≡ self.old.pairing }
         ensures deliveries { self.new.deliveries ≡ self.old.deliveries }
         ensures copies { KeepsCopies self.old self.new }
+        ensures late { OnOk result (KeepsLate self.old self.new) }
+        ensures fates { KeepsFates self.old self.new }
         ensures link { OnOk result (KeepsLink self.old self.new) }
         ensures networks { OnOk result (KeepsNetworks networks.old networks.new) }
     {
@@ -615,9 +661,13 @@ impl LinkReport {
         ensures sums { OnOk result (SumsLanes self.new) }
         ensures deliveries { OnOk result (self.new.deliveries ≡ self.old.deliveries) }
         ensures copies { OnOk result (KeepsCopies self.old self.new) }
+        ensures late { OnOk result (KeepsLate self.old self.new) }
+        ensures numbers { OnOk result (MeetsOf
+            (met_with 256 self.old.pairing self.old.fates.met) self.old self.new) }
         ensures link { OnOk result (KeepsLink self.old self.new) }
         ensures networks { OnOk result (KeepsNetworks networks.old networks.new) }
         ensures pairing { OnOk result (self.new.pairing ≡ self.old.pairing) }
+        ensures median { OnOk result (GetMedian self.old self.new) }
     {
         self.settle_latest(start, width, networks)?;
         self.settle_lanes(networks)?;
@@ -643,6 +693,9 @@ impl LinkReport {
             → counted none self.new ≡ accounted none self.old) }
         ensures deliveries { OnOk result (self.new.deliveries ≡ self.old.deliveries) }
         ensures copies { OnOk result (KeepsCopies self.old self.new) }
+        ensures late { OnOk result (KeepsLate self.old self.new) }
+        ensures numbers { OnOk result (MeetsOf
+            (met_with 256 self.old.pairing self.old.fates.met) self.old self.new) }
         ensures link { OnOk result (KeepsLink self.old self.new) }
         ensures networks { OnOk result (KeepsNetworks networks.old networks.new) }
         ensures pairing { OnOk result (self.new.pairing ≡ self.old.pairing) }
@@ -666,6 +719,9 @@ impl LinkReport {
         ensures pairing { self.new.pairing ≡ self.old.pairing }
         ensures deliveries { self.new.deliveries ≡ self.old.deliveries }
         ensures copies { KeepsCopies self.old self.new }
+        ensures late { OnOk result (KeepsLate self.old self.new) }
+        ensures numbers { OnOk result (MeetsOf
+            (counted_where (is_held ends_met self.old.pairing number) self.old.fates.met) self.old self.new) }
         ensures link { OnOk result (KeepsLink self.old self.new) }
         ensures networks { OnOk result (KeepsNetworks networks.old networks.new) }
     {
@@ -683,8 +739,12 @@ impl LinkReport {
         ensures counts { OnOk result ((none : Mark) → counted none self.old < 2 ^ 62
             → counted none self.new ≡ counted none self.old) }
         ensures held { OnOk result ((self.new.lanes.a.held.count ≡ 0) × (self.new.lanes.b.held.count ≡ 0)) }
+        ensures ends_a { OnOk result (EndsHeld B networks.old.b self.old.lanes.a self.new.lanes.a) }
+        ensures ends_b { OnOk result (EndsHeld A networks.old.a self.old.lanes.b self.new.lanes.b) }
         ensures deliveries { OnOk result (self.new.deliveries ≡ self.old.deliveries) }
         ensures copies { OnOk result (KeepsCopies self.old self.new) }
+        ensures late { OnOk result (KeepsLate self.old self.new) }
+        ensures fates { OnOk result (KeepsFates self.old self.new) }
         ensures link { OnOk result (KeepsLink self.old self.new) }
         ensures networks { OnOk result (KeepsNetworks networks.old networks.new) }
         ensures pairing { OnOk result (self.new.pairing ≡ self.old.pairing) }
@@ -704,6 +764,8 @@ impl LinkReport {
         ensures lanes { SumsLanes self.new }
         ensures deliveries { self.new.deliveries ≡ self.old.deliveries }
         ensures copies { KeepsCopies self.old self.new }
+        ensures late { KeepsLate self.old self.new }
+        ensures fates { KeepsFates self.old self.new }
         ensures link { KeepsLink self.old self.new }
         ensures pairing { self.new.pairing ≡ self.old.pairing }
     {
@@ -721,6 +783,8 @@ impl LinkReport {
         ensures accounts { AccountsSame self.old self.new }
         ensures deliveries { self.new.deliveries ≡ self.old.deliveries }
         ensures copies { KeepsCopies self.old self.new }
+        ensures late { KeepsLate self.old self.new }
+        ensures fates { KeepsFates self.old self.new }
         ensures pairing { self.new.pairing ≡ self.old.pairing }
     {
         self.lanes.a.fold();

@@ -1,12 +1,16 @@
 //! The median of skews, from counts of classes of them.
 
-ghost use Rattle.std.specs.Prelude.{◌≤◌, vec_len};
+ghost use Rattle.std.specs.Prelude.{◌≡◌, ◌+◌, ◌-◌, ◌<◌, ◌≤◌, ◌^◌, ℕ, List, [], ◌∷◌, length, min, IsTrue, OnOk, vec_len};
+ghost use Rattle.ledger_report.specs.Classes.{CountsClasses, IsClassOf, class_start, is_within};
+ghost use Rattle.ledger_report.specs.Medians.{IsMedian};
 ghost use Rattle.ledger_report.specs.declared.median.TheConstants.{CLASSES};
 
 use std::alloc::{AllocError, Global};
 
 /// How many classes there are: values below 32 have one each, and each octave above has 16, up to 2^31.
 const CLASSES: usize = 448;
+/// A greater value counts as this one. Skews are a second at most.
+const GREATEST: u64 = 2_147_483_647;
 
 /// Counts of values by their five leading binary digits.
 #[derive(Debug, Drop)]
@@ -15,42 +19,83 @@ pub struct Classes {
     ghost room: { vec_len counts ≤ CLASSES },
 }
 
-#[inline]
-fn class_of(value: u64) -> usize {
-    let value = value.min(u64::from(i32::MAX as u32)) as u32;
-    if value < 32 {
-        return value as usize;
-    }
-    let shift = 27u32.saturating_sub(value.leading_zeros());
-    if shift >= 32 {
-        return 0;
-    }
-    (shift as usize) * 16 + ((value >> shift) as usize)
+/// The leading binary digits of a value, and how many come after them.
+#[derive(Clone, Copy)]
+struct Leading {
+    digits: u64,
+    more: u32,
 }
 
-fn least_of(class: usize) -> u64 {
+/// The class of a value.
+#[inline]
+fn class_of(value: u64) -> usize
+    ensures few { result < 448 }
+    ensures within { IsTrue (is_within result (min value 2147483647)) }
+{
+    let Leading { digits, more } = leading_of(value.min(GREATEST));
+    more as usize * 16 + digits as usize
+}
+
+/// The five leading digits of a value, or all where it has fewer.
+#[inline]
+fn leading_of(value: u64) -> Leading
+    requires { value ≤ 2147483647 }
+    ensures class { IsClassOf value result.more result.digits }
+    ensures bound { result.more ≤ 26 }
+{
+    if value < 32 {
+        return Leading {
+            digits: value,
+            more: 0,
+        };
+    }
+    let more = (value / 16).ilog2();
+    Leading {
+        digits: value >> more,
+        more,
+    }
+}
+
+/// The least value of a class.
+fn least_of(class: usize) -> u64
+    requires { class < 448 }
+    ensures { result ≡ class_start class }
+{
     if class < 32 {
         return class as u64;
     }
-    let shift = class / 16 - 1;
-    if shift >= 32 {
-        return 0;
-    }
-    ((class % 16 + 16) as u64) << shift
+    (16 + class as u64 % 16) << (class as u32 / 16 - 1)
 }
 
 impl Classes {
-    pub(crate) fn new(alloc: Global) -> Classes {
+    pub(crate) fn new(alloc: Global) -> Classes
+        ensures { CountsClasses [] result.counts.items }
+    {
         Classes {
             counts: Vec::new(alloc),
         }
     }
 
+    /// Has a count for each class.
     #[inline]
-    pub(crate) fn add(&mut self, value: u64) -> Result<(), AllocError> {
+    fn make_room(&mut self) -> Result<(), AllocError>
+        ensures { OnOk result ((values : List ℕ) → CountsClasses values self.old.counts.items
+            → (length self.new.counts.items ≡ 448) × CountsClasses values self.new.counts.items) }
+    {
         if self.counts.is_empty() {
             self.counts.resize(CLASSES, 0)?;
         }
+        Ok(())
+    }
+
+    /// Counts a value.
+    #[inline]
+    pub(crate) fn add(&mut self, value: u64) -> Result<(), AllocError>
+        ensures { OnOk result ((values : List ℕ) → length values < 2 ^ 62
+            → CountsClasses values self.old.counts.items
+            → CountsClasses (value ∷ values) self.new.counts.items) }
+    {
+        self.make_room()?;
         if let Some(count) = self.counts.get_mut(class_of(value)) {
             *count = count.saturating_add(1);
         }
@@ -58,13 +103,16 @@ impl Classes {
     }
 
     /// The lower median of so many values, rounded down to its five leading binary digits.
-    pub(crate) fn median(&self, values: u64) -> u64 {
-        let mut left = values.saturating_add(1) / 2;
-        for (class, count) in self.counts.iter().enumerate() {
-            if left <= *count {
+    pub(crate) fn median(&self, count: u64) -> u64
+        ensures { (values : List ℕ) → length values < 2 ^ 62 → count ≡ length values
+            → CountsClasses values self.now.counts.items → IsMedian values result }
+    {
+        let mut left = count.saturating_add(1) / 2;
+        for (class, held) in self.counts.iter().enumerate() {
+            if left <= *held {
                 return least_of(class);
             }
-            left = left.saturating_sub(*count);
+            left = left.saturating_sub(*held);
         }
         0
     }

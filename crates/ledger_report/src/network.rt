@@ -55,12 +55,17 @@ pub struct NetworkReport {
 }
 
 impl NetworkReport {
-    ghost use Rattle.std.specs.Prelude.{[]};
+    ghost use Rattle.std.specs.Prelude.{[], ◌++◌};
+    ghost use Rattle.std.specs.List.Sorted.{IsNonDecreasingBy};
+    ghost use Rattle.ledger_report.specs.Covered.{covered_so_far, has_silence_after};
     ghost use Rattle.ledger_report.specs.Keeping.{KeepsNetwork};
     ghost use Rattle.ledger_report.specs.Networks.{HasSilences, IsNetworkOf};
+    ghost use Rattle.ledger_report.specs.RuleMarks.{HasRules};
+    ghost use Rattle.ledger_report.specs.Standings.{frames_on};
 
     pub(crate) fn new(alloc: Global) -> Result<NetworkReport, AllocError>
-        ensures { IfOk result (λ report. (network : Network) → IsNetworkOf network [] report) }
+        ensures numbers { IfOk result (λ report. (network : Network) → IsNetworkOf network [] report) }
+        ensures rules { IfOk result (λ report. (network : Network) → HasRules network [] report.signs) }
     {
         Ok(NetworkReport {
             frames: 0,
@@ -80,9 +85,11 @@ impl NetworkReport {
     /// Notes a line of the other network.
     #[inline]
     pub(crate) fn pass(&mut self)
-        ensures { (network : Network) (line : FrameLine) (lines : List FrameLine) → length lines < MOST_LINES
+        ensures line { (network : Network) (line : FrameLine) (lines : List FrameLine)
+            → length lines < MOST_LINES
             → is_on network line ≡ false → IsNetworkOf network lines self.old
             → IsNetworkOf network (line ∷ lines) self.new }
+        ensures signs { self.new.signs ≡ self.old.signs }
     {
         self.since = self.since.saturating_add(1);
     }
@@ -124,10 +131,11 @@ impl NetworkReport {
     /// Notes a line of the network.
     #[inline]
     pub(crate) fn note(&mut self, at: &Moment, kept: Option<u32>) -> Result<(), AllocError>
-        ensures { OnOk result ((network : Network) (line : FrameLine) (lines : List FrameLine)
+        ensures line { OnOk result ((network : Network) (line : FrameLine) (lines : List FrameLine)
             → length lines < MOST_LINES → is_on network line ≡ true → line.stamp.0 ≡ at.now.place.stamp
             → line.kept ≡ kept → IsNetworkOf network lines self.old
             → IsNetworkOf network (line ∷ lines) self.new) }
+        ensures signs { OnOk result (self.new.signs ≡ self.old.signs) }
     {
         let stamp = at.place.stamp;
         self.end_silence(stamp)?;
@@ -176,7 +184,10 @@ impl NetworkReport {
 
     /// Is the network silent after so many of its lines?
     #[inline]
-    pub(crate) fn is_silent_after(&self, lines: u64) -> bool {
+    pub(crate) fn is_silent_after(&self, lines: u64) -> bool
+        ensures { IsNonDecreasingBy (λ silence. silence.after) self.now.silences.items
+            → result ≡ has_silence_after lines self.now.silences.items }
+    {
         match self.silences.last() {
             Some(silence) if silence.after >= lines => self
                 .silences
@@ -200,7 +211,11 @@ impl NetworkReport {
     /// Was the network alive where so many of its lines stand before: is there one before and one after, and
     /// no silence between? None where no line follows yet.
     #[inline]
-    pub(crate) fn covers(&self, before: u64) -> Option<bool> {
+    pub(crate) fn covers(&self, before: u64) -> Option<bool>
+        ensures { (network : Network) (later earlier : List FrameLine)
+            → IsNetworkOf network (later ++ earlier) self.now → frames_on network earlier ≡ before
+            → result ≡ covered_so_far network later earlier }
+    {
         if before == 0 {
             Some(false)
         } else if self.frames > before {

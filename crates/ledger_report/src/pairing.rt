@@ -1,6 +1,8 @@
 //! What became of each delivery: whether the other network brought its number too.
 
-ghost use Rattle.std.specs.Prelude.{◌≡◌, ◌+◌, ◌<◌, Some, None, OnOk, slice_index_or, vec_len};
+ghost use Rattle.std.specs.Prelude.{◌≡◌, ◌+◌, ◌<◌, ◌≤◌, ◌==◌, Some, None, OnOk, if◌then◌else◌, slice_index_or, vec_len};
+ghost use Rattle.std.specs.Prelude.{ℕ};
+ghost use Rattle.std.specs.Option.{option_map};
 ghost use Rattle.ledger_report.specs.Pending.{pending, pends};
 
 use crate::bounds::NUMBERS;
@@ -32,25 +34,68 @@ pub struct Delivery {
     pub fate: Fate,
 }
 
+impl Delivery {
+    ghost use Rattle.ledger_report.specs.Pairs.{awaits, known_in};
+
+    /// Is it open, of the other network than this one, and at most `window` before this time?
+    #[inline]
+    pub(crate) fn awaits(&self, network: Network, stamp: u64, window: u64) -> bool
+        ensures { result ≡ awaits network stamp window (known_in self.now) }
+    {
+        matches!(self.fate, Fate::Open)
+            && self.network != network
+            && stamp.saturating_sub(self.place.stamp) <= window
+    }
+}
+
 /// The latest delivery of each sequence number of a link, and its latest discarded line on each network.
 #[derive(Debug, Drop)]
 pub struct Pairing {
     deliveries: Vec<Option<Delivery>>,
-    discarded: Vec<Sides<Option<u64>>>,
+    discarded: Sides<Vec<Option<u64>>>,
     ghost whole: { 0 < vec_len deliveries → vec_len deliveries ≡ 256 },
 }
 
+/// Makes room for a timestamp of each number.
+fn widen(stamps: &mut Vec<Option<u64>>) -> Result<(), AllocError>
+    ensures room { OnOk result (256 ≤ vec_len stamps.new) }
+    ensures same { OnOk result ((n : ℕ) → slice_index_or stamps.new.items n None
+        ≡ slice_index_or stamps.old.items n None) }
+{
+    if stamps.len() < NUMBERS {
+        stamps.resize(NUMBERS, None)?;
+    }
+    Ok(())
+}
+
+/// Remembers a timestamp for a number.
+fn remember(stamps: &mut Vec<Option<u64>>, number: u8, stamp: u64) -> Result<(), AllocError>
+    ensures { OnOk result ((n : ℕ) → slice_index_or stamps.new.items n None
+        ≡ (if n == number then Some stamp else slice_index_or stamps.old.items n None)) }
+{
+    widen(stamps)?;
+    stamps[usize::from(number)] = Some(stamp);
+    Ok(())
+}
+
 impl Pairing {
-    ghost use Rattle.std.specs.Prelude.{ℕ};
+    ghost use Rattle.afdx_frame.specs.declared.key.Network.{Network};
     ghost use Rattle.ledger_report.specs.Copies.{KeepsLatest, TakesLatest, spot_at, spot_in};
+    ghost use Rattle.ledger_report.specs.Pairs.{Changes, TakesGone, gone_in, held_of, is_gone_by, known_in, met_by};
+    ghost use Rattle.ledger_report.specs.Words.{other_of};
 
     pub(crate) fn new(alloc: Global) -> Pairing
         ensures pending { pending result.deliveries.items ≡ 0 }
         ensures none { (number : ℕ) → spot_at result number ≡ None }
+        ensures held { (number : ℕ) → held_of result number ≡ None }
+        ensures gone { (number : ℕ) (network : Network) → gone_in result number network ≡ None }
     {
         Pairing {
             deliveries: Vec::new(alloc),
-            discarded: Vec::new(alloc),
+            discarded: Sides {
+                a: Vec::new(alloc),
+                b: Vec::new(alloc),
+            },
         }
     }
 
@@ -72,6 +117,8 @@ impl Pairing {
         ensures pending { OnOk result (pending self.new.deliveries.items
             + pends (slice_index_or self.old.deliveries.items number None)
             ≡ pending self.old.deliveries.items + pends (Some delivery)) }
+        ensures held { OnOk result (Changes number (Some (known_in delivery)) self.old self.new) }
+        ensures gone { self.new.discarded ≡ self.old.discarded }
     {
         self.reserve()?;
         self.deliveries[usize::from(number)] = Some(delivery);
@@ -86,6 +133,7 @@ impl Pairing {
             ≡ slice_index_or self.old.deliveries.items number None) }
         ensures pending { OnOk result (pending self.new.deliveries.items
             ≡ pending self.old.deliveries.items) }
+        ensures gone { self.new.discarded ≡ self.old.discarded }
     {
         if self.deliveries.is_empty() {
             self.deliveries.resize(NUMBERS, None)?;
@@ -104,14 +152,13 @@ impl Pairing {
         ensures latest { OnOk result (KeepsLatest self.old self.new) }
         ensures pending { OnOk result (pending self.new.deliveries.items
             ≡ pending self.old.deliveries.items) }
+        ensures held { OnOk result (Changes number
+            (option_map (met_by network stamp window) (held_of self.old number)) self.old self.new) }
+        ensures gone { OnOk result (TakesGone number network stamp self.old self.new) }
     {
-        if self.discarded.is_empty() {
-            for _ in 0..NUMBERS {
-                self.discarded.push(Sides { a: None, b: None })?;
-            }
-        }
-        if let Some(held) = self.discarded.get_mut(usize::from(number)) {
-            *held.of_mut(network) = Some(stamp);
+        match network {
+            Network::A => remember(&mut self.discarded.a, number, stamp)?,
+            Network::B => remember(&mut self.discarded.b, number, stamp)?,
         }
         self.meet(number, network, stamp, window)?;
         Ok(())
@@ -128,12 +175,14 @@ impl Pairing {
         ensures latest { OnOk result (KeepsLatest self.old self.new) }
         ensures pending { OnOk result (pending self.new.deliveries.items
             ≡ pending self.old.deliveries.items) }
+        ensures held { OnOk result (Changes number
+            (option_map (met_by network stamp window) (held_of self.old number)) self.old self.new) }
+        ensures gone { self.new.discarded ≡ self.old.discarded }
     {
         let Some(delivery) = self.latest(number) else {
             return Ok(());
         };
-        let soon = stamp.saturating_sub(delivery.place.stamp) <= window;
-        if !matches!(delivery.fate, Fate::Open) || delivery.network == network || !soon {
+        if !delivery.awaits(network, stamp, window) {
             return Ok(());
         }
         self.set(
@@ -156,13 +205,12 @@ impl Pairing {
         network: Network,
         stamp: u64,
         window: u64,
-    ) -> bool {
-        match self.discarded.get(usize::from(number)) {
-            Some(held) => match held.of(other(network)) {
-                Some(when) => stamp.saturating_sub(*when) <= window,
-                None => false,
-            },
-            None => false,
+    ) -> bool
+        ensures { result ≡ is_gone_by stamp window (gone_in self.now number (other_of network)) }
+    {
+        match self.discarded.of(other(network)).get(usize::from(number)) {
+            Some(Some(when)) => stamp.saturating_sub(*when) <= window,
+            _ => false,
         }
     }
 }

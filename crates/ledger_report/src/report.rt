@@ -13,7 +13,7 @@ use crate::counts::FrameCounts;
 use crate::counts_lines::{CountsLines, TapEnding};
 use crate::fault::{Refusal, ReportFault, WrongLine};
 use crate::link::LinkReport;
-use crate::moment::Place;
+use crate::moment::{Moment, Place};
 use crate::network::NetworkReport;
 use crate::sides::Sides;
 use crate::statistics::Statistics;
@@ -34,7 +34,13 @@ pub struct OutsideLink {
 }
 
 impl OutsideLink {
-    pub(crate) fn none() -> OutsideLink {
+    ghost use Rattle.std.specs.Prelude.{◌+◌, ◌==◌, if◌then◌else◌};
+    ghost use Rattle.ledger_report.specs.Outside.{no_frames};
+    ghost use Rattle.ledger_report.specs.Sums.{saturated};
+
+    pub(crate) fn none() -> OutsideLink
+        ensures { result ≡ no_frames }
+    {
         OutsideLink {
             frames: 0,
             network: Network::A,
@@ -43,6 +49,20 @@ impl OutsideLink {
                 number: 0,
             },
         }
+    }
+
+    /// Counts a frame.
+    pub(crate) fn count(&mut self, at: &Moment)
+        ensures frames { self.new.frames ≡ saturated (self.old.frames + 1) }
+        ensures network { self.new.network
+            ≡ (if self.old.frames == 0 then at.now.network else self.old.network) }
+        ensures first { self.new.first ≡ (if self.old.frames == 0 then at.now.place else self.old.first) }
+    {
+        if self.frames == 0 {
+            self.network = at.network;
+            self.first = at.place;
+        }
+        self.frames = self.frames.saturating_add(1);
     }
 }
 
@@ -183,7 +203,8 @@ impl Reading {
         ensures counts { IfOk result (λ reading. AreCountsOf [] reading.counts) }
         ensures account { IfOk result (λ reading. IsAccountOf config.now.links [] reading.statistics) }
         ensures span { IfOk result (λ reading. HasSpan [] reading.statistics) }
-        ensures lines { IfOk result (λ reading. (links : List VirtualLink) → HasCounted links [] reading.lines) }
+        ensures lines { IfOk result (λ reading. (links : List VirtualLink)
+            → HasCounted links [] reading.lines) }
     {
         Ok(Reading {
             counts: FrameCounts::new(alloc)?,

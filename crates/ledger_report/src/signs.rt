@@ -155,11 +155,11 @@ impl Sign {
 }
 
 impl Signs {
-    ghost use Rattle.std.specs.Prelude.{[], IfOk};
+    ghost use Rattle.std.specs.Prelude.{◌≤◌, [], IfOk};
     ghost use Rattle.ledger_report.specs.Places.{IsMarkOf};
-    ghost use Rattle.ledger_report.specs.Keeping.{tally_of};
+    ghost use Rattle.ledger_report.specs.Keeping.{rule_tallies, tally_of};
     ghost use Rattle.ledger_report.specs.declared.signs.Sign.{Sign};
-    ghost use Rattle.ledger_report.specs.Marks.{HasHits, KeepsOthers, TakesHit, mark_at};
+    ghost use Rattle.ledger_report.specs.Marks.{HasHits, KeepsOthers, TakesHit, mark_at, sign_index};
     ghost use Rattle.ledger_report.specs.declared.signs.Mark.{Mark};
 
     pub(crate) fn new(alloc: Global) -> Result<Signs, AllocError>
@@ -195,6 +195,7 @@ impl Signs {
         ensures others { KeepsOthers sign self.old self.new }
         ensures count { (none : Mark) → (mark_at self.new sign none).count
             ≡ saturated ((mark_at self.old sign none).count + amount) }
+        ensures rules { 8 ≤ sign_index sign → rule_tallies self.new ≡ rule_tallies self.old }
     {
         self.marks[sign.index()].hit(bin, place, amount)
     }
@@ -206,13 +207,15 @@ impl Signs {
         ensures others { KeepsOthers sign self.old self.new }
         ensures count { (none : Mark) → (mark_at self.new sign none).count
             ≡ saturated ((mark_at self.old sign none).count + other.now.count) }
+        ensures rules { 8 ≤ sign_index sign → rule_tallies self.new ≡ rule_tallies self.old }
     {
         self.marks[sign.index()].absorb(other)
     }
 
     pub(crate) fn fold(&mut self)
-        ensures { (sign : Sign) (none : Mark) → tally_of (mark_at self.new sign none)
+        ensures tallies { (sign : Sign) (none : Mark) → tally_of (mark_at self.new sign none)
             ≡ tally_of (mark_at self.old sign none) }
+        ensures rules { rule_tallies self.new ≡ rule_tallies self.old }
     {
         for mark in self.marks.iter_mut() {
             mark.bins.fold();

@@ -1,6 +1,6 @@
 //! What each line adds to the numbers of its network and its link.
 
-ghost use Rattle.std.specs.Prelude.{◌≡◌, ◌-◌, ◌/◌, ◌<◌, ◌≤◌, List, [], ◌∷◌, Some, length, slice_index_or, true, false, IfOk, IfSome, OnOk};
+ghost use Rattle.std.specs.Prelude.{◌≡◌, ℕ, ◌*◌, ◌-◌, ◌/◌, ◌<◌, ◌≤◌, List, [], ◌∷◌, Some, length, slice_index_or, true, false, IfOk, IfSome, OnOk};
 ghost use Rattle.afdx_frame.specs.declared.key.Network.{Network};
 ghost use Rattle.afdx_frame.specs.declared.key.TheConstants.{VL_ID_COUNT};
 ghost use Rattle.vl_config.specs.Link.{VirtualLink};
@@ -11,11 +11,14 @@ ghost use Rattle.ledger_text.specs.declared.bounds.TheConstants.{MOST_LINES};
 ghost use Rattle.ledger_text.specs.declared.frame.FrameLine.{FrameLine};
 ghost use Rattle.ledger_report.specs.Keeping.{KeepsLinks, KeepsNetworks};
 ghost use Rattle.ledger_report.specs.LinkLines.{place_of};
-ghost use Rattle.ledger_report.specs.Links.{AreLinksOf};
+ghost use Rattle.ledger_report.specs.Links.{AreEach, AreLinksOf, CountsMet};
 ghost use Rattle.ledger_report.specs.Marks.{IsRule};
 ghost use Rattle.ledger_report.specs.Networks.{IsNetworkOf};
 ghost use Rattle.ledger_report.specs.Noting.{IsIndexOf};
+ghost use Rattle.ledger_report.specs.OutsideLines.{IsOutsideOf};
+ghost use Rattle.ledger_report.specs.RuleMarks.{HasRules};
 ghost use Rattle.ledger_report.specs.Settling.{AreBalanced, GainFates, KeepBalance};
+ghost use Rattle.ledger_report.specs.SkewMedians.{GainMedians};
 ghost use Rattle.ledger_report.specs.Words.{is_on};
 ghost use Rattle.ledger_report.specs.Words.{rule_of};
 
@@ -98,6 +101,7 @@ fn index_of(alloc: Global, config: &Config) -> Result<Vec<u16>, AllocError>
 fn links_of(alloc: Global, config: &Config) -> Result<Vec<LinkReport>, AllocError>
     ensures links { IfOk result (λ links. AreLinksOf config.now.links [] links.items) }
     ensures balanced { IfOk result (λ links. AreBalanced links.items) }
+    ensures met { IfOk result (λ links. AreEach CountsMet config.now.links [] links.items) }
 {
     let mut links = Vec::with_capacity(alloc, config.links().len())?;
     for link in config.links() {
@@ -128,6 +132,13 @@ fn note_on(
     ensures other { OnOk result ((network : Network) (lines : List FrameLine) → length lines < MOST_LINES
         → is_on network line.now ≡ false → IsNetworkOf network lines other.old
         → IsNetworkOf network (line.now ∷ lines) other.new) }
+    ensures own_rules { OnOk result ((network : Network) (lines : List FrameLine)
+        → is_on network line.now ≡ true → at.now.place ≡ place_of line.now
+        → HasRules network lines own.old.signs
+        → HasRules network (line.now ∷ lines) own.new.signs) }
+    ensures other_rules { OnOk result ((network : Network) (lines : List FrameLine)
+        → is_on network line.now ≡ false → HasRules network lines other.old.signs
+        → HasRules network (line.now ∷ lines) other.new.signs) }
 {
     other.pass();
     own.note(at, line.kept)?;
@@ -147,6 +158,7 @@ fn end_links(
     ensures links { OnOk result (KeepsLinks links.old.items links.new.items) }
     ensures networks { OnOk result (KeepsNetworks networks.old networks.new) }
     ensures fates { OnOk result (GainFates links.old.items links.new.items) }
+    ensures medians { OnOk result (GainMedians links.old.items links.new.items) }
 {
     for link in links.iter_mut() {
         link.end(start, width, networks)?;
@@ -158,7 +170,9 @@ impl Statistics {
     ghost use Rattle.ledger_report.specs.Keeping.{KeepsAccount};
     ghost use Rattle.ledger_report.specs.Noting.{AreNetworksOf, IsAccountOf, IsMomentOf};
     ghost use Rattle.ledger_report.specs.Reading.{end_stamp};
-    ghost use Rattle.ledger_report.specs.Span.{HasSpan, KeepsSpan, TakesPlace};
+    ghost use Rattle.ledger_report.specs.Span.{HasSpan, KeepsPlaces, KeepsSpan, TakesPlace};
+    ghost use Rattle.ledger_report.specs.Sums.{saturated};
+    ghost use Rattle.ledger_report.specs.Widths.{IsWidth};
 
     pub(crate) fn new(alloc: Global, config: &Config) -> Result<Statistics, AllocError>
         ensures account { IfOk result (λ statistics. IsAccountOf config.now.links [] statistics) }
@@ -213,11 +227,13 @@ impl Statistics {
     /// The bin of a timestamp, after as many doublings of the width as it needs.
     #[inline]
     fn reach(&mut self, stamp: u64) -> usize
-        ensures span { KeepsSpan self.old self.new }
+        ensures span { KeepsPlaces self.old self.new }
+        ensures width { (time : ℕ) → time ≤ stamp - self.old.start → IsWidth time self.old.width
+            → IsWidth (stamp - self.old.start) self.new.width }
         ensures account { KeepsAccount self.old self.new }
         ensures balance { KeepBalance self.old.links.items self.new.links.items }
     {
-        for _ in 0..64 {
+        for _doubling in 0..64u32 {
             let bin = bin_of(self.start, self.width, stamp);
             if bin < BINS {
                 return bin;
@@ -228,7 +244,8 @@ impl Statistics {
     }
 
     fn fold(&mut self)
-        ensures span { KeepsSpan self.old self.new }
+        ensures span { KeepsPlaces self.old self.new }
+        ensures width { self.new.width ≡ saturated (2 * self.old.width) }
         ensures account { KeepsAccount self.old self.new }
         ensures balance { KeepBalance self.old.links.items self.new.links.items }
     {
@@ -305,11 +322,12 @@ impl Statistics {
         number: u8,
         at: &Moment,
     ) -> Result<(), Refusal>
-        ensures account { OnOk result ((links : List VirtualLink) (lines : List FrameLine) → IsFrameLine line.now
-            → length lines < MOST_LINES → IsMomentOf line.now at.now → line.now.link ≡ Some id → line.now.sequence ≡ Some number
+        ensures account { OnOk result ((links : List VirtualLink) (lines : List FrameLine)
+            → IsFrameLine line.now → length lines < MOST_LINES → IsMomentOf line.now at.now
+            → line.now.link ≡ Some id → line.now.sequence ≡ Some number
             → AreNetworksOf (line.now ∷ lines) self.old.networks → AreLinksOf links lines self.old.links.items
             → IsIndexOf links self.old.index.items → AreBalanced self.old.links.items
-            → length self.old.outside.items ≤ VL_ID_COUNT
+            → AreEach CountsMet links lines self.old.links.items → IsOutsideOf lines self.old.outside.items
             → IsAccountOf links (line.now ∷ lines) self.new) }
         ensures span { KeepsSpan self.old self.new }
     {
@@ -332,18 +350,25 @@ impl Statistics {
     /// Notes a frame of a link outside the table.
     fn note_outside(&mut self, id: VlId, at: &Moment) -> Result<(), AllocError>
         ensures rest { self.new ≡ record self.old { outside = self.new.outside } }
-        ensures room { length self.old.outside.items ≤ VL_ID_COUNT
-            → length self.new.outside.items ≤ VL_ID_COUNT }
+        ensures line { OnOk result ((line : FrameLine) (lines : List FrameLine) → length lines < MOST_LINES
+            → is_class class.Unconfigured line.class ≡ true → line.link ≡ Some id → IsMomentOf line at.now
+            → IsOutsideOf lines self.old.outside.items → IsOutsideOf (line ∷ lines) self.new.outside.items) }
+    {
+        self.make_outside()?;
+        if let Some(held) = self.outside.get_mut(usize::from(id.0)) {
+            held.count(at);
+        }
+        Ok(())
+    }
+
+    /// Has a place for each link outside the table.
+    fn make_outside(&mut self) -> Result<(), AllocError>
+        ensures rest { self.new ≡ record self.old { outside = self.new.outside } }
+        ensures room { OnOk result ((lines : List FrameLine) → IsOutsideOf lines self.old.outside.items
+            → (length self.new.outside.items ≡ VL_ID_COUNT) × IsOutsideOf lines self.new.outside.items) }
     {
         if self.outside.is_empty() {
             self.outside.resize(VL_ID_COUNT, OutsideLink::none())?;
-        }
-        if let Some(held) = self.outside.get_mut(usize::from(id.0)) {
-            if held.frames == 0 {
-                held.network = at.network;
-                held.first = at.place;
-            }
-            held.frames = held.frames.saturating_add(1);
         }
         Ok(())
     }
@@ -353,6 +378,7 @@ impl Statistics {
         ensures span { KeepsSpan self.old self.new }
         ensures account { OnOk result (KeepsAccount self.old self.new) }
         ensures fates { OnOk result (GainFates self.old.links.items self.new.links.items) }
+        ensures medians { OnOk result (GainMedians self.old.links.items self.new.links.items) }
     {
         end_links(&mut self.links, self.start, self.width, &mut self.networks)?;
         Ok(())

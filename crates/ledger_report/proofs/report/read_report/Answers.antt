@@ -21,5 +21,5 @@ returns-in-Ok-end g c =
     } in
     let read = c.in_ok-read_lines.ensures bytes failures links refl begun in
     let told = tells_ledger bytes links c.read_lines.new.reading.counts c.read_lines.new.reading.statistics c.end.new.self c.read_lines.new.reading.lines
-    c.in-Ok-end.ensures.account c.in-Ok-end.ensures.span c.in-Ok-end.ensures.fates read in
+    c.in-Ok-end.ensures.account c.in-Ok-end.ensures.span c.in-Ok-end.ensures.fates c.in-Ok-end.ensures.medians read in
     subst (λ (report : Report). TellsLedger bytes links report) (sym c.into_report.ensures) told

@@ -1,7 +1,7 @@
 -- One more link of no line.
 use Rattle.std.proofs.Common.{◌∙◌, List, ap, ◌<◌, ◌∷◌, [], subst, sym, arith, length, length-append, get_or}
 use Rattle.vl_config.specs.Link.{VirtualLink}
-use Rattle.ledger_report.specs.Links.{IsLinkOf, row_of}
+use Rattle.ledger_report.specs.Links.{CountsMet, IsLinkOf, row_of}
 use Rattle.ledger_report.specs.Settling.{AreBalanced}
 use Rattle.ledger_report.specs.declared.link.LinkReport.{LinkReport}
 use Rattle.ledger_report.proofs.AccountSteps.{balanced_push, links_push}
@@ -14,11 +14,15 @@ loop-link-preserved c =
     let within = subst (λ (xs : List VirtualLink). c.loop-link.link-index < length xs) same c.loop-link-test.true in
     let reports = c.loop-link.links.items in
     let more = c.in_ok-push.ensures.items in
-    let pushed = links_push links reports c.loop-link.link-index c.link-item.result c.in_ok-new.field-0 c.loop-link.invariant.count within
-    (c.link-item.is ∙ ap (λ (xs : List VirtualLink). get_or xs c.loop-link.link-index c.link-item.result) same) c.in_ok-new.ensures.lines c.loop-link.invariant.each in
+    let is = c.link-item.is ∙ ap (λ (xs : List VirtualLink). get_or xs c.loop-link.link-index c.link-item.result) same in
+    let pushed = links_push IsLinkOf links reports c.loop-link.link-index c.link-item.result c.in_ok-new.field-0 c.loop-link.invariant.count within
+    is c.in_ok-new.ensures.lines c.loop-link.invariant.each in
+    let met = links_push CountsMet links reports c.loop-link.link-index c.link-item.result c.in_ok-new.field-0 c.loop-link.invariant.count within
+    is c.in_ok-new.ensures.met c.loop-link.invariant.met in
     let back = sym {A = List LinkReport} more in record {
       count = omega (arith, ap (λ (xs : List LinkReport). length xs) more, length-append reports (c.in_ok-new.field-0 ∷ []), c.loop-link.invariant.count);
       each = λ i link report below. subst (λ (xs : List LinkReport). IsLinkOf (row_of (get_or links i link)) [] (get_or xs i report)) back (pushed i link report below);
+      met = λ i link report below. subst (λ (xs : List LinkReport). CountsMet (row_of (get_or links i link)) [] (get_or xs i report)) back (met i link report below);
       balanced = subst AreBalanced back (balanced_push reports c.in_ok-new.field-0 c.in_ok-new.ensures.balanced.1 c.loop-link.invariant.balanced);
     }
 
@@ -28,3 +32,8 @@ returns-clause-links c =
       count = omega (arith, count, c.loop-link.invariant.count, c.loop-link-test.false, c.loop-link.auto.link-index-end);
       each = λ i link report within. c.loop-link.invariant.each i link report (omega (arith, count, within, c.loop-link-test.false));
     }
+
+pub returns-clause-met : goal.returns-clause-met
+returns-clause-met c = λ i link report within.
+    (let count = ap (λ (xs : List VirtualLink). length xs) c.links-link-items.ensures.value in
+    c.loop-link.invariant.met i link report (omega (arith, count, within, c.loop-link-test.false)))

@@ -1,8 +1,25 @@
 -- The mark `alone` keeps its count.
-use Rattle.std.proofs.Common.{ap, arith}
+use Rattle.std.proofs.Common.{ap, refl, arith}
 use Rattle.ledger_report.specs.Keeping.{Tally}
-use Rattle.ledger_report.specs.declared.signs.Sign.TheVariants.{Alone}
+use Rattle.ledger_report.specs.Alone.{hits_at}
+use Rattle.ledger_report.specs.Marks.{mark_at}
+use Rattle.ledger_report.specs.declared.signs.Sign.TheVariants.{Alone, Late}
+use Rattle.ledger_report.proofs.LinkSteps.{mark_same}
 use Rattle.ledger_report.proofs.lane.Lane.fold.Goals as goal
 
 pub returns-clause-missed : goal.returns-clause-missed
-returns-clause-missed c = λ none. let alone = ap (λ (t : Tally). t.count) (c.fold.ensures Alone none) in omega (arith, alone)
+returns-clause-missed c = λ none. let alone = ap (λ (t : Tally). t.count) (c.fold.ensures.tallies Alone none) in omega (arith, alone)
+
+pub returns-clause-late : goal.returns-clause-late
+returns-clause-late c = λ hits has none. mark_same (mark_at c.args.self.now.signs Late none) (mark_at c.fold.new.self Late none) hits (c.fold.ensures.tallies Late none) (has none)
+
+pub returns-clause-places : goal.returns-clause-places
+returns-clause-places c = (
+  refl,
+  λ missed h. record {
+    alone = λ none. mark_same (mark_at c.args.self.now.signs Alone none) (mark_at c.fold.new.self Alone none) (hits_at missed.alone)
+        (c.fold.ensures.tallies Alone none) (h.alone none);
+    held = record { count = h.held.count; first = h.held.first; last = h.held.last };
+    uncovered = h.uncovered;
+  },
+)

@@ -1,7 +1,10 @@
 -- The mark `alone` stays.
-use Rattle.std.proofs.Common.{refl, ap, arith}
+use Rattle.std.proofs.Common.{refl, sym, ap, subst, arith}
+use Rattle.afdx_frame.specs.declared.key.Network.{Network}
+use Rattle.ledger_report.specs.Pairs.{GainsLateOn}
+use Rattle.ledger_report.specs.declared.link.LinkReport.{LinkReport}
 use Rattle.ledger_report.specs.declared.signs.Mark.{Mark}
-use Rattle.ledger_report.specs.declared.signs.Sign.TheVariants.{Alone}
+use Rattle.ledger_report.specs.declared.signs.Sign.TheVariants.{Alone, Late}
 use Rattle.ledger_report.proofs.link.LinkReport.hit_late.Goals as goal
 
 pub returns-in-A-clause-accounts : goal.returns-in-A-clause-accounts
@@ -9,3 +12,15 @@ returns-in-A-clause-accounts c = λ none few. let alone = ap (λ (m : Mark). m.c
 
 pub returns-in-B-clause-accounts : goal.returns-in-B-clause-accounts
 returns-in-B-clause-accounts c = λ none few. let alone = ap (λ (m : Mark). m.count) (c.hit-in-B.ensures.others Alone none refl) in omega (arith, alone)
+
+pub returns-in-A-clause-late : goal.returns-in-A-clause-late
+returns-in-A-clause-late c =
+    let old = c.args.self.now in
+    let new : LinkReport = record old { lanes = record old.lanes { a = record old.lanes.a { signs = c.hit.new.self } } } in
+    subst (λ (n : Network). GainsLateOn n c.args.at.now.place old.lanes new.lanes) (sym c.in-A.is) (λ hits has. c.hit.ensures.takes Late hits has, λ hits has. has)
+
+pub returns-in-B-clause-late : goal.returns-in-B-clause-late
+returns-in-B-clause-late c =
+    let old = c.args.self.now in
+    let new : LinkReport = record old { lanes = record old.lanes { b = record old.lanes.b { signs = c.hit-in-B.new.self } } } in
+    subst (λ (n : Network). GainsLateOn n c.args.at.now.place old.lanes new.lanes) (sym c.in-B.is) (λ hits has. has, λ hits has. c.hit-in-B.ensures.takes Late hits has)

@@ -1,9 +1,11 @@
 -- The lane takes the line, and the rest keeps the lanes' numbers.
 use Rattle.std.proofs.Common.{Some, ◌∙◌, ap, refl, subst, arith}
+use Rattle.ledger_report.specs.Both.{side_of}
 use Rattle.ledger_report.specs.Keeping.{NotesLane}
 use Rattle.ledger_report.specs.declared.lane.LaneLine.{LaneLine}
 use Rattle.ledger_report.proofs.CopySteps.{copies_off, copies_on, keeps_latest_on, latest_off, latest_on}
-use Rattle.ledger_report.proofs.KeepSteps.{keeps_link_on}
+use Rattle.ledger_report.proofs.FateNotes.{notes_fates}
+use Rattle.ledger_report.proofs.KeepSteps.{keeps_late_none, keeps_link_on}
 use Rattle.ledger_report.proofs.LinkSteps.{notes_then}
 use Rattle.ledger_report.proofs.link.LinkReport.note.Goals as goal
 
@@ -101,3 +103,43 @@ returns-in-Both-clause-latest c =
     latest_off c.args.line.now c.args.number c.args.at.now c.args.self.now (record c.note_discarded.new.self { runs = c.note.new.self }) _ (c.in-Some.is ∙ ap Some c.in-Both.is) refl
     (keeps_latest_on c.args.self.now c.note_lane.new.self c.note_numbering.new.self c.note_discarded.new.self c.note_lane.ensures.pairing
     c.note_numbering.ensures.pairing c.in_ok-note_discarded.ensures.latest)
+
+pub returns-in_ok-note_copy-in-Copy-clause-fates : goal.returns-in_ok-note_copy-in-Copy-clause-fates
+returns-in_ok-note_copy-in-Copy-clause-fates c =
+    notes_fates c.args.line.now c.args.number c.args.at.now _ (side_of c.args.at.now.network c.args.self.now.lanes)
+    (side_of c.args.at.now.network c.args.networks.now) c.lane_line-seen.result c.args.self.now c.note_lane.new.self c.note_numbering.new.self
+    (record c.note_discarded.new.self { runs = c.note.new.self }) c.note_copy.new.self c.lane_line-seen.ensures.line (c.in-Some.is ∙ ap Some c.in-Copy.is)
+    c.in_ok-numbering.ensures.lanes.0 c.in_ok-note_numbering.ensures.link.0 c.in_ok-note_discarded.ensures.link.0 c.note_lane.ensures.pairing
+    c.note_numbering.ensures.pairing c.note_lane.ensures.fates c.note_numbering.ensures.fates c.note_discarded.ensures.fates
+    c.in_ok-numbering.ensures.late c.note_numbering.ensures.late c.note_discarded.ensures.late
+    c.in_ok-note_discarded.ensures.pairing c.in_ok-note_copy-in-Copy.ensures.pairs
+
+pub returns-in_ok-note_delivery-in-Deliver-clause-fates : goal.returns-in_ok-note_delivery-in-Deliver-clause-fates
+returns-in_ok-note_delivery-in-Deliver-clause-fates c =
+    notes_fates c.args.line.now c.args.number c.args.at.now _ (side_of c.args.at.now.network c.args.self.now.lanes)
+    (side_of c.args.at.now.network c.args.networks.now) c.lane_line-seen.result c.args.self.now c.note_lane.new.self c.note_numbering.new.self
+    (record c.note_discarded.new.self { runs = c.note.new.self }) c.note_delivery.new.self c.lane_line-seen.ensures.line (c.in-Some.is ∙ ap Some c.in-Deliver.is)
+    c.in_ok-numbering.ensures.lanes.0 c.in_ok-note_numbering.ensures.link.0 c.in_ok-note_discarded.ensures.link.0 c.note_lane.ensures.pairing
+    c.note_numbering.ensures.pairing c.note_lane.ensures.fates c.note_numbering.ensures.fates c.note_discarded.ensures.fates
+    c.in_ok-numbering.ensures.late c.note_numbering.ensures.late c.note_discarded.ensures.late
+    c.in_ok-note_discarded.ensures.pairing (c.in_ok-note_delivery-in-Deliver.ensures.takes, c.in_ok-note_delivery-in-Deliver.ensures.late)
+
+pub returns-in_default-clause-fates : goal.returns-in_default-clause-fates
+returns-in_default-clause-fates c =
+    notes_fates c.args.line.now c.args.number c.args.at.now _ (side_of c.args.at.now.network c.args.self.now.lanes)
+    (side_of c.args.at.now.network c.args.networks.now) c.lane_line-seen.result c.args.self.now c.note_lane.new.self c.note_numbering.new.self
+    (record c.note_discarded.new.self { runs = c.note.new.self }) (record c.note_discarded.new.self { runs = c.note.new.self }) c.lane_line-seen.ensures.line c.in_default.is
+    c.in_ok-numbering.ensures.lanes.0 c.in_ok-note_numbering.ensures.link.0 c.in_ok-note_discarded.ensures.link.0 c.note_lane.ensures.pairing
+    c.note_numbering.ensures.pairing c.note_lane.ensures.fates c.note_numbering.ensures.fates c.note_discarded.ensures.fates
+    c.in_ok-numbering.ensures.late c.note_numbering.ensures.late c.note_discarded.ensures.late
+    c.in_ok-note_discarded.ensures.pairing (refl, refl, keeps_late_none c.note_discarded.new.self)
+
+pub returns-in-Both-clause-fates : goal.returns-in-Both-clause-fates
+returns-in-Both-clause-fates c =
+    notes_fates c.args.line.now c.args.number c.args.at.now _ (side_of c.args.at.now.network c.args.self.now.lanes)
+    (side_of c.args.at.now.network c.args.networks.now) c.lane_line-seen.result c.args.self.now c.note_lane.new.self c.note_numbering.new.self
+    (record c.note_discarded.new.self { runs = c.note.new.self }) (record c.note_discarded.new.self { runs = c.note.new.self }) c.lane_line-seen.ensures.line (c.in-Some.is ∙ ap Some c.in-Both.is)
+    c.in_ok-numbering.ensures.lanes.0 c.in_ok-note_numbering.ensures.link.0 c.in_ok-note_discarded.ensures.link.0 c.note_lane.ensures.pairing
+    c.note_numbering.ensures.pairing c.note_lane.ensures.fates c.note_numbering.ensures.fates c.note_discarded.ensures.fates
+    c.in_ok-numbering.ensures.late c.note_numbering.ensures.late c.note_discarded.ensures.late
+    c.in_ok-note_discarded.ensures.pairing (refl, refl, keeps_late_none c.note_discarded.new.self)

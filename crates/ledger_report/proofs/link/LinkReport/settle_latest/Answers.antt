@@ -1,11 +1,24 @@
 -- One more number is settled.
-use Rattle.std.proofs.Common.{◌∙◌, ◌+◌, ◌<◌, ◌^◌, None, ap, arith, slice_index_or}
+use Rattle.std.proofs.Common.{◌∙◌, ◌+◌, ◌<◌, ◌^◌, None, refl, ap, arith, slice_index_or}
 use Rattle.ledger_report.specs.Pending.{pending, pends}
 use Rattle.ledger_report.specs.Settling.{accounted}
 use Rattle.ledger_report.specs.declared.pairing.Pairing.{Pairing}
-use Rattle.ledger_report.proofs.KeepSteps.{keeps_link_on, keeps_networks_on}
+use Rattle.ledger_report.proofs.FateNotes.{none_met, one_met}
+use Rattle.ledger_report.proofs.KeepSteps.{keeps_late_none, keeps_late_on, keeps_link_none, keeps_link_on, keeps_networks_on}
 use Rattle.ledger_report.proofs.Pendings.{pending-drop}
 use Rattle.ledger_report.proofs.link.LinkReport.settle_latest.Goals as goal
+
+pub loop-number-init : goal.loop-number-init
+loop-number-init c = record {
+  settled = λ none few. refl;
+  pairing = refl;
+  deliveries = refl;
+  copies = refl;
+  link = keeps_link_none c.args.self.now;
+  numbers = none_met c.args.self.now;
+  late = keeps_late_none c.args.self.now;
+  networks = (refl, refl);
+}
 
 pub loop-number-preserved : goal.loop-number-preserved
 loop-number-preserved c = record {
@@ -24,6 +37,9 @@ loop-number-preserved c = record {
   deliveries = c.settle_number.ensures.deliveries ∙ c.loop-number.invariant.deliveries;
   copies = c.settle_number.ensures.copies ∙ c.loop-number.invariant.copies;
   link = keeps_link_on c.args.self.now c.loop-number.self c.settle_number.new.self c.loop-number.invariant.link c.in_ok-settle_number.ensures.link;
+  numbers = one_met c.loop-number.number c.args.self.now c.loop-number.self c.settle_number.new.self c.loop-number.invariant.pairing
+      c.loop-number.invariant.numbers c.in_ok-settle_number.ensures.numbers;
+  late = keeps_late_on c.args.self.now c.loop-number.self c.settle_number.new.self c.loop-number.invariant.late c.in_ok-settle_number.ensures.late;
   networks = keeps_networks_on c.args.networks.now c.loop-number.networks c.settle_number.new.networks c.loop-number.invariant.networks
       c.in_ok-settle_number.ensures.networks;
 }

@@ -2,6 +2,7 @@
 use Rattle.std.proofs.Common.{◌≡◌, ◌+◌, ◌<◌, ◌^◌, drop}
 use Rattle.ledger_report.specs.Copies.{KeepsCopies}
 use Rattle.ledger_report.specs.Keeping.{KeepsLink, KeepsNetworks}
+use Rattle.ledger_report.specs.Pairs.{KeepsLate, MeetsOf, met_with}
 use Rattle.ledger_report.specs.Pending.{pending}
 use Rattle.ledger_report.specs.Settling.{accounted, counted}
 use Rattle.ledger_report.specs.declared.signs.Mark.{Mark}
@@ -15,5 +16,7 @@ invariant-loop-number l = record {
   deliveries : l.self.deliveries ≡ l.initial.self.deliveries;
   copies : KeepsCopies l.initial.self l.self;
   link : KeepsLink l.initial.self l.self;
+  numbers : MeetsOf (met_with l.number l.initial.self.pairing l.initial.self.fates.met) l.initial.self l.self;
+  late : KeepsLate l.initial.self l.self;
   networks : KeepsNetworks l.initial.networks l.networks;
 }

@@ -1,11 +1,12 @@
 -- One more link is folded.
-use Rattle.std.proofs.Common.{◌∙◌, ◌<◌, arith, subst, length, length-set}
+use Rattle.std.proofs.Common.{◌∙◌, ◌<◌, ap, arith, subst, length, length-set}
 use Rattle.std.proofs.lemmas.List.{get_or_default}
 use Rattle.ledger_report.specs.Keeping.{KeepsReport}
-use Rattle.ledger_report.specs.Settling.{AccountsSame}
+use Rattle.ledger_report.specs.Pairs.{FateNumbers}
+use Rattle.ledger_report.specs.Settling.{KeepsCounts}
 use Rattle.ledger_report.specs.declared.link.LinkReport.{LinkReport}
 use Rattle.ledger_report.proofs.AccountSteps.{each_set}
-use Rattle.ledger_report.proofs.KeepSteps.{accounts_same_on, keeps_report_on}
+use Rattle.ledger_report.proofs.KeepSteps.{keeps_counts_on, keeps_report_on}
 use Rattle.ledger_report.proofs.statistics.Statistics.fold.Goals as goal
 
 pub loop-link-preserved : goal.loop-link-preserved
@@ -18,7 +19,7 @@ loop-link-preserved c =
     let within : i < length items = omega (arith, c.loop-link-test.true, c.loop-link.invariant.count) in record {
       count = length-set items i new ∙ c.loop-link.invariant.count;
       each = each_set KeepsReport keeps_report_on first items i new within c.loop-link.invariant.each
-          (λ d. subst (λ (x : LinkReport). KeepsReport x new) (get_or_default items i c.link-item.result d within) (folded.link, folded.deliveries, folded.copies, folded.pairing));
-      same = each_set AccountsSame accounts_same_on first items i new within c.loop-link.invariant.same
-          (λ d. subst (λ (x : LinkReport). AccountsSame x new) (get_or_default items i c.link-item.result d within) folded.accounts);
+          (λ d. subst (λ (x : LinkReport). KeepsReport x new) (get_or_default items i c.link-item.result d within) (folded.link, folded.deliveries, folded.copies, folded.pairing, record { numbers = ap (λ (f : FateNumbers). record f { met = new.fates.met }) folded.fates; signs = folded.late }));
+      same = each_set KeepsCounts keeps_counts_on first items i new within c.loop-link.invariant.same
+          (λ d. subst (λ (x : LinkReport). KeepsCounts x new) (get_or_default items i c.link-item.result d within) (folded.accounts, folded.fates));
     }

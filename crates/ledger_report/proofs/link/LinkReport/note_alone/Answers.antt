@@ -1,0 +1,23 @@
+-- The lane of the delivery's network takes it, and the other one stays.
+use Rattle.std.proofs.Common.{refl, sym, subst}
+use Rattle.afdx_frame.specs.declared.key.Network.{Network}
+use Rattle.afdx_frame.specs.declared.key.Network.TheVariants.{A, B}
+use Rattle.ledger_report.specs.Alone.{NotesMissedOn}
+use Rattle.ledger_report.specs.declared.link.LinkReport.{LinkReport}
+use Rattle.ledger_report.proofs.link.LinkReport.note_alone.Goals as goal
+
+pub returns-in_ok-note_alone-in-A-clause-places : goal.returns-in_ok-note_alone-in-A-clause-places
+returns-in_ok-note_alone-in-A-clause-places c =
+    let old = c.args.self.now in
+    let new : LinkReport = record old { lanes = record old.lanes { a = c.note_alone.new.self } } in
+    let delivery = c.args.delivery.now in
+    subst (λ (n : Network). NotesMissedOn n delivery.before delivery.place c.args.networks.now old.lanes new.lanes) (sym c.in-A.is)
+    (c.in_ok-note_alone-in-A.ensures.takes B, refl)
+
+pub returns-in_ok-note_alone-in-B-clause-places : goal.returns-in_ok-note_alone-in-B-clause-places
+returns-in_ok-note_alone-in-B-clause-places c =
+    let old = c.args.self.now in
+    let new : LinkReport = record old { lanes = record old.lanes { b = c.note_alone-in-B.new.self } } in
+    let delivery = c.args.delivery.now in
+    subst (λ (n : Network). NotesMissedOn n delivery.before delivery.place c.args.networks.now old.lanes new.lanes) (sym c.in-B.is)
+    (c.in_ok-note_alone-in-B.ensures.takes A, refl)
