@@ -64,14 +64,14 @@ fleet-test: build
 program: build
 	@tests/program
 
-mutants: toolchain
+mutants: build
 	@tests/edits
 
 mutants-of-the-program: build
 	@tests/mutants/run
 
 allocations: toolchain
-	@tests/allocations.sh
+	@tests/allocations
 
 borrows: toolchain
 	@tests/borrows.sh

@@ -1,6 +1,6 @@
 //! Calls that allocate return the right answer, or say that they are out of memory.
 //!
-//! The script `tests/allocations.sh` has each allocation in them fail in turn. A test `refusal_..` then
+//! The script `tests/allocations` has each allocation in them fail in turn. A test `refusal_..` then
 //! passes by either answer, and a test `ample_..` by the right one alone, so it tells whether an
 //! allocation failed. With ample memory both have to pass.
 

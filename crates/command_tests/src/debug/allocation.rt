@@ -1,4 +1,4 @@
-//! The command `debug` with each allocation failing in turn (`tests/allocations.sh`). A test `refusal_..`
+//! The command `debug` with each allocation failing in turn (`tests/allocations`). A test `refusal_..`
 //! then passes by either result, and a test `ample_..` by the right one alone.
 
 use analyser::{Ran, debug_over};

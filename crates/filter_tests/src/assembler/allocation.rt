@@ -1,5 +1,5 @@
 //! Assembling 1000 labelled statements and listing 1000 instructions, with each allocation failing in
-//! turn (`tests/allocations.sh`). A test `refusal_..` then passes by either result, and a test
+//! turn (`tests/allocations`). A test `refusal_..` then passes by either result, and a test
 //! `ample_..` by the right one alone.
 
 use bpf_asm::{AsmFault, assemble, listing};

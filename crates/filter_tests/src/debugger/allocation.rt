@@ -1,4 +1,4 @@
-//! Sessions with each allocation failing in turn (`tests/allocations.sh`). A test `refusal_..` then
+//! Sessions with each allocation failing in turn (`tests/allocations`). A test `refusal_..` then
 //! passes by either result, and a test `ample_..` by the right one alone. A command that was refused is
 //! given again, and then answers as if nothing had happened.
 

@@ -1,7 +1,7 @@
 //! Calls that allocate return the right value or out of memory, at 1000 instructions. Loading
 //! allocates nothing.
 //!
-//! The script `tests/allocations.sh` has each allocation in them fail in turn. A test `refusal_..` then
+//! The script `tests/allocations` has each allocation in them fail in turn. A test `refusal_..` then
 //! passes by either result, and a test `ample_..` by the right one alone, so it tells whether an
 //! allocation failed. With ample memory both have to pass.
 

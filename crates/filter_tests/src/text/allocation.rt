@@ -1,4 +1,4 @@
-//! Reading 1000 statements, with each allocation failing in turn (`tests/allocations.sh`). A test
+//! Reading 1000 statements, with each allocation failing in turn (`tests/allocations`). A test
 //! `refusal_..` then passes by either result, and a test `ample_..` by the right one alone.
 
 use bpf_text::{Operand, TextFault, statements};

@@ -1,7 +1,7 @@
 //! Calls of the desk and of a round that allocate return the right answer, or say that they are out of
 //! memory, or that a thread couldn't be started.
 //!
-//! The script `tests/allocations.sh` has each allocation in them fail in turn. A test `refusal_..` then
+//! The script `tests/allocations` has each allocation in them fail in turn. A test `refusal_..` then
 //! passes by either answer, and a test `ample_..` by the right one alone.
 
 use crate::workers::{Open, filtered, tap_frame};

@@ -1,7 +1,7 @@
 //! Calls of the merger and the core that allocate return the right answer, or say that they are out of
 //! memory and change nothing.
 //!
-//! The script `tests/allocations.sh` has each allocation in them fail in turn. A test `refusal_..` then
+//! The script `tests/allocations` has each allocation in them fail in turn. A test `refusal_..` then
 //! passes by either answer, and a test `ample_..` by the right one alone.
 
 use crate::merge::cores::{AMPLE, Digits, core_of, is_prefix};

@@ -1,7 +1,7 @@
 //! Reading frames that share blocks, and making packets in memory: each call does what it should, or says
 //! that it is out of memory and leaves what stood there.
 //!
-//! The script `tests/allocations.sh` has each allocation in them fail in turn. A test `refusal_..` then
+//! The script `tests/allocations` has each allocation in them fail in turn. A test `refusal_..` then
 //! passes by either answer, and a test `ample_..` by the right one alone.
 
 use crate::recording::copies::push_record;
@@ -114,8 +114,7 @@ fn appends_packets(rt: &(impl Abort + AllocGlobal)) -> bool {
     appends_apart(rt, &frame)
 }
 
-/// Appends packets to bytes of their own. These are more allocations than the reader makes, which goes on
-/// without some of its own: the script ends where none was missed.
+/// Appends packets to bytes of their own, each time with an allocation.
 fn appends_apart(rt: &(impl Abort + AllocGlobal), frame: &TapFrame) -> bool {
     for _ in 0..30 {
         let mut bytes = Vec::new(rt.alloc());

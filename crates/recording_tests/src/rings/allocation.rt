@@ -1,6 +1,6 @@
 //! Calls of a ring that allocate do what they should, or say that they are out of memory.
 //!
-//! The script `tests/allocations.sh` has each allocation in them fail in turn. A test `refusal_..`
+//! The script `tests/allocations` has each allocation in them fail in turn. A test `refusal_..`
 //! then passes by either answer, and a test `ample_..` by the right one alone.
 
 use crate::rings::{Open, Taken, recording, take_most};
@@ -11,9 +11,7 @@ use std::sync::Wait;
 use tap_queue::{RingLost, TapItem, feed, tap_ring};
 use test_support::SOUND;
 
-/// Makes rings, and leaves each. Returns whether there was the memory, as all here. These are more
-/// allocations than a ring that is fed makes, which goes on without some of its own: the script ends where
-/// none was missed.
+/// Makes rings, and leaves each. Returns whether there was the memory, as all here.
 fn makes_rings(rt: &(impl Abort + Wait + AllocGlobal)) -> bool {
     for _ in 0..16 {
         let Ok((put, mut end)) = tap_ring(rt.alloc(), Network::A, 0) else {

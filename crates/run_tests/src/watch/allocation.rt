@@ -1,7 +1,7 @@
 //! A whole analysis returns the right answer, or says that it is out of memory, or that a thread
 //! couldn't be started.
 //!
-//! The script `tests/allocations.sh` has each allocation in it fail in turn. A test `refusal_..`
+//! The script `tests/allocations` has each allocation in it fail in turn. A test `refusal_..`
 //! then passes by either answer, and a test `ample_..` by the right one alone.
 
 use crate::watch::{Given, NO_FAILURE, NOT_FIRST, Ran, Way, devices_by, recording, run_over};

@@ -1,7 +1,7 @@
 //! Calls that allocate for a table of virtual links return the right answer, or say that they are out
 //! of memory.
 //!
-//! The script `tests/allocations.sh` has each allocation in them fail in turn. A test `refusal_..` then
+//! The script `tests/allocations` has each allocation in them fail in turn. A test `refusal_..` then
 //! passes by either answer, and a test `ample_..` by the right one alone.
 
 use crate::judges::TWO_LINKS;

@@ -1,6 +1,6 @@
 //! Calls of the ledger and of its lines return the right answer, or say that they are out of memory.
 //!
-//! The script `tests/allocations.sh` has each allocation in them fail in turn. A test `refusal_..` then
+//! The script `tests/allocations` has each allocation in them fail in turn. A test `refusal_..` then
 //! passes by either answer, and a test `ample_..` by the right one alone.
 
 use crate::ledger::many::Round;
