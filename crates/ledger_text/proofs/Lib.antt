@@ -5,3 +5,4 @@ pub mod Faults
 pub mod Texts
 pub mod Blocks
 pub mod Ledgers
+pub mod LineEnds

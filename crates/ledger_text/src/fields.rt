@@ -24,7 +24,7 @@ impl<'a> Fields<'a> {
     }
 
     /// The next field, empty where there is none.
-    #[inline]
+    #[inline(always)]
     pub fn next(&mut self) -> &'a [u8]
         ensures field { result.now ≡ first_field (left_of self.old) }
         ensures left { left_of self.new ≡ next_fields (left_of self.old) }

@@ -68,7 +68,7 @@ fn link_of(field: &[u8]) -> Option<Option<VlId>>
 }
 
 /// A sequence number where there is a link, and a dash elsewhere.
-#[inline]
+#[inline(always)]
 fn sequence_of(field: &[u8], link: Option<VlId>) -> Option<Option<u8>>
     ensures { Reads (Optional (Below (2 ^ 8)) (is_some link)) (dash_or decimal) field.now result }
 {
@@ -80,7 +80,7 @@ fn sequence_of(field: &[u8], link: Option<VlId>) -> Option<Option<u8>>
 }
 
 /// A class that has a link, or one that has none, as the line does.
-#[inline]
+#[inline(always)]
 fn class_with(field: &[u8], link: Option<VlId>) -> Option<Class>
     ensures { Reads (λ class. is_addressed class ≡ is_some link) class_word field.now result }
 {
@@ -104,6 +104,7 @@ fn kept_of(field: &[u8]) -> Option<Option<u32>>
 }
 
 /// Reads the line of a frame, without its newline.
+#[inline]
 pub fn read_frame(line: &[u8]) -> Result<FrameLine, FrameFault>
     ensures { IsReadOf line.now result }
 {

@@ -5,6 +5,7 @@ ghost use Rattle.ledger_text.specs.Newlines.{is_newline};
 ghost use Rattle.ledger_text.specs.declared.bounds.TheConstants.{BLOCK_LEN};
 
 use crate::bounds::BLOCK_LEN;
+use memchr::memchr;
 use pcap_io::{DeviceFault, TapSource};
 use std::alloc::{AllocError, Global};
 
@@ -52,7 +53,10 @@ fn line_len(bytes: &[u8]) -> usize
     ensures len { result ≡ position_or_len is_newline bytes.now }
     ensures within { result ≤ length bytes.now }
 {
-    bytes.iter().take_while(|byte| **byte != b'\n').count()
+    match memchr(b'\n', bytes) {
+        Some(at) => at,
+        None => bytes.len(),
+    }
 }
 
 /// A block of zeros.

@@ -88,7 +88,7 @@ fn is_head(line: &[u8]) -> bool
 }
 
 /// Reads a line, without its newline, that stands at this place.
-#[inline]
+#[inline(always)]
 pub fn read_line(stage: Stage, line: &[u8]) -> Result<LedgerLine, LineFault>
     ensures { IsLineRead stage line.now result }
 {

@@ -91,6 +91,7 @@ impl<S: TapSource> LedgerReader<S> {
     }
 
     /// Finds the next line or the end.
+    #[inline(always)]
     fn find(&mut self) -> Result<Found, ReadFault>
         ensures found { IfOk result (IsFound
             (reading_of S.remaining S.failures self.old) (reading_of S.remaining S.failures self.new)
@@ -108,7 +109,7 @@ impl<S: TapSource> LedgerReader<S> {
     }
 
     /// Reads the line that was found.
-    #[inline]
+    #[inline(always)]
     fn read(&mut self) -> Result<Found, ReadFault>
         ensures found { IfOk result (IsRead self.old.stage self.old.number (lent_line self.old.lines)
             self.new.stage self.new.number) }
