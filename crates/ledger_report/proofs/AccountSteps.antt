@@ -115,7 +115,7 @@ by_test : (b : Bool) (P : Type 0) → (b ≡ true → P) → (b ≡ false → P)
 by_test true P f g = f refl
 by_test false P f g = g refl
 
-each_set_of : (P : Row → List FrameLine → LinkReport → Type 0) →
+pub each_set_of : (P : Row → List FrameLine → LinkReport → Type 0) →
     ((row : Row) (line : FrameLine) (lines : List FrameLine) (report : LinkReport) → is_seen_of row.id line ≡ false → P row lines report → P row (line ∷ lines) report) →
     (links : List VirtualLink) (line : FrameLine) (lines : List FrameLine) (reports : List LinkReport) (index : List ℕ) (id : VlId) (place : ℕ)
     (new : LinkReport) → IsIndexOf links index → place ≡ get_or index id.0 65535 → place < length reports → line.link ≡ Some id →
@@ -160,7 +160,7 @@ account_from links lines after networks reports index one two three are links_ar
   outside = room;
 }
 
-addressed : (line : FrameLine) (id : VlId) → IsFrameLine line → line.link ≡ Some id → is_addressed line.class ≡ true
+pub addressed : (line : FrameLine) (id : VlId) → IsFrameLine line → line.link ≡ Some id → is_addressed line.class ≡ true
 addressed line id is of_link = sym is.link.present ∙ ap (λ (o : Option VlId). is_some o) of_link
 
 -- a line of a link outside the table

@@ -26,7 +26,7 @@ use Rattle.ledger_report.specs.declared.signs.Mark.{Mark}
 use Rattle.ledger_report.specs.declared.signs.Sign.TheVariants.{Alone}
 use Rattle.ledger_report.specs.declared.signs.Signs.{Signs}
 
-amounts_at : (places : List Place) → amounts (hits_at places) ≡ length places
+pub amounts_at : (places : List Place) → amounts (hits_at places) ≡ length places
 amounts_at [] = refl
 amounts_at (place ∷ places) = let rest = amounts_at places in omega (arith, rest)
 

@@ -40,7 +40,7 @@ after_if : (b : Bool) (x : Silence) (n : ℕ) → x.after ≡ n → IfSome (if b
 after_if true x n is = is
 after_if false x n is = tt
 
-after_at : (network : Network) (line : FrameLine) (lines : List FrameLine) →
+pub after_at : (network : Network) (line : FrameLine) (lines : List FrameLine) →
     IfSome (silence_at network (record { line = line; before = lines })) (λ (s : Silence). s.after ≡ frames_on network lines)
 after_at network line lines =
     after_if (is_on network line && is_silent network lines) (silence_before network (record { line = line; before = lines })) (frames_on network lines) refl

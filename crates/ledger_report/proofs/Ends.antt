@@ -16,11 +16,11 @@ not_after-trans p q r (inr a) (inr b) = inr (a.0 ∙ b.0, omega (arith, a.1, b.1
 not_after-same : (p q : Place) → p ≡ q → NotAfter p q
 not_after-same p q same = inr (ap (λ (x : Place). x.stamp) same, omega (arith, ap (λ (x : Place). x.number) same))
 
-none_before : (p q : Place) (hits : List Hit) → NotAfter p q → NoneBefore q hits → NoneBefore p hits
+pub none_before : (p q : Place) (hits : List Hit) → NotAfter p q → NoneBefore q hits → NoneBefore p hits
 none_before p q [] le all = tt
 none_before p q (h ∷ hits) le all = (not_after-trans p q h.place le all.0, none_before p q hits le all.1)
 
-none_after : (p q : Place) (hits : List Hit) → NotAfter q p → NoneAfter q hits → NoneAfter p hits
+pub none_after : (p q : Place) (hits : List Hit) → NotAfter q p → NoneAfter q hits → NoneAfter p hits
 none_after p q [] le all = tt
 none_after p q (h ∷ hits) le all = (not_after-trans h.place q p all.0 le, none_after p q hits le all.1)
 
@@ -29,20 +29,20 @@ among_same p q hits same among = subst (λ (x : Place). IsAmong x hits) (sym sam
 
 -- ---- more of them in front
 
-among_left : (p : Place) (xs ys : List Hit) → IsAmong p xs → IsAmong p (xs ++ ys)
+pub among_left : (p : Place) (xs ys : List Hit) → IsAmong p xs → IsAmong p (xs ++ ys)
 among_left p [] ys none = absurd none
 among_left p (x ∷ xs) ys (inl here) = inl here
 among_left p (x ∷ xs) ys (inr more) = inr (among_left p xs ys more)
 
-among_right : (p : Place) (xs ys : List Hit) → IsAmong p ys → IsAmong p (xs ++ ys)
+pub among_right : (p : Place) (xs ys : List Hit) → IsAmong p ys → IsAmong p (xs ++ ys)
 among_right p [] ys there = there
 among_right p (x ∷ xs) ys there = inr (among_right p xs ys there)
 
-none_before-append : (p : Place) (xs ys : List Hit) → NoneBefore p xs → NoneBefore p ys → NoneBefore p (xs ++ ys)
+pub none_before-append : (p : Place) (xs ys : List Hit) → NoneBefore p xs → NoneBefore p ys → NoneBefore p (xs ++ ys)
 none_before-append p [] ys a b = b
 none_before-append p (x ∷ xs) ys a b = (a.0, none_before-append p xs ys a.1 b)
 
-none_after-append : (p : Place) (xs ys : List Hit) → NoneAfter p xs → NoneAfter p ys → NoneAfter p (xs ++ ys)
+pub none_after-append : (p : Place) (xs ys : List Hit) → NoneAfter p xs → NoneAfter p ys → NoneAfter p (xs ++ ys)
 none_after-append p [] ys a b = b
 none_after-append p (x ∷ xs) ys a b = (a.0, none_after-append p xs ys a.1 b)
 

@@ -129,7 +129,7 @@ regular_is TooLong undelivered = absurd (false≢true undelivered)
 regular_is Regular says = refl
 
 -- it has no rule
-judged_none : (line : FrameLine) → IsFrameLine line → is_some line.redundancy ≡ true → rule_of line ≡ None
+pub judged_none : (line : FrameLine) → IsFrameLine line → is_some line.redundancy ≡ true → rule_of line ≡ None
 judged_none line is judged =
     let valid : option_map_or is_valid line.integrity false ≡ true = sym is.reached.redundancy ∙ judged in
     let within : option_map_or is_within line.policing false ≡ true = sym is.reached.integrity ∙ valid_some line.integrity valid in
@@ -139,7 +139,7 @@ judged_none line is judged =
     (not_excess line.policing within)
     ∙ ap (λ (b : Bool). if b then Some signs.Out else None) (not_out line.integrity valid)
 
-deliver_some : (o : Option Redundancy) → option_map_or says_deliver o false ≡ true → is_some o ≡ true
+pub deliver_some : (o : Option Redundancy) → option_map_or says_deliver o false ≡ true → is_some o ≡ true
 deliver_some None none = none
 deliver_some (Some word) says = refl
 
@@ -192,7 +192,7 @@ late_gained false network place xs ys old new (a, b) on_a on_b = record { on_a =
 
 -- ---- tests of the numbers below
 
-count_same : (p q : ℕ → Bool) (bound : ℕ) → ((n : ℕ) → n < bound → q n ≡ p n) → count_below q bound ≡ count_below p bound
+pub count_same : (p q : ℕ → Bool) (bound : ℕ) → ((n : ℕ) → n < bound → q n ≡ p n) → count_below q bound ≡ count_below p bound
 unfolding count_below
 count_same p q zero same = refl
 count_same p q (suc n) same =
@@ -217,7 +217,7 @@ count_moved p q (suc n) m within others = at (n == m) refl (λ less. count_moved
         let same = ap one_where (others n there) in
         omega (arith, before (omega (arith, within, eqb-false n m there)), same)
 
-count_none : (p : ℕ → Bool) (bound : ℕ) → ((n : ℕ) → p n ≡ false) → count_below p bound ≡ 0
+pub count_none : (p : ℕ → Bool) (bound : ℕ) → ((n : ℕ) → p n ≡ false) → count_below p bound ≡ 0
 unfolding count_below
 count_none p zero none = refl
 count_none p (suc n) none = omega (arith, count_none p n none, ap one_where (none n))
@@ -321,7 +321,7 @@ module _ (rules : PairingRules) (line : FrameLine) (lines : List FrameLine) (num
   own : (number == number) ≡ true
   own = eq-eqb number number refl
 
-  delivers_it : (n : ℕ) → delivers rules.id n line ≡ (is_deliver line && (n == number))
+  pub delivers_it : (n : ℕ) → delivers rules.id n line ≡ (is_deliver line && (n == number))
   delivers_it n = ap (λ (b : Bool). b && (is_deliver line && has_number n line)) seen ∙ ap (λ (b : Bool). is_deliver line && b) (has_it n)
 
   copies_it : (n : ℕ) → is_copy_of rules.id n line ≡ (is_copy line && (n == number))
@@ -426,7 +426,7 @@ module _ (rules : PairingRules) (line : FrameLine) (lines : List FrameLine) (num
   abbrev late_now : Bool
   late_now = option_map_or (awaits line.network line.stamp.0 rules.window) (known_of rules number lines) false
 
-  comes_late_same : (at : Moment) (report : LinkReport) → at.network ≡ line.network → at.place ≡ place_of line → window_in report ≡ rules.window →
+  pub comes_late_same : (at : Moment) (report : LinkReport) → at.network ≡ line.network → at.place ≡ place_of line → window_in report ≡ rules.window →
       HasKnown rules lines report.pairing → comes_late number at report ≡ late_now
   comes_late_same at report network place same h =
       ap (λ (s : Network). option_map_or (awaits s at.place.stamp (window_in report)) (held_of report.pairing number) false) network
@@ -487,7 +487,7 @@ module _ (rules : PairingRules) (line : FrameLine) (lines : List FrameLine) (num
       ap (λ n. delivers rules.id n line && has_fate ends rules n lines) number_same
       ∙ ap (λ (b : Bool). b && has_fate ends rules number lines) delivers_own
 
-  late_at : is_late_at rules here ≡ (is_deliver line && late_now)
+  pub late_at : is_late_at rules here ≡ (is_deliver line && late_now)
   late_at =
       ap (λ n. delivers rules.id n line && is_late rules n (line ∷ lines)) number_same
       ∙ ap (λ (b : Bool). b && is_late rules number (line ∷ lines)) delivers_own
@@ -934,7 +934,7 @@ one_small : (b : Bool) → one_where b ≤ 1
 one_small true = omega arith
 one_small false = omega arith
 
-count_small : (p : ℕ → Bool) (bound : ℕ) → count_below p bound ≤ bound
+pub count_small : (p : ℕ → Bool) (bound : ℕ) → count_below p bound ≤ bound
 unfolding count_below
 count_small p zero = omega arith
 count_small p (suc n) = omega (arith, count_small p n, one_small (p n))

@@ -32,7 +32,8 @@ frames_none frames last same = let e : (frames == 0) ≡ true = eq-eqb frames 0 
 frames_some : {A : Type 0} (frames : ℕ) (n : ℕ) (x y : A) → frames ≡ saturated (suc n) → (if frames == 0 then x else y) ≡ y
 frames_some frames n x y same = let e : (frames == 0) ≡ false = ne_eqb frames 0 (omega (arith, same)) in rw e refl
 
-before_same : (frames last : ℕ) (lines : List LaneLine) → frames ≡ saturated (length lines) → IfSome (newest lines) (λ line. last ≡ stamp_of line) →
+pub before_same : (frames last : ℕ) (lines : List LaneLine) → frames ≡ saturated (length lines) →
+    IfSome (newest lines) (λ line. last ≡ stamp_of line) →
     (if frames == 0 then None else Some last) ≡ option_map stamp_of (newest lines)
 before_same frames last [] same is = frames_none frames last same
 before_same frames last (line ∷ lines) same is = frames_some frames (length lines) None (Some last) same ∙ ap Some is

@@ -308,6 +308,16 @@ taken line at ordinal number after = record {
   after_silence = after;
 }
 
+-- whether a line stands after a silence
+pub seen_after : (id : ℕ) (network : Network) (line : FrameLine) (lines : List FrameLine) (lane : Lane) (rules : LaneRules) (report : NetworkReport) →
+    IsNetworkOf network (line ∷ lines) report → StandsAfter rules (lane_lines id network lines) lane →
+    (nat_lt 0 lane.frames && is_silent_since lane.ordinal report.silences.items) ≡ is_after_silence id network (record { line = line; before = lines })
+seen_after id network line lines lane rules report is h =
+    let p : Standing → Bool = λ s. is_lane_line id network s.line in
+    silent_same network (find p (standings lines)) (lane_lines id network lines) id rules lane report.silences.items
+    (newest-found (lane_line id network) p (standings lines)) (found-passes p (standings lines)) h
+    ∙ ap (λ (xs : List Silence). nat_lt 0 (latest_ordinal id network lines) && is_silent_since (latest_ordinal id network lines) xs) is.silences.kept
+
 -- one more line of the lane
 pub lane_more : (row : Row) (network : Network) (line : FrameLine) (lines : List FrameLine) (number : ℕ) (at : Moment) (old new : Lane)
     (report : NetworkReport) → is_lane_line row.id network line ≡ true → line.sequence ≡ Some number → at.place ≡ place_of line →

@@ -12,23 +12,27 @@ use Rattle.ledger_text.specs.Reader.{IsFound, reading_of, source_of}
 use Rattle.ledger_text.specs.declared.bounds.TheConstants.{MOST_LINES}
 use Rattle.ledger_text.specs.declared.frame.FrameLine.{FrameLine}
 use Rattle.ledger_text.specs.declared.order.LedgerLine.{LedgerLine}
-use Rattle.ledger_text.specs.declared.order.LedgerLine.TheVariants as lines
-use Rattle.ledger_text.specs.declared.order.Stage.TheVariants as stages
-use Rattle.ledger_text.specs.declared.reader.Found.TheVariants as found
 use Rattle.ledger_text.specs.declared.reader.LedgerReader.{LedgerReader}
 use Rattle.ledger_text.proofs.Ledgers.{found_one_more, frame_lines_one_more}
 use Rattle.pcap_io.specs.declared.device.TapSource.{Ghosts as SourceMembers}
+use Rattle.ledger_report.specs.Absent.{GainAbsences}
+use Rattle.ledger_report.specs.AloneLines.{HasAlone}
+use Rattle.ledger_report.specs.AloneSums.{KeepsSums, SumsAlone}
 use Rattle.ledger_report.specs.Counting.{AreCountsOf}
 use Rattle.ledger_report.specs.Keeping.{KeepsAccount}
+use Rattle.ledger_report.specs.LaneSeries.{AllLanesKeep, HasLaneBins}
+use Rattle.ledger_report.specs.NetworkSeries.{HasBins, KeepTimes}
 use Rattle.ledger_report.specs.Noting.{IsAccountOf}
 use Rattle.ledger_report.specs.Copies.{skews}
 use Rattle.ledger_report.specs.CountsLines.{HasCounted}
 use Rattle.ledger_report.specs.Reading.{HasNoted, HasRead, TellsLedger, report_of}
-use Rattle.ledger_report.specs.Settling.{GainFates}
+use Rattle.ledger_report.specs.Holding.{EndAlone, HoldsAlone}
+use Rattle.ledger_report.specs.Settling.{GainFates, HaveFates}
 use Rattle.ledger_report.specs.Deliveries.{is_copy, is_deliver}
-use Rattle.ledger_report.specs.Links.{AreEach, AreLinksOf, HasMet, pairing_rules, row_of}
+use Rattle.ledger_report.specs.Links.{AreEach, AreLinksOf, HasMet, HasOpen, pairing_rules, row_of}
 use Rattle.ledger_report.specs.OutsideLines.{IsOutsideOf}
 use Rattle.ledger_report.specs.Words.{is_seen_of}
+use Rattle.ledger_report.specs.SignSums.{HasSignsOf, KeepsSigns}
 use Rattle.ledger_report.specs.SkewMedians.{GainMedians}
 use Rattle.ledger_report.specs.Span.{HasSpan, KeepsSpan}
 use Rattle.ledger_report.specs.declared.link.LinkReport.{LinkReport}
@@ -36,12 +40,21 @@ use Rattle.std.proofs.lemmas.List.Sums.{count_by-le-length}
 use Rattle.ledger_report.specs.declared.counts.FrameCounts.{FrameCounts}
 use Rattle.ledger_report.specs.declared.counts_lines.CountsLines.{CountsLines}
 use Rattle.ledger_report.specs.declared.statistics.Statistics.{Statistics}
+use Rattle.ledger_report.proofs.BinSteps.{bins_kept}
 use Rattle.ledger_report.proofs.FateLines.{all_met, all_open}
+use Rattle.ledger_report.proofs.AloneTotals.{networks_ended}
 use Rattle.ledger_report.proofs.CountsSteps.{counted_frame}
 use Rattle.ledger_report.proofs.Spans.{span_end, span_kept}
 use Rattle.ledger_report.proofs.AccountSteps.{keeps_links, keeps_networks, link_at}
+use Rattle.ledger_report.proofs.LaneBins.{lane_bins_kept}
+use Rattle.ledger_report.proofs.LinkMarkSteps.{keep_hits}
+use Rattle.ledger_report.proofs.HoldAccounts.{links_alone}
 use Rattle.ledger_report.proofs.LinkSteps.{skews_count}
+use Rattle.ledger_report.proofs.SignSteps.{keep_each_losses}
 use Rattle.ledger_report.proofs.OutsideSteps.{outside_few}
+use Rattle.ledger_text.specs.declared.order.LedgerLine.TheVariants as lines
+use Rattle.ledger_text.specs.declared.order.Stage.TheVariants as stages
+use Rattle.ledger_text.specs.declared.reader.Found.TheVariants as found
 
 abbrev pub line_of : {S : Type 0} → LedgerReader S → LedgerLine → ReadLine
 line_of reader line = record { text = lent_of reader; line = line }
@@ -78,12 +91,16 @@ few_before s bytes failures rs old new line h is = omega (arith, few_frames rs, 
 pub few_lines : (rs : List ReadLine) → length (frame_lines rs) < MOST_LINES → length (reverse (frame_lines rs)) < MOST_LINES
 few_lines rs few = omega (arith, few, length-reverse (frame_lines rs))
 
-pub frame_noted : {S : Type 0} (s : SourceMembers S) (bytes : Option (List ℕ)) (failures : ℕ) (links : List VirtualLink) (rs : List ReadLine)
+abbrev pub frame_noted : {S : Type 0} (s : SourceMembers S) (bytes : Option (List ℕ)) (failures : ℕ) (links : List VirtualLink) (rs : List ReadLine)
     (old new : LedgerReader S) (was now : FrameCounts) (before after : Statistics) (counted : CountsLines) (v : FrameLine) → HasNoted s bytes failures links rs old was before counted
     → IsFound (reading_of s.remaining s.failures old) (reading_of s.remaining s.failures new) (lent_of new) (found.Line (lines.Frame v)) → ledger_failed new ≡ false
     → length (frame_lines rs) < MOST_LINES → AreCountsOf (frame_lines rs ++ v ∷ []) now → IsAccountOf links (v ∷ reverse (frame_lines rs)) after
-    → HasSpan (v ∷ reverse (frame_lines rs)) after → IsNoting s bytes failures links new now after counted
-frame_noted s bytes failures links rs old new was now before after lines_counted v h is sound few counted account span =
+    → HasSpan (v ∷ reverse (frame_lines rs)) after → AreEach HoldsAlone links (v ∷ reverse (frame_lines rs)) after.links.items
+    → HasSignsOf links (v ∷ reverse (frame_lines rs)) after → SumsAlone after.links.items after.networks →
+    HasBins (v ∷ reverse (frame_lines rs)) after
+    → HasLaneBins links (v ∷ reverse (frame_lines rs)) after
+    → IsNoting s bytes failures links new now after counted
+frame_noted s bytes failures links rs old new was now before after lines_counted v h is sound few counted account span alone signs sums bins lane_bins =
     let more = frame_lines_one_more rs (line_of new (lines.Frame v)) in (
       rs ++ line_of new (lines.Frame v) ∷ [],
       record {
@@ -93,13 +110,22 @@ frame_noted s bytes failures links rs old new was now before after lines_counted
             (sym (ap (λ (vs : List FrameLine). reverse vs) more ∙ reverse-append (frame_lines rs) (v ∷ []))) account;
         span = subst (λ (vs : List FrameLine). HasSpan vs after)
             (sym (ap (λ (vs : List FrameLine). reverse vs) more ∙ reverse-append (frame_lines rs) (v ∷ []))) span;
+        alone = subst (λ (vs : List FrameLine). AreEach HoldsAlone links vs after.links.items)
+            (sym (ap (λ (vs : List FrameLine). reverse vs) more ∙ reverse-append (frame_lines rs) (v ∷ []))) alone;
+        signs = subst (λ (vs : List FrameLine). HasSignsOf links vs after)
+            (sym (ap (λ (vs : List FrameLine). reverse vs) more ∙ reverse-append (frame_lines rs) (v ∷ []))) signs;
+        sums = sums;
+        lane_bins = subst (λ (vs : List FrameLine). HasLaneBins links vs after)
+            (sym (ap (λ (vs : List FrameLine). reverse vs) more ∙ reverse-append (frame_lines rs) (v ∷ []))) lane_bins;
+        bins = subst (λ (vs : List FrameLine). HasBins vs after)
+            (sym (ap (λ (vs : List FrameLine). reverse vs) more ∙ reverse-append (frame_lines rs) (v ∷ []))) bins;
         counted_are = subst (λ (qs : List ReadLine). HasCounted links qs lines_counted) (sym (reverse-append rs (line_of new (lines.Frame v) ∷ [])))
             (counted_frame links (reverse rs) lines_counted (lent_of new) v h.counted_are);
         few = omega (arith, few, ap (λ (vs : List FrameLine). length vs) more, length-append (frame_lines rs) (v ∷ []));
       },
     )
 
-pub other_noted : {S : Type 0} (s : SourceMembers S) (bytes : Option (List ℕ)) (failures : ℕ) (links : List VirtualLink) (rs : List ReadLine)
+abbrev pub other_noted : {S : Type 0} (s : SourceMembers S) (bytes : Option (List ℕ)) (failures : ℕ) (links : List VirtualLink) (rs : List ReadLine)
     (old new : LedgerReader S) (counts : FrameCounts) (statistics : Statistics) (was now : CountsLines) (line : LedgerLine) → frames_in line ≡ []
     → HasNoted s bytes failures links rs old counts statistics was
     → IsFound (reading_of s.remaining s.failures old) (reading_of s.remaining s.failures new) (lent_of new) (found.Line line) → ledger_failed new ≡ false
@@ -112,13 +138,18 @@ other_noted s bytes failures links rs old new counts statistics was now line non
         counts_are = subst (λ (vs : List FrameLine). AreCountsOf vs counts) (sym same) h.counts_are;
         account = subst (λ (vs : List FrameLine). IsAccountOf links (reverse vs) statistics) (sym same) h.account;
         span = subst (λ (vs : List FrameLine). HasSpan (reverse vs) statistics) (sym same) h.span;
+        alone = subst (λ (vs : List FrameLine). AreEach HoldsAlone links (reverse vs) statistics.links.items) (sym same) h.alone;
+        signs = subst (λ (vs : List FrameLine). HasSignsOf links (reverse vs) statistics) (sym same) h.signs;
+        sums = h.sums;
+        lane_bins = subst (λ (vs : List FrameLine). HasLaneBins links (reverse vs) statistics) (sym same) h.lane_bins;
+        bins = subst (λ (vs : List FrameLine). HasBins (reverse vs) statistics) (sym same) h.bins;
         counted_are = subst (λ (qs : List ReadLine). HasCounted links qs now) (sym (reverse-append rs (line_of new line ∷ []))) counted;
         few = omega (arith, h.few, ap (λ (vs : List FrameLine). length vs) same);
       },
     )
 
 -- a link's deliveries are some of the ledger's lines
-few_delivered : (links : List VirtualLink) (lines : List FrameLine) (reports : List LinkReport) → AreLinksOf links lines reports → length lines ≤ MOST_LINES →
+pub few_delivered : (links : List VirtualLink) (lines : List FrameLine) (reports : List LinkReport) → AreLinksOf links lines reports → length lines ≤ MOST_LINES →
     (i : ℕ) (report : LinkReport) → i < length reports → (get_or reports i report).deliveries < 2 ^ 62
 few_delivered links lines reports are few i report within =
     let below : i < length links = omega (arith, within, are.count) in
@@ -127,7 +158,7 @@ few_delivered links lines reports are few i report within =
     let small = count_by-le-length (λ line. is_seen_of (get_or links i link).id.0 line && is_deliver line) lines in
     omega (arith, h.deliveries, small, few)
 
-pub ends_noting : {S : Type 0} (s : SourceMembers S) (bytes : Option (List ℕ)) (failures : ℕ) (links : List VirtualLink) (rs : List ReadLine)
+abbrev pub ends_noting : {S : Type 0} (s : SourceMembers S) (bytes : Option (List ℕ)) (failures : ℕ) (links : List VirtualLink) (rs : List ReadLine)
     (old : LedgerReader S) (counts : FrameCounts) (statistics : Statistics) (counted : CountsLines) → HasNoted s bytes failures links rs old counts statistics counted
     → IsAtEnd (left_of s old) → HasRead bytes links counts statistics counted
 ends_noting s bytes failures links rs old counts statistics counted h at = record {
@@ -139,6 +170,11 @@ ends_noting s bytes failures links rs old counts statistics counted h at = recor
   counts_are = h.counts_are;
   account = h.account;
   span = h.span;
+  alone = h.alone;
+  signs = h.signs;
+  sums = h.sums;
+  bins = h.bins;
+  lane_bins = h.lane_bins;
   counted_are = h.counted_are;
   few = h.few;
 }
@@ -161,16 +197,33 @@ reads_nothing {S = S} s source reader same none (stage, number, sound) = record 
   no_failure = ap (λ (x : S). s.failures x) same;
 }
 
-pub tells_ledger : (bytes : Option (List ℕ)) (links : List VirtualLink) (counts : FrameCounts) (old new : Statistics) (counted : CountsLines) → KeepsAccount old new → KeepsSpan old new
-    → GainFates old.links.items new.links.items → GainMedians old.links.items new.links.items → HasRead bytes links counts old counted → TellsLedger bytes links (report_of counts new counted)
-tells_ledger bytes links counts old new counted keeps kept gain middle h =
+abbrev pub tells_ledger : (bytes : Option (List ℕ)) (links : List VirtualLink) (counts : FrameCounts) (old new : Statistics) (counted : CountsLines) → KeepsAccount old new → KeepsSpan old new
+    → GainFates old.links.items new.links.items → GainMedians old.links.items new.links.items → EndAlone old.networks old.links.items new.links.items
+    → KeepsSigns old new → KeepsSums old.links.items new.links.items old.networks new.networks
+    → GainAbsences old.networks old.links.items new.links.items → KeepTimes old.networks new.networks
+    → AllLanesKeep old.links.items new.links.items → HasRead bytes links counts old counted
+    → TellsLedger bytes links (report_of counts new counted)
+tells_ledger bytes links counts old new counted keeps kept gain middle alone signs sums absent times lane_times h =
     let lines = reverse (frame_lines h.rs) in
     let few : length lines ≤ MOST_LINES = omega (arith, h.few, length-reverse (frame_lines h.rs)) in
     let told_met : AreEach HasMet links lines new.links.items =
     λ i link report within. (
     let at : i < length old.links.items = omega (arith, within, h.account.links_are.count) in
     all_met (pairing_rules (row_of (get_or links i link))) lines (get_or old.links.items i report) (get_or new.links.items i report) few
-    (h.account.links_are.each i link report within).fates_are (h.account.met_are i link report within) (gain i report at).1) in record {
+    (h.account.links_are.each i link report within).fates_are (h.account.met_are i link report within) (gain i report at).1) in
+    let told_fates : HaveFates new.links.items =
+    λ i report within. (
+    let below : i < length old.links.items = omega (arith, within, keeps.links.0) in
+    (gain i report below).0 (h.account.balanced i report below) (few_delivered links lines old.links.items h.account.links_are few i report below)) in
+    let told_open : AreEach HasOpen links lines new.links.items =
+    λ i link report within. (
+    let at : i < length old.links.items = omega (arith, within, h.account.links_are.count) in
+    all_open (row_of (get_or links i link)) lines (get_or new.links.items i report)
+    ((keeps_links links lines old.links.items new.links.items keeps.links h.account.links_are).each i link report within)
+    ((gain i report at).0 (h.account.balanced i report at) (few_delivered links lines old.links.items h.account.links_are few i report at)).0
+    (told_met i link report within)) in
+    let told_alone : AreEach HasAlone links lines new.links.items =
+    links_alone links lines old new few keeps alone h.account.networks_are h.account.links_are told_fates told_open h.alone in record {
       rs = h.rs;
       stage = h.stage;
       left = h.left;
@@ -179,23 +232,25 @@ tells_ledger bytes links counts old new counted keeps kept gain middle h =
       counts_are = h.counts_are;
       networks_are = keeps_networks lines old new keeps h.account.networks_are;
       links_are = keeps_links links lines old.links.items new.links.items keeps.links h.account.links_are;
+      link_marks = keep_hits links lines old.networks new.networks signs.link_marks h.signs.link_marks;
+      lost_both = λ i link report within.
+          (keep_each_losses links lines old.links.items new.links.items signs.losses h.signs.losses i link report within).told;
+      absences = λ i link report within. absent i report (omega (arith, within, h.account.links_are.count)) (row_of (get_or links i link)) lines
+          h.account.networks_are.a h.account.networks_are.b (h.signs.runs i link report within);
       start_is = (span_kept lines old new kept h.span).start;
       end_is = span_end lines new (span_kept lines old new kept h.span);
       width_is = (span_kept lines old new kept h.span).width;
       counts_told = h.counted_are.told;
       whole_is = h.counted_are.whole_is;
+      series_are = bins_kept lines old new kept times h.bins;
+      lane_series_are = lane_bins_kept links lines old new h.account.links_are.count kept lane_times h.lane_bins;
       few_outside = outside_few lines new.outside.items (subst (IsOutsideOf lines) (sym keeps.outside) h.account.outside);
       outside_are = subst (IsOutsideOf lines) (sym keeps.outside) h.account.outside;
-      fates = λ i report within. (
-          let below : i < length old.links.items = omega (arith, within, keeps.links.0) in
-          (gain i report below).0 (h.account.balanced i report below) (few_delivered links lines old.links.items h.account.links_are few i report below));
+      fates = told_fates;
       met_are = told_met;
-      open_are = λ i link report within. (
-          let at : i < length old.links.items = omega (arith, within, h.account.links_are.count) in
-          all_open (row_of (get_or links i link)) lines (get_or new.links.items i report)
-          ((keeps_links links lines old.links.items new.links.items keeps.links h.account.links_are).each i link report within)
-          ((gain i report at).0 (h.account.balanced i report at) (few_delivered links lines old.links.items h.account.links_are few i report at)).0
-          (told_met i link report within));
+      open_are = told_open;
+      alone_are = told_alone;
+      networks_alone = networks_ended links lines new.links.items new.networks (keeps.links.0 ∙ h.account.links_are.count) told_alone (sums h.sums);
       medians = λ i link report within.
           (let id = (get_or links i link).id.0 in
           let own = h.account.links_are.each i link report within in

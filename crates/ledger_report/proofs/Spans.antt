@@ -11,7 +11,7 @@ use Rattle.ledger_report.specs.declared.moment.Place.{Place}
 use Rattle.ledger_report.specs.declared.statistics.Statistics.{Statistics}
 
 -- the start stays where there was a line
-starts : (latest : Option (Place × Network)) (start stamp : ℕ) (lines : List FrameLine) → start ≡ unwrap_or (oldest lines) 0
+pub starts : (latest : Option (Place × Network)) (start stamp : ℕ) (lines : List FrameLine) → start ≡ unwrap_or (oldest lines) 0
     → option_map (λ (at : Place × Network). at.0.stamp) latest ≡ newest lines
     → option_map_or (λ (at : Place × Network). start) latest stamp ≡ unwrap_or (oldest lines) stamp
 starts None start stamp [] is same = refl
@@ -26,7 +26,8 @@ span_kept lines old new keeps h = record {
   width = subst (IsWidth (duration lines)) (sym keeps.width) h.width;
 }
 
-later : (stamp start : ℕ) (lines : List FrameLine) → start ≡ unwrap_or (oldest lines) stamp → unwrap_or (newest lines) 0 ≤ stamp → duration lines ≤ stamp - start
+pub later : (stamp start : ℕ) (lines : List FrameLine) → start ≡ unwrap_or (oldest lines) stamp → unwrap_or (newest lines) 0 ≤ stamp →
+    duration lines ≤ stamp - start
 later stamp start [] is order = omega arith
 later stamp start (line ∷ lines) is order = omega (arith, is, order)
 

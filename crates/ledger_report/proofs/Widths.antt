@@ -24,7 +24,7 @@ grows_first before time width later h = record {
   many = omega arith;
 }
 
-width_positive : (time width steps : ℕ) → Grows time width steps → 0 < width
+pub width_positive : (time width steps : ℕ) → Grows time width steps → 0 < width
 width_positive time width steps h = omega (arith, h.is, pow_pos h.doublings)
 
 -- one more doubling
@@ -60,3 +60,11 @@ grown time width bin steps is below h =
 -- No time takes 64 doublings.
 pub grows_few : (time width : ℕ) → time < 18446744073709551616 → Grows time width 64 → ⊥
 grows_few time width fits h = omega (arith, fits, h.least 63 (omega (arith, h.many)))
+
+-- a width that may double
+pub grows_room : (time width bin steps : ℕ) → time < 18446744073709551616 → (0 < width → bin ≡ time / width) → 240 ≤ bin → Grows time width steps →
+    2 * width < 18446744073709551616
+grows_room time width bin steps fits is past h =
+    let positive = width_positive time width steps h in
+    let full : 240 * width ≤ time = (le-div_iff_mul-le positive).0 (subst (λ n. 240 ≤ n) (is positive) past) in
+    omega (arith, full, fits)

@@ -10,12 +10,21 @@ use Rattle.ledger_text.specs.declared.bounds.TheConstants.{MOST_LINES}
 use Rattle.ledger_text.specs.declared.order.Stage.{Stage}
 use Rattle.ledger_text.specs.declared.order.Stage.TheVariants as stages
 use Rattle.ledger_text.specs.declared.reader.LedgerReader.{LedgerReader}
+use Rattle.ledger_report.specs.AloneLines.{HasAlone}
+use Rattle.ledger_report.specs.AloneSums.{NetworksAreAlone, SumsAlone}
+use Rattle.ledger_report.specs.Absent.{TellsAbsences}
 use Rattle.ledger_report.specs.Counting.{AreCountsOf}
 use Rattle.ledger_report.specs.CountsLines.{HasCounted, TellCounts, is_whole}
+use Rattle.ledger_report.specs.Holding.{HoldsAlone}
+use Rattle.ledger_report.specs.LaneSeries.{HasLaneBins, HaveLaneSeries}
+use Rattle.ledger_report.specs.LinkMarks.{HaveLinkHits}
 use Rattle.ledger_report.specs.Links.{AreEach, AreLinksOf, HasMet, HasOpen}
+use Rattle.ledger_report.specs.LostBoth.{TellsBoth}
+use Rattle.ledger_report.specs.NetworkSeries.{HasBins, HaveSeries}
 use Rattle.ledger_report.specs.Noting.{AreNetworksOf, IsAccountOf}
 use Rattle.ledger_report.specs.OutsideLines.{IsOutsideOf}
 use Rattle.ledger_report.specs.Settling.{HaveFates}
+use Rattle.ledger_report.specs.SignSums.{HasSignsOf}
 use Rattle.ledger_report.specs.SkewMedians.{HaveMedians}
 use Rattle.ledger_report.specs.Span.{HasSpan, duration, newest, oldest}
 use Rattle.ledger_report.specs.Widths.{IsWidth}
@@ -24,11 +33,12 @@ use Rattle.ledger_report.specs.declared.counts_lines.CountsLines.{CountsLines}
 use Rattle.ledger_report.specs.declared.report.Report.{Report}
 use Rattle.ledger_report.specs.declared.statistics.Statistics.{Statistics}
 
--- The bytes are the lines of a ledger from its head on, and nothing is left after them. These are the counts of its lines of frames, and
--- the numbers of both networks and of the table's links over them, with the median of each link's skews; each delivery of a link has one fate,
--- by definition over the lines, and at most as many links outside the table are kept as there are identifiers, each with its lines. Each line of
+-- The bytes are the lines of a ledger from its head on, and nothing is left after them. These are the counts of its lines of frames, and the
+-- numbers of both networks and of the table's links over them, with the median of each link's skews; each delivery of a link has one fate, by
+-- definition over the lines, and at most as many links outside the table are kept as there are identifiers, each with its lines. Each line of
 -- counts is that of the lines before it. The report starts and ends with the first and the last line of a frame, at 0 where there is none; its
--- bins are as wide as this time needs. It is whole exactly where the ledger has its last line.
+-- bins are as wide as this time needs, and each network and each lane has in each bin its lines and their bytes, each lane also the least and the
+-- greatest interval that ends there. It is whole exactly where the ledger has its last line.
 pub record TellsLedger (bytes : Option (List ℕ)) (links : List VirtualLink) (report : Report) : Type 0 where
   pub rs : List ReadLine
   pub stage : Stage
@@ -38,10 +48,15 @@ pub record TellsLedger (bytes : Option (List ℕ)) (links : List VirtualLink) (r
   pub counts_are : AreCountsOf (frame_lines rs) report.counts
   pub networks_are : AreNetworksOf (reverse (frame_lines rs)) report.networks
   pub links_are : AreLinksOf links (reverse (frame_lines rs)) report.links.items
+  pub link_marks : HaveLinkHits links (reverse (frame_lines rs)) report.networks
+  pub lost_both : AreEach TellsBoth links (reverse (frame_lines rs)) report.links.items
+  pub absences : AreEach TellsAbsences links (reverse (frame_lines rs)) report.links.items
   pub fates : HaveFates report.links.items
   pub met_are : AreEach HasMet links (reverse (frame_lines rs)) report.links.items
   pub medians : HaveMedians links (reverse (frame_lines rs)) report.links.items
   pub open_are : AreEach HasOpen links (reverse (frame_lines rs)) report.links.items
+  pub alone_are : AreEach HasAlone links (reverse (frame_lines rs)) report.links.items
+  pub networks_alone : NetworksAreAlone links (reverse (frame_lines rs)) report.networks
   pub few_outside : length report.outside.items ≤ VL_ID_COUNT
   pub outside_are : IsOutsideOf (reverse (frame_lines rs)) report.outside.items
   pub counts_told : TellCounts links (reverse rs)
@@ -49,6 +64,8 @@ pub record TellsLedger (bytes : Option (List ℕ)) (links : List VirtualLink) (r
   pub end_is : report.end ≡ unwrap_or (newest (reverse (frame_lines rs))) 0
   pub width_is : IsWidth (duration (reverse (frame_lines rs))) report.width
   pub whole_is : report.whole ≡ is_whole (reverse rs)
+  pub series_are : HaveSeries report.start report.width (reverse (frame_lines rs)) report.networks
+  pub lane_series_are : AreEach (HaveLaneSeries report.start report.width) links (reverse (frame_lines rs)) report.links.items
 
 -- The same, where the deliveries aren't settled yet.
 pub record HasRead (bytes : Option (List ℕ)) (links : List VirtualLink) (counts : FrameCounts) (statistics : Statistics) (counted : CountsLines) : Type 0 where
@@ -60,8 +77,13 @@ pub record HasRead (bytes : Option (List ℕ)) (links : List VirtualLink) (count
   pub counts_are : AreCountsOf (frame_lines rs) counts
   pub account : IsAccountOf links (reverse (frame_lines rs)) statistics
   pub span : HasSpan (reverse (frame_lines rs)) statistics
+  pub alone : AreEach HoldsAlone links (reverse (frame_lines rs)) statistics.links.items
+  pub signs : HasSignsOf links (reverse (frame_lines rs)) statistics
+  pub sums : SumsAlone statistics.links.items statistics.networks
   pub counted_are : HasCounted links (reverse rs) counted
   pub few : length (frame_lines rs) ≤ MOST_LINES
+  pub bins : HasBins (reverse (frame_lines rs)) statistics
+  pub lane_bins : HasLaneBins links (reverse (frame_lines rs)) statistics
 
 -- These lines of the ledger were read and noted.
 pub record HasNoted {S : Type 0} (s : SourceMembers S) (bytes : Option (List ℕ)) (failures : ℕ) (links : List VirtualLink) (rs : List ReadLine)
@@ -70,8 +92,13 @@ pub record HasNoted {S : Type 0} (s : SourceMembers S) (bytes : Option (List ℕ
   pub counts_are : AreCountsOf (frame_lines rs) counts
   pub account : IsAccountOf links (reverse (frame_lines rs)) statistics
   pub span : HasSpan (reverse (frame_lines rs)) statistics
+  pub alone : AreEach HoldsAlone links (reverse (frame_lines rs)) statistics.links.items
+  pub signs : HasSignsOf links (reverse (frame_lines rs)) statistics
+  pub sums : SumsAlone statistics.links.items statistics.networks
   pub counted_are : HasCounted links (reverse rs) counted
   pub few : length (frame_lines rs) ≤ MOST_LINES
+  pub bins : HasBins (reverse (frame_lines rs)) statistics
+  pub lane_bins : HasLaneBins links (reverse (frame_lines rs)) statistics
 
 -- ---- the report of a reading
 

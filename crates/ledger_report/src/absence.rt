@@ -1,5 +1,14 @@
 //! Blocks of a link's lines that are all on one network.
 
+ghost use Rattle.std.specs.Prelude.{◌≡◌, ◌≤◌, ℕ, true, List, [], ◌∷◌};
+ghost use Rattle.afdx_frame.specs.declared.key.Network.TheVariants.{A, B};
+ghost use Rattle.ledger_text.specs.declared.frame.FrameLine.{FrameLine};
+ghost use Rattle.ledger_report.specs.Absent.{EndsRuns, HasRuns, covers_after, last_in, longer, settled};
+ghost use Rattle.ledger_report.specs.Both.{side_of, with_side};
+ghost use Rattle.ledger_report.specs.Networks.{IsNetworkOf};
+ghost use Rattle.ledger_report.specs.Standings.{frames_on};
+ghost use Rattle.ledger_report.specs.Words.{is_seen_of, other_of};
+
 use crate::bounds::ABSENT_LINES;
 use crate::network::NetworkReport;
 use crate::sides::{Sides, other};
@@ -27,7 +36,12 @@ struct Run {
 
 impl Run {
     /// Counts the latest lines, where the other network was alive around them.
-    fn settle(&mut self, networks: &Sides<NetworkReport>) {
+    fn settle(&mut self, networks: &Sides<NetworkReport>)
+        ensures { (lines : List FrameLine) → IsNetworkOf (other_of self.old.network) lines
+            (side_of (other_of self.old.network) networks.now)
+            → self.old.before ≤ frames_on (other_of self.old.network) lines
+            → self.new ≡ settled (covers_after (other_of self.old.network) self.old.before lines) self.old }
+    {
         if networks.of(other(self.network)).covers(self.before) != Some(true) {
             return;
         }
@@ -48,7 +62,9 @@ pub struct Absences {
 }
 
 impl Absences {
-    pub(crate) fn new() -> Absences {
+    pub(crate) fn new() -> Absences
+        ensures { (id : ℕ) → HasRuns id [] result }
+    {
         Absences {
             run: None,
             longest: Sides { a: None, b: None },
@@ -56,19 +72,28 @@ impl Absences {
     }
 
     /// The longest absence from a network, if one is long enough to be told.
-    pub(crate) fn longest(&self, network: Network) -> Option<Absence> {
+    pub(crate) fn longest(&self, network: Network) -> Option<Absence>
+        ensures { result ≡ side_of network self.now.longest }
+    {
         *self.longest.of(network)
     }
 
     /// The absence that lasts to the end, and the network that the link is absent from.
-    pub(crate) fn last(&self) -> Option<(Network, Absence)> {
+    pub(crate) fn last(&self) -> Option<(Network, Absence)>
+        ensures { result ≡ last_in self.now.run }
+    {
         match self.run {
             Some(run) => Some((other(run.network), run.counted)),
             None => None,
         }
     }
 
-    fn keep(&mut self, run: Run) {
+    fn keep(&mut self, run: Run)
+        ensures { self.new ≡ record self.old {
+          longest = with_side (other_of run.network) self.old.longest
+              (longer run.counted (side_of (other_of run.network) self.old.longest));
+        } }
+    {
         let longest = self.longest.of_mut(other(run.network));
         let most = match longest {
             Some(absence) => absence.lines,
@@ -81,7 +106,12 @@ impl Absences {
 
     /// Notes a line of the link.
     #[inline]
-    pub(crate) fn note(&mut self, network: Network, stamp: u64, networks: &Sides<NetworkReport>) {
+    pub(crate) fn note(&mut self, network: Network, stamp: u64, networks: &Sides<NetworkReport>)
+        ensures { (id : ℕ) (line : FrameLine) (lines : List FrameLine)
+            → IsNetworkOf A (line ∷ lines) networks.now.a → IsNetworkOf B (line ∷ lines) networks.now.b
+            → is_seen_of id line ≡ true → line.network ≡ network → line.stamp.0 ≡ stamp
+            → HasRuns id lines self.old → HasRuns id (line ∷ lines) self.new }
+    {
         let before = networks.of(other(network)).frames;
         let one = Absence {
             lines: 1,
@@ -126,7 +156,11 @@ impl Absences {
     }
 
     /// Ends the last block.
-    pub(crate) fn end(&mut self, networks: &Sides<NetworkReport>) {
+    pub(crate) fn end(&mut self, networks: &Sides<NetworkReport>)
+        ensures { (id : ℕ) (lines : List FrameLine)
+            → IsNetworkOf A lines networks.now.a → IsNetworkOf B lines networks.now.b
+            → HasRuns id lines self.old → EndsRuns id lines self.new }
+    {
         if let Some(mut run) = self.run {
             run.settle(networks);
             self.run = Some(run);

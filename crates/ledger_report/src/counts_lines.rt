@@ -3,13 +3,19 @@
 ghost use Rattle.std.specs.Prelude.{◌≡◌, ◌+◌, ◌<◌, ◌++◌, List, [], codes, slice_index, true, OnOk};
 ghost use Rattle.std.specs.String.{string_bytes};
 ghost use Rattle.verdict_ledger.specs.Text.{classes_text, judged_text};
+ghost use Rattle.vl_config.specs.Document.{VlTable};
 ghost use Rattle.vl_config.specs.Link.{VirtualLink};
 ghost use Rattle.ledger_text.specs.declared.frame.FrameLine.{FrameLine};
 ghost use Rattle.ledger_text.specs.declared.order.Counts.TheVariants as kinds;
 ghost use Rattle.ledger_report.specs.Counting.{AreCountsOf};
 ghost use Rattle.ledger_report.specs.CountsLines.{HasCounted, IsCountsLine, Moves};
 ghost use Rattle.ledger_report.specs.CountsText.{IsFilterLine, IsTotalLine, totals_of};
+ghost use Rattle.ledger_report.specs.CountsRight.{HasEndings, IsRightLine, MovesEndings, TakesWhere, taps_in};
+ghost use Rattle.ledger_report.specs.TapLines.{IsReason, IsTapLine, Said, reason_text, said_in};
 ghost use Rattle.ledger_report.specs.Words.{counts_of};
+ghost use Rattle.ledger_report.specs.declared.fault.Refusal.TheVariants as refusals;
+ghost use Rattle.ledger_report.specs.declared.fault.WrongLine.TheVariants as wrongs;
+ghost use Rattle.std.specs.Prelude.{◌≢◌, ℕ, IfErr, IfOk, MatchOption};
 
 use crate::counts::{Counts, FrameCounts};
 use crate::fault::{Refusal, WrongLine};
@@ -94,13 +100,17 @@ fn push_classes(text: &mut String, counts: &Counts) -> Result<(), AllocError>
 }
 
 /// What stands after the words that are expected.
-fn after<'a>(line: &'a [u8], words: &str) -> Option<&'a [u8]> {
+fn after<'a>(line: &'a [u8], words: &str) -> Option<&'a [u8]>
+    ensures { MatchOption result ((rest : List ℕ) → line.now ≡ words.now ++ rest → ⊥)
+        (λ rest. line.now ≡ words.now ++ rest.now) }
+{
     line.strip_prefix(words.as_bytes())
 }
 
 impl CountsLines {
     pub(crate) fn new(alloc: Global) -> CountsLines
-        ensures { (links : List VirtualLink) → HasCounted links [] result }
+        ensures counted { (links : List VirtualLink) → HasCounted links [] result }
+        ensures endings { HasEndings [] result.endings }
     {
         CountsLines {
             links: 0,
@@ -113,7 +123,9 @@ impl CountsLines {
 
     /// Compares a line with the text that was made.
     fn compare(&self, line: &[u8]) -> Result<(), Refusal>
-        ensures { OnOk result (string_bytes self.now.text ≡ line.now) }
+        ensures same { OnOk result (string_bytes self.now.text ≡ line.now) }
+        ensures differs { IfErr result (λ refusal. (refusal ≡ refusals.Wrong wrongs.Counts)
+            × (string_bytes self.now.text ≢ line.now)) }
     {
         if self.text.as_bytes() == line {
             Ok(())
@@ -122,7 +134,7 @@ impl CountsLines {
         }
     }
 
-    /// Takes the next line of counts.
+    /// Takes the next line of counts, which is refused where it isn't that of the lines before it.
     pub(crate) fn take(
         &mut self,
         alloc: Global,
@@ -134,6 +146,11 @@ impl CountsLines {
         ensures line { OnOk result ((lines : List FrameLine) → AreCountsOf lines counts.now
             → IsCountsLine config.now.links lines self.old.links self.old.filters kind line.now) }
         ensures moves { OnOk result (Moves kind self.old self.new) }
+        ensures right { (lines : List FrameLine) → AreCountsOf lines counts.now
+            → TakesWhere (IsRightLine config.now lines self.old.links self.old.filters
+            (taps_in self.old.endings) kind line.now) result }
+        ensures endings { OnOk result ((lines : List FrameLine) → AreCountsOf lines counts.now
+            → MovesEndings lines kind line.now self.old.endings self.new.endings) }
     {
         self.text.clear();
         match kind {
@@ -155,6 +172,9 @@ impl CountsLines {
         ensures line { OnOk result ((lines : List FrameLine) → AreCountsOf lines counts.now
             → IsCountsLine config.now.links lines self.old.links self.old.filters kinds.Link line.now) }
         ensures place { OnOk result (self.new.links ≡ self.old.links + 1) }
+        ensures right { (lines : List FrameLine) → AreCountsOf lines counts.now
+            → TakesWhere (IsRightLine config.now lines self.old.links self.old.filters
+            (taps_in self.old.endings) kinds.Link line.now) result }
         ensures rest { self.new ≡ record self.old { links = self.new.links; text = self.new.text } }
     {
         let Some(link) = config.links().get(self.links) else {
@@ -181,6 +201,9 @@ impl CountsLines {
         ensures line { OnOk result (IsFilterLine self.old.filters
             (slice_index counts.now.filters self.old.filters) line.now) }
         ensures place { OnOk result ((self.old.filters < 8) × (self.new.filters ≡ self.old.filters + 1)) }
+        ensures right { (lines : List FrameLine) → AreCountsOf lines counts.now
+            → TakesWhere (IsRightLine config.now lines self.old.links self.old.filters
+            (taps_in self.old.endings) kinds.Filter line.now) result }
         ensures rest { self.new ≡ record self.old { filters = self.new.filters; text = self.new.text } }
     {
         let filter = self.filters;
@@ -203,6 +226,11 @@ impl CountsLines {
         counts: &FrameCounts,
         line: &[u8],
     ) -> Result<(), Refusal>
+        ensures right { (lines : List FrameLine) → AreCountsOf lines counts.now
+            → TakesWhere (IsRightLine config.now lines self.old.links self.old.filters
+            (taps_in self.old.endings) kinds.Tap line.now) result }
+        ensures endings { OnOk result ((lines : List FrameLine) → AreCountsOf lines counts.now
+            → MovesEndings lines kinds.Tap line.now self.old.endings self.new.endings) }
         ensures rest { self.new ≡ record self.old { endings = self.new.endings } }
     {
         let network = if self.endings.a.is_none() {
@@ -227,6 +255,9 @@ impl CountsLines {
         ensures line { OnOk result ((lines : List FrameLine) → AreCountsOf lines counts.now
             → IsTotalLine (counts_of lines) line.now) }
         ensures whole { OnOk result (self.new.whole ≡ true) }
+        ensures right { (table : VlTable) (lines : List FrameLine) → AreCountsOf lines counts.now
+            → TakesWhere (IsRightLine table lines self.old.links self.old.filters
+            (taps_in self.old.endings) kinds.Total line.now) result }
         ensures rest { self.new ≡ record self.old { whole = self.new.whole; text = self.new.text } }
     {
         let all = counts.all();
@@ -252,7 +283,11 @@ fn ending_of(
     network: Network,
     frames: u64,
     line: &[u8],
-) -> Result<Option<TapEnding>, AllocError> {
+) -> Result<Option<TapEnding>, AllocError>
+    ensures { IfOk result (λ ending. MatchOption ending
+        ((said : Said) → IsTapLine network frames said line.now → ⊥)
+        (λ ending. IsTapLine network frames (said_in ending) line.now)) }
+{
     let start = match network {
         Network::A => "tap A ",
         Network::B => "tap B ",
@@ -282,7 +317,12 @@ fn ending_of(
 }
 
 /// The reason after a number: a space and a word in lower case where the recording is bad, else nothing.
-fn reason_of(alloc: Global, rest: &[u8], end: TapEnd) -> Result<Option<String>, AllocError> {
+fn reason_of(alloc: Global, rest: &[u8], end: TapEnd) -> Result<Option<String>, AllocError>
+    ensures { IfOk result (λ reason. MatchOption reason
+        ((word : List ℕ) → IsReason end word → rest.now ≡ reason_text end word → ⊥)
+        (λ reason. IsReason end (string_bytes reason)
+        × (rest.now ≡ reason_text end (string_bytes reason)))) }
+{
     let reason = match (end, rest) {
         (TapEnd::Bad, [b' ', word @ ..]) if !word.is_empty() => word,
         (TapEnd::Clean | TapEnd::Cut, []) => rest,

@@ -1,5 +1,7 @@
 //! Why there is no report.
 
+ghost use Rattle.std.specs.Prelude.{◌≡◌};
+
 use ledger_text::LineFault;
 use std::alloc::AllocError;
 use thiserror::Error;
@@ -56,12 +58,20 @@ pub enum Refusal {
 }
 
 impl From<AllocError> for Refusal {
+    ghost use Rattle.ledger_report.specs.declared.fault.Refusal.TheVariants.{Memory};
+
+    ghost from_gives = { λ _ e. e ≡ Memory };
+
     fn from(_error: AllocError) -> Refusal {
         Refusal::Memory
     }
 }
 
 impl From<WrongLine> for Refusal {
+    ghost use Rattle.ledger_report.specs.declared.fault.Refusal.TheVariants.{Wrong};
+
+    ghost from_gives = { λ wrong e. e ≡ Wrong wrong };
+
     fn from(wrong: WrongLine) -> Refusal {
         Refusal::Wrong(wrong)
     }

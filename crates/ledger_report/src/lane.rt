@@ -2,6 +2,10 @@
 
 ghost use Rattle.std.specs.Prelude.{◌≡◌, ◌≢◌, ◌+◌, ◌&&◌, nat_lt, List, ◌∷◌, max, Some, None, IfOk, IfSome, OnOk, if◌then◌else◌};
 ghost use Rattle.integrity.specs.Sequence.{next_number};
+ghost use Rattle.ledger_report.specs.LaneSeries.{HasByTime, KeepsLaneTimes, TakesByTime, TakesInBin};
+ghost use Rattle.ledger_report.specs.LineSeries.{PutsWhere};
+ghost use Rattle.ledger_report.specs.NetworkSeries.{AreInBins, KeepsTimes};
+ghost use Rattle.std.specs.Prelude.{ℕ, ◌*◌};
 ghost use Rattle.ledger_report.specs.Keeping.{KeepsNetwork};
 ghost use Rattle.ledger_report.specs.LinkLines.{is_silent_since};
 ghost use Rattle.ledger_report.specs.Sums.{saturated};
@@ -206,21 +210,25 @@ fn numbering_of(before: Option<u8>, number: u8) -> Numbering
 }
 
 impl Lane {
-    ghost use Rattle.std.specs.Prelude.{[], ◌++◌, false, is_some};
+    ghost use Rattle.std.specs.Prelude.{[], ◌++◌, ◌<◌, false, is_some, slice_set};
     ghost use Rattle.afdx_frame.specs.declared.key.Network.{Network};
     ghost use Rattle.ledger_text.specs.declared.frame.FrameLine.{FrameLine};
     ghost use Rattle.ledger_report.specs.Keeping.{HasLaneRoom, KeepsLane, KeepsRoom};
     ghost use Rattle.ledger_report.specs.Alone.{HasMissed, KeepsAlone, KeepsMissed, Missed};
     ghost use Rattle.ledger_report.specs.Alone.{MissesMore, MissesSame, missed, no_missed, settled_by};
     ghost use Rattle.ledger_report.specs.Alone.{with_missed};
+    ghost use Rattle.ledger_report.specs.AloneSums.{GainsAlone};
     ghost use Rattle.ledger_report.specs.Covered.{covered_so_far};
     ghost use Rattle.ledger_report.specs.Networks.{IsNetworkOf};
     ghost use Rattle.ledger_report.specs.Standings.{frames_on};
     ghost use Rattle.ledger_report.specs.LaneLines.{number_amount};
+    ghost use Rattle.ledger_report.specs.LinkMarks.{KeepsLinkMarks};
     ghost use Rattle.ledger_report.specs.LaneParts.{TakesAmounts, TakesEarly, TakesInterval, TakesLine};
     ghost use Rattle.ledger_report.specs.LaneParts.{TakesNumber};
     ghost use Rattle.ledger_report.specs.LaneParts.{TakesRule, interval_in, numbering_in};
     ghost use Rattle.ledger_report.specs.Lanes.{StandsAfter};
+    ghost use Rattle.ledger_report.specs.Losses.{IsRoom, MovesLosses, both_passed, held_at};
+    ghost use Rattle.ledger_report.specs.Losses.{is_lost_within, is_passed, without_seen};
     ghost use Rattle.ledger_report.specs.Marks.{HasHits, IsRule, KeepsHits};
     ghost use Rattle.ledger_report.specs.declared.lane.LaneLine.{LaneLine};
     ghost use Rattle.ledger_report.specs.declared.lane.LaneRules.{LaneRules};
@@ -230,8 +238,12 @@ impl Lane {
         ensures after { IfOk result (λ lane. (rules : LaneRules) → StandsAfter rules [] lane) }
         ensures missed { IfOk result (λ lane. (none : Mark) → missed none lane ≡ 0) }
         ensures places { IfOk result (HasMissed no_missed) }
+        ensures before { IfOk result (λ lane. lane.held_before ≡ 0) }
         ensures room { IfOk result HasLaneRoom }
         ensures late { IfOk result (λ lane. HasHits lane.signs signs.Late []) }
+        ensures losses { IfOk result (λ lane. lane.lost_at.items ≡ []) }
+        ensures series { IfOk result (λ lane. (id : ℕ) (network : Network) (start width : ℕ)
+            → HasByTime id network start width [] lane) }
     {
         Ok(Lane {
             frames: 0,
@@ -285,6 +297,9 @@ impl Lane {
         ensures places { OnOk result (KeepsMissed self.old self.new) }
         ensures room { OnOk result (KeepsRoom self.old self.new) }
         ensures late { OnOk result (KeepsHits signs.Late self.old.signs self.new.signs) }
+        ensures losses { OnOk result (self.new.lost_at.items ≡ without_seen rules.now.integrity
+            line.now.number self.old.lost_at.items) }
+        ensures series { OnOk result (TakesByTime line.now self.old self.new) }
     {
         self.note_interval(line, rules.least)?;
         self.note_line(line)?;
@@ -310,6 +325,10 @@ impl Lane {
     fn note_interval(&mut self, line: &LaneLine, least: u64) -> Result<(), AllocError>
         ensures takes { OnOk result (TakesInterval least line.now self.old self.new) }
         ensures alone { OnOk result (KeepsAlone self.old.signs self.new.signs) }
+        ensures least { OnOk result (PutsWhere line.now.at.bin (interval_in self.old line.now)
+            self.old.least_bins self.new.least_bins) }
+        ensures greatest { OnOk result (PutsWhere line.now.at.bin (interval_in self.old line.now)
+            self.old.greatest_bins self.new.greatest_bins) }
     {
         let Some(interval) = self.interval_to(line) else {
             return Ok(());
@@ -341,7 +360,8 @@ impl Lane {
     /// Notes the line itself.
     #[inline]
     fn note_line(&mut self, line: &LaneLine) -> Result<(), AllocError>
-        ensures { OnOk result (TakesLine line.now self.old self.new) }
+        ensures takes { OnOk result (TakesLine line.now self.old self.new) }
+        ensures series { OnOk result (TakesInBin line.now self.old self.new) }
     {
         let at = &line.at;
         if self.frames == 0 {
@@ -384,6 +404,8 @@ impl Lane {
         ensures numbering { IfOk result (λ numbering. numbering ≡ counted_numbering line.now.after_silence
             (numbering_in integrity self.old line.now)) }
         ensures room { OnOk result (KeepsRoom self.old self.new) }
+        ensures losses { OnOk result (self.new.lost_at.items ≡ without_seen integrity line.now.number
+            self.old.lost_at.items) }
     {
         let said = self.take_number(line, integrity);
         self.lost_after_silence = lost_with(self.lost_after_silence, line.after_silence, said);
@@ -405,6 +427,8 @@ impl Lane {
           lost_at = self.new.lost_at;
         } }
         ensures room { KeepsRoom self.old self.new }
+        ensures losses { self.new.lost_at.items ≡ without_seen integrity line.now.number
+            self.old.lost_at.items }
     {
         if !integrity {
             return Numbering::Follows;
@@ -439,6 +463,8 @@ impl Lane {
     fn take_loss(&mut self, number: u8, stamp: u64, window: u64) -> bool
         ensures rest { self.new ≡ record self.old { lost_at = self.new.lost_at } }
         ensures room { KeepsRoom self.old self.new }
+        ensures taken { result ≡ is_lost_within stamp window (held_at self.old.lost_at.items number) }
+        ensures losses { self.new.lost_at.items ≡ without_seen result number self.old.lost_at.items }
     {
         match self.lost_at.get_mut(usize::from(number)) {
             Some(lost) => match *lost {
@@ -456,6 +482,7 @@ impl Lane {
     fn set_lost(&mut self, number: u8, when: Option<u64>)
         ensures rest { self.new ≡ record self.old { lost_at = self.new.lost_at } }
         ensures room { KeepsRoom self.old self.new }
+        ensures losses { self.new.lost_at.items ≡ slice_set self.old.lost_at.items number when }
     {
         if let Some(held) = self.lost_at.get_mut(usize::from(number)) {
             *held = when;
@@ -476,6 +503,12 @@ impl Lane {
         ensures other { other.new ≡ record other.old { lost_at = other.new.lost_at } }
         ensures room { KeepsRoom self.old self.new }
         ensures other_room { KeepsRoom other.old other.new }
+        ensures moves { OnOk result (lost < 255 → IsRoom self.old.lost_at.items
+            → IsRoom other.old.lost_at.items → MovesLosses (is_passed previous lost) stamp window
+            self.old.lost_at.items other.old.lost_at.items self.new.lost_at.items other.new.lost_at.items) }
+        ensures both { IfOk result (λ both. lost < 255 → IsRoom self.old.lost_at.items
+            → IsRoom other.old.lost_at.items → both ≡ both_passed (is_passed previous lost) stamp window
+            other.old.lost_at.items) }
     {
         if self.lost_at.is_empty() {
             self.lost_at.resize(NUMBERS, None)?;
@@ -519,6 +552,11 @@ impl Lane {
         ensures lane { OnOk result (KeepsLane self.old self.new) }
         ensures late { OnOk result (KeepsHits signs.Late self.old.signs self.new.signs) }
         ensures network { OnOk result (KeepsNetwork own.old own.new) }
+        ensures link_marks { KeepsLinkMarks own.old.signs own.new.signs }
+        ensures gains { OnOk result (GainsAlone self.old self.new own.old.signs own.new.signs) }
+        ensures losses { OnOk result (self.new.lost_at ≡ self.old.lost_at) }
+        ensures times { KeepsTimes own.old own.new }
+        ensures lane_times { KeepsLaneTimes self.old self.new }
     {
         match twin.covers(before) {
             Some(true) => {
@@ -555,6 +593,11 @@ impl Lane {
         ensures lane { OnOk result (KeepsLane self.old self.new) }
         ensures late { OnOk result (KeepsHits signs.Late self.old.signs self.new.signs) }
         ensures network { OnOk result (KeepsNetwork own.old own.new) }
+        ensures link_marks { KeepsLinkMarks own.old.signs own.new.signs }
+        ensures gains { OnOk result (GainsAlone self.old self.new own.old.signs own.new.signs) }
+        ensures losses { OnOk result (self.new.lost_at ≡ self.old.lost_at) }
+        ensures times { KeepsTimes own.old own.new }
+        ensures lane_times { KeepsLaneTimes self.old self.new }
     {
         if self.held.count == 0 {
             return Ok(());
@@ -580,6 +623,8 @@ impl Lane {
         ensures none { self.new.held.count ≡ 0 }
         ensures lane { KeepsLane self.old self.new }
         ensures late { KeepsHits signs.Late self.old.signs self.new.signs }
+        ensures losses { self.new.lost_at ≡ self.old.lost_at }
+        ensures lane_times { KeepsLaneTimes self.old self.new }
     {
         self.uncovered = self.uncovered.saturating_add(self.held.count);
         self.held.clear();
@@ -590,6 +635,10 @@ impl Lane {
         ensures late { KeepsHits signs.Late self.old.signs self.new.signs }
         ensures missed { MissesSame self.old self.new }
         ensures places { KeepsMissed self.old self.new }
+        ensures losses { self.new.lost_at ≡ self.old.lost_at }
+        ensures series { (id : ℕ) (network : Network) (start width : ℕ) (lines : List FrameLine)
+            → AreInBins start width lines → HasByTime id network start width lines self.old
+            → HasByTime id network start (2 * width) lines self.new }
     {
         self.signs.fold();
         self.lines.fold();

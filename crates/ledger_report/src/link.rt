@@ -1,10 +1,16 @@
 //! A link on both networks.
 
-ghost use Rattle.std.specs.Prelude.{◌≡◌, ◌+◌, ◌<◌, ◌≤◌, ◌&&◌, false, is_some, Some, None, IfOk, IfSome, OnOk, slice_index_or};
+ghost use Rattle.std.specs.Prelude.{◌≡◌, ◌+◌, ◌<◌, ◌≤◌, ◌==◌, ◌&&◌, true, false, is_some, Some, None, IfOk, IfSome, OnOk, slice_index_or};
+ghost use Rattle.ledger_report.specs.AloneSums.{KeepAloneMarks};
 ghost use Rattle.ledger_report.specs.Keeping.{KeepsNetworks};
 ghost use Rattle.ledger_report.specs.Both.{side_of};
 ghost use Rattle.ledger_report.specs.Deliveries.{is_deliver};
-ghost use Rattle.ledger_report.specs.LaneLines.{one_where};
+ghost use Rattle.ledger_report.specs.LaneLines.{number_amount, one_where};
+ghost use Rattle.ledger_report.specs.LaneSeries.{KeepLaneTimes, LanesDouble, LanesHave, LanesTake};
+ghost use Rattle.ledger_report.specs.NetworkSeries.{KeepTimes};
+ghost use Rattle.ledger_report.specs.LinkMarks.{KeepLinkMarks, NotesLinkHits, TakeLinkHits, TakesHitOn};
+ghost use Rattle.ledger_report.specs.LinkMarks.{counted_in, late_amount};
+ghost use Rattle.ledger_report.specs.Numbering.{IsPlain, missing_in};
 ghost use Rattle.ledger_report.specs.Marks.{IsRule, sign_index};
 ghost use Rattle.ledger_report.specs.Noting.{seen_line};
 ghost use Rattle.ledger_report.specs.Pending.{fate_pends, pends};
@@ -91,7 +97,13 @@ fn hit_network(
     at: &Moment,
     amount: u64,
 ) -> Result<(), AllocError>
-    ensures { 8 ≤ sign_index sign → KeepsNetworks networks.old networks.new }
+    ensures keeps { 8 ≤ sign_index sign → KeepsNetworks networks.old networks.new }
+    ensures takes { TakesHitOn at.now.network sign (record {
+      place = at.now.place;
+      amount = amount;
+    }) networks.old networks.new }
+    ensures alone { (sign_index sign == 11) ≡ false → KeepAloneMarks networks.old networks.new }
+    ensures times { KeepTimes networks.old networks.new }
 {
     match at.network {
         Network::A => networks.a.signs.hit(sign, at.bin, at.place, amount),
@@ -102,7 +114,10 @@ fn hit_network(
 /// Notes the skew of a copy for its network.
 #[inline]
 fn put_skew(networks: &mut Sides<NetworkReport>, at: &Moment, skew: u64) -> Result<(), AllocError>
-    ensures { KeepsNetworks networks.old networks.new }
+    ensures keeps { KeepsNetworks networks.old networks.new }
+    ensures link_marks { KeepLinkMarks networks.old networks.new }
+    ensures alone { KeepAloneMarks networks.old networks.new }
+    ensures times { KeepTimes networks.old networks.new }
 {
     match at.network {
         Network::A => networks.a.skews.put(at.bin, skew),
@@ -111,23 +126,41 @@ fn put_skew(networks: &mut Sides<NetworkReport>, at: &Moment, skew: u64) -> Resu
 }
 
 impl LinkReport {
+    ghost use Rattle.ledger_report.specs.Copies.{spot_at};
+    ghost use Rattle.ledger_report.specs.Links.{row_in};
+    ghost use Rattle.ledger_report.specs.Noting.{IsMomentOf};
+    ghost use Rattle.ledger_report.specs.Wrongs.{TellsWrong, copy_wrong, is_off_against, link_wrong};
+    ghost use Rattle.ledger_report.specs.declared.fault.Refusal.TheVariants as refusals;
+    ghost use Rattle.ledger_report.specs.declared.fault.WrongLine.TheVariants as wrongs;
+    ghost use Rattle.std.specs.Prelude.{Err, Ok, if◌then◌else◌};
     ghost use Rattle.std.specs.Prelude.{ℕ, ◌^◌};
-    ghost use Rattle.std.specs.Prelude.{[]};
+    ghost use Rattle.std.specs.Prelude.{List, [], ◌∷◌};
     ghost use Rattle.afdx_frame.specs.declared.key.Network.TheVariants.{A, B};
+    ghost use Rattle.ledger_text.specs.declared.frame.FrameLine.{FrameLine};
+    ghost use Rattle.ledger_report.specs.Absent.{GetsAbsences, HasRuns};
+    ghost use Rattle.ledger_report.specs.Networks.{IsNetworkOf};
+    ghost use Rattle.ledger_report.specs.Noting.{IsMomentOf};
     ghost use Rattle.ledger_report.specs.Alone.{EndsHeld, NotesMissedOn};
+    ghost use Rattle.ledger_report.specs.AloneSums.{GainBoth};
     ghost use Rattle.ledger_report.specs.Copies.{KeepsCopies, KeepsLatest, NotesCopy, NotesLatest};
     ghost use Rattle.ledger_report.specs.Copies.{TakesCopy, TakesLatest};
     ghost use Rattle.ledger_report.specs.Copies.{skew_in};
     ghost use Rattle.ledger_report.specs.Keeping.{KeepsLink, NotesLane};
     ghost use Rattle.ledger_report.specs.Fates.{ends_met};
+    ghost use Rattle.ledger_report.specs.Holding.{EndsAlone, HoldsAlone, KeepsBefore, KeepsPlaces};
+    ghost use Rattle.ledger_report.specs.Holding.{NotesMissed, Settles, SettlesBelow, TakesBefore};
+    ghost use Rattle.ledger_report.specs.Holding.{open_held, open_in, settled_by_next};
     ghost use Rattle.ledger_report.specs.Links.{IsLinkOf, row_of};
+    ghost use Rattle.ledger_report.specs.Losses.{AreRoom, KeepsLosses, LosesAt, MovesLosses, NotesLosses};
+    ghost use Rattle.ledger_report.specs.Losses.{both_passed, is_passed, losses_in, losses_on, no_losses};
+    ghost use Rattle.ledger_report.specs.Losses.{passes, with_seen};
     ghost use Rattle.ledger_report.specs.Pairs.{DiscardsWhere, GainsLateOn, GainsLateWhere, KeepsFates};
     ghost use Rattle.ledger_report.specs.Pairs.{KeepsLate};
     ghost use Rattle.ledger_report.specs.Pairs.{MeetsOf, NotesFates, PairsCopy};
     ghost use Rattle.ledger_report.specs.Pairs.{TakesDelivery, comes_late, fate_numbers, fate_so_far, gone_in};
     ghost use Rattle.ledger_report.specs.Pairs.{counted_where, is_gone_by, is_held, met_with, settled_numbers};
     ghost use Rattle.ledger_report.specs.Pairs.{window_in, with_late};
-    ghost use Rattle.ledger_report.specs.Words.{other_of};
+    ghost use Rattle.ledger_report.specs.Words.{is_seen_of, other_of};
     ghost use Rattle.ledger_report.specs.Settling.{AccountsMore, AccountsSame, IsBalanced, SumsLanes};
     ghost use Rattle.ledger_report.specs.Settling.{accounted, counted, fate_sum};
     ghost use Rattle.ledger_report.specs.SkewMedians.{GetMedian};
@@ -137,6 +170,11 @@ impl LinkReport {
         ensures balanced { IfOk result (λ report. (report.deliveries ≡ 0) × IsBalanced report) }
         ensures lines { IfOk result (IsLinkOf (row_of link.now) []) }
         ensures met { IfOk result (λ report. report.fates.met ≡ 0) }
+        ensures alone { IfOk result (HoldsAlone (row_of link.now) []) }
+        ensures losses { IfOk result (λ report. losses_in report ≡ no_losses) }
+        ensures runs { IfOk result (λ report. (id : ℕ) → HasRuns id [] report.runs) }
+        ensures lane_series { IfOk result (λ report. (id start width : ℕ)
+            → LanesHave start width id [] report.lanes) }
     {
         Ok(LinkReport {
             id: link.id,
@@ -199,6 +237,8 @@ impl LinkReport {
         width: u64,
         networks: &mut Sides<NetworkReport>,
     ) -> Result<(), Refusal>
+        ensures wrong { IsMomentOf line.now at.now → TellsWrong
+            (link_wrong (row_in self.old) (spot_at self.old.pairing number) line.now) result }
         ensures balanced { OnOk result (IsBalanced self.old → self.old.deliveries + 2 < 2 ^ 64
             → IsBalanced self.new) }
         ensures deliveries { OnOk result (self.old.deliveries + 1 < 2 ^ 64
@@ -209,6 +249,20 @@ impl LinkReport {
         ensures lanes { OnOk result (NotesLane (seen_line (side_of at.now.network self.old.lanes)
             (side_of at.now.network networks.old) line.now number at.now) self.old self.new) }
         ensures networks { OnOk result (KeepsNetworks networks.old networks.new) }
+        ensures gains { OnOk result (GainBoth self.old.lanes self.new.lanes networks.old networks.new) }
+        ensures alone { OnOk result (NotesMissed line.now number at.now networks.old self.old self.new) }
+        ensures link_marks { OnOk result (NotesLinkHits line.now number at.now self.old
+            networks.old networks.new) }
+        ensures losses { OnOk result (NotesLosses line.now number at.now networks.old
+            self.old self.new) }
+        ensures runs { OnOk result ((id : ℕ) (lines : List FrameLine)
+            → IsNetworkOf A (line.now ∷ lines) networks.old.a
+            → IsNetworkOf B (line.now ∷ lines) networks.old.b
+            → is_seen_of id line.now ≡ true → IsMomentOf line.now at.now
+            → HasRuns id lines self.old.runs → HasRuns id (line.now ∷ lines) self.new.runs) }
+        ensures times { KeepTimes networks.old networks.new }
+        ensures lane_series { OnOk result (LanesTake (seen_line (side_of at.now.network self.old.lanes)
+            (side_of at.now.network networks.old) line.now number at.now) self.old.lanes self.new.lanes) }
     {
         self.check_words(line)?;
         let seen = self.lane_line(line, number, at, networks);
@@ -262,6 +316,13 @@ impl LinkReport {
         ensures late { OnOk result (KeepsLate self.old self.new) }
         ensures fates { KeepsFates self.old self.new }
         ensures pairing { self.new.pairing ≡ self.old.pairing }
+        ensures places { OnOk result (KeepsPlaces self.old.lanes self.new.lanes) }
+        ensures numbering { IfOk result (λ numbering. numbering ≡ counted_in self.old.integrity
+            (side_of line.now.at.network self.old.lanes) line.now) }
+        ensures losses { OnOk result (losses_in self.new ≡ with_seen self.old.integrity
+            line.now.at.network line.now.number (losses_in self.old)) }
+        ensures runs { self.new.runs ≡ self.old.runs }
+        ensures lane_series { OnOk result (LanesTake line.now self.old.lanes self.new.lanes) }
     {
         let rules = LaneRules {
             least: self.bag.saturating_sub(self.jitter),
@@ -291,6 +352,11 @@ impl LinkReport {
             line.now.number line.now.at (window_in self.old) self.old.pairing self.new.pairing) }
         ensures link { OnOk result (KeepsLink self.old self.new) }
         ensures latest { OnOk result (KeepsLatest self.old.pairing self.new.pairing) }
+        ensures places { KeepsPlaces self.old.lanes self.new.lanes }
+        ensures before { OnOk result (KeepsBefore self.old.pairing self.new.pairing) }
+        ensures losses { KeepsLosses self.old self.new }
+        ensures runs { self.new.runs ≡ self.old.runs }
+        ensures lane_times { KeepLaneTimes self.old.lanes self.new.lanes }
     {
         if line.rule.is_none() || !self.redundancy {
             return Ok(());
@@ -304,7 +370,10 @@ impl LinkReport {
 
     /// Does the line say that integrity checking and redundancy management are off where the table does?
     #[inline]
-    fn check_words(&self, line: &FrameLine) -> Result<(), Refusal> {
+    fn check_words(&self, line: &FrameLine) -> Result<(), Refusal>
+        ensures { result ≡ (if is_off_against (row_in self.now) line.now
+            then Err (refusals.Wrong wrongs.Off) else Ok tt) }
+    {
         let integrity = match line.integrity {
             Some(integrity) => (integrity == Integrity::Off) != self.integrity,
             None => true,
@@ -335,7 +404,17 @@ impl LinkReport {
         ensures fates { KeepsFates self.old self.new }
         ensures link { OnOk result (KeepsLink self.old self.new) }
         ensures networks { OnOk result (KeepsNetworks networks.old networks.new) }
+        ensures marks { OnOk result (KeepAloneMarks networks.old networks.new) }
         ensures pairing { self.new.pairing ≡ self.old.pairing }
+        ensures places { OnOk result (KeepsPlaces self.old.lanes self.new.lanes) }
+        ensures link_marks { OnOk result (IsPlain numbering → TakeLinkHits (number_amount numbering)
+            at.now.network at.now.place networks.old networks.new) }
+        ensures losses { OnOk result (missing_in numbering < 255 → AreRoom (losses_in self.old)
+            → LosesAt (passes numbering) at.now (window_in self.old)
+            (losses_in self.old) (losses_in self.new)) }
+        ensures runs { self.new.runs ≡ self.old.runs }
+        ensures times { KeepTimes networks.old networks.new }
+        ensures lane_times { KeepLaneTimes self.old.lanes self.new.lanes }
     {
         match numbering {
             Numbering::Follows => Ok(()),
@@ -357,6 +436,12 @@ impl LinkReport {
         ensures fates { KeepsFates self.old self.new }
         ensures link { OnOk result (KeepsLink self.old self.new) }
         ensures pairing { self.new.pairing ≡ self.old.pairing }
+        ensures places { OnOk result (KeepsPlaces self.old.lanes self.new.lanes) }
+        ensures losses { OnOk result (lost < 255 → AreRoom (losses_in self.old)
+            → LosesAt (is_passed previous lost) at.now (window_in self.old)
+            (losses_in self.old) (losses_in self.new)) }
+        ensures runs { self.new.runs ≡ self.old.runs }
+        ensures lane_times { KeepLaneTimes self.old.lanes self.new.lanes }
     {
         let both = self.lose(previous, lost, at)?;
         if both > 0 {
@@ -377,6 +462,20 @@ impl LinkReport {
         ensures fates { KeepsFates self.old self.new }
         ensures link { OnOk result (KeepsLink self.old self.new) }
         ensures pairing { self.new.pairing ≡ self.old.pairing }
+        ensures places { KeepsPlaces self.old.lanes self.new.lanes }
+        ensures moves { OnOk result (lost < 255 → AreRoom (losses_in self.old)
+            → MovesLosses (is_passed previous lost) at.now.place.stamp (window_in self.old)
+            (losses_on at.now.network (losses_in self.old))
+            (losses_on (other_of at.now.network) (losses_in self.old))
+            (losses_on at.now.network (losses_in self.new))
+            (losses_on (other_of at.now.network) (losses_in self.new))) }
+        ensures both { IfOk result (λ both. lost < 255 → AreRoom (losses_in self.old)
+            → both ≡ both_passed (is_passed previous lost) at.now.place.stamp (window_in self.old)
+            (losses_on (other_of at.now.network) (losses_in self.old))) }
+        ensures told { (self.new.lost_both ≡ self.old.lost_both)
+            × (self.new.first_lost_both ≡ self.old.first_lost_both) }
+        ensures runs { self.new.runs ≡ self.old.runs }
+        ensures lane_times { KeepLaneTimes self.old.lanes self.new.lanes }
     {
         let window = self.window();
         let stamp = at.place.stamp;
@@ -395,6 +494,8 @@ impl LinkReport {
         at: &Moment,
         networks: &mut Sides<NetworkReport>,
     ) -> Result<(), Refusal>
+        ensures wrong { TellsWrong (copy_wrong self.old.skew_max (spot_at self.old.pairing number)
+            at.now.network at.now.place.stamp) result }
         ensures accounts { OnOk result (AccountsMore 0 self.old self.new) }
         ensures deliveries { self.new.deliveries ≡ self.old.deliveries }
         ensures copies { OnOk result (TakesCopy (skew_in self.old number at.now.place.stamp)
@@ -403,6 +504,14 @@ impl LinkReport {
         ensures pairs { OnOk result (PairsCopy number self.old self.new) }
         ensures link { OnOk result (KeepsLink self.old self.new) }
         ensures networks { OnOk result (KeepsNetworks networks.old networks.new) }
+        ensures marks { OnOk result (KeepAloneMarks networks.old networks.new) }
+        ensures places { OnOk result (KeepsPlaces self.old.lanes self.new.lanes) }
+        ensures before { OnOk result (KeepsBefore self.old.pairing self.new.pairing) }
+        ensures link_marks { OnOk result (KeepLinkMarks networks.old networks.new) }
+        ensures losses { KeepsLosses self.old self.new }
+        ensures runs { self.new.runs ≡ self.old.runs }
+        ensures times { KeepTimes networks.old networks.new }
+        ensures lane_times { KeepLaneTimes self.old.lanes self.new.lanes }
     {
         let delivery = match self.pairing.latest(number) {
             Some(delivery) if delivery.network != at.network => delivery,
@@ -431,6 +540,11 @@ impl LinkReport {
         ensures link { OnOk result (KeepsLink self.old self.new) }
         ensures latest { OnOk result (KeepsLatest self.old.pairing self.new.pairing) }
         ensures pairs { OnOk result (PairsCopy number self.old self.new) }
+        ensures places { OnOk result (KeepsPlaces self.old.lanes self.new.lanes) }
+        ensures before { OnOk result (KeepsBefore self.old.pairing self.new.pairing) }
+        ensures losses { KeepsLosses self.old self.new }
+        ensures runs { self.new.runs ≡ self.old.runs }
+        ensures lane_times { KeepLaneTimes self.old.lanes self.new.lanes }
     {
         let Some(delivery) = self.pairing.latest(number) else {
             return Ok(());
@@ -461,6 +575,7 @@ impl LinkReport {
         width: u64,
         networks: &mut Sides<NetworkReport>,
     ) -> Result<(), Refusal>
+        ensures wrong { TellsWrong None result }
         ensures accounts { OnOk result ((none : Mark) → accounted none self.old + 2 < 2 ^ 64
             → accounted none self.new ≡ accounted none self.old + 1) }
         ensures deliveries { self.old.deliveries + 1 < 2 ^ 64
@@ -471,10 +586,21 @@ impl LinkReport {
             at.now.network at.now.place self.old.lanes self.new.lanes) }
         ensures link { OnOk result (KeepsLink self.old self.new) }
         ensures networks { OnOk result (KeepsNetworks networks.old networks.new) }
+        ensures gains { OnOk result (GainBoth self.old.lanes self.new.lanes networks.old networks.new) }
         ensures latest { OnOk result (TakesLatest number (record {
           network = at.now.network;
           place = at.now.place;
         }) self.old.pairing self.new.pairing) }
+        ensures settles { OnOk result (Settles (settled_by_next number at.now self.old) networks.old
+            self.old.lanes self.new.lanes) }
+        ensures before { OnOk result (TakesBefore number
+            (side_of (other_of at.now.network) networks.old).frames self.old.pairing self.new.pairing) }
+        ensures link_marks { OnOk result (TakeLinkHits (late_amount (comes_late number at.now self.old))
+            at.now.network at.now.place networks.old networks.new) }
+        ensures losses { OnOk result (KeepsLosses self.old self.new) }
+        ensures runs { self.new.runs ≡ self.old.runs }
+        ensures times { KeepTimes networks.old networks.new }
+        ensures lane_times { KeepLaneTimes self.old.lanes self.new.lanes }
     {
         self.deliveries = self.deliveries.saturating_add(1);
         let fate = self.settle_before(number, at, start, width, networks)?;
@@ -514,6 +640,15 @@ impl LinkReport {
             (gone_in self.old.pairing number (other_of at.now.network)))) }
         ensures link { OnOk result (KeepsLink self.old self.new) }
         ensures networks { OnOk result (KeepsNetworks networks.old networks.new) }
+        ensures gains { OnOk result (GainBoth self.old.lanes self.new.lanes networks.old networks.new) }
+        ensures settles { OnOk result (Settles (settled_by_next number at.now self.old) networks.old
+            self.old.lanes self.new.lanes) }
+        ensures link_marks { OnOk result (TakeLinkHits (late_amount (comes_late number at.now self.old))
+            at.now.network at.now.place networks.old networks.new) }
+        ensures losses { OnOk result (KeepsLosses self.old self.new) }
+        ensures runs { self.new.runs ≡ self.old.runs }
+        ensures times { KeepTimes networks.old networks.new }
+        ensures lane_times { KeepLaneTimes self.old.lanes self.new.lanes }
     {
         let fate = self.fate_so_far(number, at);
         let Some(before) = self.pairing.latest(number) else {
@@ -556,6 +691,14 @@ impl LinkReport {
         ensures numbers { OnOk result (fate_numbers self.new ≡ with_late skew self.old) }
         ensures link { OnOk result (KeepsLink self.old self.new) }
         ensures networks { OnOk result (KeepsNetworks networks.old networks.new) }
+        ensures marks { OnOk result (KeepAloneMarks networks.old networks.new) }
+        ensures places { OnOk result (KeepsPlaces self.old.lanes self.new.lanes) }
+        ensures link_marks { OnOk result (TakeLinkHits (late_amount true)
+            at.now.network at.now.place networks.old networks.new) }
+        ensures losses { KeepsLosses self.old self.new }
+        ensures runs { self.new.runs ≡ self.old.runs }
+        ensures times { KeepTimes networks.old networks.new }
+        ensures lane_times { KeepLaneTimes self.old.lanes self.new.lanes }
     {
         self.fates.late = self.fates.late.saturating_add(1);
         self.fates.first = self.fates.first.saturating_add(1);
@@ -575,6 +718,10 @@ impl LinkReport {
         ensures late { GainsLateOn at.now.network at.now.place self.old.lanes self.new.lanes }
         ensures fates { KeepsFates self.old self.new }
         ensures link { OnOk result (KeepsLink self.old self.new) }
+        ensures places { KeepsPlaces self.old.lanes self.new.lanes }
+        ensures losses { KeepsLosses self.old self.new }
+        ensures runs { self.new.runs ≡ self.old.runs }
+        ensures lane_times { KeepLaneTimes self.old.lanes self.new.lanes }
     {
         match at.network {
             Network::A => self.lanes.a.signs.hit(Sign::Late, at.bin, at.place, 1),
@@ -599,6 +746,14 @@ impl LinkReport {
             (counted_where (ends_met delivery.fate) self.old.fates.met) self.old self.new) }
         ensures link { OnOk result (KeepsLink self.old self.new) }
         ensures networks { OnOk result (KeepsNetworks networks.old networks.new) }
+        ensures gains { OnOk result (GainBoth self.old.lanes self.new.lanes networks.old networks.new) }
+        ensures settles { OnOk result (Settles (open_in delivery) networks.old
+            self.old.lanes self.new.lanes) }
+        ensures link_marks { OnOk result (KeepLinkMarks networks.old networks.new) }
+        ensures losses { OnOk result (KeepsLosses self.old self.new) }
+        ensures runs { self.new.runs ≡ self.old.runs }
+        ensures times { KeepTimes networks.old networks.new }
+        ensures lane_times { KeepLaneTimes self.old.lanes self.new.lanes }
     {
         match delivery.fate {
             Fate::Late | Fate::Paired => Ok(()),
@@ -630,6 +785,14 @@ impl LinkReport {
         ensures fates { KeepsFates self.old self.new }
         ensures link { OnOk result (KeepsLink self.old self.new) }
         ensures networks { OnOk result (KeepsNetworks networks.old networks.new) }
+        ensures gains { OnOk result (GainBoth self.old.lanes self.new.lanes networks.old networks.new) }
+        ensures settles { OnOk result (Settles (Some delivery.now) networks.old
+            self.old.lanes self.new.lanes) }
+        ensures link_marks { OnOk result (KeepLinkMarks networks.old networks.new) }
+        ensures losses { OnOk result (KeepsLosses self.old self.new) }
+        ensures runs { self.new.runs ≡ self.old.runs }
+        ensures times { KeepTimes networks.old networks.new }
+        ensures lane_times { KeepLaneTimes self.old.lanes self.new.lanes }
     {
         let place = delivery.place;
         let before = delivery.before;
@@ -666,8 +829,15 @@ impl LinkReport {
             (met_with 256 self.old.pairing self.old.fates.met) self.old self.new) }
         ensures link { OnOk result (KeepsLink self.old self.new) }
         ensures networks { OnOk result (KeepsNetworks networks.old networks.new) }
+        ensures gains { OnOk result (GainBoth self.old.lanes self.new.lanes networks.old networks.new) }
         ensures pairing { OnOk result (self.new.pairing ≡ self.old.pairing) }
         ensures median { OnOk result (GetMedian self.old self.new) }
+        ensures alone { OnOk result (EndsAlone networks.old self.old self.new) }
+        ensures link_marks { OnOk result (KeepLinkMarks networks.old networks.new) }
+        ensures losses { OnOk result (KeepsLosses self.old self.new) }
+        ensures absences { OnOk result (GetsAbsences networks.old self.old self.new) }
+        ensures times { KeepTimes networks.old networks.new }
+        ensures lane_times { KeepLaneTimes self.old.lanes self.new.lanes }
     {
         self.settle_latest(start, width, networks)?;
         self.settle_lanes(networks)?;
@@ -698,7 +868,14 @@ impl LinkReport {
             (met_with 256 self.old.pairing self.old.fates.met) self.old self.new) }
         ensures link { OnOk result (KeepsLink self.old self.new) }
         ensures networks { OnOk result (KeepsNetworks networks.old networks.new) }
+        ensures gains { OnOk result (GainBoth self.old.lanes self.new.lanes networks.old networks.new) }
         ensures pairing { OnOk result (self.new.pairing ≡ self.old.pairing) }
+        ensures alone { OnOk result (SettlesBelow 256 networks.old self.old self.new) }
+        ensures link_marks { OnOk result (KeepLinkMarks networks.old networks.new) }
+        ensures losses { OnOk result (KeepsLosses self.old self.new) }
+        ensures runs { self.new.runs ≡ self.old.runs }
+        ensures times { KeepTimes networks.old networks.new }
+        ensures lane_times { KeepLaneTimes self.old.lanes self.new.lanes }
     {
         for number in 0..NUMBERS {
             self.settle_number(number as u8, start, width, networks)?;
@@ -724,6 +901,14 @@ impl LinkReport {
             (counted_where (is_held ends_met self.old.pairing number) self.old.fates.met) self.old self.new) }
         ensures link { OnOk result (KeepsLink self.old self.new) }
         ensures networks { OnOk result (KeepsNetworks networks.old networks.new) }
+        ensures gains { OnOk result (GainBoth self.old.lanes self.new.lanes networks.old networks.new) }
+        ensures settles { OnOk result (Settles (open_held self.old.pairing number) networks.old
+            self.old.lanes self.new.lanes) }
+        ensures link_marks { OnOk result (KeepLinkMarks networks.old networks.new) }
+        ensures losses { OnOk result (KeepsLosses self.old self.new) }
+        ensures runs { self.new.runs ≡ self.old.runs }
+        ensures times { KeepTimes networks.old networks.new }
+        ensures lane_times { KeepLaneTimes self.old.lanes self.new.lanes }
     {
         match self.pairing.latest(number) {
             Some(delivery) => {
@@ -747,7 +932,13 @@ impl LinkReport {
         ensures fates { OnOk result (KeepsFates self.old self.new) }
         ensures link { OnOk result (KeepsLink self.old self.new) }
         ensures networks { OnOk result (KeepsNetworks networks.old networks.new) }
+        ensures gains { OnOk result (GainBoth self.old.lanes self.new.lanes networks.old networks.new) }
         ensures pairing { OnOk result (self.new.pairing ≡ self.old.pairing) }
+        ensures link_marks { OnOk result (KeepLinkMarks networks.old networks.new) }
+        ensures losses { OnOk result (KeepsLosses self.old self.new) }
+        ensures runs { self.new.runs ≡ self.old.runs }
+        ensures times { KeepTimes networks.old networks.new }
+        ensures lane_times { KeepLaneTimes self.old.lanes self.new.lanes }
     {
         self.lanes.a.settle_held(&networks.b, &mut networks.a)?;
         self.lanes.b.settle_held(&networks.a, &mut networks.b)?;
@@ -768,6 +959,10 @@ impl LinkReport {
         ensures fates { KeepsFates self.old self.new }
         ensures link { KeepsLink self.old self.new }
         ensures pairing { self.new.pairing ≡ self.old.pairing }
+        ensures places { self.new.lanes ≡ self.old.lanes }
+        ensures losses { KeepsLosses self.old self.new }
+        ensures runs { self.new.runs ≡ self.old.runs }
+        ensures lane_times { KeepLaneTimes self.old.lanes self.new.lanes }
     {
         self.fates.uncovered = self
             .lanes
@@ -786,6 +981,10 @@ impl LinkReport {
         ensures late { KeepsLate self.old self.new }
         ensures fates { KeepsFates self.old self.new }
         ensures pairing { self.new.pairing ≡ self.old.pairing }
+        ensures places { KeepsPlaces self.old.lanes self.new.lanes }
+        ensures losses { KeepsLosses self.old self.new }
+        ensures runs { self.new.runs ≡ self.old.runs }
+        ensures lane_series { LanesDouble self.old.lanes self.new.lanes }
     {
         self.lanes.a.fold();
         self.lanes.b.fold();

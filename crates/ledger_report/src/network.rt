@@ -59,13 +59,24 @@ impl NetworkReport {
     ghost use Rattle.std.specs.List.Sorted.{IsNonDecreasingBy};
     ghost use Rattle.ledger_report.specs.Covered.{covered_so_far, has_silence_after};
     ghost use Rattle.ledger_report.specs.Keeping.{KeepsNetwork};
+    ghost use Rattle.ledger_report.specs.LinkMarks.{KeepsLinkMarks};
+    ghost use Rattle.ledger_report.specs.declared.signs.Sign.{Sign};
+    ghost use Rattle.ledger_report.specs.Marks.{HasHits, KeepsHits};
     ghost use Rattle.ledger_report.specs.Networks.{HasSilences, IsNetworkOf};
+    ghost use Rattle.ledger_report.specs.NetworkSeries.{AreInBins, HasSeries, KeepsTimes};
+    ghost use Rattle.ledger_report.specs.Series.{is_in};
+    ghost use Rattle.std.specs.Prelude.{ℕ, ◌*◌};
     ghost use Rattle.ledger_report.specs.RuleMarks.{HasRules};
     ghost use Rattle.ledger_report.specs.Standings.{frames_on};
+    ghost use Rattle.ledger_report.specs.declared.signs.Sign.TheVariants.{Alone};
 
     pub(crate) fn new(alloc: Global) -> Result<NetworkReport, AllocError>
         ensures numbers { IfOk result (λ report. (network : Network) → IsNetworkOf network [] report) }
         ensures rules { IfOk result (λ report. (network : Network) → HasRules network [] report.signs) }
+        ensures signs { IfOk result (λ report. (sign : Sign) → HasHits report.signs sign []) }
+        ensures alone { IfOk result (λ report. HasHits report.signs Alone []) }
+        ensures series { IfOk result (λ report. (network : Network) (start width : ℕ)
+            → HasSeries network start width [] report) }
     {
         Ok(NetworkReport {
             frames: 0,
@@ -90,6 +101,7 @@ impl NetworkReport {
             → is_on network line ≡ false → IsNetworkOf network lines self.old
             → IsNetworkOf network (line ∷ lines) self.new }
         ensures signs { self.new.signs ≡ self.old.signs }
+        ensures times { KeepsTimes self.old self.new }
     {
         self.since = self.since.saturating_add(1);
     }
@@ -136,6 +148,11 @@ impl NetworkReport {
             → line.kept ≡ kept → IsNetworkOf network lines self.old
             → IsNetworkOf network (line ∷ lines) self.new) }
         ensures signs { OnOk result (self.new.signs ≡ self.old.signs) }
+        ensures series { OnOk result ((network : Network) (start width : ℕ) (line : FrameLine)
+            (lines : List FrameLine) → is_on network line ≡ true → line.kept ≡ kept
+            → is_in start width at.now.bin line.stamp.0 ≡ true
+            → HasSeries network start width lines self.old
+            → HasSeries network start width (line ∷ lines) self.new) }
     {
         let stamp = at.place.stamp;
         self.end_silence(stamp)?;
@@ -172,6 +189,11 @@ impl NetworkReport {
           lines = self.new.lines;
           loads = self.new.loads;
         } }
+        ensures series { OnOk result ((network : Network) (start width : ℕ) (line : FrameLine)
+            (lines : List FrameLine) → is_on network line ≡ true → line.kept ≡ kept
+            → is_in start width bin line.stamp.0 ≡ true
+            → HasSeries network start width lines self.old
+            → HasSeries network start width (line ∷ lines) self.new) }
     {
         self.lines.put(bin, 1)?;
         if let Some(kept) = kept {
@@ -226,7 +248,12 @@ impl NetworkReport {
     }
 
     pub(crate) fn fold(&mut self)
-        ensures { KeepsNetwork self.old self.new }
+        ensures numbers { KeepsNetwork self.old self.new }
+        ensures link_marks { KeepsLinkMarks self.old.signs self.new.signs }
+        ensures alone { KeepsHits Alone self.old.signs self.new.signs }
+        ensures series { (network : Network) (start width : ℕ) (lines : List FrameLine)
+            → AreInBins start width lines → HasSeries network start width lines self.old
+            → HasSeries network start (2 * width) lines self.new }
     {
         self.signs.fold();
         self.lines.fold();

@@ -81,6 +81,7 @@ fn remember(stamps: &mut Vec<Option<u64>>, number: u8, stamp: u64) -> Result<(),
 impl Pairing {
     ghost use Rattle.afdx_frame.specs.declared.key.Network.{Network};
     ghost use Rattle.ledger_report.specs.Copies.{KeepsLatest, TakesLatest, spot_at, spot_in};
+    ghost use Rattle.ledger_report.specs.Holding.{KeepsBefore, TakesBefore};
     ghost use Rattle.ledger_report.specs.Pairs.{Changes, TakesGone, gone_in, held_of, is_gone_by, known_in, met_by};
     ghost use Rattle.ledger_report.specs.Words.{other_of};
 
@@ -118,6 +119,7 @@ impl Pairing {
             + pends (slice_index_or self.old.deliveries.items number None)
             ≡ pending self.old.deliveries.items + pends (Some delivery)) }
         ensures held { OnOk result (Changes number (Some (known_in delivery)) self.old self.new) }
+        ensures before { OnOk result (TakesBefore number delivery.before self.old self.new) }
         ensures gone { self.new.discarded ≡ self.old.discarded }
     {
         self.reserve()?;
@@ -155,6 +157,7 @@ impl Pairing {
         ensures held { OnOk result (Changes number
             (option_map (met_by network stamp window) (held_of self.old number)) self.old self.new) }
         ensures gone { OnOk result (TakesGone number network stamp self.old self.new) }
+        ensures before { OnOk result (KeepsBefore self.old self.new) }
     {
         match network {
             Network::A => remember(&mut self.discarded.a, number, stamp)?,
@@ -178,6 +181,7 @@ impl Pairing {
         ensures held { OnOk result (Changes number
             (option_map (met_by network stamp window) (held_of self.old number)) self.old self.new) }
         ensures gone { self.new.discarded ≡ self.old.discarded }
+        ensures before { OnOk result (KeepsBefore self.old self.new) }
     {
         let Some(delivery) = self.latest(number) else {
             return Ok(());

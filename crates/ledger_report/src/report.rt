@@ -3,11 +3,22 @@
 ghost use Rattle.std.specs.Prelude.{◌≡◌, ℕ, List, [], Option, IfOk, false};
 ghost use Rattle.ledger_text.specs.Ledger.{has_failed as ledger_failed};
 ghost use Rattle.vl_config.specs.Link.{VirtualLink};
+ghost use Rattle.ledger_report.specs.AloneSums.{SumsAlone};
 ghost use Rattle.ledger_report.specs.Counting.{AreCountsOf};
+ghost use Rattle.ledger_report.specs.Holding.{HoldsAlone};
+ghost use Rattle.ledger_report.specs.Links.{AreEach};
 ghost use Rattle.ledger_report.specs.Noting.{IsAccountOf};
+ghost use Rattle.ledger_report.specs.LaneSeries.{HasLaneBins};
+ghost use Rattle.ledger_report.specs.NetworkSeries.{HasBins};
 ghost use Rattle.ledger_report.specs.CountsLines.{HasCounted};
+ghost use Rattle.ledger_report.specs.SignSums.{HasSignsOf};
 ghost use Rattle.ledger_report.specs.Span.{HasSpan};
-ghost use Rattle.ledger_report.specs.Reading.{HasNoted, HasRead, TellsLedger, report_of};
+ghost use Rattle.ledger_report.specs.Judged.{HasJudged, HasReadRight, TellsRight};
+ghost use Rattle.ledger_report.specs.Reading.{HasNoted, HasRead, report_of};
+ghost use Rattle.ledger_report.specs.Refused.{IsRefused, line_fault, read_fault, source_at};
+ghost use Rattle.ledger_text.specs.Reader.{source_of};
+ghost use Rattle.std.specs.Prelude.{IfErr, MatchResult};
+ghost use Rattle.vl_config.specs.Document.{VlTable};
 
 use crate::counts::FrameCounts;
 use crate::counts_lines::{CountsLines, TapEnding};
@@ -102,7 +113,9 @@ impl Report {
 }
 
 /// The fault of a line that isn't noted.
-fn line_fault(line: u64, refusal: Refusal) -> ReportFault {
+fn line_fault(line: u64, refusal: Refusal) -> ReportFault
+    ensures { result ≡ line_fault line refusal }
+{
     match refusal {
         Refusal::Wrong(wrong) => ReportFault::Line { line, wrong },
         Refusal::Memory => ReportFault::Memory,
@@ -110,7 +123,9 @@ fn line_fault(line: u64, refusal: Refusal) -> ReportFault {
 }
 
 /// The fault of a reader that doesn't go on.
-fn read_fault(fault: ReadFault) -> ReportFault {
+fn read_fault(fault: ReadFault) -> ReportFault
+    ensures { result ≡ read_fault fault }
+{
     match fault {
         ReadFault::Line { number, fault } => ReportFault::Line {
             line: number,
@@ -136,11 +151,19 @@ fn read_lines<S: TapSource>(
     reading: &mut Reading,
 ) -> Result<(), ReportFault>
     requires sound { ledger_failed ledger.old ≡ false }
-    ensures { (bytes : Option (List ℕ)) (failures : ℕ) (links : List VirtualLink)
+    ensures read { (bytes : Option (List ℕ)) (failures : ℕ) (links : List VirtualLink)
         → links ≡ config.now.links
         → HasNoted S.TapSource bytes failures links [] ledger.old reading.old.counts reading.old.statistics
         reading.old.lines
         → IfOk result (λ _. HasRead bytes links reading.new.counts reading.new.statistics reading.new.lines) }
+    ensures judged { (bytes : Option (List ℕ)) (failures : ℕ) (table : VlTable) → table ≡ config.now
+        → HasNoted S.TapSource bytes failures table.links [] ledger.old reading.old.counts
+        reading.old.statistics reading.old.lines
+        → HasJudged table [] reading.old.statistics reading.old.lines
+        → MatchResult result
+        (λ _. HasReadRight bytes table reading.new.counts reading.new.statistics reading.new.lines)
+        (λ fault. IsRefused table (record { remaining = bytes; failures = failures })
+        (source_at S.TapSource (source_of ledger.new)) fault) }
 {
     loop {
         match ledger.advance() {
@@ -174,14 +197,17 @@ fn read_lines<S: TapSource>(
 ///
 /// # Errors
 ///
-/// `Line` names the first line that is none of a ledger, or contradicts the table or the lines before it;
-/// `Read` says that the source failed.
+/// `Line` names the first line that is none of a ledger, or contradicts the table or the lines before it, and
+/// says what is wrong with it: of what `WrongLine` lists the first that holds. `Read` says that the source
+/// failed. `Memory` may come at any line.
 pub fn read_report<S: TapSource + Drop>(
     alloc: Global,
     config: &Config,
     source: S,
 ) -> Result<Report, ReportFault>
-    ensures { IfOk result (TellsLedger (S.remaining source) config.now.links) }
+    ensures told { IfOk result (TellsRight (S.remaining source) config.now) }
+    ensures refused { IfErr result (λ fault. (after : S) × IsRefused config.now
+        (source_at S.TapSource source) (source_at S.TapSource after) fault) }
 {
     let mut ledger = match LedgerReader::new(alloc, source) {
         Ok(ledger) => ledger,
@@ -203,8 +229,17 @@ impl Reading {
         ensures counts { IfOk result (λ reading. AreCountsOf [] reading.counts) }
         ensures account { IfOk result (λ reading. IsAccountOf config.now.links [] reading.statistics) }
         ensures span { IfOk result (λ reading. HasSpan [] reading.statistics) }
+        ensures alone { IfOk result (λ reading.
+            AreEach HoldsAlone config.now.links [] reading.statistics.links.items) }
+        ensures signs { IfOk result (λ reading. HasSignsOf config.now.links [] reading.statistics) }
+        ensures sums { IfOk result (λ reading.
+            SumsAlone reading.statistics.links.items reading.statistics.networks) }
         ensures lines { IfOk result (λ reading. (links : List VirtualLink)
             → HasCounted links [] reading.lines) }
+        ensures judged { IfOk result (λ reading. (table : VlTable)
+            → HasJudged table [] reading.statistics reading.lines) }
+        ensures bins { IfOk result (λ reading. HasBins [] reading.statistics) }
+        ensures lane_bins { IfOk result (λ reading. HasLaneBins config.now.links [] reading.statistics) }
     {
         Ok(Reading {
             counts: FrameCounts::new(alloc)?,

@@ -51,6 +51,9 @@ pub struct Series {
 
 impl Series {
     ghost use Rattle.ledger_report.specs.Bins.{bin_at, Doubles, TakesNumber};
+    ghost use Rattle.ledger_report.specs.Series.{IsSeriesOf, Put};
+    ghost use Rattle.ledger_report.specs.declared.series.Merge.{Merge};
+    ghost use Rattle.std.specs.Prelude.{List, ◌++◌};
 
     /// A series in which nothing came. Allocates nothing.
     pub(crate) fn new(alloc: Global, merge: Merge) -> Series
@@ -97,7 +100,12 @@ impl Series {
     }
 
     /// Merges all of another series.
-    pub(crate) fn absorb(&mut self, other: &Series) -> Result<(), AllocError> {
+    pub(crate) fn absorb(&mut self, other: &Series) -> Result<(), AllocError>
+        ensures merge { self.new.merge ≡ self.old.merge }
+        ensures both { OnOk result ((merge : Merge) (start width : ℕ) (puts others : List Put)
+            → IsSeriesOf merge start width puts self.old → IsSeriesOf merge start width others other.now
+            → IsSeriesOf merge start width (others ++ puts) self.new) }
+    {
         for (bin, value) in other.bins.iter().enumerate() {
             self.put(bin, *value)?;
         }

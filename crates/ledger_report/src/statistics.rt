@@ -9,18 +9,28 @@ ghost use Rattle.verdict_ledger.specs.Tally.{is_class};
 ghost use Rattle.ledger_text.specs.FrameText.{IsFrameLine};
 ghost use Rattle.ledger_text.specs.declared.bounds.TheConstants.{MOST_LINES};
 ghost use Rattle.ledger_text.specs.declared.frame.FrameLine.{FrameLine};
+ghost use Rattle.ledger_report.specs.AloneSums.{KeepsSums};
+ghost use Rattle.ledger_report.specs.Holding.{EndAlone, HoldsAlone};
+ghost use Rattle.ledger_report.specs.Absent.{GainAbsences, HoldsRuns, KeepEachRuns};
 ghost use Rattle.ledger_report.specs.Keeping.{KeepsLinks, KeepsNetworks};
+ghost use Rattle.ledger_report.specs.LaneSeries.{AllLanesDouble, AllLanesKeep, HasLaneBins, HaveLaneSeries};
 ghost use Rattle.ledger_report.specs.LinkLines.{place_of};
+ghost use Rattle.ledger_report.specs.LinkMarks.{KeepLinkMarks, KeepsLinkMarks};
 ghost use Rattle.ledger_report.specs.Links.{AreEach, AreLinksOf, CountsMet};
-ghost use Rattle.ledger_report.specs.Marks.{IsRule};
+ghost use Rattle.ledger_report.specs.Marks.{IsRule, KeepsHits};
+ghost use Rattle.ledger_report.specs.LostBoth.{HasLosses};
 ghost use Rattle.ledger_report.specs.Networks.{IsNetworkOf};
 ghost use Rattle.ledger_report.specs.Noting.{IsIndexOf};
+ghost use Rattle.ledger_report.specs.NetworkSeries.{HasSeries, KeepTimes, KeepsTimes};
+ghost use Rattle.ledger_report.specs.Series.{is_in};
 ghost use Rattle.ledger_report.specs.OutsideLines.{IsOutsideOf};
 ghost use Rattle.ledger_report.specs.RuleMarks.{HasRules};
 ghost use Rattle.ledger_report.specs.Settling.{AreBalanced, GainFates, KeepBalance};
+ghost use Rattle.ledger_report.specs.SignSums.{KeepEachLosses};
 ghost use Rattle.ledger_report.specs.SkewMedians.{GainMedians};
 ghost use Rattle.ledger_report.specs.Words.{is_on};
 ghost use Rattle.ledger_report.specs.Words.{rule_of};
+ghost use Rattle.ledger_report.specs.declared.signs.Sign.TheVariants as signs;
 
 use crate::bounds::{BINS, FIRST_WIDTH};
 use crate::counts::{is_excess, is_out};
@@ -102,6 +112,11 @@ fn links_of(alloc: Global, config: &Config) -> Result<Vec<LinkReport>, AllocErro
     ensures links { IfOk result (λ links. AreLinksOf config.now.links [] links.items) }
     ensures balanced { IfOk result (λ links. AreBalanced links.items) }
     ensures met { IfOk result (λ links. AreEach CountsMet config.now.links [] links.items) }
+    ensures alone { IfOk result (λ links. AreEach HoldsAlone config.now.links [] links.items) }
+    ensures losses { IfOk result (λ links. AreEach HasLosses config.now.links [] links.items) }
+    ensures runs { IfOk result (λ links. AreEach HoldsRuns config.now.links [] links.items) }
+    ensures lane_series { IfOk result (λ links. (start width : ℕ)
+        → AreEach (HaveLaneSeries start width) config.now.links [] links.items) }
 {
     let mut links = Vec::with_capacity(alloc, config.links().len())?;
     for link in config.links() {
@@ -139,6 +154,15 @@ fn note_on(
     ensures other_rules { OnOk result ((network : Network) (lines : List FrameLine)
         → is_on network line.now ≡ false → HasRules network lines other.old.signs
         → HasRules network (line.now ∷ lines) other.new.signs) }
+    ensures own_link_marks { OnOk result (KeepsLinkMarks own.old.signs own.new.signs) }
+    ensures other_link_marks { KeepsLinkMarks other.old.signs other.new.signs }
+    ensures own_alone { OnOk result (KeepsHits signs.Alone own.old.signs own.new.signs) }
+    ensures other_alone { OnOk result (KeepsHits signs.Alone other.old.signs other.new.signs) }
+    ensures own_series { OnOk result ((network : Network) (start width : ℕ) (lines : List FrameLine)
+        → is_on network line.now ≡ true → is_in start width at.now.bin line.now.stamp.0 ≡ true
+        → HasSeries network start width lines own.old
+        → HasSeries network start width (line.now ∷ lines) own.new) }
+    ensures other_times { KeepsTimes other.old other.new }
 {
     other.pass();
     own.note(at, line.kept)?;
@@ -159,6 +183,13 @@ fn end_links(
     ensures networks { OnOk result (KeepsNetworks networks.old networks.new) }
     ensures fates { OnOk result (GainFates links.old.items links.new.items) }
     ensures medians { OnOk result (GainMedians links.old.items links.new.items) }
+    ensures alone { OnOk result (EndAlone networks.old links.old.items links.new.items) }
+    ensures link_marks { OnOk result (KeepLinkMarks networks.old networks.new) }
+    ensures sums { OnOk result (KeepsSums links.old.items links.new.items networks.old networks.new) }
+    ensures losses { OnOk result (KeepEachLosses links.old.items links.new.items) }
+    ensures absences { OnOk result (GainAbsences networks.old links.old.items links.new.items) }
+    ensures times { OnOk result (KeepTimes networks.old networks.new) }
+    ensures lane_times { OnOk result (AllLanesKeep links.old.items links.new.items) }
 {
     for link in links.iter_mut() {
         link.end(start, width, networks)?;
@@ -167,16 +198,33 @@ fn end_links(
 }
 
 impl Statistics {
+    ghost use Rattle.ledger_report.specs.AloneSums.{KeepAloneMarks, SumsAlone};
+    ghost use Rattle.ledger_report.specs.Holding.{KeepAllPlaces};
     ghost use Rattle.ledger_report.specs.Keeping.{KeepsAccount};
+    ghost use Rattle.ledger_report.specs.NetworkSeries.{HasBins, HaveSeries};
+    ghost use Rattle.ledger_report.specs.Series.{LiesIn};
+    ghost use Rattle.std.specs.Prelude.{◌^◌};
     ghost use Rattle.ledger_report.specs.Noting.{AreNetworksOf, IsAccountOf, IsMomentOf};
     ghost use Rattle.ledger_report.specs.Reading.{end_stamp};
+    ghost use Rattle.ledger_report.specs.SignSums.{HasSignsOf, KeepsSigns};
     ghost use Rattle.ledger_report.specs.Span.{HasSpan, KeepsPlaces, KeepsSpan, TakesPlace};
+    ghost use Rattle.ledger_report.specs.Wrongs.{TellsWrong, held_key, is_unordered, key_at, key_of};
+    ghost use Rattle.ledger_report.specs.Wrongs.{later_wrong, latest_key, wrong_of};
+    ghost use Rattle.ledger_report.specs.declared.fault.WrongLine.TheVariants as wrongs;
+    ghost use Rattle.std.specs.Prelude.{Err, None, Ok, if◌then◌else◌};
     ghost use Rattle.ledger_report.specs.Sums.{saturated};
     ghost use Rattle.ledger_report.specs.Widths.{IsWidth};
 
     pub(crate) fn new(alloc: Global, config: &Config) -> Result<Statistics, AllocError>
+        ensures latest { IfOk result (λ statistics. held_key statistics ≡ None) }
         ensures account { IfOk result (λ statistics. IsAccountOf config.now.links [] statistics) }
         ensures span { IfOk result (HasSpan []) }
+        ensures alone { IfOk result (λ statistics.
+            AreEach HoldsAlone config.now.links [] statistics.links.items) }
+        ensures signs { IfOk result (HasSignsOf config.now.links []) }
+        ensures sums { IfOk result (λ statistics. SumsAlone statistics.links.items statistics.networks) }
+        ensures bins { IfOk result (HasBins []) }
+        ensures lane_bins { IfOk result (HasLaneBins config.now.links []) }
     {
         Ok(Statistics {
             start: 0,
@@ -205,6 +253,9 @@ impl Statistics {
     /// Checks that a line comes after the latest one, and remembers it.
     #[inline]
     fn take_place(&mut self, place: Place, network: Network) -> Result<(), WrongLine>
+        ensures latest { OnOk result (held_key self.new ≡ Some (key_at place network)) }
+        ensures order { result ≡ (if is_unordered (held_key self.old) (key_at place network)
+            then Err wrongs.Order else Ok tt) }
         ensures rest { self.new ≡ record self.old {
           start = self.new.start;
           latest = self.new.latest;
@@ -232,6 +283,18 @@ impl Statistics {
             → IsWidth (stamp - self.old.start) self.new.width }
         ensures account { KeepsAccount self.old self.new }
         ensures balance { KeepBalance self.old.links.items self.new.links.items }
+        ensures places { KeepAllPlaces self.old.links.items self.new.links.items }
+        ensures signs { KeepsSigns self.old self.new }
+        ensures marks { KeepAloneMarks self.old.networks self.new.networks }
+        ensures runs { KeepEachRuns self.old.links.items self.new.links.items }
+        ensures bins { (time : ℕ) (lines : List FrameLine) → time ≤ stamp - self.old.start
+            → IsWidth time self.old.width → HasBins lines self.old → HasBins lines self.new }
+        ensures bin { (time : ℕ) → time ≤ stamp - self.old.start → IsWidth time self.old.width
+            → self.old.start ≤ stamp → is_in self.new.start self.new.width result stamp ≡ true }
+        ensures lane_bins { (time : ℕ) (links : List VirtualLink) (lines : List FrameLine)
+            → time ≤ stamp - self.old.start → IsWidth time self.old.width → HasBins lines self.old
+            → length self.old.links.items ≡ length links
+            → HasLaneBins links lines self.old → HasLaneBins links lines self.new }
     {
         for _doubling in 0..64u32 {
             let bin = bin_of(self.start, self.width, stamp);
@@ -248,6 +311,13 @@ impl Statistics {
         ensures width { self.new.width ≡ saturated (2 * self.old.width) }
         ensures account { KeepsAccount self.old self.new }
         ensures balance { KeepBalance self.old.links.items self.new.links.items }
+        ensures places { KeepAllPlaces self.old.links.items self.new.links.items }
+        ensures signs { KeepsSigns self.old self.new }
+        ensures marks { KeepAloneMarks self.old.networks self.new.networks }
+        ensures runs { KeepEachRuns self.old.links.items self.new.links.items }
+        ensures bins { (lines : List FrameLine) → 2 * self.old.width < 2 ^ 64
+            → HasBins lines self.old → HasBins lines self.new }
+        ensures lane_series { AllLanesDouble self.old.links.items self.new.links.items }
     {
         self.width = self.width.saturating_mul(2);
         self.networks.a.fold();
@@ -257,13 +327,32 @@ impl Statistics {
         }
     }
 
-    /// Notes the ledger's next line of a frame.
+    /// Notes the ledger's next line of a frame, or says what is wrong with it.
     pub(crate) fn note(&mut self, line: &FrameLine) -> Result<(), Refusal>
+        ensures latest { OnOk result (held_key self.new ≡ Some (key_of line.now)) }
+        ensures wrong { (links : List VirtualLink) (lines : List FrameLine) → IsFrameLine line.now
+            → length lines < MOST_LINES → IsAccountOf links lines self.old
+            → held_key self.old ≡ latest_key lines → TellsWrong (wrong_of links lines line.now) result }
         ensures account { OnOk result ((links : List VirtualLink) (lines : List FrameLine)
             → IsFrameLine line.now → length lines < MOST_LINES → IsAccountOf links lines self.old
             → IsAccountOf links (line.now ∷ lines) self.new) }
         ensures span { OnOk result ((lines : List FrameLine) → HasSpan lines self.old
             → HasSpan (line.now ∷ lines) self.new) }
+        ensures alone { OnOk result ((links : List VirtualLink) (lines : List FrameLine)
+            → IsFrameLine line.now → length lines < MOST_LINES → IsAccountOf links lines self.old
+            → AreEach HoldsAlone links lines self.old.links.items
+            → AreEach HoldsAlone links (line.now ∷ lines) self.new.links.items) }
+        ensures signs { OnOk result ((links : List VirtualLink) (lines : List FrameLine)
+            → IsFrameLine line.now → length lines < MOST_LINES → IsAccountOf links lines self.old
+            → HasSignsOf links lines self.old → HasSignsOf links (line.now ∷ lines) self.new) }
+        ensures sums { OnOk result (KeepsSums self.old.links.items self.new.links.items
+            self.old.networks self.new.networks) }
+        ensures bins { OnOk result ((lines : List FrameLine) → HasSpan lines self.old
+            → HasBins lines self.old → HasBins (line.now ∷ lines) self.new) }
+        ensures lane_bins { OnOk result ((links : List VirtualLink) (lines : List FrameLine)
+            → IsFrameLine line.now → length lines < MOST_LINES → IsAccountOf links lines self.old
+            → HasSpan lines self.old → HasBins lines self.old → HasLaneBins links lines self.old
+            → HasLaneBins links (line.now ∷ lines) self.new) }
     {
         let place = Place {
             stamp: line.stamp.0,
@@ -293,6 +382,13 @@ impl Statistics {
             → IsMomentOf line.now at.now → AreNetworksOf lines self.old.networks
             → AreNetworksOf (line.now ∷ lines) self.new.networks) }
         ensures rest { self.new ≡ record self.old { networks = self.new.networks } }
+        ensures link_marks { OnOk result (KeepLinkMarks self.old.networks self.new.networks) }
+        ensures marks { OnOk result (KeepAloneMarks self.old.networks self.new.networks) }
+        ensures series { OnOk result ((start width : ℕ) (lines : List FrameLine)
+            → IsMomentOf line.now at.now → LiesIn start width line.now.stamp.0
+            → is_in start width at.now.bin line.now.stamp.0 ≡ true
+            → HaveSeries start width lines self.old.networks
+            → HaveSeries start width (line.now ∷ lines) self.new.networks) }
     {
         let networks = &mut self.networks;
         match at.network {
@@ -322,6 +418,10 @@ impl Statistics {
         number: u8,
         at: &Moment,
     ) -> Result<(), Refusal>
+        ensures wrong { (links : List VirtualLink) (lines : List FrameLine) → IsMomentOf line.now at.now
+            → line.now.link ≡ Some id → line.now.sequence ≡ Some number
+            → AreLinksOf links lines self.old.links.items → IsIndexOf links self.old.index.items
+            → TellsWrong (later_wrong links lines line.now) result }
         ensures account { OnOk result ((links : List VirtualLink) (lines : List FrameLine)
             → IsFrameLine line.now → length lines < MOST_LINES → IsMomentOf line.now at.now
             → line.now.link ≡ Some id → line.now.sequence ≡ Some number
@@ -330,6 +430,28 @@ impl Statistics {
             → AreEach CountsMet links lines self.old.links.items → IsOutsideOf lines self.old.outside.items
             → IsAccountOf links (line.now ∷ lines) self.new) }
         ensures span { KeepsSpan self.old self.new }
+        ensures alone { OnOk result ((links : List VirtualLink) (lines : List FrameLine)
+            → IsFrameLine line.now → IsMomentOf line.now at.now
+            → line.now.link ≡ Some id → line.now.sequence ≡ Some number
+            → AreNetworksOf (line.now ∷ lines) self.old.networks → AreLinksOf links lines self.old.links.items
+            → IsIndexOf links self.old.index.items → AreEach HoldsAlone links lines self.old.links.items
+            → AreEach HoldsAlone links (line.now ∷ lines) self.new.links.items) }
+        ensures signs { OnOk result ((links : List VirtualLink) (lines : List FrameLine)
+            → IsFrameLine line.now → length lines < MOST_LINES → IsMomentOf line.now at.now
+            → line.now.link ≡ Some id → line.now.sequence ≡ Some number
+            → AreNetworksOf (line.now ∷ lines) self.old.networks → AreLinksOf links lines self.old.links.items
+            → IsIndexOf links self.old.index.items → HasSignsOf links lines self.old
+            → HasSignsOf links (line.now ∷ lines) self.new) }
+        ensures sums { OnOk result (KeepsSums self.old.links.items self.new.links.items
+            self.old.networks self.new.networks) }
+        ensures times { OnOk result (KeepTimes self.old.networks self.new.networks) }
+        ensures lane_series { OnOk result ((links : List VirtualLink) (lines : List FrameLine)
+            (start width : ℕ) → IsFrameLine line.now → IsMomentOf line.now at.now → line.now.link ≡ Some id
+            → AreNetworksOf (line.now ∷ lines) self.old.networks
+            → AreLinksOf links lines self.old.links.items → IsIndexOf links self.old.index.items
+            → is_in start width at.now.bin line.now.stamp.0 ≡ true
+            → AreEach (HaveLaneSeries start width) links lines self.old.links.items
+            → AreEach (HaveLaneSeries start width) links (line.now ∷ lines) self.new.links.items) }
     {
         let index = self.place_of(id);
         let unconfigured = is_unconfigured(line);
@@ -379,6 +501,14 @@ impl Statistics {
         ensures account { OnOk result (KeepsAccount self.old self.new) }
         ensures fates { OnOk result (GainFates self.old.links.items self.new.links.items) }
         ensures medians { OnOk result (GainMedians self.old.links.items self.new.links.items) }
+        ensures alone { OnOk result (EndAlone self.old.networks self.old.links.items self.new.links.items) }
+        ensures signs { OnOk result (KeepsSigns self.old self.new) }
+        ensures sums { OnOk result (KeepsSums self.old.links.items self.new.links.items
+            self.old.networks self.new.networks) }
+        ensures absences { OnOk result (GainAbsences self.old.networks
+            self.old.links.items self.new.links.items) }
+        ensures times { OnOk result (KeepTimes self.old.networks self.new.networks) }
+        ensures lane_times { OnOk result (AllLanesKeep self.old.links.items self.new.links.items) }
     {
         end_links(&mut self.links, self.start, self.width, &mut self.networks)?;
         Ok(())

@@ -1,13 +1,21 @@
 -- One more link is settled.
-use Rattle.std.proofs.Common.{◌∙◌, ◌<◌, ap, arith, subst, length, length-set}
+use Rattle.std.proofs.Common.{◌∙◌, ◌<◌, get_or, ap, arith, subst, length, length-set}
 use Rattle.std.proofs.lemmas.List.{get_or_default}
+use Rattle.ledger_report.specs.Absent.{GetsAbsences}
+use Rattle.ledger_report.specs.Holding.{EndsAlone}
 use Rattle.ledger_report.specs.Keeping.{KeepsReport}
+use Rattle.ledger_report.specs.LaneSeries.{KeepLaneTimes}
+use Rattle.ledger_report.specs.Losses.{KeepsLosses}
 use Rattle.ledger_report.specs.Pairs.{FateNumbers}
 use Rattle.ledger_report.specs.Settling.{GetFates}
 use Rattle.ledger_report.specs.SkewMedians.{GetMedian}
 use Rattle.ledger_report.specs.declared.link.LinkReport.{LinkReport}
+use Rattle.ledger_report.proofs.AbsenceSteps.{gets_from}
 use Rattle.ledger_report.proofs.AccountSteps.{each_set, some_more}
+use Rattle.ledger_report.proofs.AloneTotals.{sums_alone_set}
+use Rattle.ledger_report.proofs.HoldAccounts.{ends_from}
 use Rattle.ledger_report.proofs.KeepSteps.{keeps_networks_on, keeps_report_on}
+use Rattle.ledger_report.proofs.LinkMarkSteps.{link_marks_on}
 use Rattle.ledger_report.proofs.statistics.end_links.Goals as goal
 
 pub loop-link-preserved : goal.loop-link-preserved
@@ -27,10 +35,26 @@ loop-link-preserved c =
               signs = c.in_ok-end.ensures.late;
             },
           ));
+      losses = each_set KeepsLosses (λ a b d first second. second ∙ first) c.deref_mut-link-items.result.now items i c.end.new.self within c.loop-link.invariant.losses
+          (λ d. subst (λ (x : LinkReport). KeepsLosses x c.end.new.self) (get_or_default items i c.link-item.result d within) c.in_ok-end.ensures.losses);
+      link_marks = link_marks_on c.args.networks.now c.loop-link.networks c.end.new.networks c.loop-link.invariant.link_marks c.in_ok-end.ensures.link_marks;
       networks = keeps_networks_on c.args.networks.now c.loop-link.networks c.end.new.networks c.loop-link.invariant.networks c.in_ok-end.ensures.networks;
+      times = c.end.ensures.times ∙ c.loop-link.invariant.times;
+      lane_times = some_more (λ (x y : LinkReport). KeepLaneTimes x.lanes y.lanes) c.deref_mut-link-items.result.now items i c.end.new.self within c.loop-link.invariant.lane_times
+          (λ d. subst (λ (x : LinkReport). KeepLaneTimes x.lanes c.end.new.self.lanes)
+          (get_or_default items i c.link-item.result d within) c.end.ensures.lane_times);
       fates = some_more GetFates c.deref_mut-link-items.result.now items i c.end.new.self within c.loop-link.invariant.fates
           (λ d. subst (λ (x : LinkReport). GetFates x c.end.new.self) (get_or_default items i c.link-item.result d within)
           (λ balanced few. (c.in_ok-end.ensures.balanced balanced few, c.in_ok-end.ensures.sums), c.in_ok-end.ensures.numbers));
+      absences = some_more (GetsAbsences c.args.networks.now) c.deref_mut-link-items.result.now items i c.end.new.self within c.loop-link.invariant.absences
+          (λ d. subst (λ (x : LinkReport). GetsAbsences c.args.networks.now x c.end.new.self) (get_or_default items i c.link-item.result d within)
+          (gets_from c.args.networks.now c.loop-link.networks (get_or items i c.link-item.result) c.end.new.self c.loop-link.invariant.networks c.in_ok-end.ensures.absences));
       medians = some_more GetMedian c.deref_mut-link-items.result.now items i c.end.new.self within c.loop-link.invariant.medians
           (λ d. subst (λ (x : LinkReport). GetMedian x c.end.new.self) (get_or_default items i c.link-item.result d within) c.in_ok-end.ensures.median);
+      sums = λ before.
+          sums_alone_set items i (get_or items i c.link-item.result) c.end.new.self c.loop-link.networks c.end.new.networks within
+          (get_or_default items i c.link-item.result (get_or items i c.link-item.result) within) c.in_ok-end.ensures.gains (c.loop-link.invariant.sums before);
+      alone = some_more (EndsAlone c.args.networks.now) c.deref_mut-link-items.result.now items i c.end.new.self within c.loop-link.invariant.alone
+          (λ d. subst (λ (x : LinkReport). EndsAlone c.args.networks.now x c.end.new.self) (get_or_default items i c.link-item.result d within)
+          (ends_from c.args.networks.now c.loop-link.networks (get_or items i c.link-item.result) c.end.new.self c.loop-link.invariant.networks c.in_ok-end.ensures.alone));
     }

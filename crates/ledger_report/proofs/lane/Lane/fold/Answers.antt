@@ -4,6 +4,7 @@ use Rattle.ledger_report.specs.Keeping.{Tally}
 use Rattle.ledger_report.specs.Alone.{hits_at}
 use Rattle.ledger_report.specs.Marks.{mark_at}
 use Rattle.ledger_report.specs.declared.signs.Sign.TheVariants.{Alone, Late}
+use Rattle.ledger_report.proofs.LaneSeries.{intervals_doubled, lane_doubled}
 use Rattle.ledger_report.proofs.LinkSteps.{mark_same}
 use Rattle.ledger_report.proofs.lane.Lane.fold.Goals as goal
 
@@ -23,3 +24,11 @@ returns-clause-places c = (
     uncovered = h.uncovered;
   },
 )
+
+pub returns-clause-series : goal.returns-clause-series
+returns-clause-series c = λ id network start width lines lie h. record {
+  sums = lane_doubled id network start width lines c.args.self.now _ lie c.fold-2.ensures.merge c.fold-2.ensures.doubles c.fold-3.ensures.merge
+      c.fold-3.ensures.doubles h.sums;
+  intervals = intervals_doubled id network start width lines c.args.self.now _ lie c.fold-4.ensures.merge c.fold-4.ensures.doubles
+      c.fold-5.ensures.merge c.fold-5.ensures.doubles h.intervals;
+}

@@ -1,10 +1,12 @@
 -- The mark of late deliveries stays.
-use Rattle.std.proofs.Common.{Bool, List, Some, ap, refl, sym, subst, ◌∙◌}
+use Rattle.std.proofs.Common.{Bool, List, Some, ap, refl, sym, subst, ◌∙◌, [], ◌∷◌, ◌+◌, None, true}
 use Rattle.ledger_text.specs.declared.frame.FrameLine.{FrameLine}
 use Rattle.ledger_report.specs.Covered.{covered_so_far}
 use Rattle.ledger_report.specs.Networks.{IsNetworkOf}
 use Rattle.ledger_report.proofs.AloneSteps.{more_alone, more_held}
 use Rattle.ledger_report.proofs.MarkMoves.{kept_late}
+use Rattle.ledger_report.specs.declared.signs.Sign.TheVariants.{Alone}
+use Rattle.ledger_report.proofs.AloneTotals.{gains_held, more_uncovered}
 use Rattle.ledger_report.proofs.lane.Lane.note_alone.Goals as goal
 
 pub returns-in_ok-hit-in-Some-true-2-clause-late : goal.returns-in_ok-hit-in-Some-true-2-clause-late
@@ -24,3 +26,26 @@ returns-in_ok-hit-in-None-clause-takes c = λ network later earlier held_later h
     (record c.settle_held.new.self { held_before = c.args.before; held = c.hit-in-None.new.self })
     (sym (c.covers.ensures network later earlier is at) ∙ c.in-None.is)
     (c.in_ok-settle_held-in-None.ensures.settles network held_later held_earlier twin held_at missed h) refl c.hit-in-None.ensures.hits refl
+
+pub returns-in_ok-hit-in-Some-true-2-clause-gains : goal.returns-in_ok-hit-in-Some-true-2-clause-gains
+returns-in_ok-hit-in-Some-true-2-clause-gains c missed h = record {
+  next = record missed { alone = c.args.place ∷ missed.alone };
+  more = c.args.place ∷ [];
+  has = more_alone (Some true) None c.args.place missed c.args.self.now (record c.args.self.now { signs = c.hit.new.self }) refl c.hit.ensures.takes refl refl h;
+  are = refl;
+  gains = λ hits has. c.hit-in-Some-true.ensures.takes Alone hits has;
+}
+
+pub returns-in-Some-false-clause-gains : goal.returns-in-Some-false-clause-gains
+returns-in-Some-false-clause-gains c missed h = record {
+  next = record missed { uncovered = missed.uncovered + 1 };
+  more = [];
+  has = more_uncovered missed c.args.self.now (record c.args.self.now { uncovered = c.saturating_add-self.result }) refl refl c.saturating_add-self.ensures h;
+  are = refl;
+  gains = λ hits has. has;
+}
+
+pub returns-in_ok-hit-in-None-clause-gains : goal.returns-in_ok-hit-in-None-clause-gains
+returns-in_ok-hit-in-None-clause-gains c =
+    gains_held c.args.place c.args.self.now c.settle_held.new.self (record c.settle_held.new.self { held_before = c.args.before; held = c.hit-in-None.new.self })
+    c.args.own.now.signs c.settle_held.new.own.signs c.in_ok-settle_held-in-None.ensures.gains refl refl c.hit-in-None.ensures.hits

@@ -5,6 +5,7 @@ use Rattle.ledger_report.specs.Pairs.{GainsLateOn}
 use Rattle.ledger_report.specs.declared.link.LinkReport.{LinkReport}
 use Rattle.ledger_report.specs.declared.signs.Mark.{Mark}
 use Rattle.ledger_report.specs.declared.signs.Sign.TheVariants.{Alone, Late}
+use Rattle.ledger_report.proofs.HoldNotes.{keeps_missed_late, keeps_missed_none}
 use Rattle.ledger_report.proofs.link.LinkReport.hit_late.Goals as goal
 
 pub returns-in-A-clause-accounts : goal.returns-in-A-clause-accounts
@@ -24,3 +25,9 @@ returns-in-B-clause-late c =
     let old = c.args.self.now in
     let new : LinkReport = record old { lanes = record old.lanes { b = record old.lanes.b { signs = c.hit-in-B.new.self } } } in
     subst (λ (n : Network). GainsLateOn n c.args.at.now.place old.lanes new.lanes) (sym c.in-B.is) (λ hits has. has, λ hits has. c.hit-in-B.ensures.takes Late hits has)
+
+pub returns-in-A-clause-places : goal.returns-in-A-clause-places
+returns-in-A-clause-places c = (keeps_missed_late c.args.self.now.lanes.a c.hit.new.self c.hit.ensures.others, keeps_missed_none c.args.self.now.lanes.b)
+
+pub returns-in-B-clause-places : goal.returns-in-B-clause-places
+returns-in-B-clause-places c = (keeps_missed_none c.args.self.now.lanes.a, keeps_missed_late c.args.self.now.lanes.b c.hit-in-B.new.self c.hit-in-B.ensures.others)

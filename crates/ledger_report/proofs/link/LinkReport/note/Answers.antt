@@ -1,12 +1,27 @@
 -- The lane takes the line, and the rest keeps the lanes' numbers.
-use Rattle.std.proofs.Common.{Some, ◌∙◌, ap, refl, subst, arith}
+use Rattle.std.proofs.Common.{Some, ◌∙◌, ap, refl, subst, arith, sym, false}
+use Rattle.redundancy.specs.declared.verdict.Redundancy.{Redundancy}
+use Rattle.redundancy.specs.declared.verdict.Redundancy.TheVariants.{Deliver}
 use Rattle.ledger_report.specs.Both.{side_of}
 use Rattle.ledger_report.specs.Keeping.{NotesLane}
+use Rattle.ledger_report.specs.LaneSeries.{LanesTake}
+use Rattle.ledger_report.specs.LinkMarks.{late_amount}
+use Rattle.ledger_report.specs.Pairs.{comes_late}
 use Rattle.ledger_report.specs.declared.lane.LaneLine.{LaneLine}
+use Rattle.ledger_report.proofs.AbsenceSteps.{runs_noted}
 use Rattle.ledger_report.proofs.CopySteps.{copies_off, copies_on, keeps_latest_on, latest_off, latest_on}
 use Rattle.ledger_report.proofs.FateNotes.{notes_fates}
 use Rattle.ledger_report.proofs.KeepSteps.{keeps_late_none, keeps_link_on}
+use Rattle.ledger_report.proofs.LaneSeries.{lanes_keep_on, lanes_then}
+use Rattle.ledger_report.proofs.LinkMarkSteps.{late_noted, late_word, link_marks_none, none_late, notes_hits, take_none}
 use Rattle.ledger_report.proofs.LinkSteps.{notes_then}
+use Rattle.ledger_report.proofs.LossLines.{notes_losses}
+use Rattle.ledger_report.proofs.AloneMarks.{gain_both_none, gain_both_then}
+use Rattle.ledger_report.proofs.WrongSteps.{no_copy_right, off_told, refused_by, words_right}
+use Rattle.ledger_report.specs.Copies.{spot_at}
+use Rattle.ledger_report.specs.Links.{row_in}
+use Rattle.ledger_report.specs.Wrongs.{link_wrong}
+use Rattle.ledger_report.proofs.HoldNotes.{keeps_places_none, notes_missed, keeps_places_on}
 use Rattle.ledger_report.proofs.link.LinkReport.note.Goals as goal
 
 pub returns-in_ok-note_copy-in-Copy-clause-lanes : goal.returns-in_ok-note_copy-in-Copy-clause-lanes
@@ -143,3 +158,213 @@ returns-in-Both-clause-fates c =
     c.note_numbering.ensures.pairing c.note_lane.ensures.fates c.note_numbering.ensures.fates c.note_discarded.ensures.fates
     c.in_ok-numbering.ensures.late c.note_numbering.ensures.late c.note_discarded.ensures.late
     c.in_ok-note_discarded.ensures.pairing (refl, refl, keeps_late_none c.note_discarded.new.self)
+
+pub returns-in_ok-note_copy-in-Copy-clause-link_marks : goal.returns-in_ok-note_copy-in-Copy-clause-link_marks
+returns-in_ok-note_copy-in-Copy-clause-link_marks c =
+    notes_hits c.args.line.now c.args.number c.args.at.now c.lane_line-seen.result c.in_ok-numbering.numbering false c.args.self.now c.args.networks.now
+    c.note_numbering.new.networks c.note_copy.new.networks c.lane_line-seen.ensures.line c.in_ok-numbering.ensures.numbering c.in_ok-note_numbering.ensures.link_marks
+    (late_word c.args.line.now c.args.number c.args.at.now c.args.self.now _ (c.in-Some.is ∙ ap Some c.in-Copy.is) refl)
+    (take_none (late_amount false) c.args.at.now.network c.args.at.now.place c.note_numbering.new.networks c.note_copy.new.networks none_late
+    c.in_ok-note_copy-in-Copy.ensures.link_marks)
+
+pub returns-in_default-clause-link_marks : goal.returns-in_default-clause-link_marks
+returns-in_default-clause-link_marks c =
+    notes_hits c.args.line.now c.args.number c.args.at.now c.lane_line-seen.result c.in_ok-numbering.numbering false c.args.self.now c.args.networks.now
+    c.note_numbering.new.networks c.note_numbering.new.networks c.lane_line-seen.ensures.line c.in_ok-numbering.ensures.numbering c.in_ok-note_numbering.ensures.link_marks
+    (late_word c.args.line.now c.args.number c.args.at.now c.args.self.now _ c.in_default.is refl)
+    (take_none (late_amount false) c.args.at.now.network c.args.at.now.place c.note_numbering.new.networks c.note_numbering.new.networks none_late
+    (link_marks_none c.note_numbering.new.networks))
+
+pub returns-in-Both-clause-link_marks : goal.returns-in-Both-clause-link_marks
+returns-in-Both-clause-link_marks c =
+    notes_hits c.args.line.now c.args.number c.args.at.now c.lane_line-seen.result c.in_ok-numbering.numbering false c.args.self.now c.args.networks.now
+    c.note_numbering.new.networks c.note_numbering.new.networks c.lane_line-seen.ensures.line c.in_ok-numbering.ensures.numbering c.in_ok-note_numbering.ensures.link_marks
+    (late_word c.args.line.now c.args.number c.args.at.now c.args.self.now _ (c.in-Some.is ∙ ap Some c.in-Both.is) refl)
+    (take_none (late_amount false) c.args.at.now.network c.args.at.now.place c.note_numbering.new.networks c.note_numbering.new.networks none_late
+    (link_marks_none c.note_numbering.new.networks))
+
+pub returns-in_ok-note_delivery-in-Deliver-clause-link_marks : goal.returns-in_ok-note_delivery-in-Deliver-clause-link_marks
+returns-in_ok-note_delivery-in-Deliver-clause-link_marks c =
+    let mid = record c.note_discarded.new.self { runs = c.note.new.self } in
+    notes_hits c.args.line.now c.args.number c.args.at.now c.lane_line-seen.result c.in_ok-numbering.numbering (comes_late c.args.number c.args.at.now mid)
+    c.args.self.now c.args.networks.now c.note_numbering.new.networks c.note_delivery.new.networks c.lane_line-seen.ensures.line
+    c.in_ok-numbering.ensures.numbering c.in_ok-note_numbering.ensures.link_marks
+    (late_noted c.args.line.now c.args.number c.args.at.now (side_of c.args.at.now.network c.args.self.now.lanes) (side_of c.args.at.now.network c.args.networks.now)
+    c.lane_line-seen.result c.args.self.now c.note_lane.new.self c.note_numbering.new.self mid c.lane_line-seen.ensures.line (c.in-Some.is ∙ ap Some c.in-Deliver.is)
+    c.in_ok-numbering.ensures.lanes.0 c.in_ok-note_numbering.ensures.link.0 c.in_ok-note_discarded.ensures.link.0 c.note_lane.ensures.pairing
+    c.note_numbering.ensures.pairing c.in_ok-note_discarded.ensures.pairing)
+    c.in_ok-note_delivery-in-Deliver.ensures.link_marks
+
+pub returns-in_err-check_words-clause-wrong : goal.returns-in_err-check_words-clause-wrong
+returns-in_err-check_words-clause-wrong c = λ moment.
+    refused_by (link_wrong (row_in c.args.self.now) (spot_at c.args.self.now.pairing c.args.number) c.args.line.now) c.in_err-check_words.field-0.0
+    c.from_residual.result
+    c.from_residual.ensures.1
+    (off_told (row_in c.args.self.now) (spot_at c.args.self.now.pairing c.args.number) c.args.line.now c.in_err-check_words.field-0.0
+    (sym c.in_err-check_words.was ∙ c.check_words.ensures))
+
+pub returns-in_ok-note_copy-in-Copy-clause-balanced : goal.returns-in_ok-note_copy-in-Copy-clause-balanced
+returns-in_ok-note_copy-in-Copy-clause-balanced c = λ balanced few none.
+    let b = balanced none in
+    let a1 = c.in_ok-numbering.ensures.accounts none (omega (arith, b, few)) in
+    let a2 = c.in_ok-note_numbering.ensures.accounts none (omega (arith, a1, b, few)) in
+    let a3 = c.in_ok-note_discarded.ensures.accounts none (omega (arith, a2, a1, b, few)) in
+    let a4 = c.in_ok-note_copy-in-Copy.ensures.accounts none (omega (arith, a3, a2, a1, b, few)) in
+    let d1 = c.note_lane.ensures.deliveries in
+    let d2 = c.note_numbering.ensures.deliveries in
+    let d3 = c.note_discarded.ensures.deliveries in
+    let d4 = c.note_copy.ensures.deliveries in
+    omega (arith, d4, d3, d2, d1, a4, a3, a2, a1, b)
+
+pub returns-in_ok-note_copy-in-Copy-clause-losses : goal.returns-in_ok-note_copy-in-Copy-clause-losses
+returns-in_ok-note_copy-in-Copy-clause-losses c =
+    notes_losses c.args.line.now c.args.number c.args.at.now c.args.networks.now c.lane_line-seen.result c.in_ok-numbering.numbering c.args.self.now
+    c.note_lane.new.self c.note_numbering.new.self c.note_copy.new.self c.lane_line-seen.ensures.line c.in_ok-numbering.ensures.numbering
+    c.in_ok-numbering.ensures.lanes.0 c.in_ok-numbering.ensures.losses c.in_ok-note_numbering.ensures.losses
+    (c.note_copy.ensures.losses ∙ c.note_discarded.ensures.losses)
+
+pub returns-in_default-clause-losses : goal.returns-in_default-clause-losses
+returns-in_default-clause-losses c =
+    notes_losses c.args.line.now c.args.number c.args.at.now c.args.networks.now c.lane_line-seen.result c.in_ok-numbering.numbering c.args.self.now
+    c.note_lane.new.self c.note_numbering.new.self (record c.note_discarded.new.self { runs = c.note.new.self }) c.lane_line-seen.ensures.line c.in_ok-numbering.ensures.numbering
+    c.in_ok-numbering.ensures.lanes.0 c.in_ok-numbering.ensures.losses c.in_ok-note_numbering.ensures.losses
+    (c.note_discarded.ensures.losses)
+
+pub returns-in-Both-clause-losses : goal.returns-in-Both-clause-losses
+returns-in-Both-clause-losses c =
+    notes_losses c.args.line.now c.args.number c.args.at.now c.args.networks.now c.lane_line-seen.result c.in_ok-numbering.numbering c.args.self.now
+    c.note_lane.new.self c.note_numbering.new.self (record c.note_discarded.new.self { runs = c.note.new.self }) c.lane_line-seen.ensures.line c.in_ok-numbering.ensures.numbering
+    c.in_ok-numbering.ensures.lanes.0 c.in_ok-numbering.ensures.losses c.in_ok-note_numbering.ensures.losses
+    (c.note_discarded.ensures.losses)
+
+pub returns-in_ok-note_delivery-in-Deliver-clause-losses : goal.returns-in_ok-note_delivery-in-Deliver-clause-losses
+returns-in_ok-note_delivery-in-Deliver-clause-losses c =
+    notes_losses c.args.line.now c.args.number c.args.at.now c.args.networks.now c.lane_line-seen.result c.in_ok-numbering.numbering c.args.self.now
+    c.note_lane.new.self c.note_numbering.new.self c.note_delivery.new.self c.lane_line-seen.ensures.line c.in_ok-numbering.ensures.numbering
+    c.in_ok-numbering.ensures.lanes.0 c.in_ok-numbering.ensures.losses c.in_ok-note_numbering.ensures.losses
+    (c.in_ok-note_delivery-in-Deliver.ensures.losses ∙ c.note_discarded.ensures.losses)
+
+pub returns-in_ok-note_copy-in-Copy-clause-runs : goal.returns-in_ok-note_copy-in-Copy-clause-runs
+returns-in_ok-note_copy-in-Copy-clause-runs c = λ id lines a b seen moment h.
+    runs_noted id c.args.line.now lines c.args.at.now c.args.networks.now c.note_numbering.new.networks c.args.self.now.runs c.note_discarded.new.self.runs
+    c.note.new.self c.note_copy.new.self.runs c.in_ok-note_numbering.ensures.networks (c.note.ensures id c.args.line.now lines)
+    (c.note_discarded.ensures.runs ∙ c.note_numbering.ensures.runs ∙ c.note_lane.ensures.runs) c.note_copy.ensures.runs a b seen moment h
+
+pub returns-in_default-clause-runs : goal.returns-in_default-clause-runs
+returns-in_default-clause-runs c = λ id lines a b seen moment h.
+    runs_noted id c.args.line.now lines c.args.at.now c.args.networks.now c.note_numbering.new.networks c.args.self.now.runs c.note_discarded.new.self.runs
+    c.note.new.self c.note.new.self c.in_ok-note_numbering.ensures.networks (c.note.ensures id c.args.line.now lines)
+    (c.note_discarded.ensures.runs ∙ c.note_numbering.ensures.runs ∙ c.note_lane.ensures.runs) refl a b seen moment h
+
+pub returns-in-Both-clause-runs : goal.returns-in-Both-clause-runs
+returns-in-Both-clause-runs c = λ id lines a b seen moment h.
+    runs_noted id c.args.line.now lines c.args.at.now c.args.networks.now c.note_numbering.new.networks c.args.self.now.runs c.note_discarded.new.self.runs
+    c.note.new.self c.note.new.self c.in_ok-note_numbering.ensures.networks (c.note.ensures id c.args.line.now lines)
+    (c.note_discarded.ensures.runs ∙ c.note_numbering.ensures.runs ∙ c.note_lane.ensures.runs) refl a b seen moment h
+
+pub returns-in_ok-note_delivery-in-Deliver-clause-runs : goal.returns-in_ok-note_delivery-in-Deliver-clause-runs
+returns-in_ok-note_delivery-in-Deliver-clause-runs c = λ id lines a b seen moment h.
+    runs_noted id c.args.line.now lines c.args.at.now c.args.networks.now c.note_numbering.new.networks c.args.self.now.runs c.note_discarded.new.self.runs
+    c.note.new.self c.note_delivery.new.self.runs c.in_ok-note_numbering.ensures.networks (c.note.ensures id c.args.line.now lines)
+    (c.note_discarded.ensures.runs ∙ c.note_numbering.ensures.runs ∙ c.note_lane.ensures.runs) c.note_delivery.ensures.runs a b seen moment h
+
+pub returns-in_ok-note_copy-in-Copy-clause-alone : goal.returns-in_ok-note_copy-in-Copy-clause-alone
+returns-in_ok-note_copy-in-Copy-clause-alone c =
+    notes_missed c.args.line.now c.args.number c.args.at.now _ (side_of c.args.at.now.network c.args.self.now.lanes)
+    (side_of c.args.at.now.network c.args.networks.now) c.lane_line-seen.result c.args.networks.now c.note_numbering.new.networks
+    c.args.self.now c.note_lane.new.self c.note_numbering.new.self (record c.note_discarded.new.self { runs = c.note.new.self })
+    c.note_copy.new.self c.lane_line-seen.ensures.line (c.in-Some.is ∙ ap Some c.in-Copy.is)
+    c.in_ok-note_numbering.ensures.networks c.in_ok-numbering.ensures.lanes.0 c.in_ok-note_numbering.ensures.link.0
+    c.in_ok-note_discarded.ensures.link.0 c.note_lane.ensures.pairing c.note_numbering.ensures.pairing c.in_ok-numbering.ensures.places
+    c.in_ok-note_numbering.ensures.places c.note_discarded.ensures.places c.in_ok-note_discarded.ensures.pairing
+    c.in_ok-note_discarded.ensures.before (c.in_ok-note_copy-in-Copy.ensures.places, c.in_ok-note_copy-in-Copy.ensures.before)
+
+pub returns-in_ok-note_delivery-in-Deliver-clause-alone : goal.returns-in_ok-note_delivery-in-Deliver-clause-alone
+returns-in_ok-note_delivery-in-Deliver-clause-alone c =
+    notes_missed c.args.line.now c.args.number c.args.at.now _ (side_of c.args.at.now.network c.args.self.now.lanes)
+    (side_of c.args.at.now.network c.args.networks.now) c.lane_line-seen.result c.args.networks.now c.note_numbering.new.networks
+    c.args.self.now c.note_lane.new.self c.note_numbering.new.self (record c.note_discarded.new.self { runs = c.note.new.self })
+    c.note_delivery.new.self c.lane_line-seen.ensures.line (c.in-Some.is ∙ ap Some c.in-Deliver.is)
+    c.in_ok-note_numbering.ensures.networks c.in_ok-numbering.ensures.lanes.0 c.in_ok-note_numbering.ensures.link.0
+    c.in_ok-note_discarded.ensures.link.0 c.note_lane.ensures.pairing c.note_numbering.ensures.pairing c.in_ok-numbering.ensures.places
+    c.in_ok-note_numbering.ensures.places c.note_discarded.ensures.places c.in_ok-note_discarded.ensures.pairing
+    c.in_ok-note_discarded.ensures.before (c.in_ok-note_delivery-in-Deliver.ensures.settles, c.in_ok-note_delivery-in-Deliver.ensures.before)
+
+pub returns-in_default-clause-alone : goal.returns-in_default-clause-alone
+returns-in_default-clause-alone c =
+    notes_missed c.args.line.now c.args.number c.args.at.now _ (side_of c.args.at.now.network c.args.self.now.lanes)
+    (side_of c.args.at.now.network c.args.networks.now) c.lane_line-seen.result c.args.networks.now c.note_numbering.new.networks
+    c.args.self.now c.note_lane.new.self c.note_numbering.new.self (record c.note_discarded.new.self { runs = c.note.new.self })
+    (record c.note_discarded.new.self { runs = c.note.new.self }) c.lane_line-seen.ensures.line c.in_default.is
+    c.in_ok-note_numbering.ensures.networks c.in_ok-numbering.ensures.lanes.0 c.in_ok-note_numbering.ensures.link.0
+    c.in_ok-note_discarded.ensures.link.0 c.note_lane.ensures.pairing c.note_numbering.ensures.pairing c.in_ok-numbering.ensures.places
+    c.in_ok-note_numbering.ensures.places c.note_discarded.ensures.places c.in_ok-note_discarded.ensures.pairing
+    c.in_ok-note_discarded.ensures.before (keeps_places_none c.note_discarded.new.self.lanes, λ n. refl)
+
+pub returns-in-Both-clause-alone : goal.returns-in-Both-clause-alone
+returns-in-Both-clause-alone c =
+    notes_missed c.args.line.now c.args.number c.args.at.now _ (side_of c.args.at.now.network c.args.self.now.lanes)
+    (side_of c.args.at.now.network c.args.networks.now) c.lane_line-seen.result c.args.networks.now c.note_numbering.new.networks
+    c.args.self.now c.note_lane.new.self c.note_numbering.new.self (record c.note_discarded.new.self { runs = c.note.new.self })
+    (record c.note_discarded.new.self { runs = c.note.new.self }) c.lane_line-seen.ensures.line (c.in-Some.is ∙ ap Some c.in-Both.is)
+    c.in_ok-note_numbering.ensures.networks c.in_ok-numbering.ensures.lanes.0 c.in_ok-note_numbering.ensures.link.0
+    c.in_ok-note_discarded.ensures.link.0 c.note_lane.ensures.pairing c.note_numbering.ensures.pairing c.in_ok-numbering.ensures.places
+    c.in_ok-note_numbering.ensures.places c.note_discarded.ensures.places c.in_ok-note_discarded.ensures.pairing
+    c.in_ok-note_discarded.ensures.before (keeps_places_none c.note_discarded.new.self.lanes, λ n. refl)
+
+pub returns-in_ok-note_copy-in-Copy-clause-gains : goal.returns-in_ok-note_copy-in-Copy-clause-gains
+returns-in_ok-note_copy-in-Copy-clause-gains c =
+    gain_both_then c.args.self.now.lanes c.note_discarded.new.self.lanes c.note_copy.new.self.lanes c.args.networks.now
+    c.note_numbering.new.networks c.note_copy.new.networks
+    (gain_both_none c.args.self.now.lanes c.note_discarded.new.self.lanes c.args.networks.now c.note_numbering.new.networks
+    (keeps_places_on c.args.self.now.lanes c.note_numbering.new.self.lanes c.note_discarded.new.self.lanes
+    (keeps_places_on c.args.self.now.lanes c.note_lane.new.self.lanes c.note_numbering.new.self.lanes c.in_ok-numbering.ensures.places
+    c.in_ok-note_numbering.ensures.places) c.note_discarded.ensures.places) c.in_ok-note_numbering.ensures.marks)
+    (gain_both_none c.note_discarded.new.self.lanes c.note_copy.new.self.lanes c.note_numbering.new.networks c.note_copy.new.networks
+    c.in_ok-note_copy-in-Copy.ensures.places c.in_ok-note_copy-in-Copy.ensures.marks)
+
+pub returns-in_ok-note_delivery-in-Deliver-clause-gains : goal.returns-in_ok-note_delivery-in-Deliver-clause-gains
+returns-in_ok-note_delivery-in-Deliver-clause-gains c =
+    gain_both_then c.args.self.now.lanes c.note_discarded.new.self.lanes c.note_delivery.new.self.lanes c.args.networks.now
+    c.note_numbering.new.networks c.note_delivery.new.networks
+    (gain_both_none c.args.self.now.lanes c.note_discarded.new.self.lanes c.args.networks.now c.note_numbering.new.networks
+    (keeps_places_on c.args.self.now.lanes c.note_numbering.new.self.lanes c.note_discarded.new.self.lanes
+    (keeps_places_on c.args.self.now.lanes c.note_lane.new.self.lanes c.note_numbering.new.self.lanes c.in_ok-numbering.ensures.places
+    c.in_ok-note_numbering.ensures.places) c.note_discarded.ensures.places) c.in_ok-note_numbering.ensures.marks)
+    c.in_ok-note_delivery-in-Deliver.ensures.gains
+
+pub returns-in_default-clause-lane_series : goal.returns-in_default-clause-lane_series
+returns-in_default-clause-lane_series c =
+    subst (λ (l : LaneLine). LanesTake l c.args.self.now.lanes c.note_discarded.new.self.lanes) c.lane_line-seen.ensures.line
+    (lanes_then c.lane_line-seen.result c.args.self.now.lanes c.note_lane.new.self.lanes c.note_discarded.new.self.lanes c.in_ok-numbering.ensures.lane_series
+    (lanes_keep_on c.note_lane.new.self.lanes c.note_numbering.new.self.lanes c.note_discarded.new.self.lanes c.note_numbering.ensures.lane_times
+    c.note_discarded.ensures.lane_times))
+
+pub returns-in-Both-clause-lane_series : goal.returns-in-Both-clause-lane_series
+returns-in-Both-clause-lane_series c =
+    subst (λ (l : LaneLine). LanesTake l c.args.self.now.lanes c.note_discarded.new.self.lanes) c.lane_line-seen.ensures.line
+    (lanes_then c.lane_line-seen.result c.args.self.now.lanes c.note_lane.new.self.lanes c.note_discarded.new.self.lanes c.in_ok-numbering.ensures.lane_series
+    (lanes_keep_on c.note_lane.new.self.lanes c.note_numbering.new.self.lanes c.note_discarded.new.self.lanes c.note_numbering.ensures.lane_times
+    c.note_discarded.ensures.lane_times))
+
+pub returns-in_ok-note_copy-in-Copy-clause-lane_series : goal.returns-in_ok-note_copy-in-Copy-clause-lane_series
+returns-in_ok-note_copy-in-Copy-clause-lane_series c =
+    subst (λ (l : LaneLine). LanesTake l c.args.self.now.lanes c.note_copy.new.self.lanes) c.lane_line-seen.ensures.line
+    (lanes_then c.lane_line-seen.result c.args.self.now.lanes c.note_lane.new.self.lanes c.note_copy.new.self.lanes c.in_ok-numbering.ensures.lane_series
+    (lanes_keep_on c.note_lane.new.self.lanes c.note_discarded.new.self.lanes c.note_copy.new.self.lanes
+    (lanes_keep_on c.note_lane.new.self.lanes c.note_numbering.new.self.lanes c.note_discarded.new.self.lanes c.note_numbering.ensures.lane_times
+    c.note_discarded.ensures.lane_times) c.note_copy.ensures.lane_times))
+
+pub returns-in_ok-note_delivery-in-Deliver-clause-lane_series : goal.returns-in_ok-note_delivery-in-Deliver-clause-lane_series
+returns-in_ok-note_delivery-in-Deliver-clause-lane_series c =
+    subst (λ (l : LaneLine). LanesTake l c.args.self.now.lanes c.note_delivery.new.self.lanes) c.lane_line-seen.ensures.line
+    (lanes_then c.lane_line-seen.result c.args.self.now.lanes c.note_lane.new.self.lanes c.note_delivery.new.self.lanes c.in_ok-numbering.ensures.lane_series
+    (lanes_keep_on c.note_lane.new.self.lanes c.note_discarded.new.self.lanes c.note_delivery.new.self.lanes
+    (lanes_keep_on c.note_lane.new.self.lanes c.note_numbering.new.self.lanes c.note_discarded.new.self.lanes c.note_numbering.ensures.lane_times
+    c.note_discarded.ensures.lane_times) c.note_delivery.ensures.lane_times))
+
+pub returns-in_ok-note_delivery-in-Deliver-clause-wrong : goal.returns-in_ok-note_delivery-in-Deliver-clause-wrong
+returns-in_ok-note_delivery-in-Deliver-clause-wrong c = λ moment.
+    no_copy_right c.args.line.now (Some Deliver) (row_in c.args.self.now) (spot_at c.args.self.now.pairing c.args.number)
+    (words_right (row_in c.args.self.now) c.args.line.now c.check_words.result c.in_ok-check_words.was c.check_words.ensures)
+    (c.in-Some.is ∙ ap (λ (w : Redundancy). Some w) c.in-Deliver.is) refl

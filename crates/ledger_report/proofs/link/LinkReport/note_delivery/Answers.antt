@@ -1,7 +1,12 @@
 -- The delivery before is settled, and this one takes its place.
-use Rattle.std.proofs.Common.{None, ap, arith, slice_index_or}
+use Rattle.std.proofs.Common.{None, ◌≡◌, ◌∙◌, ap, arith, slice_index_or}
+use Rattle.afdx_frame.specs.declared.key.Network.{Network}
+use Rattle.ledger_report.specs.Both.{side_of}
 use Rattle.ledger_report.specs.Pending.{pends}
+use Rattle.ledger_report.specs.Words.{other_of}
+use Rattle.ledger_report.specs.declared.network.NetworkReport.{NetworkReport}
 use Rattle.ledger_report.specs.declared.pairing.Pairing.{Pairing}
+use Rattle.ledger_report.proofs.HoldNotes.{takes_before_on}
 use Rattle.ledger_report.proofs.link.LinkReport.note_delivery.Goals as goal
 
 pub returns-clause-accounts : goal.returns-clause-accounts
@@ -9,3 +14,10 @@ returns-clause-accounts c = λ none few.
     let before = c.in_ok-fate.ensures.accounts none few in
     let same = ap (λ (p : Pairing). pends (slice_index_or p.deliveries.items c.args.number None)) c.settle_before.ensures.pairing in
     omega (arith, before, same, c.in_ok-set.ensures)
+
+pub returns-clause-before : goal.returns-clause-before
+returns-clause-before c =
+    let found : c.of.result.now.frames ≡ (side_of (other_of c.args.at.now.network) c.settle_before.new.networks).frames =
+    ap (λ (r : NetworkReport). r.frames) c.of.ensures ∙ ap (λ (n : Network). (side_of n c.settle_before.new.networks).frames) c.other.ensures in
+    takes_before_on c.args.number _ (other_of c.args.at.now.network) c.args.networks.now c.settle_before.new.networks c.args.self.now.pairing
+    c.settle_before.new.self.pairing c.set.new.self c.in_ok-fate.ensures.networks (omega (arith, found)) c.settle_before.ensures.pairing c.in_ok-set.ensures.before

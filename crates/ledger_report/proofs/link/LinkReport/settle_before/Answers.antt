@@ -1,7 +1,10 @@
 -- The delivery before is none, or the first of both, or another one.
 use Rattle.std.proofs.Common.{◌∙◌, true, false, sym, ap, arith}
+use Rattle.ledger_report.specs.LinkMarks.{late_amount}
 use Rattle.ledger_report.specs.Pairs.{awaits, known_in}
 use Rattle.ledger_report.proofs.FateNotes.{late_none, late_where, settles_late, settles_none, settles_other}
+use Rattle.ledger_report.proofs.LinkMarkSteps.{comes_by, comes_none, link_marks_none, none_late, take_late, take_none}
+use Rattle.ledger_report.proofs.HoldNotes.{keeps_places_none, settles_next, settles_none_next}
 use Rattle.ledger_report.proofs.link.LinkReport.settle_before.Goals as goal
 
 pub returns-in_default-clause-numbers : goal.returns-in_default-clause-numbers
@@ -33,3 +36,40 @@ returns-clause-numbers c =
     settles_other c.args.number c.args.at.now c.args.self.now c.settle.new.self c.in-Some.before (sym c.latest.ensures ∙ c.in-Some.is)
     (sym (c.awaits.ensures ∙ ap (λ n. awaits c.args.at.now.network c.args.at.now.place.stamp n (known_in c.in-Some.before)) c.window.ensures) ∙ c.if-awaits.false)
     c.in_ok-settle.ensures.numbers
+
+pub returns-in_default-clause-link_marks : goal.returns-in_default-clause-link_marks
+returns-in_default-clause-link_marks c =
+    take_late false _ c.args.at.now.network c.args.at.now.place c.args.networks.now c.args.networks.now
+    (comes_none c.args.number c.args.at.now c.args.self.now (sym c.latest.ensures ∙ c.in_default.is))
+    (take_none (late_amount false) c.args.at.now.network c.args.at.now.place c.args.networks.now c.args.networks.now none_late (link_marks_none c.args.networks.now))
+
+pub returns-then-awaits-clause-link_marks : goal.returns-then-awaits-clause-link_marks
+returns-then-awaits-clause-link_marks c =
+    take_late true _ c.args.at.now.network c.args.at.now.place c.args.networks.now c.note_late.new.networks
+    (comes_by true c.args.number c.args.at.now c.args.self.now c.in-Some.before (sym c.latest.ensures ∙ c.in-Some.is)
+    (sym (c.awaits.ensures ∙ ap (λ n. awaits c.args.at.now.network c.args.at.now.place.stamp n (known_in c.in-Some.before)) c.window.ensures) ∙ c.if-awaits.true))
+    c.in_ok-note_late.ensures.link_marks
+
+pub returns-clause-link_marks : goal.returns-clause-link_marks
+returns-clause-link_marks c =
+    take_late false _ c.args.at.now.network c.args.at.now.place c.args.networks.now c.settle.new.networks
+    (comes_by false c.args.number c.args.at.now c.args.self.now c.in-Some.before (sym c.latest.ensures ∙ c.in-Some.is)
+    (sym (c.awaits.ensures ∙ ap (λ n. awaits c.args.at.now.network c.args.at.now.place.stamp n (known_in c.in-Some.before)) c.window.ensures) ∙ c.if-awaits.false))
+    (take_none (late_amount false) c.args.at.now.network c.args.at.now.place c.args.networks.now c.settle.new.networks none_late c.in_ok-settle.ensures.link_marks)
+
+pub returns-in_default-clause-settles : goal.returns-in_default-clause-settles
+returns-in_default-clause-settles c =
+    settles_none_next c.args.number c.args.at.now c.args.self.now c.args.networks.now c.args.self.now.lanes (sym c.latest.ensures ∙ c.in_default.is)
+    (keeps_places_none c.args.self.now.lanes)
+
+pub returns-then-awaits-clause-settles : goal.returns-then-awaits-clause-settles
+returns-then-awaits-clause-settles c =
+    settles_next true c.args.number c.args.at.now c.args.self.now c.args.networks.now c.note_late.new.self.lanes c.in-Some.before (sym c.latest.ensures ∙ c.in-Some.is)
+    (sym (c.awaits.ensures ∙ ap (λ n. awaits c.args.at.now.network c.args.at.now.place.stamp n (known_in c.in-Some.before)) c.window.ensures) ∙ c.if-awaits.true)
+    c.in_ok-note_late.ensures.places
+
+pub returns-clause-settles : goal.returns-clause-settles
+returns-clause-settles c =
+    settles_next false c.args.number c.args.at.now c.args.self.now c.args.networks.now c.settle.new.self.lanes c.in-Some.before (sym c.latest.ensures ∙ c.in-Some.is)
+    (sym (c.awaits.ensures ∙ ap (λ n. awaits c.args.at.now.network c.args.at.now.place.stamp n (known_in c.in-Some.before)) c.window.ensures) ∙ c.if-awaits.false)
+    c.in_ok-settle.ensures.settles

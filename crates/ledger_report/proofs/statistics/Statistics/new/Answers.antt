@@ -4,7 +4,10 @@ use Rattle.ledger_report.specs.declared.report.OutsideLink.{OutsideLink}
 use Rattle.afdx_frame.specs.declared.key.Network.TheVariants.{A, B}
 use Rattle.ledger_report.specs.OutsideLines.{IsOutsideOf}
 use Rattle.ledger_report.proofs.OutsideSteps.{none_outside}
+use Rattle.ledger_report.proofs.SignSteps.{no_link_hits}
 use Rattle.ledger_report.proofs.Widths.{first_width}
+use Rattle.ledger_report.proofs.AccountSteps.{link_at}
+use Rattle.ledger_report.proofs.AloneTotals.{sums_alone_none}
 use Rattle.ledger_report.proofs.statistics.Statistics.new.Goals as goal
 
 pub returns-clause-account : goal.returns-clause-account
@@ -23,3 +26,21 @@ returns-clause-account c = record {
 
 pub returns-clause-span : goal.returns-clause-span
 returns-clause-span c = record { start = refl; latest = refl; width = first_width }
+
+pub returns-clause-sums : goal.returns-clause-sums
+returns-clause-sums c =
+    sums_alone_none c.args.config.now.links c.in_ok-links_of.field-0.items (record { a = c.in_ok-new.field-0; b = c.in_ok-new-2.field-0 }) c.in_ok-links_of.ensures.links.count
+    (link_at c.args.config.now.links) c.in_ok-links_of.ensures.alone c.in_ok-new.ensures.alone c.in_ok-new-2.ensures.alone
+
+pub returns-clause-signs : goal.returns-clause-signs
+returns-clause-signs c = record {
+  link_marks = no_link_hits c.args.config.now.links _ c.in_ok-new.ensures.signs c.in_ok-new-2.ensures.signs;
+  losses = c.in_ok-links_of.ensures.losses;
+  runs = c.in_ok-links_of.ensures.runs;
+}
+
+pub returns-clause-bins : goal.returns-clause-bins
+returns-clause-bins c = record { within = tt; a = c.in_ok-new.ensures.series A 0 1953125; b = c.in_ok-new-2.ensures.series B 0 1953125 }
+
+pub returns-clause-lane_bins : goal.returns-clause-lane_bins
+returns-clause-lane_bins c = c.in_ok-links_of.ensures.lane_series 0 1953125

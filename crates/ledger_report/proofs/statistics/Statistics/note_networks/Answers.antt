@@ -2,6 +2,7 @@
 use Rattle.std.proofs.Common.{◌≡◌, ◌∙◌, true, false, ap, sym}
 use Rattle.afdx_frame.specs.declared.key.Network.TheVariants.{A, B}
 use Rattle.ledger_report.specs.Words.{is_on, is_same_network}
+use Rattle.ledger_report.proofs.NetworkSeries.{network_apart}
 use Rattle.ledger_report.proofs.statistics.Statistics.note_networks.Goals as goal
 
 pub returns-in_ok-note_on-in-A-clause-networks : goal.returns-in_ok-note_on-in-A-clause-networks
@@ -31,3 +32,27 @@ returns-in_ok-note_on-in-B-clause-networks c = λ lines few moment h.
         a = c.in_ok-note_on-in-B.ensures.other_rules A lines off h.rules.a;
       };
     }
+
+pub returns-in_ok-note_on-in-A-clause-link_marks : goal.returns-in_ok-note_on-in-A-clause-link_marks
+returns-in_ok-note_on-in-A-clause-link_marks c = (c.in_ok-note_on-in-A.ensures.own_link_marks, c.note_on.ensures.other_link_marks)
+
+pub returns-in_ok-note_on-in-B-clause-link_marks : goal.returns-in_ok-note_on-in-B-clause-link_marks
+returns-in_ok-note_on-in-B-clause-link_marks c = (c.note_on-in-B.ensures.other_link_marks, c.in_ok-note_on-in-B.ensures.own_link_marks)
+
+pub returns-in_ok-note_on-in-A-clause-series : goal.returns-in_ok-note_on-in-A-clause-series
+returns-in_ok-note_on-in-A-clause-series c = λ start width lines moment within lies h.
+    (let here = sym moment.network ∙ c.in-A.is in record {
+      within = (within, h.within);
+      a = c.in_ok-note_on-in-A.ensures.own_series A start width lines (ap (is_same_network A) here) lies h.a;
+      b = network_apart B start width c.args.line.now lines c.args.self.now.networks.b _ (ap
+          (is_same_network B) here) c.note_on.ensures.other_times h.b;
+    })
+
+pub returns-in_ok-note_on-in-B-clause-series : goal.returns-in_ok-note_on-in-B-clause-series
+returns-in_ok-note_on-in-B-clause-series c = λ start width lines moment within lies h.
+    (let here = sym moment.network ∙ c.in-B.is in record {
+      within = (within, h.within);
+      a = network_apart A start width c.args.line.now lines c.args.self.now.networks.a _ (ap
+          (is_same_network A) here) c.note_on-in-B.ensures.other_times h.a;
+      b = c.in_ok-note_on-in-B.ensures.own_series B start width lines (ap (is_same_network B) here) lies h.b;
+    })

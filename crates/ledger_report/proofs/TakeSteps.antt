@@ -1,0 +1,131 @@
+-- A line of counts is compared with the text that is made of the counts.
+use Rattle.std.proofs.Common.{◌≡◌, ◌≢◌, ◌∙◌, ℕ, ◌<◌, ◌≤◌, Bool, true, false, not, if◌then◌else◌, List, ◌++◌, length, get_or, Option, is_some, Result, Ok, Err, append_assoc, refl, sym, ap, subst, arith}
+use Rattle.std.specs.Prelude.{IfErr, OnOk, codes, decimal}
+use Rattle.std.proofs.lemmas.Bool.{true≢false}
+use Rattle.std.proofs.lemmas.List.{append_cancel_right}
+use Rattle.afdx_frame.specs.declared.key.Network.{Network}
+use Rattle.afdx_frame.specs.declared.key.Network.TheVariants.{A, B}
+use Rattle.verdict_ledger.specs.Text.{count_field, filter_line, link_line, word_field}
+use Rattle.vl_config.specs.Document.{VlTable}
+use Rattle.vl_config.specs.Link.{VirtualLink}
+use Rattle.ledger_text.specs.declared.frame.FrameLine.{FrameLine}
+use Rattle.ledger_text.specs.declared.order.Counts.TheVariants as kinds
+use Rattle.ledger_report.specs.CountsRight.{IsRightLine, TakesWhere, tap_frames, tap_network, taps_in}
+use Rattle.ledger_report.specs.CountsText.{IsFilterLine, IsLinkLine, link_row}
+use Rattle.ledger_report.specs.TapLines.{IsTapLine, Said}
+use Rattle.ledger_report.specs.Words.{filter_count, link_counts}
+use Rattle.ledger_report.specs.declared.counts.Counts.{Counts}
+use Rattle.ledger_report.specs.declared.counts_lines.TapEnding.{TapEnding}
+use Rattle.ledger_report.specs.declared.fault.Refusal.{Refusal}
+use Rattle.ledger_report.specs.declared.fault.Refusal.TheVariants as refusals
+use Rattle.ledger_report.specs.declared.fault.WrongLine.TheVariants as wrongs
+use Rattle.ledger_report.specs.declared.sides.Sides.{Sides}
+
+-- The line is right exactly where it is the text.
+pub taken_by : (P : Type 0) (made line text : List ℕ) (result : Result (Unit {0}) Refusal) → OnOk result (made ≡ line)
+    → IfErr result (λ refusal. (refusal ≡ refusals.Wrong wrongs.Counts) × (made ≢ line)) → made ++ codes "\n" ≡ text → (line ++ codes "\n" ≡ text → P)
+    → (P → line ++ codes "\n" ≡ text) → TakesWhere P result
+taken_by P made line text (Ok done) same differs whole to from = to (ap (λ (xs : List ℕ). xs ++ codes "\n") (sym same) ∙ whole)
+taken_by P made line text (Err refusal) same differs whole to from =
+    subst (λ (r : Refusal). TakesWhere P (Err r)) (sym differs.0)
+    (refl, λ (p : P). differs.1 (append_cancel_right made line (codes "\n") (whole ∙ sym (from p))))
+
+-- ---- how many lines `tap` stood
+
+pub both_told : (endings : Sides (Option TapEnding)) → is_some endings.b ≡ true → 2 ≤ taps_in endings
+both_told endings is = rw is (omega arith)
+
+-- ---- the lines of links and of filters
+
+-- the line of the table's link at this place, which has these counts
+pub link_right : (table : VlTable) (frames : List FrameLine) (links filters taps : ℕ) (link : VirtualLink) (counts : Counts) (made line : List ℕ)
+    (result : Result (Unit {0}) Refusal) → links < length table.links → ((d : VirtualLink) → link ≡ get_or table.links links d)
+    → counts ≡ link_counts frames link.id.0 → OnOk result (made ≡ line)
+    → IfErr result (λ refusal. (refusal ≡ refusals.Wrong wrongs.Counts) × (made ≢ line)) → made ++ codes "\n" ≡ link_line link (link_row counts)
+    → TakesWhere (IsRightLine table frames links filters taps kinds.Link line) result
+link_right table frames links filters taps link counts made line result within at are same differs whole =
+    taken_by (IsRightLine table frames links filters taps kinds.Link line) made line (link_line link (link_row counts)) result same differs whole
+    (λ says. record {
+      place = within;
+      says = (
+        within,
+        λ d. subst (λ (l : VirtualLink). IsLinkLine l (link_counts frames l.id.0) line) (at d)
+            (subst (λ (cs : Counts). IsLinkLine link cs line) are says),
+      );
+      ending = tt;
+    })
+    (λ right. subst (λ (cs : Counts). IsLinkLine link cs line) (sym are)
+    (subst (λ (l : VirtualLink). IsLinkLine l (link_counts frames l.id.0) line) (sym (at link)) (right.says.1 link)))
+
+-- the line of the next filter, which accepts so many frames
+pub filter_right : (table : VlTable) (frames : List FrameLine) (links filters taps accepted : ℕ) (made line : List ℕ)
+    (result : Result (Unit {0}) Refusal) → length table.links ≤ links → filters ≤ length table.filters → filters < 8
+    → accepted ≡ filter_count frames filters → OnOk result (made ≡ line)
+    → IfErr result (λ refusal. (refusal ≡ refusals.Wrong wrongs.Counts) × (made ≢ line)) → made ++ codes "\n" ≡ filter_line filters accepted
+    → TakesWhere (IsRightLine table frames links filters taps kinds.Filter line) result
+filter_right table frames links filters taps accepted made line result all few below are same differs whole =
+    taken_by (IsRightLine table frames links filters taps kinds.Filter line) made line (filter_line filters accepted) result same differs whole
+    (λ says. record {
+      place = (all, few);
+      says = (below, subst (λ (n : ℕ). IsFilterLine filters n line) are says);
+      ending = tt;
+    })
+    (λ right. subst (λ (n : ℕ). IsFilterLine filters n line) (sym are) right.says.1)
+
+-- ---- the lines `tap`
+
+-- the network of the next one
+pub next_network : (endings : Sides (Option TapEnding)) (network : Network) → is_some endings.b ≡ false
+    → network ≡ (if is_some endings.a then B else A) → tap_network (taps_in endings) ≡ network
+next_network endings network none is = (rw none (where_first (is_some endings.a))) ∙ sym is
+  where
+    where_first : (known : Bool) → tap_network (if known then 1 else 0) ≡ (if known then B else A)
+    where_first true = refl
+    where_first false = refl
+
+pub few_taps : (endings : Sides (Option TapEnding)) → is_some endings.b ≡ false → taps_in endings < 2
+few_taps endings none = rw none (where_first (is_some endings.a))
+  where
+    where_first : (known : Bool) → (if known then 1 else 0) < 2
+    where_first true = omega arith
+    where_first false = omega arith
+
+pub not_both : (endings : Sides (Option TapEnding)) → taps_in endings < 2 → is_some endings.b ≡ false
+not_both endings few = where_second (is_some endings.b) (if is_some endings.a then 1 else 0) few
+  where
+    where_second : (known : Bool) (rest : ℕ) → (if known then 2 else rest) < 2 → known ≡ false
+    where_second true rest few = absurd (omega (arith, few))
+    where_second false rest few = refl
+
+pub first_known : (known none : Bool) (network : Network) → known ≡ not none → none ≡ true → network ≡ A → network ≡ (if known then B else A)
+first_known known none network one two three = rw one (rw two three)
+
+pub first_unknown : (known none : Bool) (network : Network) → known ≡ not none → none ≡ false → network ≡ B → network ≡ (if known then B else A)
+first_unknown known none network one two three = rw one (rw two three)
+
+pub tap_here : (frames : List FrameLine) (endings : Sides (Option TapEnding)) (network : Network) (count : ℕ) (said : Said) (line : List ℕ)
+    → is_some endings.b ≡ false → network ≡ (if is_some endings.a then B else A) → count ≡ tap_frames frames network
+    → IsTapLine network count said line
+    → IsTapLine (tap_network (taps_in endings)) (tap_frames frames (tap_network (taps_in endings))) said line
+tap_here frames endings network count said line none is counts h =
+    subst (λ (n : Network). IsTapLine n (tap_frames frames n) said line) (sym (next_network endings network none is))
+    (subst (λ (n : ℕ). IsTapLine network n said line) counts h)
+
+pub tap_there : (frames : List FrameLine) (endings : Sides (Option TapEnding)) (network : Network) (count : ℕ) (said : Said) (line : List ℕ)
+    → is_some endings.b ≡ false → network ≡ (if is_some endings.a then B else A) → count ≡ tap_frames frames network
+    → IsTapLine (tap_network (taps_in endings)) (tap_frames frames (tap_network (taps_in endings))) said line → IsTapLine network count said line
+tap_there frames endings network count said line none is counts h =
+    subst (λ (n : ℕ). IsTapLine network n said line) (sym counts)
+    (subst (λ (n : Network). IsTapLine n (tap_frames frames n) said line) (next_network endings network none is) h)
+
+pub was_none : (known none : Bool) → known ≡ not none → known ≡ false → none ≡ true
+was_none known true same is = refl
+was_none known false same is = absurd (true≢false (sym same ∙ is))
+
+-- ---- the text of a link's line
+
+pub link_made : (id frames : ℕ) (name judged written : List ℕ)
+    → written ≡ codes "link " ++ (decimal id ++ (codes " " ++ (name ++ (codes " frames " ++ decimal frames))))
+    → written ++ judged ≡ count_field (codes "link") id ++ (word_field name ++ (count_field (codes " frames") frames ++ judged))
+unfolding count_field
+link_made id frames name judged written is = rw is (simp append_assoc)
