@@ -1,22 +1,29 @@
 -- The mark of a network, by the marks of its lanes.
-use Rattle.std.proofs.Common.{◌≡◌, ◌∙◌, ℕ, zero, suc, ◌<◌, ◌==◌, ◌⊎◌, inl, inr, Bool, false, List, [], ◌∷◌, ◌++◌, length, get_or, set, Option, Some, None, if◌then◌else◌, refl, sym, ap, subst, arith, append_assoc}
+use Rattle.std.proofs.Common.{◌≡◌, ◌∙◌, ℕ, zero, suc, ◌<◌, ◌⊎◌, inl, inr, false, List, [], ◌∷◌, ◌++◌, length, get_or, set, Option, Some, None, refl, sym, ap, subst, arith, append_assoc, ◌+◌, true, slice_index_or}
 use Rattle.std.proofs.lemmas.List.{map-append}
-use Rattle.ledger_report.specs.Alone.{KeepsMissed, Missed, hits_at}
-use Rattle.ledger_report.specs.AloneSums.{GainBoth, GainsAlone, KeepAloneMarks, alone_in}
+use Rattle.std.specs.Option.{IfSome, option_map}
+use Rattle.ledger_report.specs.Alone.{BinnedBy, HasMissed, KeepsAlone, KeepsMissed, Missed, Scale, hits_at, settled_by}
+use Rattle.ledger_report.specs.AloneSums.{AloneBinned, BothIn, GainBoth, GainsAlone, HeldFits, KeepAloneHits, KeepAloneMarks, PlaceFits, PlaceIn, alone_in}
+use Rattle.ledger_report.specs.Copies.{KeepsLatest, Spot, spot_at, spot_in}
 use Rattle.ledger_report.specs.Extremes.{Hit, IsAmong, IsFirst, IsLast, NoneAfter, NoneBefore, amounts}
-use Rattle.ledger_report.specs.Holding.{KeepsPlaces}
-use Rattle.ledger_report.specs.Marks.{HasHits, KeepsHits, TakesHit, sign_index}
+use Rattle.ledger_report.specs.Holding.{KeepsPlaces, bin_in}
+use Rattle.ledger_report.specs.MarkBins.{IsBinned, put_in, puts_in}
+use Rattle.ledger_report.specs.Marks.{HasHits}
 use Rattle.ledger_report.specs.Places.{IsMarkOf}
 use Rattle.ledger_report.specs.Placing.{NotAfter}
-use Rattle.ledger_report.specs.Sums.{saturated}
+use Rattle.ledger_report.specs.Series.{LiesIn, Put, is_in, room_of, values_in}
+use Rattle.ledger_report.specs.Sums.{saturated, total_of}
 use Rattle.ledger_report.specs.declared.lane.Lane.{Lane}
 use Rattle.ledger_report.specs.declared.moment.Place.{Place}
 use Rattle.ledger_report.specs.declared.network.NetworkReport.{NetworkReport}
+use Rattle.ledger_report.specs.declared.pairing.Delivery.{Delivery}
+use Rattle.ledger_report.specs.declared.pairing.Pairing.{Pairing}
 use Rattle.ledger_report.specs.declared.sides.Sides.{Sides}
 use Rattle.ledger_report.specs.declared.signs.Mark.{Mark}
-use Rattle.ledger_report.specs.declared.signs.Sign.{Sign}
 use Rattle.ledger_report.specs.declared.signs.Sign.TheVariants.{Alone}
 use Rattle.ledger_report.specs.declared.signs.Signs.{Signs}
+use Rattle.ledger_report.proofs.BinSteps.{lies_in_bin}
+use Rattle.ledger_report.proofs.SeriesSteps.{values_both}
 use Rattle.ledger_report.proofs.Ends.{among_left, among_right, amounts-append, none_after, none_after-append, none_before, none_before-append}
 use Rattle.ledger_report.proofs.HitOrders.{AreSame, same_hits, same_more, same_swapped, same_then}
 
@@ -147,50 +154,139 @@ alike-append xs ys zs ws one two = record {
 -- ---- a step of a lane
 
 -- the mark stays
-pub gains_none : (old new : Lane) (before after : Signs) → KeepsMissed old new → KeepsHits Alone before after → GainsAlone old new before after
-gains_none old new before after keeps kept missed h = record { next = missed; more = []; has = keeps.1 missed h; are = refl; gains = kept }
+pub gains_none : (fits : Option Scale → Type 0) (old new : Lane) (before after : Signs) → KeepsMissed old new → KeepsAlone before after →
+    GainsAlone fits old new before after
+gains_none fits old new before after keeps kept missed fit h = record {
+  next = missed;
+  more = [];
+  same = refl;
+  has = keeps.1 missed h;
+  are = refl;
+  lie = λ lie. lie;
+  gains = λ hits has none. subst (IsMarkOf hits) (sym (kept none)) (has none);
+  bins = λ hits has none. subst (BinnedBy missed.scale hits) (sym (kept none)) (has none);
+}
 
-pub gains_then : (old mid new : Lane) (before between after : Signs) → GainsAlone old mid before between → GainsAlone mid new between after →
-    GainsAlone old new before after
-gains_then old mid new before between after first second missed h =
-    let one = first missed h in
-    let two = second one.next one.has in
+dropped_in : (scale : Option Scale) (missed : Missed) → BothIn scale missed → BothIn scale (settled_by (Some false) missed)
+dropped_in None missed lie = tt
+dropped_in (Some scale) missed lie = (lie.0, tt)
+
+-- those that are held are dropped
+pub gains_dropped : (fits : Option Scale → Type 0) (old new : Lane) (signs : Signs) →
+    ((missed : Missed) → HasMissed missed old → HasMissed (settled_by (Some false) missed) new) → GainsAlone fits old new signs signs
+gains_dropped fits old new signs drops missed fit h = record {
+  next = settled_by (Some false) missed;
+  more = [];
+  same = refl;
+  has = drops missed h;
+  are = refl;
+  lie = dropped_in missed.scale missed;
+  gains = λ hits has. has;
+  bins = λ hits has. has;
+}
+
+-- from these bins to those
+with_hits : (scale other : Option Scale) (hits : List Hit) (signs : Signs) → other ≡ scale → AloneBinned other hits signs →
+    AloneBinned scale hits signs
+with_hits scale other hits signs same has = subst (λ (s : Option Scale). AloneBinned s hits signs) same has
+
+pub gains_then : (fits others : Option Scale → Type 0) (old mid new : Lane) (before between after : Signs) →
+    ((scale : Option Scale) → fits scale → others scale) → GainsAlone fits old mid before between → GainsAlone others mid new between after →
+    GainsAlone fits old new before after
+gains_then fits others old mid new before between after both first second missed fit h =
+    let one = first missed fit h in
+    let two = second one.next (subst others (sym one.same) (both missed.scale fit)) one.has in
     record {
       next = two.next;
       more = two.more ++ one.more;
+      same = two.same ∙ one.same;
       has = two.has;
       are = two.are ∙ ap (λ (ps : List Place). two.more ++ ps) one.are ∙ sym (append_assoc two.more one.more missed.alone);
+      lie = λ lie.
+          subst (λ (s : Option Scale). BothIn s two.next) one.same
+          (two.lie (subst (λ (s : Option Scale). BothIn s one.next) (sym one.same) (one.lie lie)));
       gains = λ hits has. subst (λ (hs : List Hit). HasHits after Alone hs)
           (sym (ap (λ (hs : List Hit). hs ++ hits) (map-append _ two.more one.more) ∙ append_assoc (hits_at two.more) (hits_at one.more) hits))
           (two.gains (hits_at one.more ++ hits) (one.gains hits has));
+      bins = λ hits has. subst (λ (hs : List Hit). AloneBinned missed.scale hs after)
+          (sym (ap (λ (hs : List Hit). hs ++ hits) (map-append _ two.more one.more) ∙ append_assoc (hits_at two.more) (hits_at one.more) hits))
+          (with_hits missed.scale one.next.scale (hits_at two.more ++ (hits_at one.more ++ hits)) after one.same
+          (two.bins (hits_at one.more ++ hits)
+          (with_hits one.next.scale missed.scale (hits_at one.more ++ hits) between (sym one.same) (one.bins hits has))));
     }
 
-pub gain_both_none : (old new : Sides Lane) (before after : Sides NetworkReport) → KeepsPlaces old new → KeepAloneMarks before after →
-    GainBoth old new before after
-gain_both_none old new before after places marks = (
-  gains_none old.a new.a before.a.signs after.a.signs places.0 marks.0,
-  gains_none old.b new.b before.b.signs after.b.signs places.1 marks.1,
+pub gain_both_none : (fits : Option Scale → Type 0) (old new : Sides Lane) (before after : Sides NetworkReport) → KeepsPlaces old new →
+    KeepAloneMarks before after → GainBoth fits old new before after
+gain_both_none fits old new before after places marks = (
+  gains_none fits old.a new.a before.a.signs after.a.signs places.0 marks.0,
+  gains_none fits old.b new.b before.b.signs after.b.signs places.1 marks.1,
 )
 
-pub gain_both_then : (old mid new : Sides Lane) (before between after : Sides NetworkReport) → GainBoth old mid before between →
-    GainBoth mid new between after →
-    GainBoth old new before after
-gain_both_then old mid new before between after first second = (
-  gains_then old.a mid.a new.a before.a.signs between.a.signs after.a.signs first.0 second.0,
-  gains_then old.b mid.b new.b before.b.signs between.b.signs after.b.signs first.1 second.1,
+pub gain_both_then : (fits others : Option Scale → Type 0) (old mid new : Sides Lane) (before between after : Sides NetworkReport) →
+    ((scale : Option Scale) → fits scale → others scale) → GainBoth fits old mid before between → GainBoth others mid new between after →
+    GainBoth fits old new before after
+gain_both_then fits others old mid new before between after both first second = (
+  gains_then fits others old.a mid.a new.a before.a.signs between.a.signs after.a.signs both first.0 second.0,
+  gains_then fits others old.b mid.b new.b before.b.signs between.b.signs after.b.signs both first.1 second.1,
 )
 
-pub keep_marks_none : (networks : Sides NetworkReport) → KeepAloneMarks networks networks
+-- where less need be known
+pub gain_both_by : (fits others : Option Scale → Type 0) (old new : Sides Lane) (before after : Sides NetworkReport) →
+    ((scale : Option Scale) → fits scale → others scale) → GainBoth others old new before after → GainBoth fits old new before after
+gain_both_by fits others old new before after both gains = (
+  λ missed fit h. gains.0 missed (both missed.scale fit) h,
+  λ missed fit h. gains.1 missed (both missed.scale fit) h,
+)
+
+-- ---- where places lie
+
+pub place_in : (start width bin : ℕ) (place : Place) → bin ≡ bin_in start width place.stamp → (scale : Option Scale) →
+    PlaceFits start width place scale → PlaceIn bin place scale
+place_in start width bin place is None fit = tt
+place_in start width bin place is (Some scale) (same, lies) = (
+  subst (λ (s : Scale). is_in s.start s.width bin place.stamp ≡ true) (sym same)
+      (subst (λ n. is_in start width n place.stamp ≡ true) (sym is) (lies_in_bin start width place.stamp lies)),
+  subst (λ (s : Scale). LiesIn s.start s.width place.stamp) (sym same) lies,
+)
+
+-- the latest delivery of a number
+pub held_place : (start width number : ℕ) (pairing : Pairing) (delivery : Delivery) →
+    slice_index_or pairing.deliveries.items number None ≡ Some delivery →
+    (scale : Option Scale) → HeldFits start width pairing scale → PlaceFits start width delivery.place scale
+held_place start width number pairing delivery is scale fits =
+    subst (λ (o : Option Delivery). IfSome (option_map spot_in o) (λ spot. PlaceFits start width spot.place scale)) is (fits number)
+
+pub held_same : (start width : ℕ) (old new : Pairing) → new ≡ old → (scale : Option Scale) → HeldFits start width old scale →
+    HeldFits start width new scale
+held_same start width old new same scale fits = subst (λ (p : Pairing). HeldFits start width p scale) (sym same) fits
+
+pub held_latest : (start width : ℕ) (old new : Pairing) → KeepsLatest old new → (scale : Option Scale) → HeldFits start width old scale →
+    HeldFits start width new scale
+held_latest start width old new keeps scale fits number =
+    subst (λ (o : Option Spot). IfSome o (λ spot. PlaceFits start width spot.place scale)) (sym (keeps number)) (fits number)
+
+-- no bins
+pub any_held : (start width : ℕ) (pairing : Pairing) → HeldFits start width pairing None
+any_held start width pairing number = at (spot_at pairing number)
+  where
+    at : (o : Option Spot) → IfSome o (λ spot. PlaceFits start width spot.place None)
+    at None = tt
+    at (Some spot) = tt
+
+pub keep_alone_none : (networks : Sides NetworkReport) → KeepAloneMarks networks networks
+keep_alone_none networks = (λ none. refl, λ none. refl)
+
+pub keep_alone_hits : (old new : Sides NetworkReport) → KeepAloneMarks old new → KeepAloneHits old new
+keep_alone_hits old new (a, b) = (
+  λ hits has none. subst (IsMarkOf hits) (sym (a none)) (has none),
+  λ hits has none. subst (IsMarkOf hits) (sym (b none)) (has none),
+)
+
+pub keep_marks_none : (networks : Sides NetworkReport) → KeepAloneHits networks networks
 keep_marks_none networks = (λ hits has. has, λ hits has. has)
 
-pub keep_marks_on : (old mid new : Sides NetworkReport) → KeepAloneMarks old mid → KeepAloneMarks mid new → KeepAloneMarks old new
+pub keep_marks_on : (old mid new : Sides NetworkReport) → KeepAloneHits old mid → KeepAloneHits mid new → KeepAloneHits old new
 keep_marks_on old mid new (a, b) (a2, b2) = (λ hits has. a2 hits (a hits has), λ hits has. b2 hits (b hits has))
-
--- a hit of another sign
-pub alone_kept_by : (sign : Sign) (hit : Hit) (old new : Signs) → (sign_index sign == 11) ≡ false → TakesHit sign hit old new →
-    KeepsHits Alone old new
-alone_kept_by sign hit old new other takes hits has =
-    subst (λ (b : Bool). HasHits new Alone (if b then hit ∷ hits else hits)) other (takes Alone hits has)
 
 -- ---- of all links
 
@@ -243,3 +339,61 @@ alike_none = record {
   after = λ place all. all;
   none = λ is. is;
 }
+
+-- ---- the bins of all links
+
+-- what a mark has in each bin of some hits, it has of others
+pub record BinsAlike (start width : ℕ) (xs ys : List Hit) : Type 0 where
+  pub room : room_of (puts_in xs) ≡ room_of (puts_in ys)
+  pub sums : (bin : ℕ) → bin < 240 → saturated (total_of (values_in start width bin (puts_in xs))) ≡ saturated
+      (total_of (values_in start width bin (puts_in ys)))
+
+-- two lists of one mark
+pub one_binned : (start width : ℕ) (mark : Mark) (xs ys : List Hit) → IsBinned start width xs mark → IsBinned start width ys mark →
+    BinsAlike start width xs ys
+one_binned start width mark xs ys one two = record {
+  room = sym one.room_is ∙ two.room_is;
+  sums = λ bin below. sym (one.bins_are bin below) ∙ two.bins_are bin below;
+}
+
+pub binned_alike : (start width : ℕ) (mark : Mark) (xs ys : List Hit) → BinsAlike start width xs ys → IsBinned start width xs mark →
+    IsBinned start width ys mark
+binned_alike start width mark xs ys same h = record {
+  merge_is = h.merge_is;
+  bins_are = λ bin below. h.bins_are bin below ∙ same.sums bin below;
+  room_is = h.room_is ∙ same.room;
+}
+
+totals : (xs ys : List ℕ) → total_of (xs ++ ys) ≡ total_of xs + total_of ys
+totals [] ys = omega arith
+totals (x ∷ xs) ys = let rest = totals xs ys in omega (arith, rest)
+
+sums_both : (start width bin : ℕ) (xs ys : List Hit) →
+    total_of (values_in start width bin (puts_in (xs ++ ys)))
+    ≡ total_of (values_in start width bin (puts_in xs)) + total_of (values_in start width bin (puts_in ys))
+sums_both start width bin xs ys =
+    ap (λ (ps : List Put). total_of (values_in start width bin ps)) (map-append put_in xs ys)
+    ∙ ap (λ (ns : List ℕ). total_of ns) (values_both start width bin (puts_in xs) (puts_in ys))
+    ∙ totals (values_in start width bin (puts_in xs)) (values_in start width bin (puts_in ys))
+
+both_rooms : (xs ys zs ws : List Hit) → room_of (puts_in xs) ≡ room_of (puts_in ys) → room_of (puts_in zs) ≡ room_of (puts_in ws) →
+    room_of (puts_in (xs ++ zs)) ≡ room_of (puts_in (ys ++ ws))
+both_rooms [] [] zs ws one two = two
+both_rooms [] (y ∷ ys) zs ws one two = absurd (omega (arith, one))
+both_rooms (x ∷ xs) [] zs ws one two = absurd (omega (arith, one))
+both_rooms (x ∷ xs) (y ∷ ys) zs ws one two = refl
+
+pub bins_append : (start width : ℕ) (xs ys zs ws : List Hit) → BinsAlike start width xs ys → BinsAlike start width zs ws →
+    BinsAlike start width (xs ++ zs) (ys ++ ws)
+bins_append start width xs ys zs ws one two = record {
+  room = both_rooms xs ys zs ws one.room two.room;
+  sums = λ bin below. (
+      let left = sums_both start width bin xs zs in
+      let right = sums_both start width bin ys ws in
+      let first = one.sums bin below in
+      let second = two.sums bin below in
+      omega (arith, left, right, first, second));
+}
+
+pub bins_none : (start width : ℕ) → BinsAlike start width [] []
+bins_none start width = record { room = refl; sums = λ bin below. refl }

@@ -7,7 +7,7 @@ use Rattle.vl_config.specs.declared.class.Class.TheVariants.{Unconfigured}
 use Rattle.verdict_ledger.specs.Tally.{is_class}
 use Rattle.ledger_text.specs.FrameText.{IsFrameLine}
 use Rattle.ledger_text.specs.declared.frame.FrameLine.{FrameLine}
-use Rattle.ledger_report.specs.LaneSeries.{AllLanesDouble, AllLanesKeep, HasLaneBins, HaveLaneSeries, LanesHave, LanesTake}
+use Rattle.ledger_report.specs.LaneSeries.{AllLanesDouble, AllLanesKeep, HasLaneBins, HaveLaneSeries, LanesHave, LanesTakeTimes}
 use Rattle.ledger_report.specs.Both.{side_of}
 use Rattle.ledger_report.specs.Links.{AreEach, AreLinksOf, IsLinkOf, row_of}
 use Rattle.ledger_report.specs.NetworkSeries.{AreInBins, HasBins}
@@ -50,7 +50,7 @@ pub all_lanes_doubled : (start width : ℕ) (links : List VirtualLink) (lines : 
     AllLanesDouble old new → AreInBins start width lines → AreEach (HaveLaneSeries start width) links lines old →
     AreEach (HaveLaneSeries start (2 * width)) links lines new
 all_lanes_doubled start width links lines old new count doubles lie h i link report below =
-    doubles i report (omega (arith, below, count)) (get_or links i link).id.0 start width lines lie (h i link report below)
+    (doubles i report (omega (arith, below, count))).times (get_or links i link).id.0 start width lines lie (h i link report below)
 
 -- no line came, so where the bins begin is of no matter
 no_lane_series : (start width begin id : ℕ) (report : LinkReport) → LanesHave start width id [] report.lanes →
@@ -58,22 +58,38 @@ no_lane_series : (start width begin id : ℕ) (report : LinkReport) → LanesHav
 no_lane_series start width begin id report h = record {
   a = record {
     sums = record {
-      lines_are = record { merge_is = h.a.sums.lines_are.merge_is; bins_are = h.a.sums.lines_are.bins_are };
-      loads_are = record { merge_is = h.a.sums.loads_are.merge_is; bins_are = h.a.sums.loads_are.bins_are };
+      lines_are = record { merge_is = h.a.sums.lines_are.merge_is; bins_are = h.a.sums.lines_are.bins_are; room_is = h.a.sums.lines_are.room_is };
+      loads_are = record { merge_is = h.a.sums.loads_are.merge_is; bins_are = h.a.sums.loads_are.bins_are; room_is = h.a.sums.loads_are.room_is };
     };
     intervals = record {
-      least_are = record { merge_is = h.a.intervals.least_are.merge_is; bins_are = h.a.intervals.least_are.bins_are };
-      greatest_are = record { merge_is = h.a.intervals.greatest_are.merge_is; bins_are = h.a.intervals.greatest_are.bins_are };
+      least_are = record {
+        merge_is = h.a.intervals.least_are.merge_is;
+        bins_are = h.a.intervals.least_are.bins_are;
+        room_is = h.a.intervals.least_are.room_is;
+      };
+      greatest_are = record {
+        merge_is = h.a.intervals.greatest_are.merge_is;
+        bins_are = h.a.intervals.greatest_are.bins_are;
+        room_is = h.a.intervals.greatest_are.room_is;
+      };
     };
   };
   b = record {
     sums = record {
-      lines_are = record { merge_is = h.b.sums.lines_are.merge_is; bins_are = h.b.sums.lines_are.bins_are };
-      loads_are = record { merge_is = h.b.sums.loads_are.merge_is; bins_are = h.b.sums.loads_are.bins_are };
+      lines_are = record { merge_is = h.b.sums.lines_are.merge_is; bins_are = h.b.sums.lines_are.bins_are; room_is = h.b.sums.lines_are.room_is };
+      loads_are = record { merge_is = h.b.sums.loads_are.merge_is; bins_are = h.b.sums.loads_are.bins_are; room_is = h.b.sums.loads_are.room_is };
     };
     intervals = record {
-      least_are = record { merge_is = h.b.intervals.least_are.merge_is; bins_are = h.b.intervals.least_are.bins_are };
-      greatest_are = record { merge_is = h.b.intervals.greatest_are.merge_is; bins_are = h.b.intervals.greatest_are.bins_are };
+      least_are = record {
+        merge_is = h.b.intervals.least_are.merge_is;
+        bins_are = h.b.intervals.least_are.bins_are;
+        room_is = h.b.intervals.least_are.room_is;
+      };
+      greatest_are = record {
+        merge_is = h.b.intervals.greatest_are.merge_is;
+        bins_are = h.b.intervals.greatest_are.bins_are;
+        room_is = h.b.intervals.greatest_are.room_is;
+      };
     };
   };
 }
@@ -101,7 +117,7 @@ pub lanes_set : (start width : ℕ) (links : List VirtualLink) (line : FrameLine
     is_class Unconfigured line.class ≡ false → AreNetworksOf (line ∷ lines) networks → AreLinksOf links lines reports → IsIndexOf links index →
     place ≡ get_or index id.0 65535 →
     place < length reports → old ≡ get_or reports place old → is_in start width at.bin line.stamp.0 ≡ true →
-    LanesTake (seen_line (side_of at.network old.lanes) (side_of at.network networks) line number at) old.lanes new.lanes →
+    LanesTakeTimes (seen_line (side_of at.network old.lanes) (side_of at.network networks) line number at) old.lanes new.lanes →
     AreEach (HaveLaneSeries start width) links lines reports → AreEach (HaveLaneSeries start width) links (line ∷ lines) (set reports place new)
 lanes_set start width links line lines reports index networks id number at place old new is moment of_link known are links_are index_is found within
     held lies takes h =

@@ -1,5 +1,5 @@
 -- What comes on a lane by time, with one more line and in bins of doubled width.
-use Rattle.std.proofs.Common.{◌≡◌, ◌∙◌, ℕ, ◌+◌, ◌*◌, true, false, List, ◌∷◌, Option, Some, None, refl, sym, ap, subst}
+use Rattle.std.proofs.Common.{◌≡◌, ◌∙◌, ℕ, ◌+◌, ◌*◌, Bool, Result, true, false, List, ◌∷◌, Option, Some, None, refl, sym, ap, subst}
 use Rattle.std.specs.Option.{option_map}
 use Rattle.std.proofs.lemmas.Bool.{and_from, and_left, and_right}
 use Rattle.afdx_frame.specs.declared.key.Network.{Network}
@@ -7,9 +7,10 @@ use Rattle.afdx_frame.specs.declared.key.Network.TheVariants.{A, B}
 use Rattle.ledger_text.specs.declared.frame.FrameLine.{FrameLine}
 use Rattle.ledger_report.specs.Bins.{Doubles, TakesNumber}
 use Rattle.ledger_report.specs.Both.{side_of}
+use Rattle.ledger_report.specs.LaneMarks.{TakeLateBins, TakeMarkBins, TakesLateBins, TakesMarkBins}
 use Rattle.ledger_report.specs.LaneParts.{interval_in}
-use Rattle.ledger_report.specs.LaneSeries.{HasByTime, HasIntervalBins, HasLaneSeries, KeepLaneTimes, KeepsLaneTimes, LaneByTime, LanesHave, LanesTake}
-use Rattle.ledger_report.specs.LaneSeries.{TakesByTime, interval_at, load_in, one_in}
+use Rattle.ledger_report.specs.LaneSeries.{HasByTime, HasIntervalBins, HasLaneSeries, KeepLaneTimes, KeepsButLate, KeepsLaneTimes, LaneByTime, LanesHave, LanesTake, LanesTakeTimes}
+use Rattle.ledger_report.specs.LaneSeries.{TakesByTime, TakesLate, lane_by_time, interval_at, load_in, one_in}
 use Rattle.ledger_report.specs.LineSeries.{PutsWhere, puts_at}
 use Rattle.ledger_report.specs.LinkLines.{is_lane_line}
 use Rattle.ledger_report.specs.NetworkSeries.{AreInBins, puts_of}
@@ -17,8 +18,13 @@ use Rattle.ledger_report.specs.Series.{IsSeriesOf, is_in}
 use Rattle.ledger_report.specs.Words.{is_on, is_same_network, is_seen_of}
 use Rattle.ledger_report.specs.declared.lane.Lane.{Lane}
 use Rattle.ledger_report.specs.declared.lane.LaneLine.{LaneLine}
+use Rattle.ledger_report.specs.declared.lane.LaneRules.{LaneRules}
+use Rattle.ledger_report.specs.declared.moment.Moment.{Moment}
+use Rattle.ledger_report.specs.declared.series.Series.{Series}
 use Rattle.ledger_report.specs.declared.series.Merge.TheVariants.{Sum, Least, Greatest}
 use Rattle.ledger_report.specs.declared.sides.Sides.{Sides}
+use Rattle.ledger_report.proofs.LaneMarks.{late_then_take, mark_bins_kept, take_late_none}
+use Rattle.ledger_report.proofs.OkSteps.{on_ok}
 use Rattle.ledger_report.proofs.LineSeries.{line_doubled, line_more, line_same}
 use Rattle.ledger_report.proofs.NetworkSeries.{puts_lie, series_more, series_same}
 use Rattle.ledger_report.proofs.SeriesSteps.{series_doubled}
@@ -158,7 +164,7 @@ lanes_apart start width id line lines lanes off h = record {
 
 -- the lane of one network takes its line
 pub lanes_take_a : (line : LaneLine) (old new : Sides Lane) → line.at.network ≡ A → TakesByTime line old.a new.a → KeepsLaneTimes old.b new.b →
-    LanesTake line old new
+    LanesTakeTimes line old new
 lanes_take_a taken old new here takes keeps id start width line lines seen same kept interval lies h =
     let own = same ∙ here in
     let ends = subst (λ (n : Network). interval_in (side_of n old) taken ≡ interval_at id n (record { line = line; before = lines })) here interval in
@@ -169,7 +175,7 @@ lanes_take_a taken old new here takes keeps id start width line lines seen same 
     }
 
 pub lanes_take_b : (line : LaneLine) (old new : Sides Lane) → line.at.network ≡ B → TakesByTime line old.b new.b → KeepsLaneTimes old.a new.a →
-    LanesTake line old new
+    LanesTakeTimes line old new
 lanes_take_b taken old new here takes keeps id start width line lines seen same kept interval lies h =
     let own = same ∙ here in
     let ends = subst (λ (n : Network). interval_in (side_of n old) taken ≡ interval_at id n (record { line = line; before = lines })) here interval in
@@ -179,9 +185,78 @@ lanes_take_b taken old new here takes keeps id start width line lines seen same 
       b = takes id B start width line lines (and_from (is_seen_of id line) (is_on B line) seen (ap (is_same_network B) own)) kept ends lies h.b;
     }
 
-pub lanes_then : (line : LaneLine) (old mid new : Sides Lane) → LanesTake line old mid → KeepLaneTimes mid new → LanesTake line old new
-lanes_then taken old mid new takes keeps id start width line lines seen same kept interval lies h =
-    lanes_kept start width id (line ∷ lines) mid new keeps (takes id start width line lines seen same kept interval lies h)
+-- its marks take it too
+pub lanes_mark_a : (rules : LaneRules) (line : LaneLine) (old new : Sides Lane) → line.at.network ≡ A → LanesTakeTimes line old new →
+    TakesMarkBins rules line old.a new.a → TakesLateBins false line.at old.a.signs new.a.signs → KeepsLaneTimes old.b new.b →
+    LanesTake rules false line old new
+lanes_mark_a rules line old new here times marks late keeps = record {
+  times = times;
+  marks = subst (λ (n : Network). TakeMarkBins rules line n old new) (sym here) (marks, ap (λ (t : LaneByTime). t.marks) keeps);
+  late_is = subst (λ (n : Network). TakeLateBins false n line.at old new) (sym here) (late, ap (λ (t : LaneByTime). t.late) keeps);
+}
+
+pub lanes_mark_b : (rules : LaneRules) (line : LaneLine) (old new : Sides Lane) → line.at.network ≡ B → LanesTakeTimes line old new →
+    TakesMarkBins rules line old.b new.b → TakesLateBins false line.at old.b.signs new.b.signs → KeepsLaneTimes old.a new.a →
+    LanesTake rules false line old new
+lanes_mark_b rules line old new here times marks late keeps = record {
+  times = times;
+  marks = subst (λ (n : Network). TakeMarkBins rules line n old new) (sym here) (marks, ap (λ (t : LaneByTime). t.marks) keeps);
+  late_is = subst (λ (n : Network). TakeLateBins false n line.at old new) (sym here) (late, ap (λ (t : LaneByTime). t.late) keeps);
+}
+
+-- what stays but for late deliveries
+but_late : (old new : Lane) → KeepsLaneTimes old new → KeepsButLate old new
+but_late old new keeps = keeps ∙ ap (λ (ss : List Series). record (lane_by_time old) { late = ss }) (sym (ap (λ (t : LaneByTime). t.late) keeps))
+
+-- then a delivery may come late
+pub lanes_late : (rules : LaneRules) (late : Bool) (line : LaneLine) (old mid new : Sides Lane) → LanesTake rules false line old mid →
+    KeepsButLate mid.a new.a → KeepsButLate mid.b new.b → TakeLateBins late line.at.network line.at mid new → LanesTake rules late line old new
+lanes_late rules late taken old mid new takes a b comes = record {
+  times = λ id start width line lines seen same kept interval lies h.
+      (let has = takes.times id start width line lines seen same kept interval lies h in record {
+        a = kept_but id A start width (line ∷ lines) mid.a new.a a has.a;
+        b = kept_but id B start width (line ∷ lines) mid.b new.b b has.b;
+      });
+  marks = on taken.at.network takes.marks;
+  late_is = late_then_take late taken.at.network taken.at old mid new takes.late_is comes;
+}
+  where
+    kept_but : (id : ℕ) (network : Network) (start width : ℕ) (lines : List FrameLine) (was now : Lane) → KeepsButLate was now →
+        HasByTime id network start width lines was → HasByTime id network start width lines now
+    kept_but id network start width lines was now keeps h = record {
+      sums = lane_kept id network start width lines was now (ap (λ (t : LaneByTime). t.lines) keeps) (ap (λ (t : LaneByTime). t.loads) keeps) h.sums;
+      intervals = intervals_kept id network start width lines was now (ap (λ (t : LaneByTime). t.least) keeps)
+          (ap (λ (t : LaneByTime). t.greatest) keeps) h.intervals;
+    }
+
+    on : (n : Network) → TakeMarkBins rules taken n old mid → TakeMarkBins rules taken n old new
+    on A (own, other) = (
+      λ start width lines lies stands h. mark_bins_kept rules start width (taken ∷ lines) mid.a new.a (ap (λ (t : LaneByTime). t.marks) a)
+          (own start width lines lies stands h),
+      ap (λ (t : LaneByTime). t.marks) b ∙ other,
+    )
+    on B (own, other) = (
+      λ start width lines lies stands h. mark_bins_kept rules start width (taken ∷ lines) mid.b new.b (ap (λ (t : LaneByTime). t.marks) b)
+          (own start width lines lies stands h),
+      ap (λ (t : LaneByTime). t.marks) a ∙ other,
+    )
+
+-- or none does
+pub lanes_then : (rules : LaneRules) (late : Bool) (line : LaneLine) (old mid new : Sides Lane) → false ≡ late → LanesTake rules false line old mid →
+    KeepLaneTimes mid new → LanesTake rules late line old new
+lanes_then rules late line old mid new none takes keeps =
+    lanes_late rules late line old mid new takes (but_late mid.a new.a keeps.0) (but_late mid.b new.b keeps.1)
+    (take_late_none late line.at.network line.at mid new (sym none) (ap (λ (t : LaneByTime). t.late) keeps.0) (ap (λ
+    (t : LaneByTime). t.late) keeps.1))
+
+pub none_late_of : {T E : Type 0} (late : Bool) (at : Moment) (old new : Sides Lane) (result : Result T E) → late ≡ false → KeepLaneTimes old new →
+    TakesLate late at old new result
+none_late_of late at old new result none keeps = record {
+  a = but_late old.a new.a keeps.0;
+  b = but_late old.b new.b keeps.1;
+  takes = on_ok result (take_late_none late at.network at old new none (ap (λ (t : LaneByTime). t.late) keeps.0) (ap (λ
+      (t : LaneByTime). t.late) keeps.1));
+}
 
 pub lanes_keep_on : (old mid new : Sides Lane) → KeepLaneTimes old mid → KeepLaneTimes mid new → KeepLaneTimes old new
 lanes_keep_on old mid new (a, b) (a2, b2) = (a2 ∙ a, b2 ∙ b)

@@ -49,7 +49,7 @@ first_more frames held new line (before ∷ lines) same is so_far =
     subst (λ n. IfSome (oldest (before ∷ lines)) (λ l. n ≡ stamp_of l)) (sym e) so_far
 
 -- what the number says is the same against the lane's number before
-numbering_same : (integrity : Bool) (previous : Option ℕ) (before : Option ℕ) (line : LaneLine) →
+pub numbering_same : (integrity : Bool) (previous : Option ℕ) (before : Option ℕ) (line : LaneLine) →
     previous ≡ (if integrity then before else None) → numbering_since integrity previous line ≡ numbering_since integrity before line
 numbering_same true previous before line same = ap (λ (o : Option ℕ). numbering_of o line.number) same
 numbering_same false previous before line same = refl
@@ -70,7 +70,7 @@ no_rule_in false (Some rule) sign is above =
     rw e refl
 
 -- a rule of a lane is none of the later signs
-no_rule : (line : LaneLine) (sign : Sign) → IfSome line.rule IsRule → 7 < sign_index sign → rule_amount line sign ≡ 0
+pub no_rule : (line : LaneLine) (sign : Sign) → IfSome line.rule IsRule → 7 < sign_index sign → rule_amount line sign ≡ 0
 no_rule line sign is above = no_rule_in (is_out_after_silence line) line.rule sign is above
 
 -- none counts for the sign

@@ -1,8 +1,7 @@
 -- The marks of links' signs on a network, with one more line.
-use Rattle.std.proofs.Common.{nat_le, Result, Ok, Err, ◌≡◌, ◌≢◌, ℕ, ◌-◌, ◌*◌, ◌<◌, ◌≤◌, ◌==◌, ◌&&◌, Bool, true, false, not, List, ◌∷◌, length, get_or, Option, Some, None, is_some, unwrap_or, if◌then◌else◌, refl, sym, ap, ◌∙◌, subst, arith}
+use Rattle.std.proofs.Common.{nat_le, ◌≡◌, ◌≢◌, ℕ, ◌-◌, ◌*◌, ◌<◌, ◌≤◌, ◌==◌, ◌&&◌, Bool, true, false, not, List, ◌∷◌, length, get_or, Option, Some, None, is_some, unwrap_or, if◌then◌else◌, refl, sym, ap, ◌∙◌, subst, arith}
 use Rattle.std.specs.List.{cons_option}
 use Rattle.std.specs.Option.{option_map, option_map_or}
-use Rattle.std.specs.Result.{OnOk}
 use Rattle.std.proofs.lemmas.Bool.{and_from, and_left, and_parts, and_right, eq-eqb, leb-true, ne_eqb}
 use Rattle.afdx_frame.specs.declared.key.Network.{Network}
 use Rattle.afdx_frame.specs.declared.key.Network.TheVariants.{A, B}
@@ -19,9 +18,11 @@ use Rattle.ledger_report.specs.Copies.{delivers}
 use Rattle.ledger_report.specs.LaneLines.{hit_of, number_amount, numbering_since, one_where}
 use Rattle.ledger_report.specs.Lanes.{StandsAfter, hits, newest}
 use Rattle.ledger_report.specs.LinkLines.{is_after_silence, is_lane_line, lane_line, lane_lines, place_of}
-use Rattle.ledger_report.specs.LinkMarks.{HasLinkHits, HaveLinkHits, IsLinkSign, KeepLinkMarks, KeepsLinkMarks, NotesLinkHits, TakeLinkHits, TakesHitOn, TakesLinkHits, counted_in, is_late_line, lane_hits, late_amount, line_amount, network_hits}
+use Rattle.ledger_report.specs.LinkMarks.{HasLinkHits, HaveLinkHits, IsLinkSign, KeepLinkMarks, KeepLinkTallies, KeepsLinkMarks, KeepsLinkTallies, NotesLinkHits, TakeLinkHits, TakesBinnedOn, TakesHitOn, TakesLink, TakesLinkHits, counted_in, is_late_line, lane_hits, late_amount, line_amount, network_hits}
 use Rattle.ledger_report.specs.Links.{IsLinkOf, Row, lane_rules, pairing_rules, row_in, row_of}
+use Rattle.ledger_report.specs.MarkBins.{IsBinned}
 use Rattle.ledger_report.specs.Marks.{HasHits, IsRule, KeepsOthers, mark_at, sign_index}
+use Rattle.ledger_report.specs.Places.{IsMarkOf}
 use Rattle.ledger_report.specs.Networks.{IsNetworkOf}
 use Rattle.ledger_report.specs.Noting.{AreNetworksOf, IsMomentOf, seen_line}
 use Rattle.ledger_report.specs.Numbering.{IsPlain, counted_numbering, numbering_of}
@@ -42,10 +43,12 @@ use Rattle.ledger_report.specs.declared.pairing.Delivery.{Delivery}
 use Rattle.ledger_report.specs.declared.pairing.Fate.TheVariants.{Met}
 use Rattle.ledger_report.specs.declared.pairing.Pairing.{Pairing}
 use Rattle.ledger_report.specs.declared.sides.Sides.{Sides}
+use Rattle.ledger_report.specs.declared.signs.Mark.{Mark}
 use Rattle.ledger_report.specs.declared.signs.Sign.{Sign}
-use Rattle.ledger_report.specs.declared.signs.Sign.TheVariants.{Lost, Repeat, Reset, Alone, Late}
+use Rattle.ledger_report.specs.declared.signs.Sign.TheVariants.{Lost, Repeat, Reset, Alone, Late, Early}
 use Rattle.ledger_report.specs.declared.signs.Signs.{Signs}
 use Rattle.ledger_report.proofs.FateLines.{comes_late_same, deliver_some, judged_none, late_at}
+use Rattle.ledger_report.proofs.LaneMarks.{bins_one}
 use Rattle.ledger_report.proofs.LinkSteps.{lines_other, lines_own, mark_same, seen_after}
 use Rattle.ledger_report.proofs.MarkMoves.{amounts_one}
 use Rattle.ledger_report.proofs.MarkOrders.{mark_of_one, same_each}
@@ -60,10 +63,11 @@ link_marks_on old mid new (a, b) (a2, b2) = (λ sign own none. a2 sign own none 
 
 -- what happens to the sign `alone` leaves them
 pub keeps_but_alone : (old new : Signs) → KeepsOthers Alone old new → KeepsLinkMarks old new
-keeps_but_alone old new others Lost own none = ap tally_of (others Lost none refl)
-keeps_but_alone old new others Repeat own none = ap tally_of (others Repeat none refl)
-keeps_but_alone old new others Reset own none = ap tally_of (others Reset none refl)
-keeps_but_alone old new others Late own none = ap tally_of (others Late none refl)
+keeps_but_alone old new others Lost own none = others Lost none refl
+keeps_but_alone old new others Repeat own none = others Repeat none refl
+keeps_but_alone old new others Reset own none = others Reset none refl
+keeps_but_alone old new others Late own none = others Late none refl
+keeps_but_alone old new others Early own none = others Early none refl
 keeps_but_alone old new others sign own none = absurd own
 
 behind : (sign : Sign) → IsLinkSign sign → 8 ≤ sign_index sign
@@ -71,20 +75,32 @@ behind Lost own = omega arith
 behind Repeat own = omega arith
 behind Reset own = omega arith
 behind Late own = omega arith
+behind Early own = omega arith
 behind sign own = absurd own
 
 -- and so does a rule
 pub keeps_but_rule : (rule : Sign) (old new : Signs) → IsRule rule → KeepsOthers rule old new → KeepsLinkMarks old new
 keeps_but_rule rule old new is others sign own none =
-    ap tally_of (others sign none (ne_eqb (sign_index rule) (sign_index sign) (λ e. omega (arith, e, is, behind sign own))))
+    others sign none (ne_eqb (sign_index rule) (sign_index sign) (λ e. omega (arith, e, is, behind sign own)))
+
+-- so do their tallies
+pub tallies_of : (old new : Sides NetworkReport) → KeepLinkMarks old new → KeepLinkTallies old new
+tallies_of old new (a, b) = (λ sign own none. ap tally_of (a sign own none), λ sign own none. ap tally_of (b sign own none))
+
+pub link_tallies_none : (networks : Sides NetworkReport) → KeepLinkTallies networks networks
+link_tallies_none networks = (λ sign own none. refl, λ sign own none. refl)
+
+pub link_tallies_on : (old mid new : Sides NetworkReport) → KeepLinkTallies old mid → KeepLinkTallies mid new → KeepLinkTallies old new
+link_tallies_on old mid new (a, b) (a2, b2) =
+    (λ sign own none. a2 sign own none ∙ a sign own none, λ sign own none. b2 sign own none ∙ b sign own none)
 
 -- the marks are those of the same lines
-pub keeps_hits : (network : Network) (links : List VirtualLink) (lines : List FrameLine) (old new : Signs) → KeepsLinkMarks old new →
+pub keeps_hits : (network : Network) (links : List VirtualLink) (lines : List FrameLine) (old new : Signs) → KeepsLinkTallies old new →
     HasLinkHits network links lines old → HasLinkHits network links lines new
 keeps_hits network links lines old new keeps h sign own none =
     mark_same (mark_at old sign none) (mark_at new sign none) (network_hits sign network links lines) (keeps sign own none) (h sign own none)
 
-pub keep_hits : (links : List VirtualLink) (lines : List FrameLine) (old new : Sides NetworkReport) → KeepLinkMarks old new →
+pub keep_hits : (links : List VirtualLink) (lines : List FrameLine) (old new : Sides NetworkReport) → KeepLinkTallies old new →
     HaveLinkHits links lines old → HaveLinkHits links lines new
 keep_hits links lines old new (a, b) h = record {
   a = keeps_hits A links lines old.a.signs new.a.signs a h.a;
@@ -93,43 +109,28 @@ keep_hits links lines old new (a, b) h = record {
 
 -- ---- one step after the other
 
-takes_kept : (amounts : Sign → ℕ) (place : Place) (old mid new : Signs) → TakesLinkHits amounts place old mid → KeepsLinkMarks mid new →
-    TakesLinkHits amounts place old new
-takes_kept amounts place old mid new takes keeps sign own hits has none =
-    mark_same (mark_at mid sign none) (mark_at new sign none) (cons_option (hit_of place (amounts sign)) hits) (keeps sign own none) (takes sign own hits has none)
-
-kept_takes : (amounts : Sign → ℕ) (place : Place) (old mid new : Signs) → KeepsLinkMarks old mid → TakesLinkHits amounts place mid new →
-    TakesLinkHits amounts place old new
-kept_takes amounts place old mid new keeps takes sign own hits has =
-    takes sign own hits (λ none. mark_same (mark_at old sign none) (mark_at mid sign none) hits (keeps sign own none) (has none))
-
-pub take_then : (amounts : Sign → ℕ) (network : Network) (place : Place) (old mid new : Sides NetworkReport) → TakeLinkHits amounts network place old mid →
-    KeepLinkMarks mid new → TakeLinkHits amounts network place old new
-take_then amounts A place old mid new (takes, keeps) (a, b) =
-    (takes_kept amounts place old.a.signs mid.a.signs new.a.signs takes a, λ sign own none. b sign own none ∙ keeps sign own none)
-take_then amounts B place old mid new (takes, keeps) (a, b) =
-    (takes_kept amounts place old.b.signs mid.b.signs new.b.signs takes b, λ sign own none. a sign own none ∙ keeps sign own none)
-
-pub then_take : (amounts : Sign → ℕ) (network : Network) (place : Place) (old mid new : Sides NetworkReport) → KeepLinkMarks old mid →
-    TakeLinkHits amounts network place mid new → TakeLinkHits amounts network place old new
-then_take amounts A place old mid new (a, b) (takes, keeps) =
-    (kept_takes amounts place old.a.signs mid.a.signs new.a.signs a takes, λ sign own none. keeps sign own none ∙ b sign own none)
-then_take amounts B place old mid new (a, b) (takes, keeps) =
-    (kept_takes amounts place old.b.signs mid.b.signs new.b.signs b takes, λ sign own none. keeps sign own none ∙ a sign own none)
+-- whatever is said of a mark and its hits
+abbrev TakesFor : (List Hit → Mark → Type 0) → (Sign → ℕ) → Place → Signs → Signs → Type 0
+TakesFor P amounts place old new =
+    (sign : Sign) → IsLinkSign sign → (hits : List Hit) → ((none : Mark) → P hits (mark_at old sign none)) → (none : Mark) →
+    P (cons_option (hit_of place (amounts sign)) hits) (mark_at new sign none)
 
 -- a line that counts for none of them
-pub take_none : (amounts : Sign → ℕ) (network : Network) (place : Place) (old new : Sides NetworkReport) → ((sign : Sign) → amounts sign ≡ 0) →
-    KeepLinkMarks old new → TakeLinkHits amounts network place old new
-take_none amounts network place old new are (a, b) = at network
+pub take_none : (amounts : Sign → ℕ) (network : Network) (at : Moment) (old new : Sides NetworkReport) → ((sign : Sign) → amounts sign ≡ 0) →
+    KeepLinkMarks old new → TakeLinkHits amounts network at old new
+take_none amounts network at old new are (a, b) = on network
   where
-    one : (was now : Signs) → KeepsLinkMarks was now → TakesLinkHits amounts place was now
-    one was now keeps sign own hits has =
-        subst (λ n. HasHits now sign (cons_option (hit_of place n) hits)) (sym (are sign))
-        (λ none. mark_same (mark_at was sign none) (mark_at now sign none) hits (keeps sign own none) (has none))
+    any : (P : List Hit → Mark → Type 0) (was now : Signs) → KeepsLinkMarks was now → TakesFor P amounts at.place was now
+    any P was now keeps sign own hits has none =
+        subst (λ n. P (cons_option (hit_of at.place n) hits) (mark_at now sign none)) (sym (are sign))
+        (subst (P hits) (sym (keeps sign own none)) (has none))
 
-    at : (n : Network) → TakeLinkHits amounts n place old new
-    at A = (one old.a.signs new.a.signs a, b)
-    at B = (one old.b.signs new.b.signs b, a)
+    one : (was now : Signs) → KeepsLinkMarks was now → TakesLink amounts at was now
+    one was now keeps = record { hits = any IsMarkOf was now keeps; bins = λ start width lies. any (IsBinned start width) was now keeps }
+
+    on : (n : Network) → TakeLinkHits amounts n at old new
+    on A = (one old.a.signs new.a.signs a, b)
+    on B = (one old.b.signs new.b.signs b, a)
 
 pub none_late : (sign : Sign) → late_amount false sign ≡ 0
 none_late Late = refl
@@ -140,37 +141,57 @@ one_late Late = refl
 one_late sign = refl
 
 -- one hit of one sign
-pub take_one : (network : Network) (sign : Sign) (amounts : Sign → ℕ) (place : Place) (amount : ℕ) (old new : Sides NetworkReport) →
+pub take_one : (network : Network) (sign : Sign) (amounts : Sign → ℕ) (at : Moment) (amount : ℕ) (old new : Sides NetworkReport) →
     ((other : Sign) → amounts other ≡ (if sign_index sign == sign_index other then amount else 0)) → 0 < amount →
-    TakesHitOn network sign (record { place = place; amount = amount }) old new → TakeLinkHits amounts network place old new
-take_one A sign amounts place amount old new are some (takes, same) = (
-  λ other own hits has. amounts_one sign amounts place amount old.a.signs new.a.signs are some takes other hits has,
-  λ other own none. ap (λ (r : NetworkReport). tally_of (mark_at r.signs other none)) same,
+    TakesHitOn network sign (record { place = at.place; amount = amount }) old new →
+    TakesBinnedOn network sign at.bin (record { place = at.place; amount = amount }) old new → TakeLinkHits amounts network at old new
+take_one A sign amounts at amount old new are some (takes, same) bins = (
+  record {
+    hits = λ other own hits has. amounts_one sign amounts at.place amount old.a.signs new.a.signs are some takes other hits has;
+    bins = λ start width lies other own hits has.
+        bins_one sign amounts at amount old.a.signs new.a.signs are some bins start width other hits lies has;
+  },
+  λ other own none. ap (λ (r : NetworkReport). mark_at r.signs other none) same,
 )
-take_one B sign amounts place amount old new are some (takes, same) = (
-  λ other own hits has. amounts_one sign amounts place amount old.b.signs new.b.signs are some takes other hits has,
-  λ other own none. ap (λ (r : NetworkReport). tally_of (mark_at r.signs other none)) same,
+take_one B sign amounts at amount old new are some (takes, same) bins = (
+  record {
+    hits = λ other own hits has. amounts_one sign amounts at.place amount old.b.signs new.b.signs are some takes other hits has;
+    bins = λ start width lies other own hits has.
+        bins_one sign amounts at amount old.b.signs new.b.signs are some bins start width other hits lies has;
+  },
+  λ other own none. ap (λ (r : NetworkReport). mark_at r.signs other none) same,
 )
 
 -- what its number says, and then whether it comes late
-pub take_both : (numbering : Numbering) (late : Bool) (network : Network) (place : Place) (old mid new : Sides NetworkReport) →
-    TakeLinkHits (number_amount numbering) network place old mid → TakeLinkHits (late_amount late) network place mid new →
-    TakeLinkHits (line_amount numbering late) network place old new
-take_both numbering late network place old mid new first second = at network first second
+pub take_both : (numbering : Numbering) (late : Bool) (network : Network) (at : Moment) (old mid new : Sides NetworkReport) →
+    TakeLinkHits (number_amount numbering) network at old mid → TakeLinkHits (late_amount late) network at mid new →
+    TakeLinkHits (line_amount numbering late) network at old new
+take_both numbering late network at old mid new first second = on network first second
   where
-    both : (was between now : Signs) → TakesLinkHits (number_amount numbering) place was between → TakesLinkHits (late_amount late) place between now →
-        TakesLinkHits (line_amount numbering late) place was now
-    both was between now one two Lost own hits has = two Lost own (cons_option (hit_of place (number_amount numbering Lost)) hits) (one Lost own hits has)
-    both was between now one two Repeat own hits has = two Repeat own (cons_option (hit_of place (number_amount numbering Repeat)) hits) (one Repeat own hits has)
-    both was between now one two Reset own hits has = two Reset own (cons_option (hit_of place (number_amount numbering Reset)) hits) (one Reset own hits has)
-    both was between now one two Late own hits has = two Late own hits (one Late own hits has)
-    both was between now one two sign own hits has = absurd own
+    any : (P : List Hit → Mark → Type 0) (was between now : Signs) → TakesFor P (number_amount numbering) at.place was between →
+        TakesFor P (late_amount late) at.place between now → TakesFor P (line_amount numbering late) at.place was now
+    any P was between now one two Lost own hits has = two Lost own (cons_option (hit_of at.place (number_amount numbering Lost)) hits)
+        (one Lost own hits has)
+    any P was between now one two Repeat own hits has =
+        two Repeat own (cons_option (hit_of at.place (number_amount numbering Repeat)) hits) (one Repeat own hits has)
+    any P was between now one two Reset own hits has =
+        two Reset own (cons_option (hit_of at.place (number_amount numbering Reset)) hits) (one Reset own hits has)
+    any P was between now one two Late own hits has = two Late own hits (one Late own hits has)
+    any P was between now one two Early own hits has = two Early own hits (one Early own hits has)
+    any P was between now one two sign own hits has = absurd own
 
-    at : (n : Network) → TakeLinkHits (number_amount numbering) n place old mid → TakeLinkHits (late_amount late) n place mid new →
-        TakeLinkHits (line_amount numbering late) n place old new
-    at A (takes, keeps) (takes2, keeps2) =
+    both : (was between now : Signs) → TakesLink (number_amount numbering) at was between → TakesLink (late_amount late) at between now →
+        TakesLink (line_amount numbering late) at was now
+    both was between now one two = record {
+      hits = any IsMarkOf was between now one.hits two.hits;
+      bins = λ start width lies. any (IsBinned start width) was between now (one.bins start width lies) (two.bins start width lies);
+    }
+
+    on : (n : Network) → TakeLinkHits (number_amount numbering) n at old mid → TakeLinkHits (late_amount late) n at mid new →
+        TakeLinkHits (line_amount numbering late) n at old new
+    on A (takes, keeps) (takes2, keeps2) =
         (both old.a.signs mid.a.signs new.a.signs takes takes2, λ sign own none. keeps2 sign own none ∙ keeps sign own none)
-    at B (takes, keeps) (takes2, keeps2) =
+    on B (takes, keeps) (takes2, keeps2) =
         (both old.b.signs mid.b.signs new.b.signs takes takes2, λ sign own none. keeps2 sign own none ∙ keeps sign own none)
 
 -- ---- a delivery that comes late
@@ -209,15 +230,11 @@ pub comes_by : (late : Bool) (number : ℕ) (at : Moment) (old : LinkReport) (be
     awaits at.network at.place.stamp (window_in old) (known_in before) ≡ late → comes_late number at old ≡ late
 comes_by late number at old before is awaited = ap (λ (o : Option Delivery). comes_with at old o) is ∙ awaited
 
-pub take_late : (late is : Bool) (network : Network) (place : Place) (old new : Sides NetworkReport) → is ≡ late → TakeLinkHits (late_amount late) network place old new →
-    TakeLinkHits (late_amount is) network place old new
-take_late late is network place old new same takes = subst (λ (b : Bool). TakeLinkHits (late_amount b) network place old new) (sym same) takes
+pub take_late : (late is : Bool) (network : Network) (at : Moment) (old new : Sides NetworkReport) → is ≡ late →
+    TakeLinkHits (late_amount late) network at old new → TakeLinkHits (late_amount is) network at old new
+take_late late is network at old new same takes = subst (λ (b : Bool). TakeLinkHits (late_amount b) network at old new) (sym same) takes
 
 -- ---- what a line's note does
-
-pub on_ok : {T E P : Type 0} (r : Result T E) → P → OnOk r P
-on_ok (Ok x) is = is
-on_ok (Err e) is = tt
 
 plain_of : (before : Option ℕ) (number : ℕ) → IsPlain (numbering_of before number)
 plain_of None number = tt
@@ -250,16 +267,16 @@ plain_in integrity lane line = plain_counted line.after_silence (if integrity th
 pub notes_hits : (line : FrameLine) (number : ℕ) (at : Moment) (seen : LaneLine) (numbering : Numbering) (late : Bool) (old : LinkReport)
     (networks mid new : Sides NetworkReport) → seen ≡ seen_line (side_of at.network old.lanes) (side_of at.network networks) line number at →
     numbering ≡ counted_in old.integrity (side_of seen.at.network old.lanes) seen →
-    (IsPlain numbering → TakeLinkHits (number_amount numbering) at.network at.place networks mid) → late ≡ is_late_line line number at old →
-    TakeLinkHits (late_amount late) at.network at.place mid new → NotesLinkHits line number at old networks new
+    (IsPlain numbering → TakeLinkHits (number_amount numbering) at.network at networks mid) → late ≡ is_late_line line number at old →
+    TakeLinkHits (late_amount late) at.network at mid new → NotesLinkHits line number at old networks new
 notes_hits line number at seen numbering late old networks mid new seen_is numbering_is first late_is second =
     let taken = seen_line (side_of at.network old.lanes) (side_of at.network networks) line number at in
     let same : numbering ≡ counted_in old.integrity (side_of at.network old.lanes) taken =
     numbering_is ∙ ap (λ (l : LaneLine). counted_in old.integrity (side_of l.at.network old.lanes) l) seen_is in
     let plain : IsPlain numbering = subst IsPlain (sym same) (plain_in old.integrity (side_of at.network old.lanes) taken) in
-    subst (λ (n : Numbering). TakeLinkHits (line_amount n (is_late_line line number at old)) at.network at.place networks new) same
-    (subst (λ (b : Bool). TakeLinkHits (line_amount numbering b) at.network at.place networks new) late_is
-    (take_both numbering late at.network at.place networks mid new (first plain) second))
+    subst (λ (n : Numbering). TakeLinkHits (line_amount n (is_late_line line number at old)) at.network at networks new) same
+    (subst (λ (b : Bool). TakeLinkHits (line_amount numbering b) at.network at networks new) late_is
+    (take_both numbering late at.network at networks mid new (first plain) second))
 
 -- a line that delivers nothing
 pub late_word : (line : FrameLine) (number : ℕ) (at : Moment) (old : LinkReport) (word : Option Redundancy) → line.redundancy ≡ word →
@@ -307,6 +324,7 @@ lane_off : (sign : Sign) (network : Network) (row : Row) (line : FrameLine) (lin
     (is_late_at (pairing_rules row) (record { line = line; before = lines }) && is_on network line) ≡ false →
     lane_hits sign network row (line ∷ lines) ≡ lane_hits sign network row lines
 lane_off Late network row line lines off late = late_off (pairing_rules row) network line lines late
+lane_off Early network row line lines off late = refl
 lane_off sign network row line lines off late = ap (λ (ls : List LaneLine). hits (lane_rules row) sign ls) (lines_other row.id network line lines off)
 
 -- a line of another link
@@ -317,7 +335,7 @@ hits_unseen sign network row line lines off =
     (and_left (is_late_at (pairing_rules row) (record { line = line; before = lines })) (is_on network line) (not_late (pairing_rules row) line lines off))
 
 -- a line of the other network
-hits_off : (sign : Sign) (network : Network) (row : Row) (line : FrameLine) (lines : List FrameLine) → is_on network line ≡ false →
+pub hits_off : (sign : Sign) (network : Network) (row : Row) (line : FrameLine) (lines : List FrameLine) → is_on network line ≡ false →
     lane_hits sign network row (line ∷ lines) ≡ lane_hits sign network row lines
 hits_off sign network row line lines off =
     lane_off sign network row line lines (and_right (is_seen_of row.id line) (is_on network line) off)
@@ -359,7 +377,7 @@ counted_same row network line lines number at lane report integrity on sequence 
     where_on false same = refl
 
 -- a line of the lane
-hits_own : (sign : Sign) (row : Row) (network : Network) (line : FrameLine) (lines : List FrameLine) (number : ℕ) (at : Moment) (old : LinkReport)
+pub hits_own : (sign : Sign) (row : Row) (network : Network) (line : FrameLine) (lines : List FrameLine) (number : ℕ) (at : Moment) (old : LinkReport)
     (report : NetworkReport) → IsLinkSign sign → IsFrameLine line → is_seen_of row.id line ≡ true → is_on network line ≡ true → line.sequence ≡ Some number →
     IsMomentOf line at → IsNetworkOf network (line ∷ lines) report → IsLinkOf row lines old →
     StandsAfter (lane_rules row) (lane_lines row.id network lines) (side_of network old.lanes) →
@@ -394,6 +412,7 @@ hits_own sign row network line lines number at old report own is seen on sequenc
         (ap (λ (b : Bool). b && is_on network line) (late_line row line lines number at old is seen sequence moment h)
         ∙ ap (λ (b : Bool). is_late_line line number at old && b) on ∙ and_true (is_late_line line number at old))
         ∙ ap (λ (o : Option Hit). cons_option o (lane_hits Late network row lines)) (sym (late_hit (is_late_line line number at old) (place_of line)))
+    by_sign Early one = refl
     by_sign s one = absurd one
 
 -- ---- the lines of all lanes
@@ -417,7 +436,7 @@ pub link_hits_more : (links : List VirtualLink) (line : FrameLine) (lines : List
     line.sequence ≡ Some number → IsMomentOf line at → AreNetworksOf (line ∷ lines) networks → IsLinkOf (row_of (get_or links place link)) lines old →
     NotesLinkHits line number at old networks new → HaveLinkHits links lines networks → HaveLinkHits links (line ∷ lines) new
 link_hits_more links line lines place number at link old networks new is seen within others sequence moment are h notes has =
-    by_side line.network refl (subst (λ (n : Network). TakeLinkHits (amounts n) n at.place networks new) moment.network notes)
+    by_side line.network refl (subst (λ (n : Network). TakeLinkHits (amounts n) n at networks new) moment.network notes)
   where
     row : Row
     row = row_of (get_or links place link)
@@ -442,14 +461,14 @@ link_hits_more links line lines place number at link old networks new is seen wi
         subst (HasHits now sign)
         (sym (same_each (λ l. lane_hits sign network (row_of l) (line ∷ lines)) (λ l. lane_hits sign network (row_of l) lines) links
         (λ l. hits_off sign network (row_of l) line lines off)))
-        (keeps_hits network links lines was now keeps before sign one)
+        (keeps_hits network links lines was now (λ s o n. ap tally_of (keeps s o n)) before sign one)
 
-    by_side : (n : Network) → line.network ≡ n → TakeLinkHits (amounts n) n at.place networks new → HaveLinkHits links (line ∷ lines) new
+    by_side : (n : Network) → line.network ≡ n → TakeLinkHits (amounts n) n at networks new → HaveLinkHits links (line ∷ lines) new
     by_side A here (takes, keeps) = record {
-      a = own A networks.a.signs new.a.signs (ap (is_same_network A) here) are.a h.a takes has.a;
+      a = own A networks.a.signs new.a.signs (ap (is_same_network A) here) are.a h.a takes.hits has.a;
       b = other B networks.b.signs new.b.signs (ap (is_same_network B) here) keeps has.b;
     }
     by_side B here (takes, keeps) = record {
-      b = own B networks.b.signs new.b.signs (ap (is_same_network B) here) are.b h.b takes has.b;
+      b = own B networks.b.signs new.b.signs (ap (is_same_network B) here) are.b h.b takes.hits has.b;
       a = other A networks.a.signs new.a.signs (ap (is_same_network A) here) keeps has.a;
     }

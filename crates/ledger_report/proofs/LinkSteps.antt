@@ -12,7 +12,7 @@ use Rattle.ledger_text.specs.declared.frame.FrameLine.{FrameLine}
 use Rattle.ledger_report.specs.Extremes.{Hit, IsFirst, IsLast}
 use Rattle.ledger_report.specs.Keeping.{KeepsLane, KeepsLink, KeepsReport, LaneNumbers, NotesLane, NotesLaneOn, TakesLaneLine, Tally, tally_of}
 use Rattle.ledger_report.specs.Classes.{CountsClasses}
-use Rattle.ledger_report.specs.Copies.{CopyNumbers, HasLatest, NotesCopy, NotesCopyWhere, NotesLatest, NotesLatestWhere, Spot, delivers, latest_delivery, skew_after, skew_in, skews, spot_at, spot_of}
+use Rattle.ledger_report.specs.Copies.{AllCopies, CopyNumbers, HasLatest, NotesCopy, NotesCopyWhere, NotesLatest, NotesLatestWhere, Spot, delivers, latest_delivery, skew_after, skew_in, skews, spot_at, spot_of}
 use Rattle.ledger_report.specs.Deliveries.{copy_count, is_copy, is_deliver}
 use Rattle.ledger_report.specs.LaneLines.{one_where, stamp_of}
 use Rattle.ledger_report.specs.Lanes.{IsLaneSign, StandsAfter, hits, newest, oldest}
@@ -139,15 +139,17 @@ skews_count id (line ∷ lines) =
     at true skew = omega arith
     at false skew = omega arith
 
-copies_own : (id : ℕ) (line : FrameLine) (lines : List FrameLine) (skew : ℕ) (says : Bool) (old new : LinkReport) → is_seen_of id line ≡ true → is_copy line ≡ says →
-    length lines < 2 ^ 34 → skew ≡ skew_after id line lines → NotesCopyWhere says skew old new → CopiesOf id lines old → CopiesOf id (line ∷ lines) new
-copies_own id line lines skew true old new on says few same notes h =
+copies_own : (id : ℕ) (line : FrameLine) (lines : List FrameLine) (at : Moment) (skew : ℕ) (says : Bool) (old new : LinkReport) →
+    is_seen_of id line ≡ true → is_copy line ≡ says →
+    length lines < 2 ^ 34 → skew ≡ skew_after id line lines → NotesCopyWhere says at skew old new → CopiesOf id lines old →
+    CopiesOf id (line ∷ lines) new
+copies_own id line lines at skew true old new on says few same notes h =
     let small = count_by-le-length (λ l. is_seen_of id l && is_copy l) lines in
     let test : (is_seen_of id line && is_copy line) ≡ true = and_from (is_seen_of id line) (is_copy line) on says in
     let more = count_cons (λ l. is_seen_of id l && is_copy l) line lines 1 (ap (λ (b : Bool). cond b 1 0) test) in
     let is : skews id (line ∷ lines) ≡ skew_after id line lines ∷ skews id lines =
     ap (λ (b : Bool). cons_option (if b then Some (skew_after id line lines) else None) (skews id lines)) test in
-    let moved = notes (omega (arith, h.copies, small, few)) in
+    let moved = notes.numbers (omega (arith, h.copies, small, few)) in
     record {
       within = subst (λ (xs : List ℕ). greatest_of xs ≤ new.skew_max) (sym is) (omega (arith, h.within, moved.within, moved.skew_max, same));
       copies = moved.copies ∙ omega (arith, more, h.copies);
@@ -158,18 +160,19 @@ copies_own id line lines skew true old new on says few same notes h =
           (subst (λ n. CountsClasses (n ∷ skews id lines) new.classes.counts.items) same
           (moved.classes (skews id lines) (omega (arith, skews_count id lines, small, few)) h.classes));
     }
-copies_own id line lines skew false old new on says few same notes h =
+copies_own id line lines at skew false old new on says few same notes h =
     let test : (is_seen_of id line && is_copy line) ≡ false = and_right (is_seen_of id line) (is_copy line) says in
     let more = count_cons (λ l. is_seen_of id l && is_copy l) line lines 0 (ap (λ (b : Bool). cond b 1 0) test) in
     let is : skews id (line ∷ lines) ≡ skews id lines =
     ap (λ (b : Bool). cons_option (if b then Some (skew_after id line lines) else None) (skews id lines)) test in
     record {
-      within = subst (λ (xs : List ℕ). greatest_of xs ≤ new.skew_max) (sym is) (omega (arith, h.within, ap (λ (c : CopyNumbers). c.skew_max) notes));
-      copies = ap (λ (c : CopyNumbers). c.copies) notes ∙ omega (arith, more, h.copies);
-      skew_sum = ap (λ (c : CopyNumbers). c.skew_sum) notes ∙ h.skew_sum ∙ sym (ap (λ (xs : List ℕ). saturated (total_of xs)) is);
-      skew_greatest = ap (λ (c : CopyNumbers). c.skew_greatest) notes ∙ h.skew_greatest ∙ sym (ap (λ (xs : List ℕ). greatest_of xs) is);
+      within = subst (λ (xs : List ℕ). greatest_of xs ≤ new.skew_max) (sym is)
+          (omega (arith, h.within, ap (λ (c : AllCopies). c.numbers.skew_max) notes));
+      copies = ap (λ (c : AllCopies). c.numbers.copies) notes ∙ omega (arith, more, h.copies);
+      skew_sum = ap (λ (c : AllCopies). c.numbers.skew_sum) notes ∙ h.skew_sum ∙ sym (ap (λ (xs : List ℕ). saturated (total_of xs)) is);
+      skew_greatest = ap (λ (c : AllCopies). c.numbers.skew_greatest) notes ∙ h.skew_greatest ∙ sym (ap (λ (xs : List ℕ). greatest_of xs) is);
       classes = subst (λ (xs : List ℕ). CountsClasses xs new.classes.counts.items) (sym is)
-          (subst (CountsClasses (skews id lines)) (sym (ap (λ (c : CopyNumbers). c.classes) notes)) h.classes);
+          (subst (CountsClasses (skews id lines)) (sym (ap (λ (c : AllCopies). c.numbers.classes) notes)) h.classes);
     }
 
 -- the latest delivery of each number, with a line of the link
@@ -318,6 +321,24 @@ seen_after id network line lines lane rules report is h =
     (newest-found (lane_line id network) p (standings lines)) (found-passes p (standings lines)) h
     ∙ ap (λ (xs : List Silence). nat_lt 0 (latest_ordinal id network lines) && is_silent_since (latest_ordinal id network lines) xs) is.silences.kept
 
+-- a line as its lane takes it, but for its bin and the network that its moment names
+pub seen_same : (row : Row) (network : Network) (line : FrameLine) (lines : List FrameLine) (number : ℕ) (at : Moment) (old : Lane)
+    (report : NetworkReport) → line.sequence ≡ Some number → at.place ≡ place_of line → IsNetworkOf network (line ∷ lines) report →
+    StandsAfter (lane_rules row) (lane_lines row.id network lines) old →
+    seen_line old report line number at
+    ≡ record (lane_line row.id network (record { line = line; before = lines })) {
+      at = record { network = at.network; place = place_of line; bin = at.bin };
+    }
+seen_same row network line lines number at old report sequence place is h =
+    let st : Standing = record { line = line; before = lines } in
+    let after = seen_after row.id network line lines old (lane_rules row) report is h in
+    let moved : Moment = record { network = at.network; place = place_of line; bin = at.bin } in
+    ap (λ p. taken line (record { network = at.network; place = p; bin = at.bin }) report.frames number
+    (nat_lt 0 old.frames && is_silent_since old.ordinal report.silences.items)) place
+    ∙ ap (λ n. taken line moved n number (nat_lt 0 old.frames && is_silent_since old.ordinal report.silences.items)) is.frames
+    ∙ ap (λ (o : Option ℕ). taken line moved (ordinal_of network st) (unwrap_or o 0) (nat_lt 0 old.frames && is_silent_since old.ordinal report.silences.items)) (sym sequence)
+    ∙ ap (λ (b : Bool). taken line moved (ordinal_of network st) (unwrap_or line.sequence 0) b) after
+
 -- one more line of the lane
 pub lane_more : (row : Row) (network : Network) (line : FrameLine) (lines : List FrameLine) (number : ℕ) (at : Moment) (old new : Lane)
     (report : NetworkReport) → is_lane_line row.id network line ≡ true → line.sequence ≡ Some number → at.place ≡ place_of line →
@@ -327,19 +348,8 @@ pub lane_more : (row : Row) (network : Network) (line : FrameLine) (lines : List
 lane_more row network line lines number at old new report on sequence place is takes h =
     let st : Standing = record { line = line; before = lines } in
     let ls = lane_lines row.id network lines in
-    let p : Standing → Bool = λ s. is_lane_line row.id network s.line in
-    let found = find p (standings lines) in
-    let after : (nat_lt 0 old.frames && is_silent_since old.ordinal report.silences.items) ≡ is_after_silence row.id network st =
-    silent_same network found ls row.id (lane_rules row) old report.silences.items (newest-found (lane_line row.id network) p (standings lines))
-    (found-passes p (standings lines)) h
-    ∙ ap (λ (xs : List Silence). nat_lt 0 (latest_ordinal row.id network lines) && is_silent_since (latest_ordinal row.id network lines) xs) is.silences.kept in
     let moved : Moment = record { network = at.network; place = place_of line; bin = at.bin } in
-    let same : seen_line old report line number at ≡ record (lane_line row.id network st) { at = moved } =
-    ap (λ p. taken line (record { network = at.network; place = p; bin = at.bin }) report.frames number
-    (nat_lt 0 old.frames && is_silent_since old.ordinal report.silences.items)) place
-    ∙ ap (λ n. taken line moved n number (nat_lt 0 old.frames && is_silent_since old.ordinal report.silences.items)) is.frames
-    ∙ ap (λ (o : Option ℕ). taken line moved (ordinal_of network st) (unwrap_or o 0) (nat_lt 0 old.frames && is_silent_since old.ordinal report.silences.items)) (sym sequence)
-    ∙ ap (λ (b : Bool). taken line moved (ordinal_of network st) (unwrap_or line.sequence 0) b) after in
+    let same = seen_same row network line lines number at old report sequence place is h in
     subst (λ (xs : List LaneLine). StandsAfter (lane_rules row) xs new) (sym (lines_own row.id network line lines on))
     (rebinned (lane_rules row) (record (lane_line row.id network st) { at = moved }) network 0 ls new
     (subst (λ (l : LaneLine). StandsAfter (lane_rules row) (l ∷ ls) new) same (takes ls h)))
@@ -347,6 +357,15 @@ lane_more row network line lines number at old new report on sequence place is t
 stamp_at : (o : Option FrameLine) → option_map_or (λ (s : Spot). s.place.stamp) (option_map spot_of o) 0 ≡ option_map_or (λ (l : FrameLine). l.stamp.0) o 0
 stamp_at None = refl
 stamp_at (Some line) = refl
+
+-- the skew of a line by what is held of the latest delivery of its number
+pub skew_known : (id : ℕ) (line : FrameLine) (lines : List FrameLine) (number : ℕ) (at : Moment) (old : LinkReport) → line.sequence ≡ Some number →
+    IsMomentOf line at → HasLatest id lines old.pairing → skew_in old number at.place.stamp ≡ skew_after id line lines
+skew_known id line lines number at old sequence moment latest =
+    ap (λ (p : Place). p.stamp - option_map_or (λ (s : Spot). s.place.stamp) (spot_at old.pairing number) 0) moment.place
+    ∙ ap (λ (o : Option Spot). line.stamp.0 - option_map_or (λ (s : Spot). s.place.stamp) o 0) (latest number)
+    ∙ ap (λ n. line.stamp.0 - n) (stamp_at (latest_delivery id number lines))
+    ∙ ap (λ (o : Option ℕ). line.stamp.0 - option_map_or (λ (l : FrameLine). l.stamp.0) (latest_delivery id (unwrap_or o 0) lines) 0) (sym sequence)
 
 -- one more line of the link
 pub link_more : (row : Row) (line : FrameLine) (lines : List FrameLine) (number : ℕ) (at : Moment) (networks : Sides NetworkReport) (old new : LinkReport) → length lines < 2 ^ 34 →
@@ -359,18 +378,14 @@ link_more row line lines number at networks old new few delivers copies latest f
     at_network line.network refl (subst at_side moment.network notes)
   where
     skew_same : skew_in old number at.place.stamp ≡ skew_after row.id line lines
-    skew_same =
-        ap (λ (p : Place). p.stamp - option_map_or (λ (s : Spot). s.place.stamp) (spot_at old.pairing number) 0) moment.place
-        ∙ ap (λ (o : Option Spot). line.stamp.0 - option_map_or (λ (s : Spot). s.place.stamp) o 0) (h.latest number)
-        ∙ ap (λ n. line.stamp.0 - n) (stamp_at (latest_delivery row.id number lines))
-        ∙ ap (λ (o : Option ℕ). line.stamp.0 - option_map_or (λ (l : FrameLine). l.stamp.0) (latest_delivery row.id (unwrap_or o 0) lines) 0) (sym sequence)
+    skew_same = skew_known row.id line lines number at old sequence moment h.latest
 
     bound : old.skew_max ≡ row.skew_max
     bound = ap (λ (r : Row). r.skew_max) h.says
 
     own_copies : CopiesOf row.id (line ∷ lines) new
     own_copies =
-        copies_own row.id line lines (skew_in old number at.place.stamp) (is_copy line) old new seen refl few skew_same copies
+        copies_own row.id line lines at (skew_in old number at.place.stamp) (is_copy line) old new seen refl few skew_same copies
         (record { copies = h.copies; skew_sum = h.skew_sum; skew_greatest = h.skew_greatest; within = subst (λ n. greatest_of (skews row.id lines) ≤ n) (sym bound) h.within; classes = h.classes })
 
     own_within : greatest_of (skews row.id (line ∷ lines)) ≤ row.skew_max

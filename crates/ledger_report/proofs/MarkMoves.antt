@@ -15,7 +15,7 @@ use Rattle.ledger_report.specs.declared.signs.Sign.{Sign}
 use Rattle.ledger_report.specs.declared.signs.Sign.TheVariants.{Cut, Runt, Oversize, Foreign, Unconfigured, TooLong, Excess, Out, Lost, Repeat, Reset, Alone, Late, Early}
 use Rattle.ledger_report.specs.declared.signs.Signs.{Signs}
 
-by_test : (b : Bool) (P : Bool → Type 0) → (b ≡ true → P true) → (b ≡ false → P false) → P b
+pub by_test : (b : Bool) (P : Bool → Type 0) → (b ≡ true → P true) → (b ≡ false → P false) → P b
 by_test true P f g = f refl
 by_test false P f g = g refl
 
@@ -43,18 +43,23 @@ hit_of-some : (place : Place) (amount : ℕ) → 0 < amount → hit_of place amo
 hit_of-some place zero some = absurd (omega arith)
 hit_of-some place (suc amount) some = refl
 
+-- a hit of one sign is one more of it alone
+pub one_hit : (sign : Sign) (amounts : Sign → ℕ) (place : Place) (amount : ℕ) →
+    ((other : Sign) → amounts other ≡ (if sign_index sign == sign_index other then amount else 0)) → 0 < amount → (other : Sign) (hits : List Hit) →
+    cons_option (hit_of place (amounts other)) hits ≡ hits_with sign (record { place = place; amount = amount }) other hits
+one_hit sign amounts place amount are some other hits =
+    let hit : Hit = record { place = place; amount = amount } in
+    ap (λ n. cons_option (hit_of place n) hits) (are other)
+    ∙ by_test (sign_index sign == sign_index other) (λ b. cons_option (hit_of place (if b then amount else 0)) hits ≡ (if b then hit ∷ hits else hits))
+    (λ yes. ap (λ (o : Option Hit). cons_option o hits) (hit_of-some place amount some))
+    (λ no. refl)
+
 -- a hit of one sign counts for no other
 pub amounts_one : (sign : Sign) (amounts : Sign → ℕ) (place : Place) (amount : ℕ) (old new : Signs)
     → ((other : Sign) → amounts other ≡ (if sign_index sign == sign_index other then amount else 0)) → 0 < amount
     → TakesHit sign (record { place = place; amount = amount }) old new → TakesAmounts amounts place old new
 amounts_one sign amounts place amount old new are some takes other hits has =
-    let hit : Hit = record { place = place; amount = amount } in
-    let same : cons_option (hit_of place (amounts other)) hits ≡ hits_with sign hit other hits =
-    ap (λ n. cons_option (hit_of place n) hits) (are other)
-    ∙ by_test (sign_index sign == sign_index other) (λ b. cons_option (hit_of place (if b then amount else 0)) hits ≡ (if b then hit ∷ hits else hits))
-    (λ yes. ap (λ (o : Option Hit). cons_option o hits) (hit_of-some place amount some))
-    (λ no. refl) in
-    subst (HasHits new other) (sym same) (takes other hits has)
+    subst (HasHits new other) (sym (one_hit sign amounts place amount are some other hits)) (takes other hits has)
 
 -- none counts for any sign
 pub amounts_none : (amounts : Sign → ℕ) (place : Place) (signs : Signs) → ((other : Sign) → amounts other ≡ 0) → TakesAmounts amounts place signs signs

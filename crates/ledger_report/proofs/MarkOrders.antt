@@ -138,15 +138,23 @@ option_front : (hit : Option Hit) (xs : List Hit) → cons_option hit xs ≡ con
 option_front None xs = refl
 option_front (Some hit) xs = refl
 
--- a mark of the lists, where one has one more hit in front at most
+-- what holds of the lists, where one has one more hit in front at most
+pub of_one : {X : Type 0} (P : List Hit → Type 0) → ((more xs ys : List Hit) → P (more ++ (xs ++ ys)) → P (xs ++ (more ++ ys))) →
+    (f g : X → List Hit) (xs : List X) (place : ℕ) (d : X) (hit : Option Hit) → place < length xs →
+    f (get_or xs place d) ≡ cons_option hit (g (get_or xs place d)) →
+    ((i : ℕ) → i < length xs → i ≢ place → f (get_or xs i d) ≡ g (get_or xs i d)) → P (cons_option hit (flat_map g xs)) → P (flat_map f xs)
+of_one P moved f g xs place d hit within own others is =
+    let more = cons_option hit [] in
+    let y = get_or xs place d in
+    let at = parted f g xs place d more within (own ∙ option_front hit (g y)) others in
+    let front : P (more ++ (at.before ++ (g y ++ at.after))) =
+    subst P (option_front hit (flat_map g xs) ∙ ap (λ (hs : List Hit). more ++ hs) at.was) is in
+    subst P (sym at.now) (moved more at.before (g y ++ at.after) front)
+
+-- a mark of the lists
 pub mark_of_one : {X : Type 0} (f g : X → List Hit) (xs : List X) (place : ℕ) (d : X) (hit : Option Hit) (mark : Mark) → place < length xs →
     f (get_or xs place d) ≡ cons_option hit (g (get_or xs place d)) →
     ((i : ℕ) → i < length xs → i ≢ place → f (get_or xs i d) ≡ g (get_or xs i d)) →
     IsMarkOf (cons_option hit (flat_map g xs)) mark → IsMarkOf (flat_map f xs) mark
 mark_of_one f g xs place d hit mark within own others is =
-    let more = cons_option hit [] in
-    let y = get_or xs place d in
-    let at = parted f g xs place d more within (own ∙ option_front hit (g y)) others in
-    let front : IsMarkOf (more ++ (at.before ++ (g y ++ at.after))) mark =
-    subst (λ (hs : List Hit). IsMarkOf hs mark) (option_front hit (flat_map g xs) ∙ ap (λ (hs : List Hit). more ++ hs) at.was) is in
-    subst (λ (hs : List Hit). IsMarkOf hs mark) (sym at.now) (mark_moved more at.before (g y ++ at.after) mark front)
+    of_one (λ (hs : List Hit). IsMarkOf hs mark) (λ more ys zs. mark_moved more ys zs mark) f g xs place d hit within own others is

@@ -5,13 +5,14 @@ use Rattle.std.specs.Option.{option_map}
 use Rattle.afdx_frame.specs.declared.key.Network.{Network}
 use Rattle.ledger_text.specs.declared.frame.FrameLine.{FrameLine}
 use Rattle.ledger_report.specs.Bins.{Doubles, TakesNumber}
-use Rattle.ledger_report.specs.NetworkSeries.{AreInBins, HasSeries, KeepsTimes, load_on, one_on, put_of, puts_of}
+use Rattle.ledger_report.specs.NetworkSeries.{AreInBins, HasSeries, HasTimes, KeepsTimes, KeepsTimesButSkews, load_on, one_on, put_of, puts_of}
 use Rattle.ledger_report.specs.Series.{IsSeriesOf, LieIn, Put, is_in}
 use Rattle.ledger_report.specs.Words.{is_on}
 use Rattle.ledger_report.specs.declared.network.NetworkReport.{NetworkReport}
 use Rattle.ledger_report.specs.declared.series.Merge.{Merge}
 use Rattle.ledger_report.specs.declared.series.Merge.TheVariants.{Sum}
 use Rattle.ledger_report.specs.declared.series.Series.{Series}
+use Rattle.ledger_report.proofs.RuleBins.{rule_bins_kept, rule_bins_other}
 use Rattle.ledger_report.proofs.SeriesSteps.{series_doubled, series_put}
 
 -- what comes with lines lies where they lie
@@ -59,7 +60,7 @@ load_here network line kept on same = rw on (ap (λ (o : Option ℕ). option_map
 -- a line of the other network
 pub network_apart : (network : Network) (start width : ℕ) (line : FrameLine) (lines : List FrameLine) (old new : NetworkReport) →
     is_on network line ≡ false →
-    KeepsTimes old new → HasSeries network start width lines old → HasSeries network start width (line ∷ lines) new
+    (new.lines ≡ old.lines) × (new.loads ≡ old.loads) → HasSeries network start width lines old → HasSeries network start width (line ∷ lines) new
 network_apart network start width line lines old new off (ones, loads) h = record {
   lines_are = series_same Sum start width (one_on network) line lines old.lines new.lines (rw off refl) ones h.lines_are;
   loads_are = series_same Sum start width (load_on network) line lines old.loads new.loads (rw off refl) loads h.loads_are;
@@ -89,8 +90,8 @@ network_load network start width at kept line lines old new on is lies same take
       same_loads takes_loads h.loads_are;
 }
 
-pub network_kept : (network : Network) (start width : ℕ) (lines : List FrameLine) (old new : NetworkReport) → KeepsTimes old new →
-    HasSeries network start width lines old → HasSeries network start width lines new
+pub network_kept : (network : Network) (start width : ℕ) (lines : List FrameLine) (old new : NetworkReport) →
+    (new.lines ≡ old.lines) × (new.loads ≡ old.loads) → HasSeries network start width lines old → HasSeries network start width lines new
 network_kept network start width lines old new (ones, loads) h = record {
   lines_are = subst (IsSeriesOf Sum start width (puts_of (one_on network) lines)) (sym ones) h.lines_are;
   loads_are = subst (IsSeriesOf Sum start width (puts_of (load_on network) lines)) (sym loads) h.loads_are;
@@ -106,4 +107,22 @@ network_doubled network start width lines old new lie same doubles same_loads do
   loads_are = series_doubled Sum start width (puts_of (load_on network) lines) old.loads new.loads (puts_lie start width
       (load_on network) lines lie) same_loads
       doubles_loads h.loads_are;
+}
+
+-- ---- with the signs of rules
+
+pub times_kept : (network : Network) (start width : ℕ) (lines : List FrameLine) (old new : NetworkReport) → KeepsTimesButSkews old new →
+    HasTimes network start width lines old → HasTimes network start width lines new
+times_kept network start width lines old new (ones, loads, rules) h = record {
+  series = network_kept network start width lines old new (ones, loads) h.series;
+  rules = rule_bins_kept network start width lines old.signs new.signs rules h.rules;
+}
+
+-- a line of the other network
+pub times_apart : (network : Network) (start width : ℕ) (line : FrameLine) (lines : List FrameLine) (old new : NetworkReport) →
+    is_on network line ≡ false → KeepsTimes old new → HasTimes network start width lines old → HasTimes network start width (line ∷ lines) new
+times_apart network start width line lines old new off ((ones, loads, rules), skews) h = record {
+  series = network_apart network start width line lines old new off (ones, loads) h.series;
+  rules = rule_bins_other network start width line lines new.signs off
+      (rule_bins_kept network start width lines old.signs new.signs rules h.rules);
 }

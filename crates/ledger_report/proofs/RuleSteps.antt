@@ -40,37 +40,48 @@ keeps_rules network lines old new is h = rules_same network lines old.signs new.
 
 -- ---- one more line
 
-pub rules_other : (network : Network) (line : FrameLine) (lines : List FrameLine) (signs : Signs) → is_on network line ≡ false → HasRules network lines signs →
-    HasRules network (line ∷ lines) signs
-rules_other network line lines signs off h sign own =
-    subst (HasHits signs sign) (ap (λ (b : Bool). filter_map (rule_hit sign) (cond b (line ∷ filter (is_on network) lines) (filter (is_on network) lines))) (sym off)) (h sign own)
+-- a line of the other network adds no hit
+pub hits_other : (network : Network) (line : FrameLine) (lines : List FrameLine) (sign : Sign) → is_on network line ≡ false →
+    rule_hits network sign lines ≡ rule_hits network sign (line ∷ lines)
+hits_other network line lines sign off =
+    ap (λ (b : Bool). filter_map (rule_hit sign) (cond b (line ∷ filter (is_on network) lines) (filter (is_on network) lines))) (sym off)
 
 own_hits : (network : Network) (line : FrameLine) (lines : List FrameLine) (sign : Sign) → is_on network line ≡ true →
     cons_option (rule_hit sign line) (rule_hits network sign lines) ≡ rule_hits network sign (line ∷ lines)
 own_hits network line lines sign on =
     ap (λ (b : Bool). filter_map (rule_hit sign) (cond b (line ∷ filter (is_on network) lines) (filter (is_on network) lines))) (sym on)
 
--- a line without a rule
-pub rules_none : (network : Network) (line : FrameLine) (lines : List FrameLine) (signs : Signs) → is_on network line ≡ true → rule_of line ≡ None → HasRules network lines signs →
-    HasRules network (line ∷ lines) signs
-rules_none network line lines signs on none h sign own =
-    subst (HasHits signs sign)
-    (ap (λ (o : Option Sign). cons_option (if is_rule sign o then Some (record { place = place_of line; amount = 1 }) else None) (rule_hits network sign lines)) (sym none)
-    ∙ own_hits network line lines sign on)
-    (h sign own)
+-- nor does one without a rule
+pub hits_none : (network : Network) (line : FrameLine) (lines : List FrameLine) (sign : Sign) → is_on network line ≡ true →
+    rule_of line ≡ None → rule_hits network sign lines ≡ rule_hits network sign (line ∷ lines)
+hits_none network line lines sign on none =
+    ap (λ (o : Option Sign). cons_option (if is_rule sign o then Some (record { place = place_of line; amount = 1 }) else None) (rule_hits network sign lines)) (sym none)
+    ∙ own_hits network line lines sign on
 
--- a line of a rule
-pub rules_more : (network : Network) (line : FrameLine) (lines : List FrameLine) (rule : Sign) (place : Place) (old new : Signs) → is_on network line ≡ true → rule_of line ≡ Some rule →
-    place ≡ place_of line → TakesHit rule (record { place = place; amount = 1 }) old new → HasRules network lines old → HasRules network (line ∷ lines) new
-rules_more network line lines rule place old new on is at takes h sign own =
-    subst (HasHits new sign)
-    (ap (λ (p : Place). hits_with rule (record { place = p; amount = 1 }) sign (rule_hits network sign lines)) at
+-- a line of a rule adds one
+pub hits_more : (network : Network) (line : FrameLine) (lines : List FrameLine) (rule sign : Sign) (place : Place) → is_on network line ≡ true →
+    rule_of line ≡ Some rule → place ≡ place_of line →
+    hits_with rule (record { place = place; amount = 1 }) sign (rule_hits network sign lines) ≡ rule_hits network sign (line ∷ lines)
+hits_more network line lines rule sign place on is at =
+    ap (λ (p : Place). hits_with rule (record { place = p; amount = 1 }) sign (rule_hits network sign lines)) at
     ∙ counts (sign_index rule == sign_index sign)
     ∙ ap (λ (o : Option Sign). cons_option (if is_rule sign o then Some (record { place = place_of line; amount = 1 }) else None) (rule_hits network sign lines)) (sym is)
-    ∙ own_hits network line lines sign on)
-    (takes sign (rule_hits network sign lines) (h sign own))
+    ∙ own_hits network line lines sign on
   where
     counts : (b : Bool) → (if b then (record { place = place_of line; amount = 1 }) ∷ rule_hits network sign lines else rule_hits network sign lines)
         ≡ cons_option (if b then Some (record { place = place_of line; amount = 1 }) else None) (rule_hits network sign lines)
     counts true = refl
     counts false = refl
+
+pub rules_other : (network : Network) (line : FrameLine) (lines : List FrameLine) (signs : Signs) → is_on network line ≡ false → HasRules network lines signs →
+    HasRules network (line ∷ lines) signs
+rules_other network line lines signs off h sign own = subst (HasHits signs sign) (hits_other network line lines sign off) (h sign own)
+
+pub rules_none : (network : Network) (line : FrameLine) (lines : List FrameLine) (signs : Signs) → is_on network line ≡ true → rule_of line ≡ None → HasRules network lines signs →
+    HasRules network (line ∷ lines) signs
+rules_none network line lines signs on none h sign own = subst (HasHits signs sign) (hits_none network line lines sign on none) (h sign own)
+
+pub rules_more : (network : Network) (line : FrameLine) (lines : List FrameLine) (rule : Sign) (place : Place) (old new : Signs) → is_on network line ≡ true → rule_of line ≡ Some rule →
+    place ≡ place_of line → TakesHit rule (record { place = place; amount = 1 }) old new → HasRules network lines old → HasRules network (line ∷ lines) new
+rules_more network line lines rule place old new on is at takes h sign own =
+    subst (HasHits new sign) (hits_more network line lines rule sign place on is at) (takes sign (rule_hits network sign lines) (h sign own))

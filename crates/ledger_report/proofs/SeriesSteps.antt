@@ -6,7 +6,7 @@ use Rattle.std.proofs.lemmas.List.{get_or_default, get_or_past, map-append}
 use Rattle.std.proofs.lemmas.List.Elements.{filter-append}
 use Rattle.ledger_report.specs.Bins.{Doubles, TakesNumber, bin_at}
 use Rattle.ledger_report.specs.Merging.{merged, nothing_of}
-use Rattle.ledger_report.specs.Series.{IsSeriesOf, LieIn, Put, all_merged, is_in, values_in}
+use Rattle.ledger_report.specs.Series.{IsSeriesOf, LieIn, Put, all_merged, is_in, room_of, values_in}
 use Rattle.ledger_report.specs.Sums.{least_of}
 use Rattle.ledger_report.specs.declared.series.Merge.{Merge}
 use Rattle.ledger_report.specs.declared.series.Merge.TheVariants.{Sum, Least, Greatest}
@@ -88,10 +88,11 @@ values_other start width bin put puts off = rw off refl
 -- ---- a series
 
 pub series_none : (merge : Merge) (start width : ℕ) (series : Series) → series.merge ≡ merge → ((bin : ℕ) → bin_at series bin ≡ nothing_of merge) →
-    IsSeriesOf merge start width [] series
-series_none merge start width series same nothing = record {
+    series.bins.items ≡ [] → IsSeriesOf merge start width [] series
+series_none merge start width series same nothing none = record {
   merge_is = same;
   bins_are = λ bin below. nothing bin ∙ sym (merged_none merge);
+  room_is = ap (λ (ns : List ℕ). length ns) none;
 }
 
 pub series_put : (merge : Merge) (start width at : ℕ) (put : Put) (puts : List Put) (old new : Series) → is_in start width at put.stamp ≡ true →
@@ -99,18 +100,19 @@ pub series_put : (merge : Merge) (start width at : ℕ) (put : Put) (puts : List
 series_put merge start width at put puts old new lies same takes h = record {
   merge_is = same ∙ h.merge_is;
   bins_are = λ bin below. one bin below (cases_Bool (bin == at));
+  room_is = takes.room;
 }
   where
     one : (bin : ℕ) → bin < 240 → ((bin == at) ≡ true) ⊎ ((bin == at) ≡ false) →
         bin_at new bin ≡ all_merged merge (values_in start width bin (put ∷ puts))
     one bin below (inl own) =
-        takes bin below ∙ ap (λ (b : Bool). if b then merged old.merge (bin_at old bin) put.value else bin_at old bin) own
+        takes.bins bin below ∙ ap (λ (b : Bool). if b then merged old.merge (bin_at old bin) put.value else bin_at old bin) own
         ∙ ap (λ (m : Merge). merged m (bin_at old bin) put.value) h.merge_is
         ∙ ap (λ n. merged merge n put.value) (h.bins_are bin below)
         ∙ sym (merged_more merge put.value (values_in start width bin puts))
         ∙ ap (all_merged merge) (sym (values_own start width bin put puts (in_one_bin start width at put.stamp bin lies ∙ own)))
     one bin below (inr other) =
-        takes bin below ∙ ap (λ (b : Bool). if b then merged old.merge (bin_at old bin) put.value else bin_at old bin) other
+        takes.bins bin below ∙ ap (λ (b : Bool). if b then merged old.merge (bin_at old bin) put.value else bin_at old bin) other
         ∙ h.bins_are bin below
         ∙ ap (all_merged merge) (sym (values_other start width bin put puts (in_one_bin start width at put.stamp bin lies ∙ other)))
 
@@ -200,11 +202,12 @@ pub series_doubled : (merge : Merge) (start width : ℕ) (puts : List Put) (old 
 series_doubled merge start width puts old new lie same doubles h = record {
   merge_is = same ∙ h.merge_is;
   bins_are = λ bin below. one bin below (cases_lt bin 120);
+  room_is = doubles.room ∙ h.room_is;
 }
   where
     one : (bin : ℕ) → bin < 240 → (bin < 120) ⊎ (120 ≤ bin) → bin_at new bin ≡ all_merged merge (values_in start (2 * width) bin puts)
     one bin below (inl low) =
-        doubles bin below
+        doubles.bins bin below
         ∙ ap (λ (b : Bool). if b then merged old.merge (bin_at old (2 * bin)) (bin_at old (2 * bin + 1)) else nothing_of old.merge)
         (lt-ltb bin 120 low)
         ∙ ap (λ (m : Merge). merged m (bin_at old (2 * bin)) (bin_at old (2 * bin + 1))) h.merge_is
@@ -212,7 +215,7 @@ series_doubled merge start width puts old new lie same doubles h = record {
         ∙ ap (λ n. merged merge (all_merged merge (values_in start width (2 * bin) puts)) n) (h.bins_are (2 * bin + 1) (omega (arith, low)))
         ∙ sym (both_bins merge start width bin puts)
     one bin below (inr high) =
-        doubles bin below
+        doubles.bins bin below
         ∙ ap (λ (b : Bool). if b then merged old.merge (bin_at old (2 * bin)) (bin_at old (2 * bin + 1)) else nothing_of old.merge)
         (le-ltb bin 120 high)
         ∙ ap nothing_of h.merge_is
@@ -232,6 +235,8 @@ pub record Absorbs (numbers : List ℕ) (count : ℕ) (old new : Series) : Type 
   pub same : new.merge ≡ old.merge
   pub below : (bin : ℕ) → bin < 240 → bin < count → bin_at new bin ≡ merged old.merge (bin_at old bin) (get_or numbers bin 0)
   pub rest : (bin : ℕ) → bin < 240 → count ≤ bin → bin_at new bin ≡ bin_at old bin
+  pub some : 0 < count → length new.bins.items ≡ 240
+  pub none : count ≡ 0 → length new.bins.items ≡ length old.bins.items
 
 pub absorbs_more : (numbers : List ℕ) (at value : ℕ) (old mid new : Series) → value ≡ get_or numbers at 0 → new.merge ≡ mid.merge →
     TakesNumber at value mid new →
@@ -240,20 +245,22 @@ absorbs_more numbers at value old mid new is same takes h = record {
   same = same ∙ h.same;
   below = λ bin few less. one bin few less (cases_Bool (bin == at));
   rest = λ bin few past.
-      takes bin few
+      takes.bins bin few
       ∙ ap (λ (b : Bool). if b then merged mid.merge (bin_at mid bin) value else bin_at mid bin) (ne_eqb bin at (λ e. omega (arith, e, past)))
       ∙ h.rest bin few (omega (arith, past));
+  some = λ more. takes.room;
+  none = λ empty. absurd (omega (arith, empty));
 }
   where
     one : (bin : ℕ) → bin < 240 → bin < at + 1 → ((bin == at) ≡ true) ⊎ ((bin == at) ≡ false) →
         bin_at new bin ≡ merged old.merge (bin_at old bin) (get_or numbers bin 0)
     one bin few less (inl here) =
         let place : bin ≡ at = eqb-true bin at here in
-        takes bin few ∙ ap (λ (b : Bool). if b then merged mid.merge (bin_at mid bin) value else bin_at mid bin) here
+        takes.bins bin few ∙ ap (λ (b : Bool). if b then merged mid.merge (bin_at mid bin) value else bin_at mid bin) here
         ∙ ap (λ (m : Merge). merged m (bin_at mid bin) value) h.same ∙ ap (λ n. merged old.merge n value) (h.rest bin few (omega (arith, place)))
         ∙ ap (λ n. merged old.merge (bin_at old bin) n) (is ∙ ap (λ n. get_or numbers n 0) (sym place))
     one bin few less (inr there) =
-        takes bin few ∙ ap (λ (b : Bool). if b then merged mid.merge (bin_at mid bin) value else bin_at mid bin) there
+        takes.bins bin few ∙ ap (λ (b : Bool). if b then merged mid.merge (bin_at mid bin) value else bin_at mid bin) there
         ∙ h.below bin few (let apart : bin ≢ at = eqb-false bin at there in omega (arith, less, apart))
 
 bounded : (ys : List ℕ) → least_of ys ≡ min (least_of ys) 18446744073709551615
@@ -273,7 +280,7 @@ all_both merge (x ∷ xs) ys =
     ∙ right_more merge (all_merged merge ys) (all_merged merge xs) x
     ∙ ap (λ n. merged merge (all_merged merge ys) n) (sym (merged_more merge x xs))
 
-values_both : (start width bin : ℕ) (xs ys : List Put) → values_in start width bin
+pub values_both : (start width bin : ℕ) (xs ys : List Put) → values_in start width bin
     (xs ++ ys) ≡ values_in start width bin xs ++ values_in start width bin ys
 values_both start width bin xs ys =
     ap (λ (ps : List Put). map (λ (put : Put). put.value) ps) (filter-append (λ (put : Put). is_in start width bin put.stamp) xs ys)
@@ -287,8 +294,16 @@ pub series_both : (numbers : List ℕ) (other old new : Series) (merge : Merge) 
 series_both numbers other old new merge start width puts others items h first second = record {
   merge_is = h.same ∙ first.merge_is;
   bins_are = λ bin few. one bin few (cases_lt bin (length numbers));
+  room_is = room others second.room_is;
 }
   where
+    long : length other.bins.items ≡ length numbers
+    long = ap (λ (ns : List ℕ). length ns) items
+
+    room : (more : List Put) → length other.bins.items ≡ room_of more → length new.bins.items ≡ room_of (more ++ puts)
+    room [] is = h.none (omega (arith, is, long)) ∙ first.room_is
+    room (put ∷ more) is = h.some (omega (arith, is, long))
+
     both : (bin : ℕ) → merged merge (all_merged merge (values_in start width bin puts)) (all_merged merge (values_in start width bin others))
         ≡ all_merged merge (values_in start width bin (others ++ puts))
     both bin =

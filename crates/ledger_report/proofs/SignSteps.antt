@@ -22,21 +22,21 @@ use Rattle.ledger_report.specs.declared.moment.Moment.{Moment}
 use Rattle.ledger_report.specs.declared.network.NetworkReport.{NetworkReport}
 use Rattle.ledger_report.specs.declared.sides.Sides.{Sides}
 use Rattle.ledger_report.specs.declared.signs.Sign.{Sign}
-use Rattle.ledger_report.specs.declared.signs.Sign.TheVariants.{Lost, Repeat, Reset, Late}
+use Rattle.ledger_report.specs.declared.signs.Sign.TheVariants.{Lost, Repeat, Reset, Late, Early}
 use Rattle.ledger_report.specs.declared.statistics.Statistics.{Statistics}
 use Rattle.ledger_report.proofs.AbsenceSteps.{runs_unseen}
 use Rattle.ledger_report.proofs.AccountSteps.{each_set_of, is_of_link, link_at}
-use Rattle.ledger_report.proofs.LinkMarkSteps.{keep_hits, link_hits_more, link_hits_unseen, link_marks_none, link_marks_on}
+use Rattle.ledger_report.proofs.LinkMarkSteps.{keep_hits, link_hits_more, link_hits_unseen, link_tallies_none, link_tallies_on, tallies_of}
 use Rattle.ledger_report.proofs.LossLines.{keeps_losses, losses_more, losses_other}
 
 -- ---- what stays
 
 pub keeps_signs_none : (statistics : Statistics) → KeepsSigns statistics statistics
-keeps_signs_none statistics = record { link_marks = link_marks_none statistics.networks; losses = λ i report. refl }
+keeps_signs_none statistics = record { link_marks = link_tallies_none statistics.networks; losses = λ i report. refl }
 
 pub keeps_signs_on : (old mid new : Statistics) → KeepsSigns old mid → KeepsSigns mid new → KeepsSigns old new
 keeps_signs_on old mid new first second = record {
-  link_marks = link_marks_on old.networks mid.networks new.networks first.link_marks second.link_marks;
+  link_marks = link_tallies_on old.networks mid.networks new.networks first.link_marks second.link_marks;
   losses = λ i report. second.losses i report ∙ first.losses i report;
 }
 
@@ -47,12 +47,13 @@ keep_each_losses links lines old new keeps h i link report within =
 
 -- ---- no line
 
-none_each : (sign : Sign) (network : Network) (links : List VirtualLink) → IsLinkSign sign → network_hits sign network links [] ≡ []
+pub none_each : (sign : Sign) (network : Network) (links : List VirtualLink) → IsLinkSign sign → network_hits sign network links [] ≡ []
 none_each sign network [] own = refl
 none_each Lost network (link ∷ links) own = none_each Lost network links own
 none_each Repeat network (link ∷ links) own = none_each Repeat network links own
 none_each Reset network (link ∷ links) own = none_each Reset network links own
 none_each Late network (link ∷ links) own = none_each Late network links own
+none_each Early network (link ∷ links) own = none_each Early network links own
 none_each sign network (link ∷ links) own = absurd own
 
 pub no_link_hits : (links : List VirtualLink) (networks : Sides NetworkReport) → ((sign : Sign) → HasHits networks.a.signs sign []) →
@@ -70,7 +71,7 @@ pub signs_ready : (links : List VirtualLink) (lines : List FrameLine) (old place
     KeepLinkMarks reached.networks noted.networks →
     noted ≡ record reached { networks = noted.networks } → HasSignsOf links lines old → HasSignsOf links lines noted
 signs_ready links lines old placed reached noted one keeps runs networks two h = record {
-  link_marks = keep_hits links lines reached.networks noted.networks networks
+  link_marks = keep_hits links lines reached.networks noted.networks (tallies_of reached.networks noted.networks networks)
       (keep_hits links lines placed.networks reached.networks keeps.link_marks
       (subst (λ (n : Sides NetworkReport). HaveLinkHits links lines n) (sym (ap (λ (x : Statistics). x.networks) one)) h.link_marks));
   losses = subst (AreEach HasLosses links lines) (sym (ap (λ (x : Statistics). x.links.items) two))

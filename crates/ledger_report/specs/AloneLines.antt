@@ -6,19 +6,20 @@ use Rattle.std.specs.Option.{option_and_then}
 use Rattle.afdx_frame.specs.declared.key.Network.{Network}
 use Rattle.afdx_frame.specs.declared.key.Network.TheVariants.{A, B}
 use Rattle.ledger_text.specs.declared.frame.FrameLine.{FrameLine}
-use Rattle.ledger_report.specs.Alone.{hits_at}
+use Rattle.ledger_report.specs.Alone.{BinnedBy, Scale, hits_at}
 use Rattle.ledger_report.specs.Copies.{delivers}
 use Rattle.ledger_report.specs.Covered.{is_covered}
 use Rattle.ledger_report.specs.Extremes.{Hit}
 use Rattle.ledger_report.specs.Fates.{PairingRules, fate_at, is_late, is_open, latest_of, number_of}
 use Rattle.ledger_report.specs.LinkLines.{place_of}
 use Rattle.ledger_report.specs.Links.{Row, pairing_rules}
-use Rattle.ledger_report.specs.Marks.{HasHits}
+use Rattle.ledger_report.specs.Marks.{HasHits, mark_at}
 use Rattle.ledger_report.specs.Standings.{Standing, standings}
 use Rattle.ledger_report.specs.Sums.{saturated}
 use Rattle.ledger_report.specs.Words.{is_on, other_of}
 use Rattle.ledger_report.specs.declared.bounds.TheConstants.{NUMBERS}
 use Rattle.ledger_report.specs.declared.link.LinkReport.{LinkReport}
+use Rattle.ledger_report.specs.declared.signs.Mark.{Mark}
 use Rattle.ledger_report.specs.declared.signs.Sign.TheVariants.{Alone}
 
 -- ---- deliveries that the other network didn't bring
@@ -75,15 +76,17 @@ alone_hits rules network lines = hits_at (map (λ delivery. place_of delivery.li
 
 -- ---- in a report
 
--- Each lane has a mark of its deliveries that are alone, and how many are uncovered.
-pub record LanesAreAlone (row : Row) (lines : List FrameLine) (report : LinkReport) : Type 0 where
+-- Each lane has a mark of its deliveries that are alone, with its bins, and how many are uncovered.
+pub record LanesAreAlone (scale : Option Scale) (row : Row) (lines : List FrameLine) (report : LinkReport) : Type 0 where
   pub on_a : HasHits report.lanes.a.signs Alone (alone_hits (pairing_rules row) A lines)
   pub on_b : HasHits report.lanes.b.signs Alone (alone_hits (pairing_rules row) B lines)
+  pub bins_on_a : (none : Mark) → BinnedBy scale (alone_hits (pairing_rules row) A lines) (mark_at report.lanes.a.signs Alone none)
+  pub bins_on_b : (none : Mark) → BinnedBy scale (alone_hits (pairing_rules row) B lines) (mark_at report.lanes.b.signs Alone none)
   pub uncovered_on_a : report.lanes.a.uncovered ≡ saturated (length (uncovered_on (pairing_rules row) A lines))
   pub uncovered_on_b : report.lanes.b.uncovered ≡ saturated (length (uncovered_on (pairing_rules row) B lines))
 
 -- So does the link, which counts those of both networks.
-pub record HasAlone (row : Row) (lines : List FrameLine) (report : LinkReport) : Type 0 where
-  pub lanes : LanesAreAlone row lines report
+pub record HasAlone (scale : Option Scale) (row : Row) (lines : List FrameLine) (report : LinkReport) : Type 0 where
+  pub lanes : LanesAreAlone scale row lines report
   pub alone : report.fates.alone ≡ length (alone_on (pairing_rules row) A lines) + length (alone_on (pairing_rules row) B lines)
   pub uncovered : report.fates.uncovered ≡ length (uncovered_on (pairing_rules row) A lines) + length (uncovered_on (pairing_rules row) B lines)

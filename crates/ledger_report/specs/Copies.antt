@@ -6,6 +6,7 @@ use Rattle.ledger_text.specs.declared.frame.FrameLine.{FrameLine}
 use Rattle.ledger_report.specs.Classes.{CountsClasses}
 use Rattle.ledger_report.specs.Deliveries.{is_copy, is_deliver}
 use Rattle.ledger_report.specs.LinkLines.{place_of}
+use Rattle.ledger_report.specs.SidesSeries.{PutsOn}
 use Rattle.ledger_report.specs.Standings.{Standing, standings}
 use Rattle.ledger_report.specs.Sums.{saturated}
 use Rattle.ledger_report.specs.Words.{is_seen_of}
@@ -14,6 +15,8 @@ use Rattle.ledger_report.specs.declared.moment.Moment.{Moment}
 use Rattle.ledger_report.specs.declared.moment.Place.{Place}
 use Rattle.ledger_report.specs.declared.pairing.Delivery.{Delivery}
 use Rattle.ledger_report.specs.declared.pairing.Pairing.{Pairing}
+use Rattle.ledger_report.specs.declared.series.Series.{Series}
+use Rattle.ledger_report.specs.declared.sides.Sides.{Sides}
 
 -- ---- over the lines
 
@@ -80,8 +83,19 @@ copy_numbers report = record {
   skew_max = report.skew_max;
 }
 
+abbrev pub KeepsCopyNumbers : LinkReport → LinkReport → Type 0
+KeepsCopyNumbers old new = copy_numbers new ≡ copy_numbers old
+
+-- and their skews by time
+pub record AllCopies : Type 0 where
+  pub numbers : CopyNumbers
+  pub skews : Sides Series
+
+abbrev pub all_copies : LinkReport → AllCopies
+all_copies report = record { numbers = copy_numbers report; skews = report.skews }
+
 abbrev pub KeepsCopies : LinkReport → LinkReport → Type 0
-KeepsCopies old new = copy_numbers new ≡ copy_numbers old
+KeepsCopies old new = all_copies new ≡ all_copies old
 
 -- how much later a time is than the latest delivery of a number
 abbrev pub skew_in : LinkReport → ℕ → ℕ → ℕ
@@ -100,16 +114,18 @@ pub record AddsSkew (skew : ℕ) (old new : CopyNumbers) : Type 0 where
   pub skew_greatest : new.skew_greatest ≡ max old.skew_greatest skew
   pub classes : CountsMore skew old.classes new.classes
 
-abbrev pub TakesCopy : ℕ → LinkReport → LinkReport → Type 0
-TakesCopy skew old new = old.copies + 1 < 2 ^ 64 → AddsSkew skew (copy_numbers old) (copy_numbers new)
+-- on the network and in the bin of the copy
+pub record TakesCopy (at : Moment) (skew : ℕ) (old new : LinkReport) : Type 0 where
+  pub numbers : old.copies + 1 < 2 ^ 64 → AddsSkew skew (copy_numbers old) (copy_numbers new)
+  pub series : PutsOn at.network at.bin (Some skew) old.skews new.skews
 
 -- A line that says `copy` adds its skew, and no other does.
-abbrev pub NotesCopyWhere : Bool → ℕ → LinkReport → LinkReport → Type 0
-NotesCopyWhere true skew old new = TakesCopy skew old new
-NotesCopyWhere false skew old new = KeepsCopies old new
+abbrev pub NotesCopyWhere : Bool → Moment → ℕ → LinkReport → LinkReport → Type 0
+NotesCopyWhere true at skew old new = TakesCopy at skew old new
+NotesCopyWhere false at skew old new = KeepsCopies old new
 
 abbrev pub NotesCopy : FrameLine → ℕ → Moment → LinkReport → LinkReport → Type 0
-NotesCopy line number at old new = NotesCopyWhere (is_copy line) (skew_in old number at.place.stamp) old new
+NotesCopy line number at old new = NotesCopyWhere (is_copy line) at (skew_in old number at.place.stamp) old new
 
 -- A line that says `deliver` is the latest of its number.
 abbrev pub NotesLatestWhere : Bool → ℕ → Spot → Pairing → Pairing → Type 0

@@ -2,7 +2,7 @@
 use Rattle.std.specs.Prelude.{◌≡◌, ℕ, ◌<◌, ◌≤◌, List, ◌∷◌, length, map, take, slice_index_or, Option}
 use Rattle.afdx_frame.specs.declared.key.Network.{Network}
 use Rattle.afdx_frame.specs.declared.key.Network.TheVariants.{A, B}
-use Rattle.ledger_report.specs.Copies.{KeepsCopies}
+use Rattle.ledger_report.specs.Copies.{KeepsCopyNumbers}
 use Rattle.ledger_report.specs.Lanes.{IsLaneSign, StandsAfter}
 use Rattle.ledger_report.specs.Links.{lane_rules, row_in}
 use Rattle.ledger_report.specs.Marks.{mark_at}
@@ -138,7 +138,8 @@ NotesLane line old new = (row_in new ≡ row_in old) × NotesLaneOn line.at.netw
 
 -- and its count of deliveries, what it says of copies, the latest delivery of each number, and how many are paired, late and the first of two
 abbrev pub KeepsReport : LinkReport → LinkReport → Type 0
-KeepsReport old new = KeepsLink old new × (new.deliveries ≡ old.deliveries) × KeepsCopies old new × (new.pairing ≡ old.pairing) × KeepsSettled old new
+KeepsReport old new = KeepsLink old new × (new.deliveries ≡ old.deliveries) × KeepsCopyNumbers old new × (new.pairing ≡ old.pairing) ×
+    KeepsSettled old new
 
 abbrev pub KeepsLinks : List LinkReport → List LinkReport → Type 0
 KeepsLinks old new =

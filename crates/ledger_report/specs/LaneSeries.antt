@@ -1,22 +1,26 @@
 -- What comes on a lane by time, over the ledger's lines of frames, the newest first (this project's profile).
-use Rattle.std.specs.Prelude.{◌≡◌, ℕ, ◌+◌, ◌*◌, ◌<◌, List, ◌∷◌, length, slice_index_or, true, Option, Some, None, if◌then◌else◌}
+use Rattle.std.specs.Prelude.{◌≡◌, ℕ, ◌+◌, ◌*◌, ◌<◌, Bool, Result, OnOk, List, ◌∷◌, length, slice_index_or, true, Option, Some, None, if◌then◌else◌}
 use Rattle.std.specs.Option.{option_map}
 use Rattle.afdx_frame.specs.declared.key.Network.{Network}
 use Rattle.afdx_frame.specs.declared.key.Network.TheVariants.{A, B}
 use Rattle.vl_config.specs.Link.{VirtualLink}
 use Rattle.ledger_text.specs.declared.frame.FrameLine.{FrameLine}
 use Rattle.ledger_report.specs.Both.{side_of}
+use Rattle.ledger_report.specs.LaneMarks.{LateBinned, LanesBinned, TakeLateBins, TakeMarkBins}
 use Rattle.ledger_report.specs.LaneParts.{interval_in}
 use Rattle.ledger_report.specs.Lanes.{interval_of, newest}
 use Rattle.ledger_report.specs.LineSeries.{puts_at}
 use Rattle.ledger_report.specs.LinkLines.{is_lane_line, lane_line, lane_lines}
 use Rattle.ledger_report.specs.Links.{AreEach, Row}
+use Rattle.ledger_report.specs.MarkBins.{DoublesBinned, LaneBins, lane_bins, late_bins}
 use Rattle.ledger_report.specs.NetworkSeries.{AreInBins, puts_of}
 use Rattle.ledger_report.specs.Series.{IsSeriesOf, is_in}
 use Rattle.ledger_report.specs.Standings.{Standing}
 use Rattle.ledger_report.specs.Words.{is_seen_of}
 use Rattle.ledger_report.specs.declared.lane.Lane.{Lane}
 use Rattle.ledger_report.specs.declared.lane.LaneLine.{LaneLine}
+use Rattle.ledger_report.specs.declared.lane.LaneRules.{LaneRules}
+use Rattle.ledger_report.specs.declared.moment.Moment.{Moment}
 use Rattle.ledger_report.specs.declared.link.LinkReport.{LinkReport}
 use Rattle.ledger_report.specs.declared.series.Merge.TheVariants.{Sum, Least, Greatest}
 use Rattle.ledger_report.specs.declared.series.Series.{Series}
@@ -62,6 +66,12 @@ pub record LanesHave (start width id : ℕ) (lines : List FrameLine) (lanes : Si
 abbrev pub HaveLaneSeries : ℕ → ℕ → Row → List FrameLine → LinkReport → Type 0
 HaveLaneSeries start width row lines report = LanesHave start width row.id lines report.lanes
 
+-- with the bins of the lanes' marks
+pub record HaveLaneTimes (start width : ℕ) (row : Row) (lines : List FrameLine) (report : LinkReport) : Type 0 where
+  pub series : HaveLaneSeries start width row lines report
+  pub marks : LanesBinned row start width lines report.lanes
+  pub late : LateBinned row start width lines report.lanes
+
 -- of each link of the table
 abbrev pub HasLaneBins : List VirtualLink → List FrameLine → Statistics → Type 0
 HasLaneBins links lines statistics = AreEach (HaveLaneSeries statistics.start statistics.width) links lines statistics.links.items
@@ -74,10 +84,19 @@ pub record LaneByTime : Type 0 where
   pub loads : Series
   pub least : Series
   pub greatest : Series
+  pub marks : LaneBins
+  pub late : List Series
 
 -- of this lane
 abbrev pub lane_by_time : Lane → LaneByTime
-lane_by_time lane = record { lines = lane.lines; loads = lane.loads; least = lane.least_bins; greatest = lane.greatest_bins }
+lane_by_time lane = record {
+  lines = lane.lines;
+  loads = lane.loads;
+  least = lane.least_bins;
+  greatest = lane.greatest_bins;
+  marks = lane_bins lane.signs;
+  late = late_bins lane.signs;
+}
 
 -- It stays.
 abbrev pub KeepsLaneTimes : Lane → Lane → Type 0
@@ -86,6 +105,16 @@ KeepsLaneTimes old new = lane_by_time new ≡ lane_by_time old
 -- on both lanes
 abbrev pub KeepLaneTimes : Sides Lane → Sides Lane → Type 0
 KeepLaneTimes old new = KeepsLaneTimes old.a new.a × KeepsLaneTimes old.b new.b
+
+-- It stays but for late deliveries.
+abbrev pub KeepsButLate : Lane → Lane → Type 0
+KeepsButLate old new = lane_by_time new ≡ record (lane_by_time old) { late = late_bins new.signs }
+
+-- A delivery that comes late, where one does, is in its bin once it is counted; all else stays on both lanes.
+pub record TakesLate {T E : Type 0} (late : Bool) (at : Moment) (old new : Sides Lane) (result : Result T E) : Type 0 where
+  pub a : KeepsButLate old.a new.a
+  pub b : KeepsButLate old.b new.b
+  pub takes : OnOk result (TakeLateBins late at.network at old new)
 
 -- A line of the lane comes in its bin.
 abbrev pub TakesInBin : LaneLine → Lane → Lane → Type 0
@@ -103,19 +132,31 @@ TakesByTime taken old new =
     → HasByTime id network start width lines old → HasByTime id network start width (line ∷ lines) new
 
 -- A seen line of the link comes in its bin, on its lane.
-abbrev pub LanesTake : LaneLine → Sides Lane → Sides Lane → Type 0
-LanesTake taken old new =
+abbrev pub LanesTakeTimes : LaneLine → Sides Lane → Sides Lane → Type 0
+LanesTakeTimes taken old new =
     (id start width : ℕ) (line : FrameLine) (lines : List FrameLine) → is_seen_of id line ≡ true → line.network ≡ taken.at.network
     → line.kept ≡ taken.kept
     → interval_in (side_of taken.at.network old) taken ≡ interval_at id taken.at.network (record { line = line; before = lines })
     → is_in start width taken.at.bin line.stamp.0 ≡ true
     → LanesHave start width id lines old → LanesHave start width id (line ∷ lines) new
 
+-- So it does in the bins of its lane's marks, also where it is a delivery that comes late.
+pub record LanesTake (rules : LaneRules) (late : Bool) (taken : LaneLine) (old new : Sides Lane) : Type 0 where
+  pub times : LanesTakeTimes taken old new
+  pub marks : TakeMarkBins rules taken taken.at.network old new
+  pub late_is : TakeLateBins late taken.at.network taken.at old new
+
 -- The bins' width doubles.
-abbrev pub LanesDouble : Sides Lane → Sides Lane → Type 0
-LanesDouble old new =
+abbrev pub LanesDoubleTimes : Sides Lane → Sides Lane → Type 0
+LanesDoubleTimes old new =
     (id start width : ℕ) (lines : List FrameLine) → AreInBins start width lines → LanesHave start width id lines old
     → LanesHave start (2 * width) id lines new
+
+-- also that of all marks
+pub record LanesDouble (old new : Sides Lane) : Type 0 where
+  pub times : LanesDoubleTimes old new
+  pub marks_a : DoublesBinned old.a.signs new.a.signs
+  pub marks_b : DoublesBinned old.b.signs new.b.signs
 
 -- so they do for each link
 abbrev pub AllLanesDouble : List LinkReport → List LinkReport → Type 0

@@ -1,5 +1,6 @@
 pub mod Absent
 pub mod Alone
+pub mod AloneBins
 pub mod AloneLines
 pub mod AloneSums
 pub mod Bins
@@ -18,6 +19,7 @@ pub mod Holding
 pub mod Judged
 pub mod Keeping
 pub mod LaneLines
+pub mod LaneMarks
 pub mod LaneParts
 pub mod LaneSeries
 pub mod Lanes
@@ -28,10 +30,13 @@ pub mod LinkMarks
 pub mod Links
 pub mod Losses
 pub mod LostBoth
+pub mod MarkBins
+pub mod MarkLines
 pub mod Marks
 pub mod Medians
 pub mod Merging
 pub mod NetworkSeries
+pub mod NetworkSkews
 pub mod Networks
 pub mod Noting
 pub mod Numbering
@@ -47,9 +52,11 @@ pub mod Refused
 pub mod RuleMarks
 pub mod Series
 pub mod Settling
+pub mod SidesSeries
 pub mod SignSums
 pub mod Silences
 pub mod SkewMedians
+pub mod SkewSeries
 pub mod Span
 pub mod Standings
 pub mod Sums

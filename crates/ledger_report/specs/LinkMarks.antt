@@ -1,6 +1,6 @@
 -- The signs of links on a network, over the ledger's lines of frames, the newest first: what a network has of them are the sums of its
--- lanes' (this project's profile).
-use Rattle.std.specs.Prelude.{◌≡◌, ℕ, Bool, not, ◌&&◌, List, is_some}
+-- lanes', and no line of a network counts for `early` (this project's profile).
+use Rattle.std.specs.Prelude.{◌≡◌, ℕ, Bool, true, not, ◌&&◌, List, [], is_some}
 use Rattle.std.specs.List.{cons_option, flat_map}
 use Rattle.afdx_frame.specs.declared.key.Network.{Network}
 use Rattle.afdx_frame.specs.declared.key.Network.TheVariants.{A, B}
@@ -16,10 +16,12 @@ use Rattle.ledger_report.specs.LaneParts.{numbering_in}
 use Rattle.ledger_report.specs.Lanes.{hits}
 use Rattle.ledger_report.specs.LinkLines.{lane_lines}
 use Rattle.ledger_report.specs.Links.{Row, lane_rules, pairing_rules, row_of}
+use Rattle.ledger_report.specs.MarkBins.{HasBinned, TakesBinned}
 use Rattle.ledger_report.specs.Marks.{HasHits, TakesHit, mark_at}
 use Rattle.ledger_report.specs.Noting.{seen_line}
 use Rattle.ledger_report.specs.Numbering.{counted_numbering}
 use Rattle.ledger_report.specs.Pairs.{comes_late}
+use Rattle.ledger_report.specs.Series.{is_in}
 use Rattle.ledger_report.specs.Words.{rule_of}
 use Rattle.ledger_report.specs.declared.lane.Lane.{Lane}
 use Rattle.ledger_report.specs.declared.lane.LaneLine.{LaneLine}
@@ -31,7 +33,7 @@ use Rattle.ledger_report.specs.declared.network.NetworkReport.{NetworkReport}
 use Rattle.ledger_report.specs.declared.sides.Sides.{Sides}
 use Rattle.ledger_report.specs.declared.signs.Mark.{Mark}
 use Rattle.ledger_report.specs.declared.signs.Sign.{Sign}
-use Rattle.ledger_report.specs.declared.signs.Sign.TheVariants.{Lost, Repeat, Reset, Late}
+use Rattle.ledger_report.specs.declared.signs.Sign.TheVariants.{Lost, Repeat, Reset, Late, Early}
 use Rattle.ledger_report.specs.declared.signs.Signs.{Signs}
 
 -- the signs of links that a line says at once; whether a delivery is alone is said later
@@ -40,11 +42,14 @@ IsLinkSign Lost = Unit {0}
 IsLinkSign Repeat = Unit {0}
 IsLinkSign Reset = Unit {0}
 IsLinkSign Late = Unit {0}
+IsLinkSign Early = Unit {0}
 IsLinkSign sign = ⊥
 
--- a lane's lines that count for a sign: its late deliveries, and what its numbers say
+-- a lane's lines that count for a sign on its network: its late deliveries, and what its numbers say; a network doesn't count intervals that
+-- are too short, which are of a lane alone
 abbrev pub lane_hits : Sign → Network → Row → List FrameLine → List Hit
 lane_hits Late network row lines = late_hits (pairing_rules row) network lines
+lane_hits Early network row lines = []
 lane_hits sign network row lines = hits (lane_rules row) sign (lane_lines row.id network lines)
 
 -- those of the network's lanes, for each link of the table in its order, one lane after the other
@@ -63,8 +68,16 @@ pub record HaveLinkHits (links : List VirtualLink) (lines : List FrameLine) (net
 -- ---- what a line does to a network's marks
 
 -- The marks of such signs stay, but for their bins.
+abbrev pub KeepsLinkTallies : Signs → Signs → Type 0
+KeepsLinkTallies old new = (sign : Sign) → IsLinkSign sign → (none : Mark) → tally_of (mark_at new sign none) ≡ tally_of (mark_at old sign none)
+
+-- on both networks
+abbrev pub KeepLinkTallies : Sides NetworkReport → Sides NetworkReport → Type 0
+KeepLinkTallies old new = KeepsLinkTallies old.a.signs new.a.signs × KeepsLinkTallies old.b.signs new.b.signs
+
+-- They stay, and so do their bins.
 abbrev pub KeepsLinkMarks : Signs → Signs → Type 0
-KeepsLinkMarks old new = (sign : Sign) → IsLinkSign sign → (none : Mark) → tally_of (mark_at new sign none) ≡ tally_of (mark_at old sign none)
+KeepsLinkMarks old new = (sign : Sign) → IsLinkSign sign → (none : Mark) → mark_at new sign none ≡ mark_at old sign none
 
 -- on both networks
 abbrev pub KeepLinkMarks : Sides NetworkReport → Sides NetworkReport → Type 0
@@ -75,15 +88,30 @@ abbrev pub TakesLinkHits : (Sign → ℕ) → Place → Signs → Signs → Type
 TakesLinkHits amounts place old new =
     (sign : Sign) → IsLinkSign sign → (hits : List Hit) → HasHits old sign hits → HasHits new sign (cons_option (hit_of place (amounts sign)) hits)
 
+-- So do its bins, where the line comes in its own.
+abbrev pub TakesLinkBins : (Sign → ℕ) → Moment → Signs → Signs → Type 0
+TakesLinkBins amounts at old new =
+    (start width : ℕ) → is_in start width at.bin at.place.stamp ≡ true → (sign : Sign) → IsLinkSign sign → (hits : List Hit)
+    → HasBinned start width old sign hits → HasBinned start width new sign (cons_option (hit_of at.place (amounts sign)) hits)
+
+pub record TakesLink (amounts : Sign → ℕ) (at : Moment) (old new : Signs) : Type 0 where
+  pub hits : TakesLinkHits amounts at.place old new
+  pub bins : TakesLinkBins amounts at old new
+
 -- on the line's network; those of the other one stay
-abbrev pub TakeLinkHits : (Sign → ℕ) → Network → Place → Sides NetworkReport → Sides NetworkReport → Type 0
-TakeLinkHits amounts A place old new = TakesLinkHits amounts place old.a.signs new.a.signs × KeepsLinkMarks old.b.signs new.b.signs
-TakeLinkHits amounts B place old new = TakesLinkHits amounts place old.b.signs new.b.signs × KeepsLinkMarks old.a.signs new.a.signs
+abbrev pub TakeLinkHits : (Sign → ℕ) → Network → Moment → Sides NetworkReport → Sides NetworkReport → Type 0
+TakeLinkHits amounts A at old new = TakesLink amounts at old.a.signs new.a.signs × KeepsLinkMarks old.b.signs new.b.signs
+TakeLinkHits amounts B at old new = TakesLink amounts at old.b.signs new.b.signs × KeepsLinkMarks old.a.signs new.a.signs
 
 -- One hit of a sign is taken on its network, and the other network's report stays.
 abbrev pub TakesHitOn : Network → Sign → Hit → Sides NetworkReport → Sides NetworkReport → Type 0
 TakesHitOn A sign hit old new = TakesHit sign hit old.a.signs new.a.signs × (new.b ≡ old.b)
 TakesHitOn B sign hit old new = TakesHit sign hit old.b.signs new.b.signs × (new.a ≡ old.a)
+
+-- It is taken in this bin.
+abbrev pub TakesBinnedOn : Network → Sign → ℕ → Hit → Sides NetworkReport → Sides NetworkReport → Type 0
+TakesBinnedOn A sign bin hit old new = TakesBinned sign bin hit old.a.signs new.a.signs
+TakesBinnedOn B sign bin hit old new = TakesBinned sign bin hit old.b.signs new.b.signs
 
 -- ---- how often a line of a link counts for each of them
 
@@ -109,4 +137,4 @@ abbrev pub NotesLinkHits : FrameLine → ℕ → Moment → LinkReport → Sides
 NotesLinkHits line number at report old new =
     let lane = side_of at.network report.lanes in
     let seen = seen_line lane (side_of at.network old) line number at in
-    TakeLinkHits (line_amount (counted_in report.integrity lane seen) (is_late_line line number at report)) at.network at.place old new
+    TakeLinkHits (line_amount (counted_in report.integrity lane seen) (is_late_line line number at report)) at.network at old new

@@ -3,7 +3,7 @@ use Rattle.std.specs.Prelude.{ℕ, List, slice_index_or}
 use Rattle.vl_config.specs.Link.{VirtualLink}
 use Rattle.ledger_text.specs.declared.frame.FrameLine.{FrameLine}
 use Rattle.ledger_report.specs.Absent.{HoldsRuns}
-use Rattle.ledger_report.specs.LinkMarks.{HaveLinkHits, KeepLinkMarks}
+use Rattle.ledger_report.specs.LinkMarks.{HaveLinkHits, KeepLinkTallies}
 use Rattle.ledger_report.specs.Links.{AreEach}
 use Rattle.ledger_report.specs.Losses.{KeepsLosses}
 use Rattle.ledger_report.specs.LostBoth.{HasLosses}
@@ -22,5 +22,5 @@ pub record HasSignsOf (links : List VirtualLink) (lines : List FrameLine) (stati
 
 -- They stay.
 pub record KeepsSigns (old new : Statistics) : Type 0 where
-  pub link_marks : KeepLinkMarks old.networks new.networks
+  pub link_marks : KeepLinkTallies old.networks new.networks
   pub losses : KeepEachLosses old.links.items new.links.items

@@ -210,18 +210,20 @@ fn numbering_of(before: Option<u8>, number: u8) -> Numbering
 }
 
 impl Lane {
-    ghost use Rattle.std.specs.Prelude.{[], ◌++◌, ◌<◌, false, is_some, slice_set};
+    ghost use Rattle.std.specs.Prelude.{[], ◌++◌, ◌<◌, false, is_some, slice_set, Option};
     ghost use Rattle.afdx_frame.specs.declared.key.Network.{Network};
     ghost use Rattle.ledger_text.specs.declared.frame.FrameLine.{FrameLine};
     ghost use Rattle.ledger_report.specs.Keeping.{HasLaneRoom, KeepsLane, KeepsRoom};
-    ghost use Rattle.ledger_report.specs.Alone.{HasMissed, KeepsAlone, KeepsMissed, Missed};
+    ghost use Rattle.ledger_report.specs.Alone.{DoublesMissed, HasMissed, KeepsAlone, KeepsMissed, KeepsUnbinned};
+    ghost use Rattle.ledger_report.specs.Alone.{LiesBy, Missed, Scale};
     ghost use Rattle.ledger_report.specs.Alone.{MissesMore, MissesSame, missed, no_missed, settled_by};
     ghost use Rattle.ledger_report.specs.Alone.{with_missed};
-    ghost use Rattle.ledger_report.specs.AloneSums.{GainsAlone};
+    ghost use Rattle.ledger_report.specs.AloneSums.{AnyBins, GainsAlone, PlaceIn};
     ghost use Rattle.ledger_report.specs.Covered.{covered_so_far};
     ghost use Rattle.ledger_report.specs.Networks.{IsNetworkOf};
     ghost use Rattle.ledger_report.specs.Standings.{frames_on};
-    ghost use Rattle.ledger_report.specs.LaneLines.{number_amount};
+    ghost use Rattle.ledger_report.specs.LaneLines.{early_amount, number_amount, rule_amount};
+    ghost use Rattle.ledger_report.specs.LaneMarks.{TakesBins, TakesLateBins, TakesMarkBins};
     ghost use Rattle.ledger_report.specs.LinkMarks.{KeepsLinkMarks};
     ghost use Rattle.ledger_report.specs.LaneParts.{TakesAmounts, TakesEarly, TakesInterval, TakesLine};
     ghost use Rattle.ledger_report.specs.LaneParts.{TakesNumber};
@@ -229,21 +231,25 @@ impl Lane {
     ghost use Rattle.ledger_report.specs.Lanes.{StandsAfter};
     ghost use Rattle.ledger_report.specs.Losses.{IsRoom, MovesLosses, both_passed, held_at};
     ghost use Rattle.ledger_report.specs.Losses.{is_lost_within, is_passed, without_seen};
+    ghost use Rattle.ledger_report.specs.MarkBins.{DoublesBinned, HasBinned};
     ghost use Rattle.ledger_report.specs.Marks.{HasHits, IsRule, KeepsHits};
     ghost use Rattle.ledger_report.specs.declared.lane.LaneLine.{LaneLine};
     ghost use Rattle.ledger_report.specs.declared.lane.LaneRules.{LaneRules};
     ghost use Rattle.ledger_report.specs.declared.signs.Mark.{Mark};
+    ghost use Rattle.ledger_report.specs.declared.signs.Sign.{Sign};
 
     pub(crate) fn new(alloc: Global) -> Result<Lane, AllocError>
         ensures after { IfOk result (λ lane. (rules : LaneRules) → StandsAfter rules [] lane) }
         ensures missed { IfOk result (λ lane. (none : Mark) → missed none lane ≡ 0) }
-        ensures places { IfOk result (HasMissed no_missed) }
+        ensures places { IfOk result (λ lane. (scale : Option Scale) → HasMissed (no_missed scale) lane) }
         ensures before { IfOk result (λ lane. lane.held_before ≡ 0) }
         ensures room { IfOk result HasLaneRoom }
         ensures late { IfOk result (λ lane. HasHits lane.signs signs.Late []) }
         ensures losses { IfOk result (λ lane. lane.lost_at.items ≡ []) }
         ensures series { IfOk result (λ lane. (id : ℕ) (network : Network) (start width : ℕ)
             → HasByTime id network start width [] lane) }
+        ensures bins { IfOk result (λ lane. (start width : ℕ) (sign : Sign)
+            → HasBinned start width lane.signs sign []) }
     {
         Ok(Lane {
             frames: 0,
@@ -300,6 +306,8 @@ impl Lane {
         ensures losses { OnOk result (self.new.lost_at.items ≡ without_seen rules.now.integrity
             line.now.number self.old.lost_at.items) }
         ensures series { OnOk result (TakesByTime line.now self.old self.new) }
+        ensures marks { OnOk result (TakesMarkBins rules.now line.now self.old self.new) }
+        ensures late_bins { OnOk result (TakesLateBins false line.now.at self.old.signs self.new.signs) }
     {
         self.note_interval(line, rules.least)?;
         self.note_line(line)?;
@@ -329,6 +337,8 @@ impl Lane {
             self.old.least_bins self.new.least_bins) }
         ensures greatest { OnOk result (PutsWhere line.now.at.bin (interval_in self.old line.now)
             self.old.greatest_bins self.new.greatest_bins) }
+        ensures bins { OnOk result (TakesBins (early_amount least (interval_in self.old line.now)) line.now.at
+            self.old.signs self.new.signs) }
     {
         let Some(interval) = self.interval_to(line) else {
             return Ok(());
@@ -349,6 +359,8 @@ impl Lane {
     fn note_early(&mut self, line: &LaneLine, least: u64, interval: u64) -> Result<(), AllocError>
         ensures takes { TakesEarly least line.now (Some interval) self.old self.new }
         ensures alone { KeepsAlone self.old.signs self.new.signs }
+        ensures bins { OnOk result (TakesBins (early_amount least (Some interval)) line.now.at
+            self.old.signs self.new.signs) }
     {
         if interval >= least {
             return Ok(());
@@ -385,6 +397,8 @@ impl Lane {
         requires { IfSome line.now.rule IsRule }
         ensures takes { TakesRule line.now self.old self.new }
         ensures alone { KeepsAlone self.old.signs self.new.signs }
+        ensures bins { OnOk result (TakesBins (rule_amount line.now) line.now.at
+            self.old.signs self.new.signs) }
     {
         if is_out_after_silence(line) {
             self.out_after_silence = self.out_after_silence.saturating_add(1);
@@ -406,6 +420,8 @@ impl Lane {
         ensures room { OnOk result (KeepsRoom self.old self.new) }
         ensures losses { OnOk result (self.new.lost_at.items ≡ without_seen integrity line.now.number
             self.old.lost_at.items) }
+        ensures bins { OnOk result (TakesBins (number_amount (counted_numbering line.now.after_silence
+            (numbering_in integrity self.old line.now))) line.now.at self.old.signs self.new.signs) }
     {
         let said = self.take_number(line, integrity);
         self.lost_after_silence = lost_with(self.lost_after_silence, line.after_silence, said);
@@ -446,6 +462,8 @@ impl Lane {
             self.old.signs self.new.signs }
         ensures rest { self.new ≡ record self.old { signs = self.new.signs } }
         ensures alone { KeepsAlone self.old.signs self.new.signs }
+        ensures bins { OnOk result (TakesBins (number_amount numbering) line.now.at
+            self.old.signs self.new.signs) }
     {
         let at = &line.at;
         match numbering {
@@ -542,7 +560,7 @@ impl Lane {
             → IsNetworkOf network (later ++ earlier) twin.now → frames_on network earlier ≡ before
             → held_later ++ held_earlier ≡ later ++ earlier
             → frames_on network held_earlier ≡ self.old.held_before
-            → (missed : Missed) → HasMissed missed self.old
+            → (missed : Missed) → LiesBy missed.scale bin place → HasMissed missed self.old
             → HasMissed (with_missed (covered_so_far network later earlier)
             (covered_so_far network held_later held_earlier) place missed) self.new) }
         ensures before { OnOk result ((network : Network) (later earlier : List FrameLine)
@@ -553,7 +571,8 @@ impl Lane {
         ensures late { OnOk result (KeepsHits signs.Late self.old.signs self.new.signs) }
         ensures network { OnOk result (KeepsNetwork own.old own.new) }
         ensures link_marks { KeepsLinkMarks own.old.signs own.new.signs }
-        ensures gains { OnOk result (GainsAlone self.old self.new own.old.signs own.new.signs) }
+        ensures gains { OnOk result (GainsAlone (PlaceIn bin place) self.old self.new
+            own.old.signs own.new.signs) }
         ensures losses { OnOk result (self.new.lost_at ≡ self.old.lost_at) }
         ensures times { KeepsTimes own.old own.new }
         ensures lane_times { KeepsLaneTimes self.old self.new }
@@ -594,7 +613,7 @@ impl Lane {
         ensures late { OnOk result (KeepsHits signs.Late self.old.signs self.new.signs) }
         ensures network { OnOk result (KeepsNetwork own.old own.new) }
         ensures link_marks { KeepsLinkMarks own.old.signs own.new.signs }
-        ensures gains { OnOk result (GainsAlone self.old self.new own.old.signs own.new.signs) }
+        ensures gains { OnOk result (GainsAlone AnyBins self.old self.new own.old.signs own.new.signs) }
         ensures losses { OnOk result (self.new.lost_at ≡ self.old.lost_at) }
         ensures times { KeepsTimes own.old own.new }
         ensures lane_times { KeepsLaneTimes self.old self.new }
@@ -634,11 +653,13 @@ impl Lane {
         ensures lane { KeepsLane self.old self.new }
         ensures late { KeepsHits signs.Late self.old.signs self.new.signs }
         ensures missed { MissesSame self.old self.new }
-        ensures places { KeepsMissed self.old self.new }
+        ensures places { KeepsUnbinned self.old self.new }
+        ensures doubles { DoublesMissed self.old self.new }
         ensures losses { self.new.lost_at ≡ self.old.lost_at }
         ensures series { (id : ℕ) (network : Network) (start width : ℕ) (lines : List FrameLine)
             → AreInBins start width lines → HasByTime id network start width lines self.old
             → HasByTime id network start (2 * width) lines self.new }
+        ensures bins { DoublesBinned self.old.signs self.new.signs }
     {
         self.signs.fold();
         self.lines.fold();

@@ -6,10 +6,12 @@ ghost use Rattle.ledger_report.specs.Keeping.{KeepsNetworks};
 ghost use Rattle.ledger_report.specs.Both.{side_of};
 ghost use Rattle.ledger_report.specs.Deliveries.{is_deliver};
 ghost use Rattle.ledger_report.specs.LaneLines.{number_amount, one_where};
-ghost use Rattle.ledger_report.specs.LaneSeries.{KeepLaneTimes, LanesDouble, LanesHave, LanesTake};
-ghost use Rattle.ledger_report.specs.NetworkSeries.{KeepTimes};
+ghost use Rattle.ledger_report.specs.LaneSeries.{HaveLaneTimes, KeepLaneTimes, LanesDouble, LanesTake};
+ghost use Rattle.ledger_report.specs.LaneSeries.{TakesLate};
+ghost use Rattle.ledger_report.specs.NetworkSeries.{KeepTimes, KeepTimesBut, KeepTimesButSkews, skews_of};
+ghost use Rattle.ledger_report.specs.SidesSeries.{PutsOn};
 ghost use Rattle.ledger_report.specs.LinkMarks.{KeepLinkMarks, NotesLinkHits, TakeLinkHits, TakesHitOn};
-ghost use Rattle.ledger_report.specs.LinkMarks.{counted_in, late_amount};
+ghost use Rattle.ledger_report.specs.LinkMarks.{TakesBinnedOn, counted_in, is_late_line, late_amount};
 ghost use Rattle.ledger_report.specs.Numbering.{IsPlain, missing_in};
 ghost use Rattle.ledger_report.specs.Marks.{IsRule, sign_index};
 ghost use Rattle.ledger_report.specs.Noting.{seen_line};
@@ -102,8 +104,12 @@ fn hit_network(
       place = at.now.place;
       amount = amount;
     }) networks.old networks.new }
+    ensures bins { OnOk result (TakesBinnedOn at.now.network sign at.now.bin (record {
+      place = at.now.place;
+      amount = amount;
+    }) networks.old networks.new) }
     ensures alone { (sign_index sign == 11) ≡ false → KeepAloneMarks networks.old networks.new }
-    ensures times { KeepTimes networks.old networks.new }
+    ensures times { KeepTimesBut sign networks.old networks.new }
 {
     match at.network {
         Network::A => networks.a.signs.hit(sign, at.bin, at.place, amount),
@@ -117,7 +123,9 @@ fn put_skew(networks: &mut Sides<NetworkReport>, at: &Moment, skew: u64) -> Resu
     ensures keeps { KeepsNetworks networks.old networks.new }
     ensures link_marks { KeepLinkMarks networks.old networks.new }
     ensures alone { KeepAloneMarks networks.old networks.new }
-    ensures times { KeepTimes networks.old networks.new }
+    ensures times { KeepTimesButSkews networks.old networks.new }
+    ensures skews { OnOk result (PutsOn at.now.network at.now.bin (Some skew)
+        (skews_of networks.old) (skews_of networks.new)) }
 {
     match at.network {
         Network::A => networks.a.skews.put(at.bin, skew),
@@ -127,13 +135,13 @@ fn put_skew(networks: &mut Sides<NetworkReport>, at: &Moment, skew: u64) -> Resu
 
 impl LinkReport {
     ghost use Rattle.ledger_report.specs.Copies.{spot_at};
-    ghost use Rattle.ledger_report.specs.Links.{row_in};
+    ghost use Rattle.ledger_report.specs.Links.{Row, lane_rules, row_in};
     ghost use Rattle.ledger_report.specs.Noting.{IsMomentOf};
     ghost use Rattle.ledger_report.specs.Wrongs.{TellsWrong, copy_wrong, is_off_against, link_wrong};
     ghost use Rattle.ledger_report.specs.declared.fault.Refusal.TheVariants as refusals;
     ghost use Rattle.ledger_report.specs.declared.fault.WrongLine.TheVariants as wrongs;
     ghost use Rattle.std.specs.Prelude.{Err, Ok, if◌then◌else◌};
-    ghost use Rattle.std.specs.Prelude.{ℕ, ◌^◌};
+    ghost use Rattle.std.specs.Prelude.{ℕ, ◌^◌, Option};
     ghost use Rattle.std.specs.Prelude.{List, [], ◌∷◌};
     ghost use Rattle.afdx_frame.specs.declared.key.Network.TheVariants.{A, B};
     ghost use Rattle.ledger_text.specs.declared.frame.FrameLine.{FrameLine};
@@ -141,25 +149,27 @@ impl LinkReport {
     ghost use Rattle.ledger_report.specs.Networks.{IsNetworkOf};
     ghost use Rattle.ledger_report.specs.Noting.{IsMomentOf};
     ghost use Rattle.ledger_report.specs.Alone.{EndsHeld, NotesMissedOn};
-    ghost use Rattle.ledger_report.specs.AloneSums.{GainBoth};
-    ghost use Rattle.ledger_report.specs.Copies.{KeepsCopies, KeepsLatest, NotesCopy, NotesLatest};
-    ghost use Rattle.ledger_report.specs.Copies.{TakesCopy, TakesLatest};
-    ghost use Rattle.ledger_report.specs.Copies.{skew_in};
+    ghost use Rattle.ledger_report.specs.AloneSums.{AnyBins, GainBoth, HeldFits, PlaceFits, PlaceIn};
+    ghost use Rattle.ledger_report.specs.Copies.{KeepsCopies, KeepsCopyNumbers, KeepsLatest, NotesCopy};
+    ghost use Rattle.ledger_report.specs.Copies.{NotesLatest, TakesCopy, TakesLatest, skew_in};
+    ghost use Rattle.ledger_report.specs.NetworkSkews.{NotesSkew};
+    ghost use Rattle.ledger_report.specs.SkewSeries.{HaveSkews, SkewsDouble};
     ghost use Rattle.ledger_report.specs.Keeping.{KeepsLink, NotesLane};
     ghost use Rattle.ledger_report.specs.Fates.{ends_met};
-    ghost use Rattle.ledger_report.specs.Holding.{EndsAlone, HoldsAlone, KeepsBefore, KeepsPlaces};
+    ghost use Rattle.ledger_report.specs.Alone.{Scale};
+    ghost use Rattle.ledger_report.specs.Holding.{DoubleMissed, EndsAlone, HoldsAlone, KeepUnbinned, KeepsBefore};
+    ghost use Rattle.ledger_report.specs.Holding.{KeepsPlaces, bin_in};
     ghost use Rattle.ledger_report.specs.Holding.{NotesMissed, Settles, SettlesBelow, TakesBefore};
     ghost use Rattle.ledger_report.specs.Holding.{open_held, open_in, settled_by_next};
     ghost use Rattle.ledger_report.specs.Links.{IsLinkOf, row_of};
     ghost use Rattle.ledger_report.specs.Losses.{AreRoom, KeepsLosses, LosesAt, MovesLosses, NotesLosses};
     ghost use Rattle.ledger_report.specs.Losses.{both_passed, is_passed, losses_in, losses_on, no_losses};
     ghost use Rattle.ledger_report.specs.Losses.{passes, with_seen};
-    ghost use Rattle.ledger_report.specs.Pairs.{DiscardsWhere, GainsLateOn, GainsLateWhere, KeepsFates};
-    ghost use Rattle.ledger_report.specs.Pairs.{KeepsLate};
+    ghost use Rattle.ledger_report.specs.Pairs.{CountsLate, DiscardsWhere, GainsLateOn, GainsLateWhere};
+    ghost use Rattle.ledger_report.specs.Pairs.{KeepsFateCounts, KeepsFates, KeepsLate, SettlesBefore};
     ghost use Rattle.ledger_report.specs.Pairs.{MeetsOf, NotesFates, PairsCopy};
-    ghost use Rattle.ledger_report.specs.Pairs.{TakesDelivery, comes_late, fate_numbers, fate_so_far, gone_in};
-    ghost use Rattle.ledger_report.specs.Pairs.{counted_where, is_gone_by, is_held, met_with, settled_numbers};
-    ghost use Rattle.ledger_report.specs.Pairs.{window_in, with_late};
+    ghost use Rattle.ledger_report.specs.Pairs.{TakesDelivery, comes_late, fate_so_far, gone_in};
+    ghost use Rattle.ledger_report.specs.Pairs.{counted_where, is_gone_by, is_held, met_with, window_in};
     ghost use Rattle.ledger_report.specs.Words.{is_seen_of, other_of};
     ghost use Rattle.ledger_report.specs.Settling.{AccountsMore, AccountsSame, IsBalanced, SumsLanes};
     ghost use Rattle.ledger_report.specs.Settling.{accounted, counted, fate_sum};
@@ -170,11 +180,14 @@ impl LinkReport {
         ensures balanced { IfOk result (λ report. (report.deliveries ≡ 0) × IsBalanced report) }
         ensures lines { IfOk result (IsLinkOf (row_of link.now) []) }
         ensures met { IfOk result (λ report. report.fates.met ≡ 0) }
-        ensures alone { IfOk result (HoldsAlone (row_of link.now) []) }
+        ensures alone { IfOk result (λ report. (scale : Option Scale)
+            → HoldsAlone scale (row_of link.now) [] report) }
         ensures losses { IfOk result (λ report. losses_in report ≡ no_losses) }
         ensures runs { IfOk result (λ report. (id : ℕ) → HasRuns id [] report.runs) }
-        ensures lane_series { IfOk result (λ report. (id start width : ℕ)
-            → LanesHave start width id [] report.lanes) }
+        ensures lane_series { IfOk result (λ report. (row : Row) (start width : ℕ)
+            → HaveLaneTimes start width row [] report) }
+        ensures skews { IfOk result (λ report. (start width : ℕ)
+            → HaveSkews start width (row_of link.now) [] report) }
     {
         Ok(LinkReport {
             id: link.id,
@@ -249,8 +262,10 @@ impl LinkReport {
         ensures lanes { OnOk result (NotesLane (seen_line (side_of at.now.network self.old.lanes)
             (side_of at.now.network networks.old) line.now number at.now) self.old self.new) }
         ensures networks { OnOk result (KeepsNetworks networks.old networks.new) }
-        ensures gains { OnOk result (GainBoth self.old.lanes self.new.lanes networks.old networks.new) }
-        ensures alone { OnOk result (NotesMissed line.now number at.now networks.old self.old self.new) }
+        ensures gains { OnOk result (GainBoth (HeldFits start width self.old.pairing)
+            self.old.lanes self.new.lanes networks.old networks.new) }
+        ensures alone { OnOk result (NotesMissed start width line.now number at.now networks.old
+            self.old self.new) }
         ensures link_marks { OnOk result (NotesLinkHits line.now number at.now self.old
             networks.old networks.new) }
         ensures losses { OnOk result (NotesLosses line.now number at.now networks.old
@@ -260,8 +275,11 @@ impl LinkReport {
             → IsNetworkOf B (line.now ∷ lines) networks.old.b
             → is_seen_of id line.now ≡ true → IsMomentOf line.now at.now
             → HasRuns id lines self.old.runs → HasRuns id (line.now ∷ lines) self.new.runs) }
-        ensures times { KeepTimes networks.old networks.new }
-        ensures lane_series { OnOk result (LanesTake (seen_line (side_of at.now.network self.old.lanes)
+        ensures times { KeepTimesButSkews networks.old networks.new }
+        ensures network_skews { OnOk result (NotesSkew line.now number at.now self.old
+            networks.old networks.new) }
+        ensures lane_series { OnOk result (LanesTake (lane_rules (row_in self.old))
+            (is_late_line line.now number at.now self.old) (seen_line (side_of at.now.network self.old.lanes)
             (side_of at.now.network networks.old) line.now number at.now) self.old.lanes self.new.lanes) }
     {
         self.check_words(line)?;
@@ -322,7 +340,8 @@ impl LinkReport {
         ensures losses { OnOk result (losses_in self.new ≡ with_seen self.old.integrity
             line.now.at.network line.now.number (losses_in self.old)) }
         ensures runs { self.new.runs ≡ self.old.runs }
-        ensures lane_series { OnOk result (LanesTake line.now self.old.lanes self.new.lanes) }
+        ensures lane_series { OnOk result (LanesTake (lane_rules (row_in self.old)) false line.now
+            self.old.lanes self.new.lanes) }
     {
         let rules = LaneRules {
             least: self.bag.saturating_sub(self.jitter),
@@ -408,7 +427,7 @@ impl LinkReport {
         ensures pairing { self.new.pairing ≡ self.old.pairing }
         ensures places { OnOk result (KeepsPlaces self.old.lanes self.new.lanes) }
         ensures link_marks { OnOk result (IsPlain numbering → TakeLinkHits (number_amount numbering)
-            at.now.network at.now.place networks.old networks.new) }
+            at.now.network at.now networks.old networks.new) }
         ensures losses { OnOk result (missing_in numbering < 255 → AreRoom (losses_in self.old)
             → LosesAt (passes numbering) at.now (window_in self.old)
             (losses_in self.old) (losses_in self.new)) }
@@ -498,7 +517,7 @@ impl LinkReport {
             at.now.network at.now.place.stamp) result }
         ensures accounts { OnOk result (AccountsMore 0 self.old self.new) }
         ensures deliveries { self.new.deliveries ≡ self.old.deliveries }
-        ensures copies { OnOk result (TakesCopy (skew_in self.old number at.now.place.stamp)
+        ensures copies { OnOk result (TakesCopy at.now (skew_in self.old number at.now.place.stamp)
             self.old self.new) }
         ensures latest { OnOk result (KeepsLatest self.old.pairing self.new.pairing) }
         ensures pairs { OnOk result (PairsCopy number self.old self.new) }
@@ -510,7 +529,10 @@ impl LinkReport {
         ensures link_marks { OnOk result (KeepLinkMarks networks.old networks.new) }
         ensures losses { KeepsLosses self.old self.new }
         ensures runs { self.new.runs ≡ self.old.runs }
-        ensures times { KeepTimes networks.old networks.new }
+        ensures times { KeepTimesButSkews networks.old networks.new }
+        ensures network_skews { OnOk result (PutsOn at.now.network at.now.bin
+            (Some (skew_in self.old number at.now.place.stamp))
+            (skews_of networks.old) (skews_of networks.new)) }
         ensures lane_times { KeepLaneTimes self.old.lanes self.new.lanes }
     {
         let delivery = match self.pairing.latest(number) {
@@ -586,21 +608,23 @@ impl LinkReport {
             at.now.network at.now.place self.old.lanes self.new.lanes) }
         ensures link { OnOk result (KeepsLink self.old self.new) }
         ensures networks { OnOk result (KeepsNetworks networks.old networks.new) }
-        ensures gains { OnOk result (GainBoth self.old.lanes self.new.lanes networks.old networks.new) }
+        ensures gains { OnOk result (GainBoth (HeldFits start width self.old.pairing)
+            self.old.lanes self.new.lanes networks.old networks.new) }
         ensures latest { OnOk result (TakesLatest number (record {
           network = at.now.network;
           place = at.now.place;
         }) self.old.pairing self.new.pairing) }
-        ensures settles { OnOk result (Settles (settled_by_next number at.now self.old) networks.old
-            self.old.lanes self.new.lanes) }
+        ensures settles { OnOk result (Settles start width (settled_by_next number at.now self.old)
+            networks.old self.old.lanes self.new.lanes) }
         ensures before { OnOk result (TakesBefore number
             (side_of (other_of at.now.network) networks.old).frames self.old.pairing self.new.pairing) }
         ensures link_marks { OnOk result (TakeLinkHits (late_amount (comes_late number at.now self.old))
-            at.now.network at.now.place networks.old networks.new) }
+            at.now.network at.now networks.old networks.new) }
         ensures losses { OnOk result (KeepsLosses self.old self.new) }
         ensures runs { self.new.runs ≡ self.old.runs }
         ensures times { KeepTimes networks.old networks.new }
-        ensures lane_times { KeepLaneTimes self.old.lanes self.new.lanes }
+        ensures lane_times { TakesLate (comes_late number at.now self.old) at.now
+            self.old.lanes self.new.lanes result }
     {
         self.deliveries = self.deliveries.saturating_add(1);
         let fate = self.settle_before(number, at, start, width, networks)?;
@@ -634,21 +658,23 @@ impl LinkReport {
         ensures copies { KeepsCopies self.old self.new }
         ensures late { OnOk result (GainsLateWhere (comes_late number at.now self.old)
             at.now.network at.now.place self.old.lanes self.new.lanes) }
-        ensures numbers { OnOk result (fate_numbers self.new ≡ settled_numbers number at.now self.old) }
+        ensures numbers { OnOk result (SettlesBefore number at.now self.old self.new) }
         ensures fate { IfOk result (λ fate. fate ≡ fate_so_far (comes_late number at.now self.old)
             (is_gone_by at.now.place.stamp (window_in self.old)
             (gone_in self.old.pairing number (other_of at.now.network)))) }
         ensures link { OnOk result (KeepsLink self.old self.new) }
         ensures networks { OnOk result (KeepsNetworks networks.old networks.new) }
-        ensures gains { OnOk result (GainBoth self.old.lanes self.new.lanes networks.old networks.new) }
-        ensures settles { OnOk result (Settles (settled_by_next number at.now self.old) networks.old
-            self.old.lanes self.new.lanes) }
+        ensures gains { OnOk result (GainBoth (HeldFits start width self.old.pairing)
+            self.old.lanes self.new.lanes networks.old networks.new) }
+        ensures settles { OnOk result (Settles start width (settled_by_next number at.now self.old)
+            networks.old self.old.lanes self.new.lanes) }
         ensures link_marks { OnOk result (TakeLinkHits (late_amount (comes_late number at.now self.old))
-            at.now.network at.now.place networks.old networks.new) }
+            at.now.network at.now networks.old networks.new) }
         ensures losses { OnOk result (KeepsLosses self.old self.new) }
         ensures runs { self.new.runs ≡ self.old.runs }
         ensures times { KeepTimes networks.old networks.new }
-        ensures lane_times { KeepLaneTimes self.old.lanes self.new.lanes }
+        ensures lane_times { TakesLate (comes_late number at.now self.old) at.now
+            self.old.lanes self.new.lanes result }
     {
         let fate = self.fate_so_far(number, at);
         let Some(before) = self.pairing.latest(number) else {
@@ -688,17 +714,17 @@ impl LinkReport {
         ensures deliveries { self.new.deliveries ≡ self.old.deliveries }
         ensures copies { KeepsCopies self.old self.new }
         ensures late { OnOk result (GainsLateOn at.now.network at.now.place self.old.lanes self.new.lanes) }
-        ensures numbers { OnOk result (fate_numbers self.new ≡ with_late skew self.old) }
+        ensures numbers { OnOk result (CountsLate at.now skew self.old self.new) }
         ensures link { OnOk result (KeepsLink self.old self.new) }
         ensures networks { OnOk result (KeepsNetworks networks.old networks.new) }
         ensures marks { OnOk result (KeepAloneMarks networks.old networks.new) }
         ensures places { OnOk result (KeepsPlaces self.old.lanes self.new.lanes) }
         ensures link_marks { OnOk result (TakeLinkHits (late_amount true)
-            at.now.network at.now.place networks.old networks.new) }
+            at.now.network at.now networks.old networks.new) }
         ensures losses { KeepsLosses self.old self.new }
         ensures runs { self.new.runs ≡ self.old.runs }
         ensures times { KeepTimes networks.old networks.new }
-        ensures lane_times { KeepLaneTimes self.old.lanes self.new.lanes }
+        ensures lane_times { TakesLate true at.now self.old.lanes self.new.lanes result }
     {
         self.fates.late = self.fates.late.saturating_add(1);
         self.fates.first = self.fates.first.saturating_add(1);
@@ -721,7 +747,7 @@ impl LinkReport {
         ensures places { KeepsPlaces self.old.lanes self.new.lanes }
         ensures losses { KeepsLosses self.old self.new }
         ensures runs { self.new.runs ≡ self.old.runs }
-        ensures lane_times { KeepLaneTimes self.old.lanes self.new.lanes }
+        ensures lane_times { TakesLate true at.now self.old.lanes self.new.lanes result }
     {
         match at.network {
             Network::A => self.lanes.a.signs.hit(Sign::Late, at.bin, at.place, 1),
@@ -746,8 +772,9 @@ impl LinkReport {
             (counted_where (ends_met delivery.fate) self.old.fates.met) self.old self.new) }
         ensures link { OnOk result (KeepsLink self.old self.new) }
         ensures networks { OnOk result (KeepsNetworks networks.old networks.new) }
-        ensures gains { OnOk result (GainBoth self.old.lanes self.new.lanes networks.old networks.new) }
-        ensures settles { OnOk result (Settles (open_in delivery) networks.old
+        ensures gains { OnOk result (GainBoth (PlaceFits start width delivery.place)
+            self.old.lanes self.new.lanes networks.old networks.new) }
+        ensures settles { OnOk result (Settles start width (open_in delivery) networks.old
             self.old.lanes self.new.lanes) }
         ensures link_marks { OnOk result (KeepLinkMarks networks.old networks.new) }
         ensures losses { OnOk result (KeepsLosses self.old self.new) }
@@ -775,7 +802,7 @@ impl LinkReport {
         bin: usize,
         networks: &mut Sides<NetworkReport>,
     ) -> Result<(), AllocError>
-        ensures places { OnOk result (NotesMissedOn delivery.now.network delivery.now.before
+        ensures places { OnOk result (NotesMissedOn delivery.now.network delivery.now.before bin
             delivery.now.place networks.old self.old.lanes self.new.lanes) }
         ensures accounts { OnOk result (AccountsMore 1 self.old self.new) }
         ensures pairing { self.new.pairing ≡ self.old.pairing }
@@ -785,9 +812,10 @@ impl LinkReport {
         ensures fates { KeepsFates self.old self.new }
         ensures link { OnOk result (KeepsLink self.old self.new) }
         ensures networks { OnOk result (KeepsNetworks networks.old networks.new) }
-        ensures gains { OnOk result (GainBoth self.old.lanes self.new.lanes networks.old networks.new) }
-        ensures settles { OnOk result (Settles (Some delivery.now) networks.old
-            self.old.lanes self.new.lanes) }
+        ensures gains { OnOk result (GainBoth (PlaceIn bin delivery.now.place)
+            self.old.lanes self.new.lanes networks.old networks.new) }
+        ensures settles { OnOk result ((start width : ℕ) → bin ≡ bin_in start width delivery.now.place.stamp
+            → Settles start width (Some delivery.now) networks.old self.old.lanes self.new.lanes) }
         ensures link_marks { OnOk result (KeepLinkMarks networks.old networks.new) }
         ensures losses { OnOk result (KeepsLosses self.old self.new) }
         ensures runs { self.new.runs ≡ self.old.runs }
@@ -829,10 +857,11 @@ impl LinkReport {
             (met_with 256 self.old.pairing self.old.fates.met) self.old self.new) }
         ensures link { OnOk result (KeepsLink self.old self.new) }
         ensures networks { OnOk result (KeepsNetworks networks.old networks.new) }
-        ensures gains { OnOk result (GainBoth self.old.lanes self.new.lanes networks.old networks.new) }
+        ensures gains { OnOk result (GainBoth (HeldFits start width self.old.pairing)
+            self.old.lanes self.new.lanes networks.old networks.new) }
         ensures pairing { OnOk result (self.new.pairing ≡ self.old.pairing) }
         ensures median { OnOk result (GetMedian self.old self.new) }
-        ensures alone { OnOk result (EndsAlone networks.old self.old self.new) }
+        ensures alone { OnOk result (EndsAlone start width networks.old self.old self.new) }
         ensures link_marks { OnOk result (KeepLinkMarks networks.old networks.new) }
         ensures losses { OnOk result (KeepsLosses self.old self.new) }
         ensures absences { OnOk result (GetsAbsences networks.old self.old self.new) }
@@ -868,9 +897,10 @@ impl LinkReport {
             (met_with 256 self.old.pairing self.old.fates.met) self.old self.new) }
         ensures link { OnOk result (KeepsLink self.old self.new) }
         ensures networks { OnOk result (KeepsNetworks networks.old networks.new) }
-        ensures gains { OnOk result (GainBoth self.old.lanes self.new.lanes networks.old networks.new) }
+        ensures gains { OnOk result (GainBoth (HeldFits start width self.old.pairing)
+            self.old.lanes self.new.lanes networks.old networks.new) }
         ensures pairing { OnOk result (self.new.pairing ≡ self.old.pairing) }
-        ensures alone { OnOk result (SettlesBelow 256 networks.old self.old self.new) }
+        ensures alone { OnOk result (SettlesBelow start width 256 networks.old self.old self.new) }
         ensures link_marks { OnOk result (KeepLinkMarks networks.old networks.new) }
         ensures losses { OnOk result (KeepsLosses self.old self.new) }
         ensures runs { self.new.runs ≡ self.old.runs }
@@ -901,8 +931,9 @@ impl LinkReport {
             (counted_where (is_held ends_met self.old.pairing number) self.old.fates.met) self.old self.new) }
         ensures link { OnOk result (KeepsLink self.old self.new) }
         ensures networks { OnOk result (KeepsNetworks networks.old networks.new) }
-        ensures gains { OnOk result (GainBoth self.old.lanes self.new.lanes networks.old networks.new) }
-        ensures settles { OnOk result (Settles (open_held self.old.pairing number) networks.old
+        ensures gains { OnOk result (GainBoth (HeldFits start width self.old.pairing)
+            self.old.lanes self.new.lanes networks.old networks.new) }
+        ensures settles { OnOk result (Settles start width (open_held self.old.pairing number) networks.old
             self.old.lanes self.new.lanes) }
         ensures link_marks { OnOk result (KeepLinkMarks networks.old networks.new) }
         ensures losses { OnOk result (KeepsLosses self.old self.new) }
@@ -932,7 +963,8 @@ impl LinkReport {
         ensures fates { OnOk result (KeepsFates self.old self.new) }
         ensures link { OnOk result (KeepsLink self.old self.new) }
         ensures networks { OnOk result (KeepsNetworks networks.old networks.new) }
-        ensures gains { OnOk result (GainBoth self.old.lanes self.new.lanes networks.old networks.new) }
+        ensures gains { OnOk result (GainBoth AnyBins self.old.lanes self.new.lanes
+            networks.old networks.new) }
         ensures pairing { OnOk result (self.new.pairing ≡ self.old.pairing) }
         ensures link_marks { OnOk result (KeepLinkMarks networks.old networks.new) }
         ensures losses { OnOk result (KeepsLosses self.old self.new) }
@@ -977,14 +1009,16 @@ impl LinkReport {
         ensures link { KeepsLink self.old self.new }
         ensures accounts { AccountsSame self.old self.new }
         ensures deliveries { self.new.deliveries ≡ self.old.deliveries }
-        ensures copies { KeepsCopies self.old self.new }
+        ensures copies { KeepsCopyNumbers self.old self.new }
         ensures late { KeepsLate self.old self.new }
-        ensures fates { KeepsFates self.old self.new }
+        ensures fates { KeepsFateCounts self.old self.new }
         ensures pairing { self.new.pairing ≡ self.old.pairing }
-        ensures places { KeepsPlaces self.old.lanes self.new.lanes }
+        ensures places { KeepUnbinned self.old.lanes self.new.lanes }
+        ensures doubles { DoubleMissed self.old.lanes self.new.lanes }
         ensures losses { KeepsLosses self.old self.new }
         ensures runs { self.new.runs ≡ self.old.runs }
         ensures lane_series { LanesDouble self.old.lanes self.new.lanes }
+        ensures skews { SkewsDouble self.old self.new }
     {
         self.lanes.a.fold();
         self.lanes.b.fold();

@@ -44,7 +44,7 @@ pub struct NetworkReport {
     /// The first silences, in their order, and how many more there are.
     pub silences: Vec<Silence>,
     pub more_silences: u64,
-    /// Lines of each sign; of links' signs the sums.
+    /// Lines of each sign; of links' signs the sums, but of `early` none: a network doesn't count it.
     pub signs: Signs,
     /// Lines, and their bytes, by time; the greatest skew of a copy that came on this network.
     pub lines: Series,
@@ -59,12 +59,15 @@ impl NetworkReport {
     ghost use Rattle.std.specs.List.Sorted.{IsNonDecreasingBy};
     ghost use Rattle.ledger_report.specs.Covered.{covered_so_far, has_silence_after};
     ghost use Rattle.ledger_report.specs.Keeping.{KeepsNetwork};
-    ghost use Rattle.ledger_report.specs.LinkMarks.{KeepsLinkMarks};
+    ghost use Rattle.ledger_report.specs.LinkMarks.{KeepsLinkTallies};
     ghost use Rattle.ledger_report.specs.declared.signs.Sign.{Sign};
     ghost use Rattle.ledger_report.specs.Marks.{HasHits, KeepsHits};
     ghost use Rattle.ledger_report.specs.Networks.{HasSilences, IsNetworkOf};
-    ghost use Rattle.ledger_report.specs.NetworkSeries.{AreInBins, HasSeries, KeepsTimes};
-    ghost use Rattle.ledger_report.specs.Series.{is_in};
+    ghost use Rattle.ledger_report.specs.MarkBins.{DoublesBinned, HasBinned};
+    ghost use Rattle.ledger_report.specs.NetworkSeries.{AreInBins, HasSeries, HasTimes, KeepsTimes};
+    ghost use Rattle.ledger_report.specs.NetworkSkews.{DoublesSkews};
+    ghost use Rattle.ledger_report.specs.Series.{IsSeriesOf, is_in};
+    ghost use Rattle.ledger_report.specs.declared.series.Merge.TheVariants.{Greatest};
     ghost use Rattle.std.specs.Prelude.{ℕ, ◌*◌};
     ghost use Rattle.ledger_report.specs.RuleMarks.{HasRules};
     ghost use Rattle.ledger_report.specs.Standings.{frames_on};
@@ -76,7 +79,11 @@ impl NetworkReport {
         ensures signs { IfOk result (λ report. (sign : Sign) → HasHits report.signs sign []) }
         ensures alone { IfOk result (λ report. HasHits report.signs Alone []) }
         ensures series { IfOk result (λ report. (network : Network) (start width : ℕ)
-            → HasSeries network start width [] report) }
+            → HasTimes network start width [] report) }
+        ensures skews { IfOk result (λ report. (start width : ℕ)
+            → IsSeriesOf Greatest start width [] report.skews) }
+        ensures bins { IfOk result (λ report. (start width : ℕ) (sign : Sign)
+            → HasBinned start width report.signs sign []) }
     {
         Ok(NetworkReport {
             frames: 0,
@@ -148,6 +155,7 @@ impl NetworkReport {
             → line.kept ≡ kept → IsNetworkOf network lines self.old
             → IsNetworkOf network (line ∷ lines) self.new) }
         ensures signs { OnOk result (self.new.signs ≡ self.old.signs) }
+        ensures skews { OnOk result (self.new.skews ≡ self.old.skews) }
         ensures series { OnOk result ((network : Network) (start width : ℕ) (line : FrameLine)
             (lines : List FrameLine) → is_on network line ≡ true → line.kept ≡ kept
             → is_in start width at.now.bin line.stamp.0 ≡ true
@@ -249,11 +257,13 @@ impl NetworkReport {
 
     pub(crate) fn fold(&mut self)
         ensures numbers { KeepsNetwork self.old self.new }
-        ensures link_marks { KeepsLinkMarks self.old.signs self.new.signs }
+        ensures link_marks { KeepsLinkTallies self.old.signs self.new.signs }
         ensures alone { KeepsHits Alone self.old.signs self.new.signs }
         ensures series { (network : Network) (start width : ℕ) (lines : List FrameLine)
             → AreInBins start width lines → HasSeries network start width lines self.old
             → HasSeries network start (2 * width) lines self.new }
+        ensures bins { DoublesBinned self.old.signs self.new.signs }
+        ensures skews { DoublesSkews self.old self.new }
     {
         self.signs.fold();
         self.lines.fold();

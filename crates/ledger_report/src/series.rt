@@ -53,12 +53,13 @@ impl Series {
     ghost use Rattle.ledger_report.specs.Bins.{bin_at, Doubles, TakesNumber};
     ghost use Rattle.ledger_report.specs.Series.{IsSeriesOf, Put};
     ghost use Rattle.ledger_report.specs.declared.series.Merge.{Merge};
-    ghost use Rattle.std.specs.Prelude.{List, ◌++◌};
+    ghost use Rattle.std.specs.Prelude.{List, [], ◌++◌};
 
     /// A series in which nothing came. Allocates nothing.
     pub(crate) fn new(alloc: Global, merge: Merge) -> Series
         ensures merge { result.merge ≡ merge }
         ensures nothing { (bin : ℕ) → bin_at result bin ≡ nothing_of merge }
+        ensures none { result.bins.items ≡ [] }
     {
         Series {
             merge,
@@ -115,6 +116,7 @@ impl Series {
     /// Empties the series. Its memory stays.
     pub(crate) fn clear(&mut self)
         ensures nothing { (bin : ℕ) → bin_at self.new bin ≡ nothing_of self.old.merge }
+        ensures none { self.new.bins.items ≡ [] }
         ensures merge { self.new.merge ≡ self.old.merge }
     {
         self.bins.clear();

@@ -6,4 +6,4 @@ use Rattle.ledger_report.proofs.lane.Lane.drop_held.Goals as goal
 pub returns-clause-drops : goal.returns-clause-drops
 returns-clause-drops c = λ missed h.
     settled_dropped missed c.args.self.now (record c.args.self.now { uncovered = c.saturating_add-self.result; held = c.clear.new.self }) refl
-    c.clear.ensures.hits c.saturating_add-self.ensures h
+    c.clear.ensures.hits c.saturating_add-self.ensures c.clear.ensures.bins h

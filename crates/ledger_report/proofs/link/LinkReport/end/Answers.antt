@@ -5,7 +5,7 @@ use Rattle.ledger_report.proofs.AbsenceSteps.{absences_end}
 use Rattle.ledger_report.proofs.KeepSteps.{keeps_late_on, keeps_networks_on}
 use Rattle.ledger_report.proofs.LinkMarkSteps.{link_marks_on}
 use Rattle.ledger_report.proofs.AloneNotes.{ends_alone}
-use Rattle.ledger_report.specs.AloneSums.{GainBoth}
+use Rattle.ledger_report.specs.AloneSums.{AnyBins, GainBoth, HeldFits}
 use Rattle.ledger_report.specs.declared.lane.Lane.{Lane}
 use Rattle.ledger_report.specs.declared.sides.Sides.{Sides}
 use Rattle.ledger_report.proofs.AloneMarks.{gain_both_then}
@@ -40,12 +40,15 @@ returns-clause-absences c = λ row lines a b h.
 
 pub returns-clause-alone : goal.returns-clause-alone
 returns-clause-alone c =
-    ends_alone c.args.networks.now c.settle_latest.new.networks c.args.self.now c.settle_latest.new.self c.settle_lanes.new.self _
+    ends_alone c.args.start c.args.width c.args.networks.now c.settle_latest.new.networks c.args.self.now c.settle_latest.new.self
+    c.settle_lanes.new.self _
     c.in_ok-settle_latest.ensures.networks c.in_ok-settle_latest.ensures.alone c.in_ok-settle_lanes.ensures.ends_a c.in_ok-settle_lanes.ensures.ends_b
     c.sum_fates.ensures.places
 
 pub returns-clause-gains : goal.returns-clause-gains
 returns-clause-gains c =
-    subst (λ (lanes : Sides Lane). GainBoth c.args.self.now.lanes lanes c.args.networks.now c.settle_lanes.new.networks) (sym c.sum_fates.ensures.places)
-    (gain_both_then c.args.self.now.lanes c.settle_latest.new.self.lanes c.settle_lanes.new.self.lanes c.args.networks.now c.settle_latest.new.networks
-    c.settle_lanes.new.networks c.in_ok-settle_latest.ensures.gains c.in_ok-settle_lanes.ensures.gains)
+    subst (λ (lanes : Sides Lane). GainBoth (HeldFits c.args.start c.args.width c.args.self.now.pairing) c.args.self.now.lanes lanes
+    c.args.networks.now c.settle_lanes.new.networks) (sym c.sum_fates.ensures.places)
+    (gain_both_then (HeldFits c.args.start c.args.width c.args.self.now.pairing) AnyBins c.args.self.now.lanes c.settle_latest.new.self.lanes
+    c.settle_lanes.new.self.lanes c.args.networks.now c.settle_latest.new.networks c.settle_lanes.new.networks (λ scale fit. tt)
+    c.in_ok-settle_latest.ensures.gains c.in_ok-settle_lanes.ensures.gains)

@@ -10,8 +10,9 @@ use Rattle.ledger_report.proofs.LinkMarkSteps.{link_marks_none, link_marks_on}
 use Rattle.ledger_report.proofs.LaneSeries.{lanes_keep_on}
 use Rattle.ledger_report.proofs.Pendings.{pending-drop}
 use Rattle.ledger_report.proofs.AloneNotes.{none_below, one_below}
-use Rattle.ledger_report.proofs.AloneMarks.{gain_both_none, gain_both_then, keep_marks_none}
+use Rattle.ledger_report.proofs.AloneMarks.{gain_both_none, gain_both_then, held_same, keep_alone_none}
 use Rattle.ledger_report.proofs.HoldNotes.{keeps_places_none}
+use Rattle.ledger_report.specs.AloneSums.{HeldFits}
 use Rattle.ledger_report.proofs.link.LinkReport.settle_latest.Goals as goal
 
 pub loop-number-init : goal.loop-number-init
@@ -27,11 +28,11 @@ loop-number-init c = record {
   runs = refl;
   numbers = none_met c.args.self.now;
   late = keeps_late_none c.args.self.now;
-  alone = none_below c.args.networks.now c.args.self.now;
+  alone = none_below c.args.start c.args.width c.args.networks.now c.args.self.now;
   networks = (refl, refl);
   link_marks = link_marks_none c.args.networks.now;
-  gains = gain_both_none c.args.self.now.lanes c.args.self.now.lanes c.args.networks.now c.args.networks.now (keeps_places_none c.args.self.now.lanes)
-      (keep_marks_none c.args.networks.now);
+  gains = gain_both_none (HeldFits c.args.start c.args.width c.args.self.now.pairing) c.args.self.now.lanes c.args.self.now.lanes
+      c.args.networks.now c.args.networks.now (keeps_places_none c.args.self.now.lanes) (keep_alone_none c.args.networks.now);
 }
 
 pub loop-number-preserved : goal.loop-number-preserved
@@ -59,10 +60,14 @@ loop-number-preserved c = record {
   numbers = one_met c.loop-number.number c.args.self.now c.loop-number.self c.settle_number.new.self c.loop-number.invariant.pairing
       c.loop-number.invariant.numbers c.in_ok-settle_number.ensures.numbers;
   late = keeps_late_on c.args.self.now c.loop-number.self c.settle_number.new.self c.loop-number.invariant.late c.in_ok-settle_number.ensures.late;
-  alone = one_below c.loop-number.number c.args.networks.now c.loop-number.networks c.args.self.now c.loop-number.self c.settle_number.new.self
+  alone = one_below c.args.start c.args.width c.loop-number.number c.args.networks.now c.loop-number.networks c.args.self.now c.loop-number.self
+      c.settle_number.new.self
       c.loop-number.invariant.networks c.loop-number.invariant.pairing c.loop-number.invariant.alone c.in_ok-settle_number.ensures.settles;
-  gains = gain_both_then c.args.self.now.lanes c.loop-number.self.lanes c.settle_number.new.self.lanes c.args.networks.now c.loop-number.networks
-      c.settle_number.new.networks c.loop-number.invariant.gains c.in_ok-settle_number.ensures.gains;
+  gains = gain_both_then (HeldFits c.args.start c.args.width c.args.self.now.pairing)
+      (HeldFits c.args.start c.args.width c.loop-number.self.pairing) c.args.self.now.lanes c.loop-number.self.lanes
+      c.settle_number.new.self.lanes c.args.networks.now c.loop-number.networks c.settle_number.new.networks
+      (held_same c.args.start c.args.width c.args.self.now.pairing c.loop-number.self.pairing c.loop-number.invariant.pairing)
+      c.loop-number.invariant.gains c.in_ok-settle_number.ensures.gains;
   networks = keeps_networks_on c.args.networks.now c.loop-number.networks c.settle_number.new.networks c.loop-number.invariant.networks
       c.in_ok-settle_number.ensures.networks;
   link_marks = link_marks_on c.args.networks.now c.loop-number.networks c.settle_number.new.networks c.loop-number.invariant.link_marks
@@ -74,6 +79,6 @@ returns-in_err-settle_number-clause-lane_times c =
     lanes_keep_on c.args.self.now.lanes c.loop-number.self.lanes c.settle_number.new.self.lanes c.loop-number.invariant.lane_times c.settle_number.ensures.lane_times
 
 pub returns-clause-alone : goal.returns-clause-alone
-returns-clause-alone c = λ row lines have is h.
+returns-clause-alone c = λ scale row lines fits have is h.
     (let all : c.loop-number.number ≡ 256 = omega (arith, c.loop-number-test.false, c.loop-number.auto.number-end) in
-    subst (λ n. HoldsBelow row lines n c.loop-number.self) all (c.loop-number.invariant.alone row lines have is h))
+    subst (λ n. HoldsBelow scale row lines n c.loop-number.self) all (c.loop-number.invariant.alone scale row lines fits have is h))

@@ -2,7 +2,7 @@
 use Rattle.std.proofs.Common.{◌≡◌, ◌∙◌, true, false, ap, sym}
 use Rattle.afdx_frame.specs.declared.key.Network.TheVariants.{A, B}
 use Rattle.ledger_report.specs.Words.{is_on, is_same_network}
-use Rattle.ledger_report.proofs.NetworkSeries.{network_apart}
+use Rattle.ledger_report.proofs.NetworkSeries.{times_apart}
 use Rattle.ledger_report.proofs.statistics.Statistics.note_networks.Goals as goal
 
 pub returns-in_ok-note_on-in-A-clause-networks : goal.returns-in_ok-note_on-in-A-clause-networks
@@ -43,8 +43,11 @@ pub returns-in_ok-note_on-in-A-clause-series : goal.returns-in_ok-note_on-in-A-c
 returns-in_ok-note_on-in-A-clause-series c = λ start width lines moment within lies h.
     (let here = sym moment.network ∙ c.in-A.is in record {
       within = (within, h.within);
-      a = c.in_ok-note_on-in-A.ensures.own_series A start width lines (ap (is_same_network A) here) lies h.a;
-      b = network_apart B start width c.args.line.now lines c.args.self.now.networks.b _ (ap
+      a = record {
+        series = c.in_ok-note_on-in-A.ensures.own_series A start width lines (ap (is_same_network A) here) lies h.a.series;
+        rules = c.in_ok-note_on-in-A.ensures.own_bins A start width lines (ap (is_same_network A) here) moment.place lies h.a.rules;
+      };
+      b = times_apart B start width c.args.line.now lines c.args.self.now.networks.b _ (ap
           (is_same_network B) here) c.note_on.ensures.other_times h.b;
     })
 
@@ -52,7 +55,10 @@ pub returns-in_ok-note_on-in-B-clause-series : goal.returns-in_ok-note_on-in-B-c
 returns-in_ok-note_on-in-B-clause-series c = λ start width lines moment within lies h.
     (let here = sym moment.network ∙ c.in-B.is in record {
       within = (within, h.within);
-      a = network_apart A start width c.args.line.now lines c.args.self.now.networks.a _ (ap
+      a = times_apart A start width c.args.line.now lines c.args.self.now.networks.a _ (ap
           (is_same_network A) here) c.note_on-in-B.ensures.other_times h.a;
-      b = c.in_ok-note_on-in-B.ensures.own_series B start width lines (ap (is_same_network B) here) lies h.b;
+      b = record {
+        series = c.in_ok-note_on-in-B.ensures.own_series B start width lines (ap (is_same_network B) here) lies h.b.series;
+        rules = c.in_ok-note_on-in-B.ensures.own_bins B start width lines (ap (is_same_network B) here) moment.place lies h.b.rules;
+      };
     })
