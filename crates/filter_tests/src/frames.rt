@@ -40,15 +40,15 @@ fn frames_at_their_bounds(rt: HostRuntime) -> Result<(), Fail> {
                     fits,
                     "number {number}, stamp {stamp}, {captured} of {whole} bytes"
                 );
-                assert_eq!(rt; frame.view().bytes().len(), captured);
+                assert!(rt; frame.view().bytes().len() == captured);
             }
             Err(back) => {
                 assert!(rt;
                     !fits,
                     "number {number}, stamp {stamp}, {captured} of {whole} bytes"
                 );
-                assert_eq!(rt; back.len(), captured);
-                assert_eq!(rt; back.last(), Some(&7));
+                assert!(rt; back.len() == captured);
+                assert!(rt; back.last() == Some(&7));
             }
         }
     }
@@ -73,17 +73,16 @@ fn frames_that_share_at_their_bounds(rt: HostRuntime) -> Result<(), Fail> {
         for shared in [true, false] {
             let bytes = bytes_of(rt.alloc(), captured, shared)?;
             let frame = TapFrame::sharing(Network::B, number, Stamp(stamp), whole, bytes);
-            assert_eq!(rt;
-                frame.is_some(),
-                fits,
+            assert!(rt;
+                frame.is_some() == fits,
                 "number {number}, stamp {stamp}, {captured} of {whole} bytes"
             );
             let Some(frame) = frame else {
                 continue;
             };
-            assert_eq!(rt; frame.key(), key(stamp, Network::B, number));
-            assert_eq!(rt; frame.whole(), whole);
-            assert_eq!(rt; frame.view().bytes().len(), captured);
+            assert!(rt; frame.key() == key(stamp, Network::B, number));
+            assert!(rt; frame.whole() == whole);
+            assert!(rt; frame.view().bytes().len() == captured);
             assert!(rt; frame.view().bytes().iter().all(|byte| *byte == 7));
         }
     }
@@ -100,17 +99,17 @@ fn parts_of_a_block(rt: HostRuntime) -> Result<(), Fail> {
             parts.push((from, to, FrameBytes::part(&block, from, to)?))?;
         }
     }
-    assert_eq!(rt; parts.len(), 171);
+    assert!(rt; parts.len() == 171);
     // While a part is left, the block isn't given back.
     let Err(block) = Arc::try_unwrap(block) else {
         return Err("the block was given back".into());
     };
     for (from, to, part) in parts {
         assert!(rt; from <= to && to <= FRAME.len());
-        assert_eq!(rt; part.as_slice(), &FRAME[from..to], "from {from} to {to}");
+        assert!(rt; part.as_slice() == &FRAME[from..to], "from {from} to {to}");
     }
     match Arc::try_unwrap(block) {
-        Ok(bytes) => assert_eq!(rt; bytes.as_slice(), FRAME.as_slice()),
+        Ok(bytes) => assert!(rt; bytes.as_slice() == FRAME.as_slice()),
         Err(_) => panic!(rt; "the block is still shared"),
     }
     Ok(())
@@ -124,11 +123,8 @@ fn a_part_outlives_its_block(rt: HostRuntime) -> Result<(), Fail> {
     let whole = FrameBytes::part(&block, 0, FRAME.len())?;
     drop(block);
     drop(whole);
-    assert_eq!(rt; part.as_slice(), &FRAME[2..9]);
-    assert_eq!(rt;
-        FrameBytes::own(FRAME.to_vec(alloc)?).as_slice(),
-        FRAME.as_slice()
-    );
+    assert!(rt; part.as_slice() == &FRAME[2..9]);
+    assert!(rt; FrameBytes::own(FRAME.to_vec(alloc)?).as_slice() == FRAME.as_slice());
     Ok(())
 }
 
@@ -136,20 +132,20 @@ fn a_part_outlives_its_block(rt: HostRuntime) -> Result<(), Fail> {
 fn parts_of_a_frame(rt: HostRuntime) -> Result<(), Fail> {
     let bytes = FRAME.to_vec(rt.alloc())?;
     let frame = TapFrame::new(Network::B, 3, Stamp(8), 60, bytes).map_err(|_| "refused")?;
-    assert_eq!(rt; frame.network(), Network::B);
-    assert_eq!(rt; frame.number(), 3);
-    assert_eq!(rt; frame.stamp(), Stamp(8));
-    assert_eq!(rt; frame.whole(), 60);
-    assert_eq!(rt; frame.key(), key(8, Network::B, 3));
-    assert_eq!(rt; frame.view().vl(), Some(VlId(5)));
+    assert!(rt; frame.network() == Network::B);
+    assert!(rt; frame.number() == 3);
+    assert!(rt; frame.stamp() == Stamp(8));
+    assert!(rt; frame.whole() == 60);
+    assert!(rt; frame.key() == key(8, Network::B, 3));
+    assert!(rt; frame.view().vl() == Some(VlId(5)));
     let lent = frame.lent();
-    assert_eq!(rt; lent.network(), Network::B);
-    assert_eq!(rt; lent.number(), 3);
-    assert_eq!(rt; lent.stamp(), Stamp(8));
-    assert_eq!(rt; lent.whole(), 60);
-    assert_eq!(rt; lent.key(), frame.key());
-    assert_eq!(rt; lent.view().bytes(), FRAME.as_slice());
-    assert_eq!(rt; frame.view().bytes(), FRAME.as_slice());
+    assert!(rt; lent.network() == Network::B);
+    assert!(rt; lent.number() == 3);
+    assert!(rt; lent.stamp() == Stamp(8));
+    assert!(rt; lent.whole() == 60);
+    assert!(rt; lent.key() == frame.key());
+    assert!(rt; lent.view().bytes() == FRAME.as_slice());
+    assert!(rt; frame.view().bytes() == FRAME.as_slice());
     Ok(())
 }
 
@@ -194,10 +190,10 @@ fn views_at_their_shortest_lengths(rt: HostRuntime) {
     ] {
         let view = FrameView::new(bytes);
         let captured = bytes.len();
-        assert_eq!(rt; view.bytes(), bytes);
-        assert_eq!(rt; view.constant(), constant, "of {captured} bytes");
-        assert_eq!(rt; view.vl(), link, "of {captured} bytes");
-        assert_eq!(rt; view.sequence(), sequence, "of {captured} bytes");
-        assert_eq!(rt; view.body(), body, "of {captured} bytes");
+        assert!(rt; view.bytes() == bytes);
+        assert!(rt; view.constant() == constant, "of {captured} bytes");
+        assert!(rt; view.vl() == link, "of {captured} bytes");
+        assert!(rt; view.sequence() == sequence, "of {captured} bytes");
+        assert!(rt; view.body() == body, "of {captured} bytes");
     }
 }

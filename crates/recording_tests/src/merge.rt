@@ -37,7 +37,7 @@ fn fetch(
     match merger.fetch(frame) {
         Ok(()) => true,
         Err(frame) => {
-            assert_eq!(rt; frame.number(), number);
+            assert!(rt; frame.number() == number);
             false
         }
     }

@@ -66,15 +66,15 @@ pub(crate) fn reader_of(
 pub(crate) fn same(rt: &impl Abort, item: &TapItem, given: &Item) {
     match (item, given) {
         (TapItem::Frame(frame), Item::Frame(expected)) => {
-            assert_eq!(rt; frame.key(), expected.key());
-            assert_eq!(rt; frame.whole(), expected.whole());
+            assert!(rt; frame.key() == expected.key());
+            assert!(rt; frame.whole() == expected.whole());
             assert!(rt;
                 frame.view().bytes() == expected.view().bytes(),
                 "{:?}",
                 expected.key()
             );
         }
-        (TapItem::End(ending), Item::End(expected)) => assert_eq!(rt; ending, expected),
+        (TapItem::End(ending), Item::End(expected)) => assert!(rt; ending == expected),
         _ => assert!(rt; false, "{item:?}, not {given:?}"),
     }
 }

@@ -68,13 +68,13 @@ fn round_of(alloc: Global, size: usize) -> Result<Vec<u64>, PoolFault> {
 fn covers(rt: &impl Abort, size: usize, done: &Done<Vec<u64>, Span>) {
     let mut next = 0usize;
     for span in &done.batches {
-        assert_eq!(rt; span.from, next);
+        assert!(rt; span.from == next);
         assert!(rt; span.to > span.from && span.to <= span.from.saturating_add(done.chunk));
-        assert_eq!(rt; span.first, (span.from as u64).wrapping_add(7));
+        assert!(rt; span.first == (span.from as u64).wrapping_add(7));
         next = span.to;
     }
-    assert_eq!(rt; next, size);
-    assert_eq!(rt; done.round.len(), size);
+    assert!(rt; next == size);
+    assert!(rt; done.round.len() == size);
     assert!(rt; done.chunk >= 1 && done.chunk <= MAX_CHUNK);
 }
 

@@ -43,11 +43,11 @@ const WORDS: [Packed; 4] = [
 fn reads_a_filter(rt: &(impl Abort + AllocGlobal)) -> bool {
     match read_numeric(rt.alloc(), ONE_LINK) {
         Ok(words) => {
-            assert_eq!(rt; words.as_slice(), WORDS.as_slice());
+            assert!(rt; words.as_slice() == WORDS.as_slice());
             true
         }
         Err(fault) => {
-            assert_eq!(rt; fault, NumericFault::Memory);
+            assert!(rt; fault == NumericFault::Memory);
             false
         }
     }
@@ -58,7 +58,7 @@ fn writes_a_filter(rt: &(impl Abort + AllocGlobal)) -> bool {
     let Ok(text) = write_numeric(rt.alloc(), &WORDS) else {
         return false;
     };
-    assert_eq!(rt; text.as_str(), ONE_LINK);
+    assert!(rt; text.as_str() == ONE_LINK);
     true
 }
 
@@ -68,8 +68,8 @@ fn makes_a_sink(rt: &(impl Abort + AllocGlobal)) -> bool {
         return false;
     };
     assert!(rt; sink.taken().is_empty());
-    assert_eq!(rt; sink.write(b"sixfold"), Ok(5));
-    assert_eq!(rt; sink.taken(), b"sixfo".as_slice());
+    assert!(rt; sink.write(b"sixfold") == Ok(5));
+    assert!(rt; sink.taken() == b"sixfo".as_slice());
     true
 }
 
@@ -82,7 +82,7 @@ fn makes_a_line(rt: &(impl Abort + AllocGlobal)) -> bool {
     let Ok(line) = fault_line(rt.alloc(), &fault) else {
         return false;
     };
-    assert_eq!(rt; line.as_str(), "afdxmon: load 9 Unstored at 2 word 0");
+    assert!(rt; line.as_str() == "afdxmon: load 9 Unstored at 2 word 0");
     true
 }
 
@@ -98,10 +98,10 @@ fn copies_the_first_run(rt: &(impl Abort + AllocGlobal)) -> bool {
     let ran = capture_over(alloc, ONE_LINK, MemSource::new(bytes, SOUND), sink);
     if ran.status == 0 {
         assert!(rt; ran.line.is_none());
-        assert_eq!(rt; ran.sink.taken(), &FIRST_RUN[..100]);
+        assert!(rt; ran.sink.taken() == &FIRST_RUN[..100]);
         return true;
     }
-    assert_eq!(rt; ran.status, 1);
+    assert!(rt; ran.status == 1);
     assert!(rt; FIRST_RUN[..100].starts_with(ran.sink.taken()));
     if let Some(line) = &ran.line {
         let line = line.as_str();

@@ -55,15 +55,15 @@ fn devices(alloc: Global, scripts: (Script, Script)) -> Result<(MemSource, MemSi
 
 /// The command tells the same as `capture_one` and leaves the same bytes.
 fn agrees(rt: &impl Abort, ran: &Ran<MemSink>, failed: bool, line: &str, written: &[u8]) {
-    assert_eq!(rt; ran.status, u8::from(failed));
+    assert!(rt; ran.status == u8::from(failed));
     match &ran.line {
         Some(found) => {
             assert!(rt; failed, "no fault, and yet a line");
-            assert_eq!(rt; found.as_str(), line);
+            assert!(rt; found.as_str() == line);
         }
         None => assert!(rt; !failed, "no line: {line}"),
     }
-    assert_eq!(rt; ran.sink.taken(), written);
+    assert!(rt; ran.sink.taken() == written);
 }
 
 /// Runs `capture_one` and the command over devices of which one may fail. Either nothing failed and
@@ -80,12 +80,12 @@ fn tried(
     let (ended, sink) = captured(alloc, &program, source, sink);
     let failed = match ended {
         Ok(ending) => {
-            assert_eq!(rt; ending, Ending::Clean(2));
-            assert_eq!(rt; sink.taken(), FIRST_RUN.as_slice());
+            assert!(rt; ending == Ending::Clean(2));
+            assert!(rt; sink.taken() == FIRST_RUN.as_slice());
             false
         }
         Err(fault) => {
-            assert_eq!(rt; fault, failing.fault);
+            assert!(rt; fault == failing.fault);
             assert!(rt; FIRST_RUN.starts_with(sink.taken()));
             true
         }
@@ -118,8 +118,8 @@ fn a_source_that_stops(rt: HostRuntime) -> Result<(), Fail> {
             };
             let (failed, written) = tried(&rt, (source, WIDE), READ)?;
             // The read after the last byte, which finds the end, fails too.
-            assert_eq!(rt; failed, most <= LEN, "after {most} bytes");
-            assert_eq!(rt; written, complete_prefix(most), "after {most} bytes");
+            assert!(rt; failed == (most <= LEN), "after {most} bytes");
+            assert!(rt; written == complete_prefix(most), "after {most} bytes");
         }
     }
     Ok(())
@@ -136,10 +136,10 @@ fn a_source_that_misses(rt: HostRuntime) -> Result<(), Fail> {
             };
             let (failed, written) = tried(&rt, (source, WIDE), READ)?;
             if piece == 1 {
-                assert_eq!(rt; failed, call <= 176, "call {call}");
-                assert_eq!(rt; written, complete_prefix(call as usize), "call {call}");
+                assert!(rt; failed == (call <= 176), "call {call}");
+                assert!(rt; written == complete_prefix(call as usize), "call {call}");
             }
-            assert_eq!(rt; written, complete_prefix(written), "call {call}");
+            assert!(rt; written == complete_prefix(written), "call {call}");
             assert!(rt; failed || call > 0);
             assert!(rt; !failed || call <= 176);
         }
@@ -157,7 +157,7 @@ fn a_sink_that_stops(rt: HostRuntime) -> Result<(), Fail> {
                 miss: None,
             };
             let found = tried(&rt, (SOUND, sink), WRITE)?;
-            assert_eq!(rt; found, (most < LEN, most.min(LEN)), "after {most} bytes");
+            assert!(rt; found == (most < LEN, most.min(LEN)), "after {most} bytes");
         }
     }
     Ok(())
@@ -174,8 +174,8 @@ fn a_sink_that_misses(rt: HostRuntime) -> Result<(), Fail> {
             };
             let (failed, written) = tried(&rt, (SOUND, sink), WRITE)?;
             if piece == 1 {
-                assert_eq!(rt; failed, call < 176, "call {call}");
-                assert_eq!(rt; written as u64, call.min(176), "call {call}");
+                assert!(rt; failed == (call < 176), "call {call}");
+                assert!(rt; written as u64 == call.min(176), "call {call}");
             }
             assert!(rt; failed || call > 0);
             assert!(rt; !failed || call < 176);

@@ -21,12 +21,12 @@ fn ran(
 
 /// The command ends with status 1 and this line, and writes these bytes.
 fn fails_with(rt: &impl Abort, ran: &Ran<MemSink>, line: &str, written: &[u8]) {
-    assert_eq!(rt; ran.status, 1, "{line}");
+    assert!(rt; ran.status == 1, "{line}");
     match &ran.line {
-        Some(found) => assert_eq!(rt; found.as_str(), line),
+        Some(found) => assert!(rt; found.as_str() == line),
         None => assert!(rt; false, "no line: {line}"),
     }
-    assert_eq!(rt; ran.sink.taken(), written, "{line}");
+    assert!(rt; ran.sink.taken() == written, "{line}");
 }
 
 #[test]
@@ -35,9 +35,9 @@ fn the_first_run(rt: HostRuntime) -> Result<(), Fail> {
     let as_printed = "4\n40 0 0 4\n21 0 1 5\n6 0 0 4294967295\n6 0 0 0\n";
     for code in [ONE_LINK, as_printed] {
         let ran = ran(alloc, code, &FIRST_RUN, (SOUND, WIDE))?;
-        assert_eq!(rt; ran.status, 0);
+        assert!(rt; ran.status == 0);
         assert!(rt; ran.line.is_none());
-        assert_eq!(rt; ran.sink.taken(), &FIRST_RUN[..100]);
+        assert!(rt; ran.sink.taken() == &FIRST_RUN[..100]);
     }
     Ok(())
 }

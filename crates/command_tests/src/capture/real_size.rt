@@ -43,7 +43,7 @@ fn is_kept_whole(
         sink,
     } = run_capture(alloc, filter, source, MemSink::new(alloc, room)?);
     match outcome {
-        Ok(ending) => assert_eq!(rt; ending, Ending::Clean(count)),
+        Ok(ending) => assert!(rt; ending == Ending::Clean(count)),
         Err(_) => assert!(rt; false, "a fault"),
     }
     assert!(rt; sink.taken() == bytes, "another capture than the recording");

@@ -78,9 +78,9 @@ fn ran(alloc: Global, given: &Given<'_>) -> Result<Ran<MemSink>, AllocError> {
 /// The command ends with status 0, and has printed this.
 fn prints(rt: &(impl Abort + AllocGlobal), given: &Given<'_>, printed: &str) -> Result<(), Fail> {
     let ran = ran(rt.alloc(), given)?;
-    assert_eq!(rt; ran.status, 0, "{printed}");
+    assert!(rt; ran.status == 0, "{printed}");
     assert!(rt; ran.line.is_none(), "{printed}");
-    assert_eq!(rt; ran.sink.taken(), printed.as_bytes(), "{printed}");
+    assert!(rt; ran.sink.taken() == printed.as_bytes(), "{printed}");
     Ok(())
 }
 
@@ -92,12 +92,12 @@ fn fails_with(
     printed: &[u8],
 ) -> Result<(), Fail> {
     let ran = ran(rt.alloc(), given)?;
-    assert_eq!(rt; ran.status, 1, "{line}");
+    assert!(rt; ran.status == 1, "{line}");
     match &ran.line {
-        Some(found) => assert_eq!(rt; found.as_str(), line),
+        Some(found) => assert!(rt; found.as_str() == line),
         None => assert!(rt; false, "no line: {line}"),
     }
-    assert_eq!(rt; ran.sink.taken(), printed, "{line}");
+    assert!(rt; ran.sink.taken() == printed, "{line}");
     Ok(())
 }
 

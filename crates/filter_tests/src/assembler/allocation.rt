@@ -41,7 +41,7 @@ fn assembles(rt: &(impl Abort + AllocGlobal)) -> bool {
     };
     match assemble(rt.alloc(), text) {
         Ok(words) => {
-            assert_eq!(rt; words.as_slice(), [RETURN; 1000].as_slice());
+            assert!(rt; words.as_slice() == [RETURN; 1000].as_slice());
             true
         }
         Err(fault) => {
@@ -67,7 +67,7 @@ fn lists(rt: &(impl Abort + AllocGlobal)) -> bool {
             .starts_with("L0: ret #7\nL1: ret #7\nL2: ret #7\n")
     );
     assert!(rt; text.as_str().ends_with("\nL999: ret #7\n"));
-    assert_eq!(rt; text.len(), 10 * 11 + 90 * 12 + 900 * 13);
+    assert!(rt; text.len() == 10 * 11 + 90 * 12 + 900 * 13);
     true
 }
 

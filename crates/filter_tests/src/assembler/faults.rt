@@ -20,7 +20,7 @@ fn faults_of_a_text(rt: HostRuntime) {
     ];
     for (text, fault) in &rows {
         let found = assemble(rt.alloc(), text).err();
-        assert_eq!(rt; found, Some(AsmFault::Text(*fault)), "{text}");
+        assert!(rt; found == Some(AsmFault::Text(*fault)), "{text}");
     }
 }
 
@@ -41,7 +41,7 @@ fn faults_of_statements(rt: HostRuntime) {
     ];
     for (text, fault) in &rows {
         let found = assemble(rt.alloc(), text).err();
-        assert_eq!(rt; found, Some(*fault), "{text}");
+        assert!(rt; found == Some(*fault), "{text}");
     }
 }
 
@@ -63,31 +63,31 @@ fn jump_over(
 #[test]
 fn farthest_jumps(rt: HostRuntime) -> Result<(), Fail> {
     let words = jump_over(rt.alloc(), "jeq #0, l", 255)??;
-    assert_eq!(rt; words.len(), 257);
-    assert_eq!(rt;
-        words[0],
-        Packed {
-            code: 0x15,
-            jt: 255,
-            jf: 0,
-            k: 0
-        }
+    assert!(rt; words.len() == 257);
+    assert!(rt;
+        words[0]
+            == Packed {
+                code: 0x15,
+                jt: 255,
+                jf: 0,
+                k: 0
+            }
     );
     let far = jump_over(rt.alloc(), "jeq #0, l", 256)?.err();
-    assert_eq!(rt; far, Some(AsmFault::TooFar { at: 0 }));
+    assert!(rt; far == Some(AsmFault::TooFar { at: 0 }));
     let far = jump_over(rt.alloc(), "jne #0, l", 256)?.err();
-    assert_eq!(rt; far, Some(AsmFault::TooFar { at: 0 }));
+    assert!(rt; far == Some(AsmFault::TooFar { at: 0 }));
     // A jump that always goes has 32 bits for its distance.
     let words = jump_over(rt.alloc(), "jmp l", 256)??;
-    assert_eq!(rt; words.len(), 258);
-    assert_eq!(rt;
-        words[0],
-        Packed {
-            code: 0x05,
-            jt: 0,
-            jf: 0,
-            k: 256
-        }
+    assert!(rt; words.len() == 258);
+    assert!(rt;
+        words[0]
+            == Packed {
+                code: 0x05,
+                jt: 0,
+                jf: 0,
+                k: 256
+            }
     );
     Ok(())
 }

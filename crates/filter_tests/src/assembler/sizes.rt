@@ -25,21 +25,21 @@ fn chain(alloc: Global, count: usize) -> Result<String, AllocError> {
 fn most_labelled_statements(rt: HostRuntime) -> Result<(), Fail> {
     let alloc = rt.alloc();
     let words = assemble(alloc, &chain(alloc, MOST)?)?;
-    assert_eq!(rt; words.len(), MOST);
+    assert!(rt; words.len() == MOST);
     for (at, word) in words.iter().enumerate() {
         let code = if at < MOST - 1 { 0x05 } else { 0x06 };
-        assert_eq!(rt;
-            *word,
-            Packed {
-                code,
-                jt: 0,
-                jf: 0,
-                k: 0
-            }
+        assert!(rt;
+            *word
+                == Packed {
+                    code,
+                    jt: 0,
+                    jf: 0,
+                    k: 0
+                }
         );
     }
     let more = assemble(alloc, &chain(alloc, MOST + 1)?).err();
-    assert_eq!(rt; more, Some(AsmFault::TooMany));
+    assert!(rt; more == Some(AsmFault::TooMany));
     Ok(())
 }
 

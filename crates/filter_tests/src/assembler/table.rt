@@ -108,7 +108,7 @@ fn have_words(
         let text = format!(in alloc; "{statement}\nret #1\nret #2\nthen: ret #3\nelse: ret #4\n")?;
         let words = write_numeric(alloc, &assemble(alloc, &text)?)?;
         let wanted = format!(in alloc; "5,{word},6 0 0 1,6 0 0 2,6 0 0 3,6 0 0 4,")?;
-        assert_eq!(rt; words.as_str(), wanted.as_str(), "{statement}");
+        assert!(rt; words.as_str() == wanted.as_str(), "{statement}");
     }
     Ok(())
 }

@@ -42,8 +42,8 @@ fn begun(rt: &(impl Abort + AllocGlobal)) -> Option<(Session, bool)> {
     match Session::new(rt.alloc(), program, frames) {
         Ok(session) => Some((session, true)),
         Err(NewRefused { program, frames }) => {
-            assert_eq!(rt; program.len(), 40);
-            assert_eq!(rt; frames.len(), 1);
+            assert!(rt; program.len() == 40);
+            assert!(rt; frames.len() == 1);
             let session = Session::new(rt.alloc(), program, frames).ok()?;
             Some((session, false))
         }
@@ -66,10 +66,10 @@ fn entry(m: usize) -> Reply {
 fn replies(rt: &impl Abort, session: &mut Session, command: Command, right: Reply) -> bool {
     let first = session.command(command);
     if first == Err(DebugFault::Memory) {
-        assert_eq!(rt; session.command(command), Ok(right), "{command:?}, again");
+        assert!(rt; session.command(command) == Ok(right), "{command:?}, again");
         return false;
     }
-    assert_eq!(rt; first, Ok(right), "{command:?}");
+    assert!(rt; first == Ok(right), "{command:?}");
     true
 }
 
@@ -97,7 +97,7 @@ fn listed(rt: &impl Abort, session: &mut Session) -> Option<(Reply, bool)> {
     match session.command(Command::Disassemble) {
         Ok(reply) => Some((reply, true)),
         Err(fault) => {
-            assert_eq!(rt; fault, DebugFault::Memory);
+            assert!(rt; fault == DebugFault::Memory);
             let reply = session.command(Command::Disassemble).ok()?;
             Some((reply, false))
         }
@@ -118,7 +118,7 @@ fn tells(rt: &(impl Abort + AllocGlobal)) -> bool {
     };
     assert!(rt; lines.as_str().starts_with("L0: add #1\nL1: add #1\n"));
     assert!(rt; lines.as_str().ends_with("\nL39: ret a\n"));
-    assert_eq!(rt; line.as_str(), START);
+    assert!(rt; line.as_str() == START);
     ample && first
 }
 

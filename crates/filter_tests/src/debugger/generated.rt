@@ -159,7 +159,10 @@ fn agrees(
     for _ in 0..60 {
         let command = command(generator);
         let right = expected(rt.alloc(), &mut slow, program, command)?;
-        assert_eq!(rt; session.command(command), right, "{command:?} of {words:?}");
+        assert!(rt;
+            session.command(command) == right,
+            "{command:?} of {words:?}"
+        );
     }
     Ok(())
 }
@@ -201,7 +204,7 @@ fn each_step_is_undone(rt: HostRuntime) -> Result<(), Fail> {
                 match step(&program, state, &FrameView::new(&bytes), 60) {
                     Outcome::Done(_) => break,
                     Outcome::On(next) => {
-                        assert_eq!(rt; undo(&record, next), state, "{record:?}");
+                        assert!(rt; undo(&record, next) == state, "{record:?}");
                         undone = undone.saturating_add(1);
                         state = next;
                     }

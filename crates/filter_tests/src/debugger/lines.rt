@@ -72,25 +72,25 @@ static NO_COMMANDS: [&str; 39] = [
 #[test]
 fn commands(rt: HostRuntime) {
     for (line, command) in COMMANDS {
-        assert_eq!(rt; read_command(line), Some(command), "{line:?}");
+        assert!(rt; read_command(line) == Some(command), "{line:?}");
     }
 }
 
 #[test]
 fn other_lines(rt: HostRuntime) {
     for line in NO_COMMANDS {
-        assert_eq!(rt; read_command(line), None, "{line:?}");
+        assert!(rt; read_command(line) == None, "{line:?}");
     }
-    assert_eq!(rt; read_command("select 1\u{e9}"), None);
-    assert_eq!(rt; read_command("s\u{e9}lect 1"), None);
-    assert_eq!(rt; read_command("select \u{661}"), None);
+    assert!(rt; read_command("select 1\u{e9}") == None);
+    assert!(rt; read_command("s\u{e9}lect 1") == None);
+    assert!(rt; read_command("select \u{661}") == None);
 }
 
 #[test]
 fn faults(rt: HostRuntime) {
-    assert_eq!(rt; bad_command_line(), "fault 0 BadCommand\n");
-    assert_eq!(rt; DebugFault::NoFrame.line(), "fault 1 NoFrame\n");
-    assert_eq!(rt; DebugFault::NoSuchFrame.line(), "fault 2 NoSuchFrame\n");
-    assert_eq!(rt; DebugFault::NoSuchInsn.line(), "fault 3 NoSuchInsn\n");
-    assert_eq!(rt; DebugFault::Memory.line(), "fault 4 Memory\n");
+    assert!(rt; bad_command_line() == "fault 0 BadCommand\n");
+    assert!(rt; DebugFault::NoFrame.line() == "fault 1 NoFrame\n");
+    assert!(rt; DebugFault::NoSuchFrame.line() == "fault 2 NoSuchFrame\n");
+    assert!(rt; DebugFault::NoSuchInsn.line() == "fault 3 NoSuchInsn\n");
+    assert!(rt; DebugFault::Memory.line() == "fault 4 Memory\n");
 }

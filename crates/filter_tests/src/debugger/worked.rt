@@ -129,7 +129,7 @@ fn prints(
 ) -> Result<(), Fail> {
     for (line, text) in lines {
         let printed = answer_to(rt.alloc(), &mut session, line)?;
-        assert_eq!(rt; printed.as_str(), *text, "{line}");
+        assert!(rt; printed.as_str() == *text, "{line}");
     }
     Ok(())
 }
@@ -137,7 +137,7 @@ fn prints(
 #[test]
 fn the_walk(rt: HostRuntime) -> Result<(), Fail> {
     let session = storing(&rt)?;
-    assert_eq!(rt; session.frames(), 1);
+    assert!(rt; session.frames() == 1);
     prints(&rt, session, &WALK)
 }
 
@@ -150,7 +150,7 @@ fn steps_back_over_a_store(rt: HostRuntime) -> Result<(), Fail> {
 fn a_sequence_number_one_byte_too_early(rt: HostRuntime) -> Result<(), Fail> {
     let words = assemble(rt.alloc(), TOO_EARLY)?;
     let code = read_numeric(rt.alloc(), TOO_EARLY_CODE)?;
-    assert_eq!(rt; words.as_slice(), code.as_slice());
+    assert!(rt; words.as_slice() == code.as_slice());
     let session = three_frames(&rt, Program::load(words)?)?;
     prints(&rt, session, &ONE_BYTE_TOO_EARLY)?;
     let mended = read_numeric(
@@ -167,25 +167,25 @@ fn ends_of_a_long_step(rt: HostRuntime) -> Result<(), Fail> {
         m: 0,
         shown: Outcome::On(State::start()),
     };
-    assert_eq!(rt; session.command(Command::Select(0)), Ok(start));
+    assert!(rt; session.command(Command::Select(0)) == Ok(start));
     let end = Reply::At {
         m: 5,
         shown: Outcome::Done(7),
     };
-    assert_eq!(rt; session.command(Command::Step(i64::MAX)), Ok(end));
+    assert!(rt; session.command(Command::Step(i64::MAX)) == Ok(end));
     let start = Reply::At {
         m: 0,
         shown: Outcome::On(State::start()),
     };
-    assert_eq!(rt; session.command(Command::Step(i64::MIN)), Ok(start));
+    assert!(rt; session.command(Command::Step(i64::MIN)) == Ok(start));
     for set in [true, false] {
         let reply = Reply::Breakpoint { at: 2, set };
-        assert_eq!(rt; session.command(Command::Breakpoint(2)), Ok(reply));
+        assert!(rt; session.command(Command::Breakpoint(2)) == Ok(reply));
     }
     let end = Reply::At {
         m: 5,
         shown: Outcome::Done(7),
     };
-    assert_eq!(rt; session.command(Command::Cont), Ok(end));
+    assert!(rt; session.command(Command::Cont) == Ok(end));
     Ok(())
 }

@@ -150,8 +150,8 @@ fn agrees(rt: &impl Abort, program: &Program, words: &[Packed], bytes: &[u8; 60]
         };
         let view = FrameView::new(input.bytes);
         let ran = run(program, &view, whole);
-        assert_eq!(rt; Some(ran), reference_run(words, input, seen), "{words:?}");
-        assert_eq!(rt; stepped(rt, program, &view, whole), ran, "{words:?}");
+        assert!(rt; Some(ran) == reference_run(words, input, seen), "{words:?}");
+        assert!(rt; stepped(rt, program, &view, whole) == ran, "{words:?}");
     }
 }
 
@@ -184,9 +184,8 @@ fn runs_are_those_of_the_table(rt: HostRuntime) -> Result<(), Fail> {
     assert!(rt; loaded >= 2000, "only {loaded} programs load");
     for code in CODES {
         let mark = seen.get(code as usize);
-        assert_eq!(rt;
-            mark.copied(),
-            Some(true),
+        assert!(rt;
+            mark.copied() == Some(true),
             "code {code:#x} was never carried out"
         );
     }

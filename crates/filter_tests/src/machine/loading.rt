@@ -33,7 +33,7 @@ fn fault_of(
         Ok(_) => Ok(None),
         Err(refused) => {
             let same = program(rt.alloc(), numbers)?;
-            assert_eq!(rt; refused.words.as_slice(), same.as_slice());
+            assert!(rt; refused.words.as_slice() == same.as_slice());
             Ok(Some(refused.fault))
         }
     }
@@ -53,17 +53,13 @@ fn one_fault_each(rt: HostRuntime) -> Result<(), Fail> {
         ),
         ("ja 1", [5, 0, 0, 1], LoadFault::Jump { at: 0 }),
     ] {
-        assert_eq!(rt;
-            fault_of(&rt, &[first, RETURN_0])?,
-            Some(fault),
+        assert!(rt;
+            fault_of(&rt, &[first, RETURN_0])? == Some(fault),
             "{mnemonic}"
         );
     }
     // ret #0; ld #1
-    assert_eq!(rt;
-        fault_of(&rt, &[RETURN_0, [0, 0, 0, 1]])?,
-        Some(LoadFault::NoReturn)
-    );
+    assert!(rt; fault_of(&rt, &[RETURN_0, [0, 0, 0, 1]])? == Some(LoadFault::NoReturn));
     Ok(())
 }
 
@@ -71,13 +67,10 @@ fn one_fault_each(rt: HostRuntime) -> Result<(), Fail> {
 fn paths(rt: HostRuntime) -> Result<(), Fail> {
     // jeq #0, 0, 1; st M[0]; ld M[0]; ret a: one path jumps over the store
     let passed_by = [[21, 0, 1, 0], [2, 0, 0, 0], [96, 0, 0, 0], [22, 0, 0, 0]];
-    assert_eq!(rt;
-        fault_of(&rt, &passed_by)?,
-        Some(LoadFault::Unstored { at: 2, word: 0 })
-    );
+    assert!(rt; fault_of(&rt, &passed_by)? == Some(LoadFault::Unstored { at: 2, word: 0 }));
     // ja 1; ld M[0]; ret #0: no path comes to the load
     let unreached = [[5, 0, 0, 1], [96, 0, 0, 0], RETURN_0];
-    assert_eq!(rt; fault_of(&rt, &unreached)?, None);
+    assert!(rt; fault_of(&rt, &unreached)? == None);
     Ok(())
 }
 
@@ -94,9 +87,9 @@ fn canonical_form(rt: HostRuntime) -> Result<(), Fail> {
         jf: 0,
         k: 7,
     };
-    assert_eq!(rt; program.len(), 1);
-    assert_eq!(rt; program.at(0), loaded);
-    assert_eq!(rt; program.insns(), [loaded].as_slice());
+    assert!(rt; program.len() == 1);
+    assert!(rt; program.at(0) == loaded);
+    assert!(rt; program.insns() == [loaded].as_slice());
     Ok(())
 }
 
@@ -120,11 +113,11 @@ fn one_instruction_too_many(rt: HostRuntime) -> Result<(), Fail> {
         match Program::load(words) {
             Ok(program) => {
                 assert!(rt; fault.is_none(), "{count} instructions");
-                assert_eq!(rt; program.len(), count);
+                assert!(rt; program.len() == count);
             }
             Err(refused) => {
-                assert_eq!(rt; Some(refused.fault), fault, "{count} instructions");
-                assert_eq!(rt; refused.words.len(), count);
+                assert!(rt; Some(refused.fault) == fault, "{count} instructions");
+                assert!(rt; refused.words.len() == count);
             }
         }
     }

@@ -148,9 +148,9 @@ fn agrees(rt: &(impl Abort + AllocGlobal), text: &str) -> Result<(), Fail> {
     let fault = slow_fault(rt.alloc(), text)?;
     match read_numeric(rt.alloc(), text) {
         Ok(words) => {
-            assert_eq!(rt; fault, None, "{text:?}");
+            assert!(rt; fault == None, "{text:?}");
             let items = items_of(rt.alloc(), text.as_bytes())?;
-            assert_eq!(rt; items.len(), words.len().saturating_add(1), "{text:?}");
+            assert!(rt; items.len() == words.len().saturating_add(1), "{text:?}");
             assert!(rt;
                 words
                     .iter()
@@ -159,7 +159,7 @@ fn agrees(rt: &(impl Abort + AllocGlobal), text: &str) -> Result<(), Fail> {
                 "{text:?}"
             );
         }
-        Err(found) => assert_eq!(rt; Some(found), fault, "{text:?}"),
+        Err(found) => assert!(rt; Some(found) == fault, "{text:?}"),
     }
     Ok(())
 }

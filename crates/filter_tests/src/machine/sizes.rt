@@ -27,7 +27,7 @@ fn read_write_load_and_run(rt: HostRuntime) -> Result<(), Fail> {
     for size in SIZES {
         let text = counting(alloc, size)?;
         let words = read_numeric(alloc, &text)?;
-        assert_eq!(rt; words.len(), size as usize);
+        assert!(rt; words.len() == size as usize);
         let add = Packed {
             code: 0x04,
             jt: 0,
@@ -39,13 +39,13 @@ fn read_write_load_and_run(rt: HostRuntime) -> Result<(), Fail> {
             others.iter().all(|word| *word == add),
             "{size} instructions"
         );
-        assert_eq!(rt; last.code, 0x16);
+        assert!(rt; last.code == 0x16);
         let written = write_numeric(alloc, &words)?;
-        assert_eq!(rt; written.as_str(), text.as_str());
+        assert!(rt; written.as_str() == text.as_str());
         let program = Program::load(words)?;
-        assert_eq!(rt; program.len(), size as usize);
+        assert!(rt; program.len() == size as usize);
         let ran = run(&program, &FrameView::new(&[]), 0);
-        assert_eq!(rt; ran, (size.saturating_sub(1), size));
+        assert!(rt; ran == (size.saturating_sub(1), size));
     }
     Ok(())
 }

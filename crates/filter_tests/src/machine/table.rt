@@ -112,7 +112,7 @@ type Row = (&'static str, Packed, Packed, Effect);
 /// The family has these rows and no other. Each word unpacks to an instruction of the family, which
 /// packs in canonical form and has this effect.
 fn family_has<F: Family>(rt: &impl Abort, rows: &[Row]) -> Result<(), Fail> {
-    assert_eq!(rt; rows.len(), F::CODES);
+    assert!(rt; rows.len() == F::CODES);
     for (mnemonic, word, plain, effect) in rows {
         let class = word.code % 8;
         assert!(rt;
@@ -120,14 +120,14 @@ fn family_has<F: Family>(rt: &impl Abort, rows: &[Row]) -> Result<(), Fail> {
             "{mnemonic}"
         );
         let insn = F::unpack(*word).ok_or("not of the family")?;
-        assert_eq!(rt; insn.pack(), *plain, "{mnemonic}");
-        assert_eq!(rt; canonical(*word), *plain, "{mnemonic}");
+        assert!(rt; insn.pack() == *plain, "{mnemonic}");
+        assert!(rt; canonical(*word) == *plain, "{mnemonic}");
         let want = outcome(BEFORE, *effect);
-        assert_eq!(rt; stepped(rt, insn, BEFORE), want, "{mnemonic}");
-        assert_eq!(rt; advanced(rt, insn, BEFORE), want, "{mnemonic}");
+        assert!(rt; stepped(rt, insn, BEFORE) == want, "{mnemonic}");
+        assert!(rt; advanced(rt, insn, BEFORE) == want, "{mnemonic}");
         let same = Insn::unpack(*plain).ok_or("not listed")?;
-        assert_eq!(rt; same.pack(), *plain, "{mnemonic}");
-        assert_eq!(rt; stepped(rt, same, BEFORE), want, "{mnemonic}");
+        assert!(rt; same.pack() == *plain, "{mnemonic}");
+        assert!(rt; stepped(rt, same, BEFORE) == want, "{mnemonic}");
     }
     Ok(())
 }
@@ -280,16 +280,14 @@ fn tests_tell_the_four_conditions_apart(rt: HostRuntime) -> Result<(), Fail> {
             let pc = if holds { 31 } else { 51 };
             let want = outcome(BEFORE, Effect::Goes(pc));
             let by_k = word(code, 20, 40, operand);
-            assert_eq!(rt;
-                carried_out(&rt, by_k, BEFORE)?,
-                want,
+            assert!(rt;
+                carried_out(&rt, by_k, BEFORE)? == want,
                 "{code:#x} {operand}"
             );
             let want = outcome(by_x, Effect::Goes(pc));
             let from_x = word(code + 8, 20, 40, 74565);
-            assert_eq!(rt;
-                carried_out(&rt, from_x, by_x)?,
-                want,
+            assert!(rt;
+                carried_out(&rt, from_x, by_x)? == want,
                 "{code:#x} {operand}"
             );
         }
@@ -319,7 +317,7 @@ fn numbers_at_their_ends(rt: HostRuntime) -> Result<(), Fail> {
         let before = State { a, x, ..BEFORE };
         let want = outcome(before, effect);
         let found = carried_out(&rt, word(code, 0, 0, k), before)?;
-        assert_eq!(rt; found, want, "{mnemonic} of {a}, {x} and {k}");
+        assert!(rt; found == want, "{mnemonic} of {a}, {x} and {k}");
     }
     Ok(())
 }
@@ -353,7 +351,7 @@ fn loads_at_the_end_of_the_frame(rt: HostRuntime) -> Result<(), Fail> {
         let before = State { x, ..BEFORE };
         let want = outcome(before, effect);
         let found = carried_out(&rt, word(code, 0, 0, k), before)?;
-        assert_eq!(rt; found, want, "{mnemonic} at {x} + {k}");
+        assert!(rt; found == want, "{mnemonic} at {x} + {k}");
     }
     Ok(())
 }
@@ -378,38 +376,35 @@ fn codes_of<F: Family>(rt: &impl Abort) -> usize {
 
 #[test]
 fn codes_by_family(rt: HostRuntime) {
-    assert_eq!(rt; codes_of::<Load>(&rt), 9);
-    assert_eq!(rt; codes_of::<LoadX>(&rt), 4);
-    assert_eq!(rt; codes_of::<Store>(&rt), 2);
-    assert_eq!(rt; codes_of::<Alu>(&rt), 21);
-    assert_eq!(rt; codes_of::<Jump>(&rt), 9);
-    assert_eq!(rt; codes_of::<Return>(&rt), 2);
-    assert_eq!(rt; codes_of::<Move>(&rt), 2);
-    assert_eq!(rt; codes_of::<Insn>(&rt), 49);
+    assert!(rt; codes_of::<Load>(&rt) == 9);
+    assert!(rt; codes_of::<LoadX>(&rt) == 4);
+    assert!(rt; codes_of::<Store>(&rt) == 2);
+    assert!(rt; codes_of::<Alu>(&rt) == 21);
+    assert!(rt; codes_of::<Jump>(&rt) == 9);
+    assert!(rt; codes_of::<Return>(&rt) == 2);
+    assert!(rt; codes_of::<Move>(&rt) == 2);
+    assert!(rt; codes_of::<Insn>(&rt) == 49);
 }
 
 #[test]
 fn operands(rt: HostRuntime) {
-    assert_eq!(rt; Load::Length.operand(), None);
-    assert_eq!(rt; LoadX::HeaderLength(14).operand(), Some(14));
-    assert_eq!(rt; Store::X(6).operand(), 6);
-    assert_eq!(rt;
-        Alu::Binary(Operator::Add, Source::X).operand(),
-        Some(Source::X)
-    );
+    assert!(rt; Load::Length.operand() == None);
+    assert!(rt; LoadX::HeaderLength(14).operand() == Some(14));
+    assert!(rt; Store::X(6).operand() == 6);
+    assert!(rt; Alu::Binary(Operator::Add, Source::X).operand() == Some(Source::X));
     let less = Jump::If(Condition::AtLeast, Source::K(61), 0, 1);
-    assert_eq!(rt; less.operand(), (Source::K(61), 0, 1));
-    assert_eq!(rt; Return::A.operand(), None);
-    assert_eq!(rt; Insn::Jump(less).operand(), (0, 1, 61));
+    assert!(rt; less.operand() == (Source::K(61), 0, 1));
+    assert!(rt; Return::A.operand() == None);
+    assert!(rt; Insn::Jump(less).operand() == (0, 1, 61));
 }
 
 #[test]
 fn canonical_forms(rt: HostRuntime) {
     // ret #7
-    assert_eq!(rt; canonical(word(6, 9, 9, 7)), word(6, 0, 0, 7));
+    assert!(rt; canonical(word(6, 9, 9, 7)) == word(6, 0, 0, 7));
     // codes that aren't listed
-    assert_eq!(rt; canonical(word(23, 9, 9, 7)), word(23, 9, 9, 7));
-    assert_eq!(rt; canonical(word(0x106, 9, 9, 7)), word(0x106, 9, 9, 7));
+    assert!(rt; canonical(word(23, 9, 9, 7)) == word(23, 9, 9, 7));
+    assert!(rt; canonical(word(0x106, 9, 9, 7)) == word(0x106, 9, 9, 7));
 }
 
 #[test]
@@ -420,7 +415,7 @@ fn starts_at_zero(rt: HostRuntime) {
         x: 0,
         scratch: [0; 16],
     };
-    assert_eq!(rt; State::start(), zero);
+    assert!(rt; State::start() == zero);
 }
 
 #[test]

@@ -24,7 +24,7 @@ fn reads_statements(rt: &(impl Abort + AllocGlobal)) -> bool {
     };
     match statements(rt.alloc(), text) {
         Ok(read) => {
-            assert_eq!(rt; read.len(), 1000);
+            assert!(rt; read.len() == 1000);
             assert!(rt; read[999].at == 6993);
             assert!(rt; read[999].operand == Operand::Immediate(7));
             true

@@ -15,7 +15,7 @@ const FORMS: &str = "l: LD [x+ -4];\njeq #0x5, l_1, Out ldx 4*([14]&0xf) /**/ ne
 fn agrees(rt: &(impl Abort + AllocGlobal), text: &str) -> Result<(), Fail> {
     match (statements(rt.alloc(), text), slow_read(rt.alloc(), text)?) {
         (Ok(read), Ok(offsets)) => {
-            assert_eq!(rt; read.len(), offsets.len(), "{text}");
+            assert!(rt; read.len() == offsets.len(), "{text}");
             assert!(rt;
                 read.iter()
                     .zip(&offsets)

@@ -14,12 +14,12 @@ fn two_seats_of_a_desk(rt: HostRuntime) -> Result<(), Fail> {
     };
     let (first, s) = desk.claim(s);
     let (second, t) = desk.claim(t);
-    assert_eq!(rt; (first, second), (Some(0), Some(1)));
+    assert!(rt; (first, second) == (Some(0), Some(1)));
     let (none_of_s, s) = desk.claim(s);
     let (none_of_t, t) = desk.claim(t);
-    assert_eq!(rt; (none_of_s, none_of_t), (None, None));
+    assert!(rt; (none_of_s, none_of_t) == (None, None));
     let (again, s) = desk.claim(s);
-    assert_eq!(rt; again, None);
+    assert!(rt; again == None);
     let Err((desk, s)) = desk.close(s) else {
         panic!(rt; "closed with half of the room")
     };
@@ -27,7 +27,7 @@ fn two_seats_of_a_desk(rt: HostRuntime) -> Result<(), Fail> {
     let Ok(drawn) = desk.close(whole) else {
         panic!(rt; "not closed with all the room")
     };
-    assert_eq!(rt; drawn, 2);
+    assert!(rt; drawn == 2);
     Ok(())
 }
 
@@ -60,11 +60,11 @@ fn room_one(rt: HostRuntime) -> Result<(), Fail> {
 fn an_empty_desk(rt: HostRuntime) -> Result<(), Fail> {
     let (desk, seat) = ClaimDesk::new(rt.alloc(), 0)?;
     let (number, seat) = desk.claim(seat);
-    assert_eq!(rt; number, None);
+    assert!(rt; number == None);
     let Ok(drawn) = desk.close(seat) else {
         panic!(rt; "not closed with all the room")
     };
-    assert_eq!(rt; drawn, 0);
+    assert!(rt; drawn == 0);
     Ok(())
 }
 
@@ -73,10 +73,10 @@ fn a_desk_closed_early(rt: HostRuntime) -> Result<(), Fail> {
     let (desk, seat) = ClaimDesk::new(rt.alloc(), 1 << 32)?;
     let (first, seat) = desk.claim(seat);
     let (second, seat) = desk.claim(seat);
-    assert_eq!(rt; (first, second), (Some(0), Some(1)));
+    assert!(rt; (first, second) == (Some(0), Some(1)));
     let Ok(drawn) = desk.close(seat) else {
         panic!(rt; "not closed with all the room")
     };
-    assert_eq!(rt; drawn, 2);
+    assert!(rt; drawn == 2);
     Ok(())
 }

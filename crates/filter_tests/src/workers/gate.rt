@@ -43,8 +43,8 @@ fn two_workers_run_at_once(rt: HostRuntime) -> Result<(), Fail> {
             alone: AtomicU64::new(0),
         };
         filtered(&rt, &programs, &frames, 2, &gate).map_err(|_| "no decisions")?;
-        assert_eq!(rt; gate.alone.load(SeqCst), 0);
-        assert_eq!(rt; gate.calls.load(SeqCst), 4);
+        assert!(rt; gate.alone.load(SeqCst) == 0);
+        assert!(rt; gate.calls.load(SeqCst) == 4);
     }
     Ok(())
 }
@@ -77,8 +77,8 @@ fn called_once_a_frame(rt: HostRuntime) -> Result<(), Fail> {
             numbers: AtomicU64::new(0),
         };
         filtered(&rt, &programs, &frames, workers, &gate).map_err(|_| "no decisions")?;
-        assert_eq!(rt; gate.calls.load(SeqCst), count);
-        assert_eq!(rt; gate.numbers.load(SeqCst), (1u64 << count % 64) - 1);
+        assert!(rt; gate.calls.load(SeqCst) == count);
+        assert!(rt; gate.numbers.load(SeqCst) == (1u64 << count % 64) - 1);
         let seen = gate.workers.load(SeqCst);
         assert!(rt; seen >> most % 64 == 0, "{count} frames: workers {seen:b}");
     }

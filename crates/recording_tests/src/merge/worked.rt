@@ -14,30 +14,30 @@ fn cuts(
 ) -> Result<(), Fail> {
     let mut keys = Vec::new(rt.alloc());
     cut_into(merger, 256, &mut keys)?;
-    assert_eq!(rt; parts_of(rt.alloc(), &keys)?.as_slice(), expected);
+    assert!(rt; parts_of(rt.alloc(), &keys)?.as_slice() == expected);
     Ok(())
 }
 
 #[test]
 fn four_frames_merged(rt: HostRuntime) -> Result<(), Fail> {
     let mut merger = Merger::new(rt.alloc(), 0);
-    assert_eq!(rt; merger.wants(), Some(A));
+    assert!(rt; merger.wants() == Some(A));
     fetch(&rt, &mut merger, A, 0, 1);
     cuts(&rt, &mut merger, &[])?;
-    assert_eq!(rt; merger.wants(), Some(B));
+    assert!(rt; merger.wants() == Some(B));
     fetch(&rt, &mut merger, B, 0, 5);
     cuts(&rt, &mut merger, &[(1, A, 0)])?;
-    assert_eq!(rt; merger.wants(), Some(A));
+    assert!(rt; merger.wants() == Some(A));
     fetch(&rt, &mut merger, A, 1, 9);
     cuts(&rt, &mut merger, &[(5, B, 0)])?;
     fetch(&rt, &mut merger, B, 1, 9);
     cuts(&rt, &mut merger, &[(9, A, 1)])?;
-    assert_eq!(rt; merger.wants(), Some(A));
+    assert!(rt; merger.wants() == Some(A));
     merger.end(A);
-    assert_eq!(rt; merger.wants(), Some(B));
+    assert!(rt; merger.wants() == Some(B));
     cuts(&rt, &mut merger, &[(9, B, 1)])?;
     merger.end(B);
-    assert_eq!(rt; merger.wants(), None);
+    assert!(rt; merger.wants() == None);
     Ok(())
 }
 
@@ -64,9 +64,8 @@ fn frames_that_may_not_come(rt: HostRuntime) -> Result<(), Fail> {
     // number, stamp, within the window and the next
     for (number, stamp, fits) in [(1, 5, true), (1, 4, false), (2, 10, false), (0, 10, false)] {
         let frame = crate::merge::frame_at(&rt, A, number, stamp);
-        assert_eq!(rt;
-            merger.can_fetch(&frame),
-            fits,
+        assert!(rt;
+            merger.can_fetch(&frame) == fits,
             "number {number}, stamp {stamp}"
         );
     }

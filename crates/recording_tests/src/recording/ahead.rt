@@ -79,9 +79,8 @@ fn holds_what_was_given(
         end = end.saturating_add(16 + u64::from(len));
         let before = given.load(SeqCst);
         let holds = reader.holds_packet();
-        assert_eq!(rt;
-            holds,
-            before >= end,
+        assert!(rt;
+            holds == (before >= end),
             "{before} of {} bytes in pieces of {piece}, blocks of {block}",
             bytes.len()
         );
@@ -91,7 +90,7 @@ fn holds_what_was_given(
         }
         if holds {
             // Nothing was read of the source for it.
-            assert_eq!(rt; given.load(SeqCst), before);
+            assert!(rt; given.load(SeqCst) == before);
         }
     }
     assert!(rt; !reader.holds_packet());
@@ -102,7 +101,7 @@ fn holds_what_was_given(
 fn packets_held_of_each_prefix(rt: HostRuntime) -> Result<(), Fail> {
     for big in [false, true] {
         let bytes = three_packets(rt.alloc(), big)?;
-        assert_eq!(rt; bytes.len(), WHOLE);
+        assert!(rt; bytes.len() == WHOLE);
         for len in 24..=WHOLE {
             for piece in [1, 7, 16, 21, 40, usize::MAX] {
                 for block in [0, 16, 30, 64, 65_536] {

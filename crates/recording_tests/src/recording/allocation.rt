@@ -25,9 +25,9 @@ fn recording(alloc: Global) -> Option<Vec<u8>> {
 fn are_whole(rt: &impl Abort, frames: &[TapFrame]) {
     for (place, frame) in frames.iter().enumerate() {
         let bytes = frame.view().bytes();
-        assert_eq!(rt; bytes.len(), 100);
-        assert_eq!(rt; bytes[0], place.to_le_bytes()[0]);
-        assert_eq!(rt; bytes[98], place.to_le_bytes()[0]);
+        assert!(rt; bytes.len() == 100);
+        assert!(rt; bytes[0] == place.to_le_bytes()[0]);
+        assert!(rt; bytes[98] == place.to_le_bytes()[0]);
     }
 }
 
@@ -54,11 +54,11 @@ fn holds_frames(rt: &(impl Abort + AllocGlobal)) -> bool {
                 }
             }
             Ok(Item::End(ending)) => {
-                assert_eq!(rt; ending, Ending::Clean(8));
-                assert_eq!(rt; frames.len(), 8);
+                assert!(rt; ending == Ending::Clean(8));
+                assert!(rt; frames.len() == 8);
             }
             Err(fault) => {
-                assert_eq!(rt; fault, ReadFault::Memory);
+                assert!(rt; fault == ReadFault::Memory);
                 assert!(rt; matches!(reader.next(alloc), Err(ReadFault::Failed)));
                 are_whole(rt, &frames);
                 return false;
@@ -85,7 +85,7 @@ fn shares_a_block(rt: &(impl Abort + AllocGlobal)) -> bool {
     let Some(shared) = TapFrame::sharing(Network::A, 0, Stamp(1), 60, part) else {
         panic!(rt; "out of bounds")
     };
-    assert_eq!(rt; shared.view().bytes().len(), 60);
+    assert!(rt; shared.view().bytes().len() == 60);
     true
 }
 
@@ -102,10 +102,10 @@ fn appends_packets(rt: &(impl Abort + AllocGlobal)) -> bool {
         return false;
     };
     for len in [6, 24, 42] {
-        assert_eq!(rt; bytes.len(), len);
+        assert!(rt; bytes.len() == len);
         assert!(rt; bytes.starts_with(b"before"));
         if append_packet(&mut bytes, &frame, 2).is_err() {
-            assert_eq!(rt; bytes.len(), len);
+            assert!(rt; bytes.len() == len);
             assert!(rt; bytes.starts_with(b"before"));
             return false;
         }

@@ -34,7 +34,7 @@ fn copies_itself(
         let source = source(alloc, bytes, piece)?;
         let sink = room(alloc, bytes.len(), usize::MAX)?;
         let (sink, end) = copy(alloc, source, sink, u32::MAX, way)?;
-        assert_eq!(rt; end, End::Clean(frames), "{way:?}, pieces of {piece}");
+        assert!(rt; end == End::Clean(frames), "{way:?}, pieces of {piece}");
         assert!(rt; sink.taken() == bytes, "{way:?}, pieces of {piece}");
     }
     Ok(())
@@ -93,8 +93,8 @@ fn the_longest_records_between_short_ones(rt: HostRuntime) -> Result<(), Fail> {
             let source = source(alloc, &bytes[..len], usize::MAX)?;
             let sink = room(alloc, len, usize::MAX)?;
             let (sink, found) = copy(alloc, source, sink, u32::MAX, way)?;
-            assert_eq!(rt; end, End::Cut(1));
-            assert_eq!(rt; found, end);
+            assert!(rt; end == End::Cut(1));
+            assert!(rt; found == end);
             assert!(rt; sink.taken() == want.as_slice());
         }
     }

@@ -17,11 +17,11 @@ fn a_slice_is_read_whole(rt: HostRuntime) -> Result<(), Fail> {
     let bytes = vec![in rt.alloc(); 7u8; 200_000]?;
     let mut buf = vec![in rt.alloc(); 0u8; 150_000]?;
     let mut source = ReadSource::new(bytes.as_slice());
-    assert_eq!(rt; source.read(buf.as_mut_slice()), Ok(150_000));
-    assert_eq!(rt; source.read(buf.as_mut_slice()), Ok(50_000));
-    assert_eq!(rt; buf.first(), Some(&7));
-    assert_eq!(rt; source.read(buf.as_mut_slice()), Ok(0));
-    assert_eq!(rt; source.into_reader().len(), 0);
+    assert!(rt; source.read(buf.as_mut_slice()) == Ok(150_000));
+    assert!(rt; source.read(buf.as_mut_slice()) == Ok(50_000));
+    assert!(rt; buf.first() == Some(&7));
+    assert!(rt; source.read(buf.as_mut_slice()) == Ok(0));
+    assert!(rt; source.into_reader().len() == 0);
     Ok(())
 }
 
@@ -29,12 +29,12 @@ fn a_slice_is_read_whole(rt: HostRuntime) -> Result<(), Fail> {
 fn a_vector_takes_all(rt: HostRuntime) -> Result<(), Fail> {
     let bytes = vec![in rt.alloc(); 7u8; 150_000]?;
     let mut sink = WriteSink::new(Vec::new(rt.alloc()));
-    assert_eq!(rt; sink.write(bytes.as_slice()), Ok(150_000));
-    assert_eq!(rt; sink.write(&[]), Ok(0));
-    assert_eq!(rt; sink.write(&[1, 2]), Ok(2));
+    assert!(rt; sink.write(bytes.as_slice()) == Ok(150_000));
+    assert!(rt; sink.write(&[]) == Ok(0));
+    assert!(rt; sink.write(&[1, 2]) == Ok(2));
     let taken = sink.into_writer();
-    assert_eq!(rt; taken.len(), 150_002);
-    assert_eq!(rt; taken.last(), Some(&2));
+    assert!(rt; taken.len() == 150_002);
+    assert!(rt; taken.last() == Some(&2));
     Ok(())
 }
 
@@ -75,14 +75,14 @@ impl Write for Broken {
 #[test]
 fn a_reader_or_writer_that_fails(rt: HostRuntime) {
     let mut source = ReadSource::new(Broken { fails: true });
-    assert_eq!(rt; source.read(&mut [0; 8]), Err(DeviceFault));
+    assert!(rt; source.read(&mut [0; 8]) == Err(DeviceFault));
     let mut source = ReadSource::new(Broken { fails: false });
-    assert_eq!(rt; source.read(&mut [0; 8]), Ok(0));
+    assert!(rt; source.read(&mut [0; 8]) == Ok(0));
     let mut sink = WriteSink::new(Broken { fails: true });
-    assert_eq!(rt; sink.write(&[1]), Err(DeviceFault));
+    assert!(rt; sink.write(&[1]) == Err(DeviceFault));
     let mut sink = WriteSink::new(Broken { fails: false });
-    assert_eq!(rt; sink.write(&[1]), Err(DeviceFault));
-    assert_eq!(rt; sink.write(&[]), Ok(0));
+    assert!(rt; sink.write(&[1]) == Err(DeviceFault));
+    assert!(rt; sink.write(&[]) == Ok(0));
 }
 
 #[test]
@@ -99,13 +99,13 @@ fn a_recording_over_std(rt: HostRuntime) -> Result<(), Fail> {
         Err(_) => return Err("the sink failed".into()),
     };
     for count in 0..500u64 {
-        assert_eq!(rt; reader.advance(alloc)?, Found::Frame, "frame {count}");
+        assert!(rt; reader.advance(alloc)? == Found::Frame, "frame {count}");
         let frame = reader.frame();
         let captured = frame.view().bytes().len() as u32;
-        assert_eq!(rt; captured, 1514);
+        assert!(rt; captured == 1514);
         writer.put_lent(&frame, captured)?;
     }
-    assert_eq!(rt; reader.advance(alloc)?, Found::End(Ending::Clean(500)));
+    assert!(rt; reader.advance(alloc)? == Found::End(Ending::Clean(500)));
     assert!(rt; writer.finish().into_writer() == bytes);
     Ok(())
 }
@@ -120,19 +120,19 @@ fn devices_of_memory_follow_their_script(rt: HostRuntime) -> Result<(), Fail> {
     };
     let mut source = MemSource::new(Vec::from_slice(alloc, &[1, 2, 3, 4, 5, 6])?, script);
     let mut buf = [0u8; 8];
-    assert_eq!(rt; source.read(&mut buf), Ok(3));
-    assert_eq!(rt; source.read(&mut buf), Err(DeviceFault));
-    assert_eq!(rt; source.read(&mut buf), Ok(2));
-    assert_eq!(rt; &buf[..2], [4, 5].as_slice());
-    assert_eq!(rt; source.read(&mut buf), Err(DeviceFault));
+    assert!(rt; source.read(&mut buf) == Ok(3));
+    assert!(rt; source.read(&mut buf) == Err(DeviceFault));
+    assert!(rt; source.read(&mut buf) == Ok(2));
+    assert!(rt; &buf[..2] == [4, 5].as_slice());
+    assert!(rt; source.read(&mut buf) == Err(DeviceFault));
     let mut sink = MemSink::new(alloc, script)?;
-    assert_eq!(rt; sink.write(&[1, 2, 3, 4]), Ok(3));
-    assert_eq!(rt; sink.write(&[4]), Err(DeviceFault));
-    assert_eq!(rt; sink.write(&[4, 5, 6]), Ok(2));
-    assert_eq!(rt; sink.write(&[6]), Err(DeviceFault));
-    assert_eq!(rt; sink.taken(), [1, 2, 3, 4, 5].as_slice());
+    assert!(rt; sink.write(&[1, 2, 3, 4]) == Ok(3));
+    assert!(rt; sink.write(&[4]) == Err(DeviceFault));
+    assert!(rt; sink.write(&[4, 5, 6]) == Ok(2));
+    assert!(rt; sink.write(&[6]) == Err(DeviceFault));
+    assert!(rt; sink.taken() == [1, 2, 3, 4, 5].as_slice());
     let mut sound = MemSource::new(Vec::from_slice(alloc, &[1, 2])?, SOUND);
-    assert_eq!(rt; sound.read(&mut buf), Ok(2));
-    assert_eq!(rt; sound.read(&mut buf), Ok(0));
+    assert!(rt; sound.read(&mut buf) == Ok(2));
+    assert!(rt; sound.read(&mut buf) == Ok(0));
     Ok(())
 }

@@ -65,7 +65,7 @@ fn packets_are_what_is_put_of_their_frames(rt: HostRuntime) -> Result<(), Fail> 
     let written = one_by_one.finish().into_writer();
     assert!(rt; written.starts_with(&HEADER));
     assert!(rt; written.ends_with(&packets));
-    assert_eq!(rt; written.len(), packets.len().saturating_add(24));
+    assert!(rt; written.len() == packets.len().saturating_add(24));
     assert!(rt; at_once.finish().into_writer() == written);
     Ok(())
 }
@@ -86,11 +86,11 @@ fn a_packet_is_appended_to_what_stands_there(rt: HostRuntime) -> Result<(), Fail
     let mut bytes = Vec::from_slice(alloc, b"before")?;
     let captured = frame.view().bytes().len() as u32;
     append_packet(&mut bytes, &frame, captured)?;
-    assert_eq!(rt; bytes.len(), 6 + 18);
+    assert!(rt; bytes.len() == 6 + 18);
     assert!(rt; bytes.starts_with(b"before"));
     assert!(rt; bytes.ends_with(&PACKET));
     append_packet(&mut bytes, &frame, captured.min(1))?;
-    assert_eq!(rt; bytes.len(), 6 + 18 + 17);
+    assert!(rt; bytes.len() == 6 + 18 + 17);
     assert!(rt; bytes.starts_with(b"before"));
     assert!(rt; bytes.ends_with(&[2, 1, 0, 0, 1, 0, 0, 0, 2, 0, 0, 0, 9]));
     Ok(())
@@ -128,15 +128,15 @@ fn puts_a_prefix(
         }
         Ok(mut writer) => {
             assert!(rt; written >= 24);
-            assert_eq!(rt; writer.put_packets(&packets), Err(WriteFault::Device));
-            assert_eq!(rt; writer.put_packets(&packets), Err(WriteFault::Failed));
-            assert_eq!(rt; writer.put_packets(&[]), Err(WriteFault::Failed));
+            assert!(rt; writer.put_packets(&packets) == Err(WriteFault::Device));
+            assert!(rt; writer.put_packets(&packets) == Err(WriteFault::Failed));
+            assert!(rt; writer.put_packets(&[]) == Err(WriteFault::Failed));
             let frame = frame_of_two(rt.alloc())?;
-            assert_eq!(rt; writer.put(&frame, 0), Err(WriteFault::Failed));
+            assert!(rt; writer.put(&frame, 0) == Err(WriteFault::Failed));
             writer.finish()
         }
     };
-    assert_eq!(rt; sink.taken(), &capture[..written]);
+    assert!(rt; sink.taken() == &capture[..written]);
     Ok(())
 }
 
@@ -190,8 +190,8 @@ fn packets_are_put_in_one_go(rt: HostRuntime) -> Result<(), Fail> {
     writer.put_packets(&[])?;
     writer.put_packets(&packets)?;
     writer.put_packets(&[])?;
-    assert_eq!(rt; writer.put_packets(&packets), Err(WriteFault::Device));
-    assert_eq!(rt; writer.finish().taken(), capture.as_slice());
+    assert!(rt; writer.put_packets(&packets) == Err(WriteFault::Device));
+    assert!(rt; writer.finish().taken() == capture.as_slice());
     Ok(())
 }
 
@@ -205,9 +205,6 @@ fn frames_after_packets(rt: HostRuntime) -> Result<(), Fail> {
     let frame = frame_of_twenty(alloc)?;
     let captured = frame.view().bytes().len() as u32;
     writer.put(&frame, captured)?;
-    assert_eq!(rt;
-        writer.finish().into_writer().as_slice(),
-        capture.as_slice()
-    );
+    assert!(rt; writer.finish().into_writer().as_slice() == capture.as_slice());
     Ok(())
 }

@@ -108,12 +108,12 @@ fn endings(rt: HostRuntime) -> Result<(), Fail> {
         for piece in [0, 1, 7, usize::MAX] {
             let source = MemSource::new(recording(alloc, records)?, Script { piece, ..SOUND });
             let mut reader = TapReader::open(source, Network::A, most, late)?;
-            assert_eq!(rt; read_owned(alloc, &mut reader)?, Some((frames, ending)));
+            assert!(rt; read_owned(alloc, &mut reader)? == Some((frames, ending)));
             assert!(rt; matches!(reader.next(alloc)?, Item::End(again) if again == ending));
             let source = MemSource::new(recording(alloc, records)?, Script { piece, ..SOUND });
             let mut reader = TapReader::open(source, Network::A, most, late)?;
-            assert_eq!(rt; read_lent(alloc, &mut reader)?, Some((frames, ending)));
-            assert_eq!(rt; reader.advance(alloc)?, Found::End(ending));
+            assert!(rt; read_lent(alloc, &mut reader)? == Some((frames, ending)));
+            assert!(rt; reader.advance(alloc)? == Found::End(ending));
         }
     }
     Ok(())
@@ -136,7 +136,7 @@ fn header_faults(rt: HostRuntime) -> Result<(), Fail> {
         let source = MemSource::new(Vec::from_slice(alloc, &header[..len])?, SOUND);
         match TapReader::open(source, Network::A, 1 << 32, 0) {
             Ok(_) => assert!(rt; false, "opened"),
-            Err(refused) => assert_eq!(rt; refused.fault, OpenFault::Header(fault)),
+            Err(refused) => assert!(rt; refused.fault == OpenFault::Header(fault)),
         }
     }
     Ok(())
@@ -156,14 +156,14 @@ fn microseconds_are_read_and_written_as_nanoseconds(rt: HostRuntime) -> Result<(
     let mut reader = TapReader::open(MemSource::new(bytes, SOUND), Network::B, 1 << 32, 0)?;
     let mut writer = CaptureWriter::begin(MemSink::new(alloc, Script { most: 100, ..SOUND })?)?;
     if let Item::Frame(frame) = reader.next(alloc)? {
-        assert_eq!(rt; frame.stamp(), Stamp(1_000_005_000));
-        assert_eq!(rt; frame.view().bytes(), [7; 60].as_slice());
+        assert!(rt; frame.stamp() == Stamp(1_000_005_000));
+        assert!(rt; frame.view().bytes() == [7; 60].as_slice());
         writer.put(&frame, 40)?;
     }
     let mut text = Vec::from_slice(alloc, &HEADER)?;
     text.extend_from_slice(&[1, 0, 0, 0, 0x88, 0x13, 0, 0, 40, 0, 0, 0, 60, 0, 0, 0])?;
     text.extend_from_slice(&[7; 40])?;
-    assert_eq!(rt; writer.finish().taken(), text.as_slice());
+    assert!(rt; writer.finish().taken() == text.as_slice());
     Ok(())
 }
 
@@ -183,14 +183,14 @@ fn a_source_that_fails(rt: HostRuntime) -> Result<(), Fail> {
             let mut reader = TapReader::open(source, Network::A, 1 << 32, 0)?;
             for _ in 0..frames {
                 if lent {
-                    assert_eq!(rt; reader.advance(alloc), Ok(Found::Frame));
+                    assert!(rt; reader.advance(alloc) == Ok(Found::Frame));
                 } else {
                     assert!(rt; matches!(reader.next(alloc), Ok(Item::Frame(_))));
                 }
             }
             if lent {
-                assert_eq!(rt; reader.advance(alloc), Err(ReadFault::Device));
-                assert_eq!(rt; reader.advance(alloc), Err(ReadFault::Failed));
+                assert!(rt; reader.advance(alloc) == Err(ReadFault::Device));
+                assert!(rt; reader.advance(alloc) == Err(ReadFault::Failed));
             } else {
                 assert!(rt; matches!(reader.next(alloc), Err(ReadFault::Device)));
                 assert!(rt; matches!(reader.next(alloc), Err(ReadFault::Failed)));
@@ -212,7 +212,7 @@ fn a_source_that_fails_at_once(rt: HostRuntime) -> Result<(), Fail> {
     let source = MemSource::new(recording(rt.alloc(), &[])?, script);
     match TapReader::open(source, Network::A, 1 << 32, 0) {
         Ok(_) => assert!(rt; false, "opened"),
-        Err(refused) => assert_eq!(rt; refused.fault, OpenFault::Device),
+        Err(refused) => assert!(rt; refused.fault == OpenFault::Device),
     }
     Ok(())
 }
@@ -226,11 +226,10 @@ fn a_source_that_stops(rt: HostRuntime) -> Result<(), Fail> {
         let source = MemSource::new(bytes, Script { most, ..SOUND });
         let mut reader = TapReader::open(source, Network::A, 1 << 32, 0)?;
         for _ in 0..(most - 24) / 76 {
-            assert_eq!(rt; reader.advance(alloc), Ok(Found::Frame), "{most} bytes");
+            assert!(rt; reader.advance(alloc) == Ok(Found::Frame), "{most} bytes");
         }
-        assert_eq!(rt;
-            reader.advance(alloc),
-            Err(ReadFault::Device),
+        assert!(rt;
+            reader.advance(alloc) == Err(ReadFault::Device),
             "{most} bytes"
         );
     }

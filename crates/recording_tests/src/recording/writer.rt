@@ -33,13 +33,13 @@ fn a_sink_that_fails(rt: HostRuntime) -> Result<(), Fail> {
             match CaptureWriter::begin(sink) {
                 Err(sink) => {
                     assert!(rt; most < 24);
-                    assert_eq!(rt; sink.taken(), &CAPTURE[..most]);
+                    assert!(rt; sink.taken() == &CAPTURE[..most]);
                 }
                 Ok(mut writer) => {
                     assert!(rt; most >= 24);
-                    assert_eq!(rt; writer.put(&frame, 2), Err(WriteFault::Device));
-                    assert_eq!(rt; writer.put(&frame, 2), Err(WriteFault::Failed));
-                    assert_eq!(rt; writer.finish().taken(), &CAPTURE[..most]);
+                    assert!(rt; writer.put(&frame, 2) == Err(WriteFault::Device));
+                    assert!(rt; writer.put(&frame, 2) == Err(WriteFault::Failed));
+                    assert!(rt; writer.finish().taken() == &CAPTURE[..most]);
                 }
             }
         }
@@ -62,11 +62,11 @@ fn fails_once(rt: &(impl Abort + AllocGlobal), piece: usize, call: usize) -> Res
     };
     let written = piece.saturating_mul(call).min(42);
     match CaptureWriter::begin(MemSink::new(alloc, script)?) {
-        Err(sink) => assert_eq!(rt; sink.taken(), &CAPTURE[..written]),
+        Err(sink) => assert!(rt; sink.taken() == &CAPTURE[..written]),
         Ok(mut writer) => {
-            assert_eq!(rt; writer.put(&frame, 2), Err(WriteFault::Device));
-            assert_eq!(rt; writer.put(&frame, 2), Err(WriteFault::Failed));
-            assert_eq!(rt; writer.finish().taken(), &CAPTURE[..written]);
+            assert!(rt; writer.put(&frame, 2) == Err(WriteFault::Device));
+            assert!(rt; writer.put(&frame, 2) == Err(WriteFault::Failed));
+            assert!(rt; writer.finish().taken() == &CAPTURE[..written]);
         }
     }
     Ok(())

@@ -43,12 +43,12 @@ fn feeds_a_ring(rt: &(impl Abort + Wait + AllocGlobal)) -> bool {
     assert!(rt; end.settle(fed).is_ok());
     match items.last() {
         Some(TapItem::End(ending)) => {
-            assert_eq!(rt; *ending, Ending::Clean(3));
-            assert_eq!(rt; items.len(), 4);
+            assert!(rt; *ending == Ending::Clean(3));
+            assert!(rt; items.len() == 4);
             true
         }
         Some(TapItem::Failed(fault)) => {
-            assert_eq!(rt; *fault, ReadFault::Memory);
+            assert!(rt; *fault == ReadFault::Memory);
             false
         }
         _ => panic!(rt; "the last item is a frame"),

@@ -39,8 +39,8 @@ fn is_next(
     match reader.advance(rt.alloc())? {
         Found::Frame => {
             let expected = reader.frame();
-            assert_eq!(rt; frame.key(), expected.key());
-            assert_eq!(rt; frame.whole(), expected.whole());
+            assert!(rt; frame.key() == expected.key());
+            assert!(rt; frame.whole() == expected.whole());
             assert!(rt;
                 frame.view().bytes() == expected.view().bytes(),
                 "{:?}",
@@ -96,7 +96,7 @@ fn frames_that_are_held(rt: HostRuntime) -> Result<(), Fail> {
                 || feed(&rt, alloc, reader, put, &Open),
                 || hold_frames(&rt, end, behind, held),
             );
-            assert_eq!(rt; count?, 3000, "{held} held, blocks of {block}");
+            assert!(rt; count? == 3000, "{held} held, blocks of {block}");
         }
     }
     Ok(())
@@ -129,10 +129,10 @@ fn read_held(
             Item::End(ending) => return Ok((count, ending)),
             Item::Frame(frame) => {
                 let bytes = frame.view().bytes();
-                assert_eq!(rt; bytes.len(), LEN);
+                assert!(rt; bytes.len() == LEN);
                 let alike = bytes.iter().filter(|byte| **byte == 9).count();
-                assert_eq!(rt; alike, LEN - 1);
-                assert_eq!(rt; bytes.last(), Some(&(9 ^ 0xff)));
+                assert!(rt; alike == LEN - 1);
+                assert!(rt; bytes.last() == Some(&(9 ^ 0xff)));
                 frames.push_back(frame)?;
             }
         }
@@ -159,9 +159,8 @@ fn a_cut_packet_in_memory_that_came_back(rt: HostRuntime) -> Result<(), Fail> {
                 } else {
                     Ending::Cut(39)
                 };
-                assert_eq!(rt;
-                    read,
-                    (39, ending),
+                assert!(rt;
+                    read == (39, ending),
                     "{cut} bytes cut, {held} held, blocks of {block}"
                 );
             }

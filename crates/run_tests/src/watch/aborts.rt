@@ -138,10 +138,9 @@ fn a_fault_is_told_once(rt: HostRuntime) -> Result<(), Fail> {
             for (scripts, fault) in failing(most) {
                 let way = Way::Workers(workers);
                 let (told, ran) = told_of(&rt, way, &[EVERY], scripts, fault)?;
-                assert_eq!(rt; ran.outcome, Err(fault));
-                assert_eq!(rt;
-                    told,
-                    [1, 0, 0],
+                assert!(rt; ran.outcome == Err(fault));
+                assert!(rt;
+                    told == [1, 0, 0],
                     "{fault:?} after {most}, {workers} workers"
                 );
             }
@@ -156,7 +155,7 @@ fn a_whole_run_tells_no_fault(rt: HostRuntime) -> Result<(), Fail> {
         let way = Way::Workers(workers);
         let (told, ran) = told_of(&rt, way, &[EVERY], roomy(1 << 20), WatchFault::Memory)?;
         assert!(rt; ran.outcome.is_ok());
-        assert_eq!(rt; told, [0; 3]);
+        assert!(rt; told == [0; 3]);
     }
     Ok(())
 }
@@ -170,13 +169,13 @@ fn no_fault_is_told_before_the_threads_start(rt: HostRuntime) -> Result<(), Fail
         NO_FAILURE,
         WatchFault::Workers,
     )?;
-    assert_eq!(rt; (ran.outcome, told), (Err(WatchFault::Workers), [0; 3]));
+    assert!(rt; (ran.outcome, told) == (Err(WatchFault::Workers), [0; 3]));
     let (told, ran) = told_of(&rt, Way::Workers(2), &[], NO_FAILURE, WatchFault::Filters)?;
-    assert_eq!(rt; (ran.outcome, told), (Err(WatchFault::Filters), [0; 3]));
+    assert!(rt; (ran.outcome, told) == (Err(WatchFault::Filters), [0; 3]));
     // within the file headers and the ledger's first line
     for (scripts, fault) in failing(10) {
         let (told, ran) = told_of(&rt, Way::Workers(2), &[EVERY], scripts, fault)?;
-        assert_eq!(rt; (ran.outcome, told), (Err(fault), [0; 3]));
+        assert!(rt; (ran.outcome, told) == (Err(fault), [0; 3]));
     }
     Ok(())
 }
@@ -252,13 +251,12 @@ fn tells_while_held<R: Threads + Wait + Sync + Abort + AllocGlobal>(
     ) {
         Ok(_) => panic!(rt; "no fault"),
         Err(refused) => {
-            assert_eq!(rt; refused.fault, notes.expected);
+            assert!(rt; refused.fault == notes.expected);
             assert!(rt; refused.a.is_some() && refused.b.is_some());
         }
     }
-    assert_eq!(rt;
-        notes.counts(),
-        [1, 0, 0],
+    assert!(rt;
+        notes.counts() == [1, 0, 0],
         "{held:?} held, {workers} workers"
     );
     Ok(())

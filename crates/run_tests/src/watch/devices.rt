@@ -108,14 +108,14 @@ fn failures_by(fault: WatchFault) -> [u64; 4] {
 fn failed(rt: &(impl Abort + AllocGlobal), ran: &Ran, expected: WatchFault) -> Result<bool, Fail> {
     match ran.outcome {
         Ok(_) => {
-            assert_eq!(rt; ran.capture.taken(), capture(rt.alloc())?.as_slice());
-            assert_eq!(rt; ran.ledger.taken(), TWO_TAPS.as_bytes());
-            assert_eq!(rt; ran.failures(), Some([0; 4]));
+            assert!(rt; ran.capture.taken() == capture(rt.alloc())?.as_slice());
+            assert!(rt; ran.ledger.taken() == TWO_TAPS.as_bytes());
+            assert!(rt; ran.failures() == Some([0; 4]));
             Ok(false)
         }
         Err(fault) => {
-            assert_eq!(rt; fault, expected);
-            assert_eq!(rt; ran.failures(), Some(failures_by(fault)));
+            assert!(rt; fault == expected);
+            assert!(rt; ran.failures() == Some(failures_by(fault)));
             Ok(true)
         }
     }
@@ -126,7 +126,7 @@ fn has_captured(rt: &(impl Abort + AllocGlobal), ran: &Ran, most: usize) -> Resu
     let whole = capture(rt.alloc())?;
     let written = ran.capture.taken();
     assert!(rt; whole.starts_with(written), "after {most} bytes");
-    assert_eq!(rt; written.len(), most.min(LEN));
+    assert!(rt; written.len() == most.min(LEN));
     assert!(rt; TWO_TAPS.as_bytes().starts_with(ran.ledger.taken()));
     assert!(rt;
         most >= 24 || ran.ledger.taken().is_empty(),
@@ -142,7 +142,7 @@ fn has_listed(rt: &(impl Abort + AllocGlobal), ran: &Ran, most: usize) -> Result
         TWO_TAPS.as_bytes().starts_with(written),
         "after {most} bytes"
     );
-    assert_eq!(rt; written.len(), most.min(TWO_TAPS.len()));
+    assert!(rt; written.len() == most.min(TWO_TAPS.len()));
     assert!(rt; capture(rt.alloc())?.starts_with(ran.capture.taken()));
     Ok(())
 }
@@ -160,7 +160,7 @@ fn stops_capturing<R: Threads + Wait + Sync + Abort + AllocGlobal>(
         };
         let ran = ran(rt, way, scripts)?;
         let refused = failed(rt, &ran, WRITE_CAPTURE)?;
-        assert_eq!(rt; refused, most < LEN, "after {most} bytes");
+        assert!(rt; refused == (most < LEN), "after {most} bytes");
         has_captured(rt, &ran, most)?;
     }
     Ok(())
@@ -168,7 +168,7 @@ fn stops_capturing<R: Threads + Wait + Sync + Abort + AllocGlobal>(
 
 #[test]
 fn a_capture_sink_that_stops(rt: HostRuntime) -> Result<(), Fail> {
-    assert_eq!(rt; capture(rt.alloc())?.len(), LEN);
+    assert!(rt; capture(rt.alloc())?.len() == LEN);
     for (way, piece) in CASES {
         stops_capturing(&rt, way, piece)?;
     }
@@ -188,7 +188,7 @@ fn stops_listing<R: Threads + Wait + Sync + Abort + AllocGlobal>(
         };
         let ran = ran(rt, way, scripts)?;
         let refused = failed(rt, &ran, WRITE_LEDGER)?;
-        assert_eq!(rt; refused, most < TWO_TAPS.len(), "after {most} bytes");
+        assert!(rt; refused == (most < TWO_TAPS.len()), "after {most} bytes");
         has_listed(rt, &ran, most)?;
     }
     Ok(())
@@ -305,9 +305,9 @@ fn has_safe(rt: &(impl Abort + AllocGlobal), ran: &Ran, safe: Option<Safe>) -> R
         return Ok(());
     };
     let ledger = format!(in rt.alloc(); "afdx-ledger 2\n{lines}")?;
-    assert_eq!(rt; ran.ledger.taken(), ledger.as_bytes());
+    assert!(rt; ran.ledger.taken() == ledger.as_bytes());
     let capture = recording(rt.alloc(), accepted)?;
-    assert_eq!(rt; ran.capture.taken(), capture.as_slice());
+    assert!(rt; ran.capture.taken() == capture.as_slice());
     Ok(())
 }
 
@@ -334,7 +334,7 @@ fn fails_on_a<R: Threads + Wait + Sync + Abort + AllocGlobal>(
     let ran = ran(rt, way, scripts)?;
     // The read after the last byte, which finds the end, fails too.
     let refused = failed(rt, &ran, READ_A)?;
-    assert_eq!(rt; refused, given <= LEN_A, "after {given} bytes");
+    assert!(rt; refused == (given <= LEN_A), "after {given} bytes");
     match way {
         _ if !refused => Ok(()),
         Way::OneThread => has_wholes(rt, &ran, lines_with_a(given), accepted_with_a(given)),
@@ -355,7 +355,7 @@ fn fails_on_b<R: Threads + Wait + Sync + Abort + AllocGlobal>(
     };
     let ran = ran(rt, way, scripts)?;
     let refused = failed(rt, &ran, READ_B)?;
-    assert_eq!(rt; refused, given <= LEN_B, "after {given} bytes");
+    assert!(rt; refused == (given <= LEN_B), "after {given} bytes");
     match way {
         _ if !refused => Ok(()),
         Way::OneThread => has_wholes(rt, &ran, lines_with_b(given), &[(100, 2), (200, 2)]),
@@ -414,7 +414,7 @@ fn misses_capturing<R: Threads + Wait + Sync + Abort + AllocGlobal>(
         };
         let ran = ran(rt, way, scripts)?;
         let refused = failed(rt, &ran, WRITE_CAPTURE)?;
-        assert_eq!(rt; refused, call < LEN, "call {call}");
+        assert!(rt; refused == (call < LEN), "call {call}");
         has_captured(rt, &ran, call)?;
     }
     Ok(())
@@ -438,7 +438,7 @@ fn misses_listing<R: Threads + Wait + Sync + Abort + AllocGlobal>(
         };
         let ran = ran(rt, way, scripts)?;
         let refused = failed(rt, &ran, WRITE_LEDGER)?;
-        assert_eq!(rt; refused, call < TWO_TAPS.len(), "call {call}");
+        assert!(rt; refused == (call < TWO_TAPS.len()), "call {call}");
         has_listed(rt, &ran, call)?;
     }
     Ok(())
@@ -464,7 +464,7 @@ fn fails_on_both<R: Threads + Wait + Sync + Abort + AllocGlobal>(
         ..NO_FAILURE
     };
     let ran = ran(rt, Way::Workers(2), scripts)?;
-    assert_eq!(rt; ran.outcome, Err(fault));
+    assert!(rt; ran.outcome == Err(fault));
     let failures = ran.failures();
     assert!(rt;
         failures == Some(failures_by(fault)) || failures == Some([1, 1, 0, 0]),
@@ -505,10 +505,10 @@ fn a_header_alone_is_read_to_its_end(rt: HostRuntime) -> Result<(), Fail> {
     };
     for way in [Way::OneThread, Way::Workers(2)] {
         let ran = run(&rt, way, given, scripts)?;
-        assert_eq!(rt; ran.outcome, Err(READ_B));
-        assert_eq!(rt; ran.failures(), Some([0, 1, 0, 0]));
-        assert_eq!(rt; ran.capture.taken(), HEADER.as_slice());
-        assert_eq!(rt; ran.ledger.taken(), b"afdx-ledger 2\n".as_slice());
+        assert!(rt; ran.outcome == Err(READ_B));
+        assert!(rt; ran.failures() == Some([0, 1, 0, 0]));
+        assert!(rt; ran.capture.taken() == HEADER.as_slice());
+        assert!(rt; ran.ledger.taken() == b"afdx-ledger 2\n".as_slice());
     }
     Ok(())
 }

@@ -94,10 +94,10 @@ fn taps_and_workers_at_once(rt: HostRuntime) -> Result<(), Fail> {
         let gate = Meeting::new();
         let ran = run_past(&rt, Way::Workers(2), given, roomy(ROOM), &gate)?;
         leaves_the_same(&rt, &ran, &expected);
-        assert_eq!(rt; gate.alone.load(SeqCst), 0);
-        assert_eq!(rt; gate.runs.load(SeqCst), 8);
-        assert_eq!(rt; gate.taps_a.load(SeqCst), 1);
-        assert_eq!(rt; gate.taps_b.load(SeqCst), 1);
+        assert!(rt; gate.alone.load(SeqCst) == 0);
+        assert!(rt; gate.runs.load(SeqCst) == 8);
+        assert!(rt; gate.taps_a.load(SeqCst) == 1);
+        assert!(rt; gate.taps_b.load(SeqCst) == 1);
     }
     Ok(())
 }
@@ -162,9 +162,9 @@ fn tells_each_once<R: Threads + Wait + Sync + Abort + AllocGlobal>(
             told = told.saturating_add(calls);
             before = calls;
         }
-        assert_eq!(rt; told, frames);
-        assert_eq!(rt; gate.beyond.load(SeqCst), 0);
-        assert_eq!(rt; gate.workers.load(SeqCst) >> workers % 64, 0);
+        assert!(rt; told == frames);
+        assert!(rt; gate.beyond.load(SeqCst) == 0);
+        assert!(rt; gate.workers.load(SeqCst) >> workers % 64 == 0);
     }
     Ok(())
 }

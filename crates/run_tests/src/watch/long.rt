@@ -55,11 +55,8 @@ fn the_same_by_all<R: Threads + Wait + Sync + Abort + AllocGlobal>(
 fn three_hundred_frames_a_tap(rt: HostRuntime) -> Result<(), Fail> {
     let tap = tap_of(rt.alloc(), 0, 300)?;
     let left = the_same_by_all(&rt, given_by(&tap, &tap), ROOM)?;
-    assert_eq!(rt; left.capture.taken().len(), 45624);
-    assert_eq!(rt;
-        (left.counts.a, left.counts.b),
-        (Ending::Clean(300), Ending::Clean(300))
-    );
+    assert!(rt; left.capture.taken().len() == 45624);
+    assert!(rt; (left.counts.a, left.counts.b) == (Ending::Clean(300), Ending::Clean(300)));
     Ok(())
 }
 
@@ -77,9 +74,9 @@ fn beside_many<R: Threads + Wait + Sync + Abort + AllocGlobal>(
 ) -> Result<(), Fail> {
     let all = Ending::Clean(5000);
     let left = the_same_by_all(rt, given_by(many, short), ROOM)?;
-    assert_eq!(rt; (left.counts.a, left.counts.b), (all, ending));
+    assert!(rt; (left.counts.a, left.counts.b) == (all, ending));
     let left = the_same_by_all(rt, given_by(short, many), ROOM)?;
-    assert_eq!(rt; (left.counts.a, left.counts.b), (ending, all));
+    assert!(rt; (left.counts.a, left.counts.b) == (ending, all));
     Ok(())
 }
 
@@ -107,7 +104,7 @@ fn has_first_of(rt: &impl Abort, ran: &Ran, whole: &Left, frames: usize) {
     assert!(rt; whole.ledger.taken().starts_with(ledger), "another ledger");
     assert!(rt; ledger.ends_with(b"\n"));
     let lines = ledger.iter().filter(|byte| **byte == b'\n').count();
-    assert_eq!(rt; lines, frames + 1);
+    assert!(rt; lines == frames + 1);
 }
 
 /// A source that fails after so many bytes, while the other one has many frames. So many frames are safe
@@ -126,8 +123,8 @@ fn fails_early<R: Threads + Wait + Sync + Abort + AllocGlobal>(
     };
     let ran = run(rt, Way::Workers(2), given_by(short, long), on_a)?;
     let network = Network::A;
-    assert_eq!(rt; ran.outcome, Err(WatchFault::Read { network }));
-    assert_eq!(rt; ran.failures(), Some([1, 0, 0, 0]));
+    assert!(rt; ran.outcome == Err(WatchFault::Read { network }));
+    assert!(rt; ran.failures() == Some([1, 0, 0, 0]));
     has_first_of(
         rt,
         &ran,
@@ -140,8 +137,8 @@ fn fails_early<R: Threads + Wait + Sync + Abort + AllocGlobal>(
     };
     let ran = run(rt, Way::Workers(2), given_by(long, short), on_b)?;
     let network = Network::B;
-    assert_eq!(rt; ran.outcome, Err(WatchFault::Read { network }));
-    assert_eq!(rt; ran.failures(), Some([0, 1, 0, 0]));
+    assert!(rt; ran.outcome == Err(WatchFault::Read { network }));
+    assert!(rt; ran.failures() == Some([0, 1, 0, 0]));
     has_first_of(
         rt,
         &ran,
@@ -178,12 +175,12 @@ fn fails_while_full<R: Threads + Wait + Sync + Abort + AllocGlobal>(
     output: Output,
 ) -> Result<(), Fail> {
     let ran = run(rt, Way::Workers(2), given_by(tap, tap), scripts)?;
-    assert_eq!(rt; ran.outcome, Err(WatchFault::Write { output }));
+    assert!(rt; ran.outcome == Err(WatchFault::Write { output }));
     let failures = match output {
         Output::Capture => [0, 0, 1, 0],
         Output::Ledger => [0, 0, 0, 1],
     };
-    assert_eq!(rt; ran.failures(), Some(failures));
+    assert!(rt; ran.failures() == Some(failures));
     let whole = left_by_one(rt, given_by(tap, tap), ROOM)?;
     assert!(rt; whole.capture.taken().starts_with(ran.capture.taken()));
     assert!(rt; whole.ledger.taken().starts_with(ran.ledger.taken()));

@@ -36,12 +36,12 @@ impl Expected<'_> {
 
 /// The run has left this.
 fn has_left(rt: &impl Abort, ran: &Ran, expected: Expected<'_>) {
-    assert_eq!(rt; ran.ledger.taken(), expected.ledger.as_bytes());
-    assert_eq!(rt; ran.capture.taken(), expected.capture);
+    assert!(rt; ran.ledger.taken() == expected.ledger.as_bytes());
+    assert!(rt; ran.capture.taken() == expected.capture);
     match ran.outcome {
         Ok(counts) => {
-            assert_eq!(rt; (counts.a, counts.b), expected.endings);
-            assert_eq!(rt; counts.totals.frames, expected.frames());
+            assert!(rt; (counts.a, counts.b) == expected.endings);
+            assert!(rt; counts.totals.frames == expected.frames());
         }
         Err(fault) => panic!(rt; "a fault: {fault}"),
     }
@@ -98,11 +98,11 @@ fn refuses_by<R: Threads + Wait + Sync + Abort + AllocGlobal>(
     let ran = run(rt, way, given, NO_FAILURE)?;
     match ran.outcome {
         Ok(_) => panic!(rt; "no fault"),
-        Err(found) => assert_eq!(rt; found, fault),
+        Err(found) => assert!(rt; found == fault),
     }
     assert!(rt; ran.capture.taken().is_empty());
     assert!(rt; ran.ledger.taken().is_empty());
-    assert_eq!(rt; ran.failures(), Some([0; 4]));
+    assert!(rt; ran.failures() == Some([0; 4]));
     match (&ran.a, &ran.b) {
         (Some(a), Some(b)) => Ok(a.passed.saturating_add(b.passed)),
         _ => panic!(rt; "a source is lost"),
@@ -168,7 +168,7 @@ fn a_second_filter(rt: HostRuntime) -> Result<(), Fail> {
     push_packet(&mut capture, 0, 5, 8, 1)?;
     push_packet(&mut capture, 100, 5, 60, 2)?;
     push_packet(&mut capture, 200, 5, 60, 2)?;
-    assert_eq!(rt; capture.len(), 200);
+    assert!(rt; capture.len() == 200);
     leaves(
         &rt,
         Given {
@@ -328,7 +328,7 @@ fn refuses_filters<R: Threads + Wait + Sync + Abort + AllocGlobal>(
         b: tap,
     };
     for way in WAYS {
-        assert_eq!(rt; refuses_by(rt, way, given, WatchFault::Filters)?, 0);
+        assert!(rt; refuses_by(rt, way, given, WatchFault::Filters)? == 0);
     }
     Ok(())
 }
@@ -360,7 +360,7 @@ fn refuses_workers<R: Threads + Wait + Sync + Abort + AllocGlobal>(
             b: tap,
         };
         let read = refuses_by(rt, Way::Workers(workers), given, WatchFault::Workers)?;
-        assert_eq!(rt; read, 0, "{workers} workers");
+        assert!(rt; read == 0, "{workers} workers");
     }
     Ok(())
 }

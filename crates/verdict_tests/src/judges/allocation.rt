@@ -18,12 +18,12 @@ use vl_judge::{LaneFault, Lanes};
 fn reads_a_table(rt: &(impl Abort + AllocGlobal)) -> bool {
     match Config::read(rt.alloc(), TABLE) {
         Ok(config) => {
-            assert_eq!(rt; config.links().len(), 1);
+            assert!(rt; config.links().len() == 1);
             assert!(rt; config.link(VlId(5)).is_some());
             true
         }
         Err(fault) => {
-            assert_eq!(rt; fault, ConfigFault::Memory);
+            assert!(rt; fault == ConfigFault::Memory);
             false
         }
     }
@@ -36,7 +36,7 @@ fn makes_lanes(rt: &(impl Abort + AllocGlobal)) -> bool {
     };
     match Lanes::new(rt.alloc(), &config) {
         Ok(lanes) => {
-            assert_eq!(rt; lanes.last(), None);
+            assert!(rt; lanes.last() == None);
             true
         }
         Err(_) => false,
@@ -57,7 +57,7 @@ fn judges_a_round<R: Threads + Wait + Sync + Abort + AllocGlobal>(rt: &R, worker
     match judged(rt, lanes, &round, workers) {
         Ok((lanes, said)) => {
             says_of_two_links(rt, &said);
-            assert_eq!(rt; lanes.last(), round.last().map(|frame| frame.key()));
+            assert!(rt; lanes.last() == round.last().map(|frame| frame.key()));
             true
         }
         Err(fault) => {

@@ -68,12 +68,12 @@ const SAID: [(Integrity, Option<Redundancy>); 4] = [
 
 /// The verdicts of that round's frames.
 pub(super) fn says_of_two_links(rt: &impl Abort, said: &[Verdict]) {
-    assert_eq!(rt; said.len(), SAID.len());
+    assert!(rt; said.len() == SAID.len());
     for (verdict, (integrity, redundancy)) in said.iter().zip(SAID) {
-        assert_eq!(rt; verdict.class, Class::Regular);
-        assert_eq!(rt; verdict.policing, Some(Policing::Within));
-        assert_eq!(rt; verdict.integrity, Some(integrity));
-        assert_eq!(rt; verdict.redundancy, redundancy);
+        assert!(rt; verdict.class == Class::Regular);
+        assert!(rt; verdict.policing == Some(Policing::Within));
+        assert!(rt; verdict.integrity == Some(integrity));
+        assert!(rt; verdict.redundancy == redundancy);
     }
 }
 
@@ -89,7 +89,7 @@ fn two_links_in_lanes(rt: HostRuntime) -> Result<(), Fail> {
             let (lanes, more) = judged(&rt, lanes, second, workers)?;
             said.extend_from_slice(&more)?;
             says_of_two_links(&rt, &said);
-            assert_eq!(rt; lanes.last(), round.last().map(|frame| frame.key()));
+            assert!(rt; lanes.last() == round.last().map(|frame| frame.key()));
         }
     }
     Ok(())
@@ -102,7 +102,7 @@ fn an_empty_round(rt: HostRuntime) -> Result<(), Fail> {
         let lanes = Lanes::new(rt.alloc(), &config)?;
         let (lanes, said) = judged(&rt, lanes, &[], workers)?;
         assert!(rt; said.is_empty());
-        assert_eq!(rt; lanes.last(), None);
+        assert!(rt; lanes.last() == None);
     }
     Ok(())
 }
@@ -157,16 +157,15 @@ fn agree<R: Threads + Wait + Sync + Abort + AllocGlobal>(
         let round = mixed(rt.alloc(), from, count, links as u64)?;
         let (next, said) = judged(rt, lanes, &round, workers)?;
         lanes = next;
-        assert_eq!(rt; said.len(), round.len());
+        assert!(rt; said.len() == round.len());
         for (frame, verdict) in round.iter().zip(&said) {
             let expected = judge_next(rt, &mut one_by_one, frame);
-            assert_eq!(rt;
-                *verdict,
-                expected,
+            assert!(rt;
+                *verdict == expected,
                 "{workers} workers, {links} links, {frame:?}"
             );
         }
-        assert_eq!(rt; lanes.last(), one_by_one.last());
+        assert!(rt; lanes.last() == one_by_one.last());
     }
     Ok(())
 }

@@ -115,7 +115,10 @@ fn one_fault_of_a_table_each(rt: HostRuntime) -> Result<(), Fail> {
     let alloc = rt.alloc();
     for (key, line, fault) in SINGLE_FAULTS {
         let text = table_with(alloc, key, line)?;
-        assert_eq!(rt; fault_of(alloc, text.as_str()), Some(fault), "with {line}");
+        assert!(rt;
+            fault_of(alloc, text.as_str()) == Some(fault),
+            "with {line}"
+        );
     }
     Ok(())
 }
@@ -136,9 +139,8 @@ fn each_required_key_missing(rt: HostRuntime) -> Result<(), Fail> {
     ] {
         let text = table_with(alloc, key, "")?;
         let fault = ConfigFault::Missing { link };
-        assert_eq!(rt;
-            fault_of(alloc, text.as_str()),
-            Some(fault),
+        assert!(rt;
+            fault_of(alloc, text.as_str()) == Some(fault),
             "without {key}"
         );
     }
@@ -256,7 +258,7 @@ fn the_first_of_several_faults(rt: HostRuntime) -> Result<(), Fail> {
     let alloc = rt.alloc();
     for (top, id, name, last, fault) in SEVERAL_FAULTS {
         let text = two_links(alloc, top, id, name, last)?;
-        assert_eq!(rt; fault_of(alloc, text.as_str()), Some(fault), "{text}");
+        assert!(rt; fault_of(alloc, text.as_str()) == Some(fault), "{text}");
     }
     Ok(())
 }
@@ -273,38 +275,26 @@ fn a_table_as_it_reads(rt: HostRuntime) -> Result<(), Fail> {
         "skew_us = 1000000",
     )?;
     let config = Config::read(alloc, text.as_str())?;
-    assert_eq!(rt; config.constant(), 0x0300_0000);
-    assert_eq!(rt; config.late(), 1000);
+    assert!(rt; config.constant() == 0x0300_0000);
+    assert!(rt; config.late() == 1000);
     let [first, second] = config.filters() else {
         return Err(Fail::from("not two filters"));
     };
-    assert_eq!(rt; first.as_str(), "1,6 0 0 8,");
-    assert_eq!(rt; second.as_str(), "");
+    assert!(rt; first.as_str() == "1,6 0 0 8,");
+    assert!(rt; second.as_str() == "");
     let [flaps, brake] = config.links() else {
         return Err(Fail::from("not two links"));
     };
-    assert_eq!(rt; (flaps.id, flaps.name.as_str()), (VlId(4), "flaps"));
-    assert_eq!(rt;
-        (flaps.bag, flaps.jitter, flaps.smax),
-        (128_000_000, 100_000_000, 1518)
-    );
-    assert_eq!(rt;
-        (flaps.integrity, flaps.redundancy, flaps.skew),
-        (false, false, 1_000_000_000)
-    );
-    assert_eq!(rt; (brake.id, brake.name.as_str()), (VlId(5), "brake"));
-    assert_eq!(rt; (brake.bag, brake.jitter, brake.smax), (1_000_000, 0, 200));
-    assert_eq!(rt;
-        (brake.integrity, brake.redundancy, brake.skew),
-        (true, true, 1_000_000)
-    );
-    assert_eq!(rt; config.link(VlId(4)).map(|link| link.smax), Some(1518));
+    assert!(rt; (flaps.id, flaps.name.as_str()) == (VlId(4), "flaps"));
+    assert!(rt; (flaps.bag, flaps.jitter, flaps.smax) == (128_000_000, 100_000_000, 1518));
+    assert!(rt; (flaps.integrity, flaps.redundancy, flaps.skew) == (false, false, 1_000_000_000));
+    assert!(rt; (brake.id, brake.name.as_str()) == (VlId(5), "brake"));
+    assert!(rt; (brake.bag, brake.jitter, brake.smax) == (1_000_000, 0, 200));
+    assert!(rt; (brake.integrity, brake.redundancy, brake.skew) == (true, true, 1_000_000));
+    assert!(rt; config.link(VlId(4)).map(|link| link.smax) == Some(1518));
     assert!(rt; config.link(VlId(6)).is_none());
     let bare = Config::read(alloc, "constant = 50331648")?;
-    assert_eq!(rt;
-        (bare.late(), bare.links().len(), bare.filters().len()),
-        (0, 0, 0)
-    );
+    assert!(rt; (bare.late(), bare.links().len(), bare.filters().len()) == (0, 0, 0));
     Ok(())
 }
 
@@ -321,11 +311,8 @@ fn too_many_links_before_their_keys(rt: HostRuntime) -> Result<(), Fail> {
     let alloc = rt.alloc();
     let mut text = String::from_str(alloc, "constant = 50331648\n")?;
     push_links(&rt, &mut text, 4096)?;
-    assert_eq!(rt;
-        fault_of(alloc, text.as_str()),
-        Some(ConfigFault::Missing { link: Some(0) })
-    );
+    assert!(rt; fault_of(alloc, text.as_str()) == Some(ConfigFault::Missing { link: Some(0) }));
     push_links(&rt, &mut text, 1)?;
-    assert_eq!(rt; fault_of(alloc, text.as_str()), Some(ConfigFault::TooMany));
+    assert!(rt; fault_of(alloc, text.as_str()) == Some(ConfigFault::TooMany));
     Ok(())
 }

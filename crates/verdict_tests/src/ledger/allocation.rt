@@ -55,8 +55,8 @@ fn begun(rt: &(impl Abort + AllocGlobal), config: &Config) -> Option<Ledger<MemS
     match Ledger::begin(rt.alloc(), config, 1, sink) {
         Ok(ledger) => Some(ledger),
         Err(refused) => {
-            assert_eq!(rt; refused.fault, LedgerFault::Memory);
-            assert_eq!(rt; refused.sink.taken().len(), 0);
+            assert!(rt; refused.fault == LedgerFault::Memory);
+            assert!(rt; refused.sink.taken().len() == 0);
             None
         }
     }
@@ -66,11 +66,11 @@ fn begun(rt: &(impl Abort + AllocGlobal), config: &Config) -> Option<Ledger<MemS
 fn finishes(rt: &impl Abort, ledger: Ledger<MemSink>) -> bool {
     match ledger.finish(Ending::Clean(2), Ending::Clean(1)) {
         Ok((sink, _)) => {
-            assert_eq!(rt; sink.taken(), TWO_TAPS.as_bytes());
+            assert!(rt; sink.taken() == TWO_TAPS.as_bytes());
             true
         }
         Err(refused) => {
-            assert_eq!(rt; refused.fault, LedgerFault::Memory);
+            assert!(rt; refused.fault == LedgerFault::Memory);
             false
         }
     }
@@ -94,9 +94,9 @@ fn writes_a_round(rt: &(impl Abort + AllocGlobal)) -> bool {
     assert!(rt; masks.len() == frames.len());
     assert!(rt; ledger.totals().frames == 0 && frames.len() == 3);
     if let Err(fault) = ledger.round(frames, verdicts, keeps, masks) {
-        assert_eq!(rt; fault, LedgerFault::Memory);
-        assert_eq!(rt; ledger.totals().frames, 0);
-        assert_eq!(rt; ledger.into_sink().taken(), b"afdx-ledger 2\n".as_slice());
+        assert!(rt; fault == LedgerFault::Memory);
+        assert!(rt; ledger.totals().frames == 0);
+        assert!(rt; ledger.into_sink().taken() == b"afdx-ledger 2\n".as_slice());
         return false;
     }
     finishes(rt, ledger)
@@ -124,7 +124,7 @@ fn makes_a_text(rt: &(impl Abort + AllocGlobal)) -> bool {
     assert!(rt; verdicts.len() == frames.len() && keeps.len() == frames.len());
     assert!(rt; masks.len() == frames.len());
     if append_lines(&mut text, &frames, &verdicts, &keeps, &masks).is_err() {
-        assert_eq!(rt; text.as_slice(), b"before\n".as_slice());
+        assert!(rt; text.as_slice() == b"before\n".as_slice());
         return false;
     }
     assert!(rt; text.starts_with(b"before\n0 A 0 5 1 "));
@@ -154,11 +154,8 @@ fn writes_a_text(rt: &(impl Abort + AllocGlobal)) -> bool {
         assert!(rt; text.is_empty());
         return false;
     }
-    assert_eq!(rt;
-        ledger.round_text(&text, frames, verdicts, keeps, masks),
-        Ok(())
-    );
-    assert_eq!(rt; ledger.totals().frames, 3);
+    assert!(rt; ledger.round_text(&text, frames, verdicts, keeps, masks) == Ok(()));
+    assert!(rt; ledger.totals().frames == 3);
     finishes(rt, ledger)
 }
 

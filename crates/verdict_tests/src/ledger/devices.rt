@@ -16,7 +16,7 @@ fn written(rt: &(impl Abort + AllocGlobal), config: &Config, most: usize) -> Res
     let mut ledger = match Ledger::begin(rt.alloc(), config, 1, MemSink::new(rt.alloc(), script)?) {
         Ok(ledger) => ledger,
         Err(refused) => {
-            assert_eq!(rt; refused.fault, LedgerFault::Device);
+            assert!(rt; refused.fault == LedgerFault::Device);
             return Ok(refused.sink);
         }
     };
@@ -25,10 +25,10 @@ fn written(rt: &(impl Abort + AllocGlobal), config: &Config, most: usize) -> Res
         let verdict = judge_next(rt, &mut lanes, &frame);
         let before = ledger.totals().frames;
         match add_line(rt, &mut ledger, &frame, &verdict, accepted) {
-            Ok(()) => assert_eq!(rt; ledger.totals().frames, before.saturating_add(1)),
-            Err(fault) if failed => assert_eq!(rt; fault, LedgerFault::Failed),
+            Ok(()) => assert!(rt; ledger.totals().frames == before.saturating_add(1)),
+            Err(fault) if failed => assert!(rt; fault == LedgerFault::Failed),
             Err(fault) => {
-                assert_eq!(rt; fault, LedgerFault::Device);
+                assert!(rt; fault == LedgerFault::Device);
                 failed = true;
             }
         }
@@ -36,11 +36,11 @@ fn written(rt: &(impl Abort + AllocGlobal), config: &Config, most: usize) -> Res
     match ledger.finish(Ending::Clean(2), Ending::Clean(1)) {
         Ok((sink, _)) => Ok(sink),
         Err(refused) if failed => {
-            assert_eq!(rt; refused.fault, LedgerFault::Failed);
+            assert!(rt; refused.fault == LedgerFault::Failed);
             Ok(refused.sink)
         }
         Err(refused) => {
-            assert_eq!(rt; refused.fault, LedgerFault::Device);
+            assert!(rt; refused.fault == LedgerFault::Device);
             Ok(refused.sink)
         }
     }
@@ -51,7 +51,7 @@ fn a_sink_that_fails_after_each_byte(rt: HostRuntime) -> Result<(), Fail> {
     let config = Config::read(rt.alloc(), ONE_LINK)?;
     for most in 0..=TWO_TAPS.len() {
         let sink = written(&rt, &config, most)?;
-        assert_eq!(rt; sink.taken(), &TWO_TAPS.as_bytes()[..most]);
+        assert!(rt; sink.taken() == &TWO_TAPS.as_bytes()[..most]);
     }
     Ok(())
 }
@@ -78,7 +78,7 @@ fn adds_lines(
         match add_line(rt, ledger, &frame, &verdict, accepted) {
             Ok(()) => assert!(rt; !failed),
             Err(fault) => {
-                assert_eq!(rt; fault, fault_after(failed));
+                assert!(rt; fault == fault_after(failed));
                 failed = true;
             }
         }
@@ -104,13 +104,13 @@ fn fails_once(
             match ledger.finish(Ending::Clean(2), Ending::Clean(1)) {
                 Ok(_) => panic!(rt; "call {call}: no fault"),
                 Err(refused) => {
-                    assert_eq!(rt; refused.fault, fault_after(failed), "call {call}");
+                    assert!(rt; refused.fault == fault_after(failed), "call {call}");
                     Ok(refused.sink)
                 }
             }
         }
         Err(refused) => {
-            assert_eq!(rt; refused.fault, LedgerFault::Device);
+            assert!(rt; refused.fault == LedgerFault::Device);
             Ok(refused.sink)
         }
     }
@@ -121,7 +121,7 @@ fn a_sink_of_single_bytes_that_fails_at_each_call(rt: HostRuntime) -> Result<(),
     let config = Config::read(rt.alloc(), ONE_LINK)?;
     for call in 0..TWO_TAPS.len() {
         let sink = fails_once(&rt, &config, call)?;
-        assert_eq!(rt; sink.taken(), &TWO_TAPS.as_bytes()[..call]);
+        assert!(rt; sink.taken() == &TWO_TAPS.as_bytes()[..call]);
     }
     Ok(())
 }

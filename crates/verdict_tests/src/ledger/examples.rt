@@ -23,8 +23,8 @@ fn reads(
 ) -> Result<(), Fail> {
     let sink = MemSink::new(rt.alloc(), WIDE)?;
     let (sink, totals) = ledger_of(rt, ONE_LINK, filters, frames, a, b, sink)?;
-    assert_eq!(rt; sink.taken(), text.as_bytes());
-    assert_eq!(rt; totals.frames, frames.len() as u64);
+    assert!(rt; sink.taken() == text.as_bytes());
+    assert!(rt; totals.frames == frames.len() as u64);
     Ok(())
 }
 

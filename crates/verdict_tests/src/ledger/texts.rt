@@ -66,7 +66,7 @@ fn the_lines_of_two_taps(rt: HostRuntime) -> Result<(), Fail> {
     assert!(rt; round.keeps.len() == round.frames.len());
     assert!(rt; round.masks.len() == round.frames.len());
     append_lines(&mut text, &[], &[], &[], &[])?;
-    assert_eq!(rt; text.as_slice(), b"before\n".as_slice());
+    assert!(rt; text.as_slice() == b"before\n".as_slice());
     append_lines(
         &mut text,
         &round.frames,
@@ -74,8 +74,8 @@ fn the_lines_of_two_taps(rt: HostRuntime) -> Result<(), Fail> {
         &round.keeps,
         &round.masks,
     )?;
-    assert_eq!(rt; &text[..7], b"before\n".as_slice());
-    assert_eq!(rt; &text[7..], LINES.as_bytes());
+    assert!(rt; &text[..7] == b"before\n".as_slice());
+    assert!(rt; &text[7..] == LINES.as_bytes());
     Ok(())
 }
 
@@ -85,14 +85,14 @@ fn has_stopped(
     ledger: &mut Ledger<MemSink>,
     round: &Round,
 ) -> Result<(), Fail> {
-    assert_eq!(rt; ledger.totals().frames, 0);
-    assert_eq!(rt; add_text(rt, ledger, round), Err(LedgerFault::Failed));
+    assert!(rt; ledger.totals().frames == 0);
+    assert!(rt; add_text(rt, ledger, round) == Err(LedgerFault::Failed));
     let (Some(frame), Some(verdict)) = (round.frames.first(), round.verdicts.first()) else {
         return Err("an empty round".into());
     };
     let line = add_line(rt, ledger, frame, verdict, (None, 0));
-    assert_eq!(rt; line, Err(LedgerFault::Failed));
-    assert_eq!(rt; ledger.totals().frames, 0);
+    assert!(rt; line == Err(LedgerFault::Failed));
+    assert!(rt; ledger.totals().frames == 0);
     Ok(())
 }
 
@@ -106,26 +106,26 @@ fn ledger_by_text(
     let mut ledger = match Ledger::begin(rt.alloc(), config, 1, MemSink::new(rt.alloc(), script)?) {
         Ok(ledger) => ledger,
         Err(refused) => {
-            assert_eq!(rt; refused.fault, LedgerFault::Device);
+            assert!(rt; refused.fault == LedgerFault::Device);
             return Ok(refused.sink);
         }
     };
     let mut fault = LedgerFault::Device;
     match add_text(rt, &mut ledger, round) {
-        Ok(()) => assert_eq!(rt; ledger.totals().frames, 3),
+        Ok(()) => assert!(rt; ledger.totals().frames == 3),
         Err(found) => {
-            assert_eq!(rt; found, fault);
+            assert!(rt; found == fault);
             has_stopped(rt, &mut ledger, round)?;
             fault = LedgerFault::Failed;
         }
     }
     match ledger.finish(Ending::Clean(2), Ending::Clean(1)) {
         Ok((sink, _)) => {
-            assert_eq!(rt; fault, LedgerFault::Device);
+            assert!(rt; fault == LedgerFault::Device);
             Ok(sink)
         }
         Err(refused) => {
-            assert_eq!(rt; refused.fault, fault);
+            assert!(rt; refused.fault == fault);
             Ok(refused.sink)
         }
     }
@@ -143,7 +143,7 @@ fn a_sink_that_fails_after_each_byte(rt: HostRuntime) -> Result<(), Fail> {
                 ..SOUND
             };
             let sink = ledger_by_text(&rt, &config, &round, script)?;
-            assert_eq!(rt; sink.taken(), &TWO_TAPS.as_bytes()[..most]);
+            assert!(rt; sink.taken() == &TWO_TAPS.as_bytes()[..most]);
         }
     }
     Ok(())
@@ -160,7 +160,7 @@ fn a_sink_of_single_bytes_that_fails_at_each_call(rt: HostRuntime) -> Result<(),
             miss: Some(call as u64),
         };
         let sink = ledger_by_text(&rt, &config, &round, script)?;
-        assert_eq!(rt; sink.taken(), &TWO_TAPS.as_bytes()[..call]);
+        assert!(rt; sink.taken() == &TWO_TAPS.as_bytes()[..call]);
     }
     Ok(())
 }
@@ -194,14 +194,11 @@ fn a_text_after_a_line_that_failed(rt: HostRuntime) -> Result<(), Fail> {
         &round.verdicts[1],
         (None, 0),
     );
-    assert_eq!(rt; line, Err(LedgerFault::Device));
-    assert_eq!(rt;
-        add_text(&rt, &mut ledger, &round),
-        Err(LedgerFault::Failed)
-    );
-    assert_eq!(rt; ledger.totals().frames, 1);
+    assert!(rt; line == Err(LedgerFault::Device));
+    assert!(rt; add_text(&rt, &mut ledger, &round) == Err(LedgerFault::Failed));
+    assert!(rt; ledger.totals().frames == 1);
     let sink = ledger.into_sink();
-    assert_eq!(rt; sink.taken(), ONE_LINE.as_bytes());
+    assert!(rt; sink.taken() == ONE_LINE.as_bytes());
     Ok(())
 }
 
@@ -236,9 +233,9 @@ fn texts_are_the_lines_of_their_rounds(rt: HostRuntime) -> Result<(), Fail> {
     for round in &rounds {
         add_round(&rt, &mut by_round, round)?;
         add_text(&rt, &mut by_text, round)?;
-        assert_eq!(rt; by_text.totals(), by_round.totals());
+        assert!(rt; by_text.totals() == by_round.totals());
     }
-    assert_eq!(rt; by_text.totals().frames, 5050);
+    assert!(rt; by_text.totals().frames == 5050);
     let written = finished(by_round)?;
     assert!(rt; finished(by_text)? == written);
     assert!(rt; by_both(&rt, &config, &rounds)? == written);

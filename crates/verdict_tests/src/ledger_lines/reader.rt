@@ -144,7 +144,7 @@ fn outcome(
     };
     for lines in 0..=bytes.len() {
         match reader.advance() {
-            Ok(Found::Line(_)) => assert_eq!(rt; reader.number(), (lines as u64).saturating_add(1)),
+            Ok(Found::Line(_)) => assert!(rt; reader.number() == (lines as u64).saturating_add(1)),
             Ok(end) => {
                 assert!(rt; reader.advance() == Ok(end));
                 let letter = if end == Found::Complete { b'C' } else { b'I' };
@@ -155,7 +155,7 @@ fn outcome(
                 return Ok((number, fault_letter(fault)));
             }
             Err(fault) => {
-                assert_eq!(rt; fault, ReadFault::Device);
+                assert!(rt; fault == ReadFault::Device);
                 assert!(rt; reader.advance() == Err(ReadFault::Failed));
                 return Ok((reader.number(), b'D'));
             }
@@ -197,12 +197,12 @@ fn wanted(pair: &[u8]) -> (u64, u8) {
 fn reads_prefixes_of_a_ledger(rt: HostRuntime) -> Result<(), Fail> {
     let bytes = ledger(rt.alloc())?;
     let all = joined(rt.alloc(), &PREFIXES)?;
-    assert_eq!(rt; all.len() / 2, bytes.len().saturating_add(1));
+    assert!(rt; all.len() / 2 == bytes.len().saturating_add(1));
     for (len, pair) in all.chunks(2).enumerate() {
         if len <= bytes.len() {
             for piece in [1, 7, 1000] {
                 let found = outcome(&rt, rt.alloc(), &bytes[..len], pieces(piece))?;
-                assert_eq!(rt; found, wanted(pair), "at {len}");
+                assert!(rt; found == wanted(pair), "at {len}");
             }
         }
     }
@@ -213,7 +213,7 @@ fn reads_prefixes_of_a_ledger(rt: HostRuntime) -> Result<(), Fail> {
 fn reads_changed_ledgers(rt: HostRuntime) -> Result<(), Fail> {
     let bytes = ledger(rt.alloc())?;
     let all = joined(rt.alloc(), &CHANGES)?;
-    assert_eq!(rt; all.len() / 2 / OTHERS.len(), bytes.len());
+    assert!(rt; all.len() / 2 / OTHERS.len() == bytes.len());
     for (at, pairs) in all.chunks(2 * OTHERS.len()).enumerate() {
         for (other, pair) in OTHERS.iter().zip(pairs.chunks(2)) {
             let mut changed = Vec::from_slice(rt.alloc(), &bytes)?;
@@ -221,7 +221,7 @@ fn reads_changed_ledgers(rt: HostRuntime) -> Result<(), Fail> {
                 changed[at] = *other;
             }
             let found = outcome(&rt, rt.alloc(), &changed, pieces(1000))?;
-            assert_eq!(rt; found, wanted(pair), "at {at}");
+            assert!(rt; found == wanted(pair), "at {at}");
         }
     }
     Ok(())
@@ -231,7 +231,7 @@ fn reads_changed_ledgers(rt: HostRuntime) -> Result<(), Fail> {
 fn reads_whole_ledgers(rt: HostRuntime) -> Result<(), Fail> {
     for (bytes, number, letter) in LEDGERS {
         let found = outcome(&rt, rt.alloc(), bytes, pieces(1000))?;
-        assert_eq!(rt; found, (number, letter));
+        assert!(rt; found == (number, letter));
     }
     Ok(())
 }
@@ -250,7 +250,7 @@ fn reads_up_to_a_failure(rt: HostRuntime) -> Result<(), Fail> {
         if came < bytes.len() {
             let lines = bytes[..came].iter().filter(|byte| **byte == b'\n').count();
             let found = outcome(&rt, rt.alloc(), &bytes, script)?;
-            assert_eq!(rt; found, (lines as u64, b'D'), "at {call}");
+            assert!(rt; found == (lines as u64, b'D'), "at {call}");
         }
         came = came.saturating_add(40);
     }
@@ -273,10 +273,10 @@ fn lends_lines_across_blocks(rt: HostRuntime) -> Result<(), Fail> {
         assert!(rt; matches!(reader.advance(), Ok(Found::Line(_))));
         for _ in 0..3000 {
             assert!(rt; matches!(reader.advance(), Ok(Found::Line(_))));
-            assert_eq!(rt; reader.line(), &line[..67]);
+            assert!(rt; reader.line() == &line[..67]);
         }
         assert!(rt; reader.advance() == Ok(Found::Incomplete));
-        assert_eq!(rt; reader.number(), 3001);
+        assert!(rt; reader.number() == 3001);
     }
     Ok(())
 }
@@ -295,10 +295,10 @@ fn long_line(rt: &impl Abort, alloc: Global, len: usize, newline: bool) -> Resul
 
 #[test]
 fn bounds_long_lines(rt: HostRuntime) -> Result<(), Fail> {
-    assert_eq!(rt; long_line(&rt, rt.alloc(), 65_535, true)?, (2, b'a'));
-    assert_eq!(rt; long_line(&rt, rt.alloc(), 65_536, true)?, (2, b'X'));
-    assert_eq!(rt; long_line(&rt, rt.alloc(), 65_535, false)?, (2, b'N'));
-    assert_eq!(rt; long_line(&rt, rt.alloc(), 65_536, false)?, (2, b'X'));
+    assert!(rt; long_line(&rt, rt.alloc(), 65_535, true)? == (2, b'a'));
+    assert!(rt; long_line(&rt, rt.alloc(), 65_536, true)? == (2, b'X'));
+    assert!(rt; long_line(&rt, rt.alloc(), 65_535, false)? == (2, b'N'));
+    assert!(rt; long_line(&rt, rt.alloc(), 65_536, false)? == (2, b'X'));
     Ok(())
 }
 
@@ -315,7 +315,7 @@ fn begins(rt: &(impl Abort + AllocGlobal)) -> bool {
         Err(refused) => {
             let mut head = [0; 14];
             let mut source = refused.source;
-            assert_eq!(rt; source.read(&mut head), Ok(14));
+            assert!(rt; source.read(&mut head) == Ok(14));
             false
         }
     }

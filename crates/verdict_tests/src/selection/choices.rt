@@ -57,8 +57,8 @@ fn everything() -> Selection {
 }
 
 fn is_taken(rt: &impl Abort, selection: &Selection, copy: bool, runt: bool) {
-    assert_eq!(rt; selection.takes(FIRST, &COPY), copy, "the copy");
-    assert_eq!(rt; selection.takes(FIRST, &RUNT), runt, "the runt");
+    assert!(rt; selection.takes(FIRST, &COPY) == copy, "the copy");
+    assert!(rt; selection.takes(FIRST, &RUNT) == runt, "the runt");
 }
 
 #[test]
@@ -89,7 +89,7 @@ fn links(rt: HostRuntime) -> Result<(), Fail> {
     set.insert_range(VlId(0), VlId(0));
     set.insert_range(VlId(65535), VlId(65535));
     for (id, held) in [(0, true), (1, false), (65534, false), (65535, true)] {
-        assert_eq!(rt; set.contains(VlId(id)), held, "{id}");
+        assert!(rt; set.contains(VlId(id)) == held, "{id}");
     }
     Ok(())
 }
@@ -241,7 +241,7 @@ fn words_from_text(rt: HostRuntime) -> Result<(), Fail> {
         ("both", Word::Redundancy(Redundancy::Both)),
     ] {
         let named = read_words(rt.alloc(), text)?;
-        assert_eq!(rt; named.as_slice(), [word].as_slice(), "{text}");
+        assert!(rt; named.as_slice() == [word].as_slice(), "{text}");
     }
     Ok(())
 }
@@ -263,14 +263,8 @@ fn groups_of_words(rt: HostRuntime) -> Result<(), Fail> {
         Word::Redundancy(Redundancy::Deliver),
         Word::Redundancy(Redundancy::Both),
     ];
-    assert_eq!(rt;
-        read_words(rt.alloc(), "discarded")?.as_slice(),
-        discarded.as_slice()
-    );
-    assert_eq!(rt;
-        read_words(rt.alloc(), "delivered")?.as_slice(),
-        delivered.as_slice()
-    );
+    assert!(rt; read_words(rt.alloc(), "discarded")?.as_slice() == discarded.as_slice());
+    assert!(rt; read_words(rt.alloc(), "delivered")?.as_slice() == delivered.as_slice());
     Ok(())
 }
 
@@ -288,24 +282,24 @@ fn wrong_words(rt: HostRuntime) {
     ] {
         match read_words(rt.alloc(), text) {
             Ok(_) => assert!(rt; false, "{text}"),
-            Err(fault) => assert_eq!(rt; fault, WordFault::Item(index), "{text}"),
+            Err(fault) => assert!(rt; fault == WordFault::Item(index), "{text}"),
         }
     }
 }
 
 #[test]
 fn masks(rt: HostRuntime) {
-    assert_eq!(rt; read_mask("1"), Some(1));
-    assert_eq!(rt; read_mask("9"), Some(9));
-    assert_eq!(rt; read_mask("01"), Some(1));
-    assert_eq!(rt; read_mask("a"), Some(10));
-    assert_eq!(rt; read_mask("F"), Some(15));
-    assert_eq!(rt; read_mask("fF"), Some(255));
-    assert_eq!(rt; read_mask("80"), Some(128));
+    assert!(rt; read_mask("1") == Some(1));
+    assert!(rt; read_mask("9") == Some(9));
+    assert!(rt; read_mask("01") == Some(1));
+    assert!(rt; read_mask("a") == Some(10));
+    assert!(rt; read_mask("F") == Some(15));
+    assert!(rt; read_mask("fF") == Some(255));
+    assert!(rt; read_mask("80") == Some(128));
     for text in [
         "", "0", "00", "g", "1g", "+1", " 1", "001", "100", "/", ":", "@", "G", "`", "0x1",
     ] {
-        assert_eq!(rt; read_mask(text), None, "{text}");
+        assert!(rt; read_mask(text) == None, "{text}");
     }
 }
 

@@ -49,7 +49,7 @@ fn holds(
 ) -> Result<(), Fail> {
     let set = LinkSet::read(rt.alloc(), text, table)?;
     for (id, held) in ids {
-        assert_eq!(rt; set.contains(VlId(*id)), *held, "{id} in {text}");
+        assert!(rt; set.contains(VlId(*id)) == *held, "{id} in {text}");
     }
     Ok(())
 }
@@ -63,7 +63,7 @@ fn is_refused(
 ) {
     match LinkSet::read(rt.alloc(), text, table) {
         Ok(_) => panic!(rt; "{text} is read"),
-        Err(found) => assert_eq!(rt; found, LinkSetFault::Item(index, fault), "{text}"),
+        Err(found) => assert!(rt; found == LinkSetFault::Item(index, fault), "{text}"),
     }
 }
 

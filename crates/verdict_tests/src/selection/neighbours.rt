@@ -94,14 +94,12 @@ fn takes(
     let mut chooser = Chooser::new(Some(neighbours));
     for (index, letter) in text.as_bytes().iter().enumerate() {
         let taken = chooser.takes(&selection, &line_of(index, *letter));
-        assert_eq!(rt;
-            taken,
-            is_near(text.as_bytes(), index, *letter, around),
+        assert!(rt;
+            taken == is_near(text.as_bytes(), index, *letter, around),
             "line {index} of {text}"
         );
-        assert_eq!(rt;
-            taken,
-            marks.as_bytes().get(index).copied() == Some(b'#'),
+        assert!(rt;
+            taken == (marks.as_bytes().get(index).copied() == Some(b'#')),
             "line {index} of {text}"
         );
     }
@@ -176,7 +174,7 @@ fn another_ledger(rt: HostRuntime) -> Result<(), Fail> {
         (b'A', false),
         (b'+', true),
     ] {
-        assert_eq!(rt; chooser.takes(&selection, &line_of(0, letter)), taken);
+        assert!(rt; chooser.takes(&selection, &line_of(0, letter)) == taken);
     }
     Ok(())
 }
