@@ -39,7 +39,8 @@ use Rattle.ledger_report.specs.declared.signs.Mark.{Mark}
 use Rattle.ledger_report.specs.declared.signs.Sign.{Sign}
 use Rattle.ledger_report.specs.declared.signs.Sign.TheVariants.{Alone}
 use Rattle.ledger_report.proofs.AloneSteps.{amounts_at}
-use Rattle.ledger_report.proofs.FateLines.{comes_late_same, deliver_some, delivers_it, judged_none}
+use Rattle.ledger_report.proofs.FateCounts.{deliver_some, judged_none}
+use Rattle.ledger_report.proofs.FateLines.{comes_late_same, delivers_it}
 use Rattle.ledger_report.proofs.FateSteps.{late_own, latest_stays}
 use Rattle.ledger_report.proofs.HoldSteps.{StandsIn, holds_kept, holds_later, lane_ended, lane_settled}
 use Rattle.ledger_report.proofs.NetworkSteps.{keeps_network}

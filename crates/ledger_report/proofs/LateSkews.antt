@@ -21,7 +21,8 @@ use Rattle.ledger_report.specs.declared.series.Merge.TheVariants.{Greatest}
 use Rattle.ledger_report.specs.declared.series.Series.{Series}
 use Rattle.ledger_report.specs.declared.sides.Sides.{Sides}
 use Rattle.ledger_report.specs.declared.signs.Sign.{Sign}
-use Rattle.ledger_report.proofs.FateLines.{comes_late_same, deliver_some, judged_none, late_at}
+use Rattle.ledger_report.proofs.FateCounts.{deliver_some, judged_none}
+use Rattle.ledger_report.proofs.FateLines.{comes_late_same, late_at}
 use Rattle.ledger_report.proofs.LinkSteps.{skew_known}
 use Rattle.ledger_report.proofs.SidesSeries.{sides_more, sides_same}
 

@@ -14,6 +14,7 @@ pub mod CoverSteps
 pub mod Coverings
 pub mod Distances
 pub mod Ends
+pub mod FateCounts
 pub mod FateLines
 pub mod FateNotes
 pub mod FateSteps

@@ -47,7 +47,8 @@ use Rattle.ledger_report.specs.declared.signs.Mark.{Mark}
 use Rattle.ledger_report.specs.declared.signs.Sign.{Sign}
 use Rattle.ledger_report.specs.declared.signs.Sign.TheVariants.{Lost, Repeat, Reset, Alone, Late, Early}
 use Rattle.ledger_report.specs.declared.signs.Signs.{Signs}
-use Rattle.ledger_report.proofs.FateLines.{comes_late_same, deliver_some, judged_none, late_at}
+use Rattle.ledger_report.proofs.FateCounts.{deliver_some, judged_none}
+use Rattle.ledger_report.proofs.FateLines.{comes_late_same, late_at}
 use Rattle.ledger_report.proofs.LaneMarks.{bins_one}
 use Rattle.ledger_report.proofs.LinkSteps.{lines_other, lines_own, mark_same, seen_after}
 use Rattle.ledger_report.proofs.MarkMoves.{amounts_one}

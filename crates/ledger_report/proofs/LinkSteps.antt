@@ -41,7 +41,8 @@ use Rattle.ledger_report.specs.declared.signs.Sign.{Sign}
 use Rattle.ledger_report.specs.declared.signs.Sign.TheVariants.{Cut, Runt, Oversize, Foreign, Unconfigured, TooLong, Excess, Out, Lost, Repeat, Reset, Alone, Late, Early}
 use Rattle.ledger_report.specs.declared.signs.Signs.{Signs}
 use Rattle.ledger_report.specs.declared.sides.Sides.{Sides}
-use Rattle.ledger_report.proofs.FateLines.{fates_more, fates_other, keeps_fates, settled_other, settled_own}
+use Rattle.ledger_report.proofs.FateCounts.{keeps_fates}
+use Rattle.ledger_report.proofs.FateLines.{fates_more, fates_other, settled_other, settled_own}
 use Rattle.ledger_report.proofs.FateSteps.{eq_swap}
 use Rattle.ledger_report.proofs.KeepSteps.{keeps_lane_on}
 use Rattle.ledger_report.proofs.NetworkSteps.{count_cons, frames_own}

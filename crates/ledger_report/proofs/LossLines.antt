@@ -31,7 +31,7 @@ use Rattle.ledger_report.specs.declared.moment.Moment.{Moment}
 use Rattle.ledger_report.specs.declared.moment.Place.{Place}
 use Rattle.ledger_report.specs.declared.network.NetworkReport.{NetworkReport}
 use Rattle.ledger_report.specs.declared.sides.Sides.{Sides}
-use Rattle.ledger_report.proofs.FateLines.{count_none, count_same}
+use Rattle.ledger_report.proofs.FateCounts.{count_none, count_same}
 use Rattle.ledger_report.proofs.LinkMarkSteps.{counted_same}
 use Rattle.ledger_report.proofs.LossSteps.{unset}
 

@@ -9,7 +9,8 @@ use Rattle.ledger_report.specs.Losses.{IsRoom, MovesLosses, both_passed, held_at
 use Rattle.ledger_report.specs.Numbers.{distance, steps_to}
 use Rattle.ledger_report.specs.Sums.{saturated}
 use Rattle.ledger_report.proofs.Distances.{distance-over, distance-up}
-use Rattle.ledger_report.proofs.FateLines.{count_none, count_same, count_small}
+use Rattle.ledger_report.proofs.FateCounts.{count_none, count_same}
+use Rattle.ledger_report.proofs.FateLines.{count_small}
 
 by_test : (b : Bool) (P : Type 0) → (b ≡ true → P) → (b ≡ false → P) → P
 by_test true P f g = f refl

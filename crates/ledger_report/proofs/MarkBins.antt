@@ -101,7 +101,7 @@ bins_both start width marks index sign new held hits more at within takes has no
     ap (λ n. get_or (set marks index new) n none) (sym at) ∙ get_or-set_same marks index new none within in
     subst (IsBinned start width (more ++ hits)) (sym found) (takes (subst (λ n. IsBinned start width hits (get_or marks n held)) (sym at) (has held)))
 
--- one more mark behind the others
+-- one more mark after the others
 pub mark_pushed : (P : Mark → Type 0) (marks : List Mark) (mark : Mark) (count : ℕ) → length marks ≡ count →
     ((k : ℕ) (none : Mark) → k < count → P (get_or marks k none)) → P mark → (k : ℕ) (none : Mark) → k < count + 1 →
     P (get_or (marks ++ (mark ∷ [])) k none)

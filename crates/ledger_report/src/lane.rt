@@ -214,7 +214,8 @@ impl Lane {
     ghost use Rattle.afdx_frame.specs.declared.key.Network.{Network};
     ghost use Rattle.ledger_text.specs.declared.frame.FrameLine.{FrameLine};
     ghost use Rattle.ledger_report.specs.Keeping.{HasLaneRoom, KeepsLane, KeepsRoom};
-    ghost use Rattle.ledger_report.specs.Alone.{DoublesMissed, HasMissed, KeepsAlone, KeepsMissed, KeepsUnbinned};
+    ghost use Rattle.ledger_report.specs.Alone.{DoublesMissed, HasMissed, KeepsAlone};
+    ghost use Rattle.ledger_report.specs.Alone.{KeepsMissed, KeepsUnbinned};
     ghost use Rattle.ledger_report.specs.Alone.{LiesBy, Missed, Scale};
     ghost use Rattle.ledger_report.specs.Alone.{MissesMore, MissesSame, missed, no_missed, settled_by};
     ghost use Rattle.ledger_report.specs.Alone.{with_missed};

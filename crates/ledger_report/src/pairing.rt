@@ -82,7 +82,8 @@ impl Pairing {
     ghost use Rattle.afdx_frame.specs.declared.key.Network.{Network};
     ghost use Rattle.ledger_report.specs.Copies.{KeepsLatest, TakesLatest, spot_at, spot_in};
     ghost use Rattle.ledger_report.specs.Holding.{KeepsBefore, TakesBefore};
-    ghost use Rattle.ledger_report.specs.Pairs.{Changes, TakesGone, gone_in, held_of, is_gone_by, known_in, met_by};
+    ghost use Rattle.ledger_report.specs.Pairs.{Changes, TakesGone, gone_in, held_of};
+    ghost use Rattle.ledger_report.specs.Pairs.{is_gone_by, known_in, met_by};
     ghost use Rattle.ledger_report.specs.Words.{other_of};
 
     pub(crate) fn new(alloc: Global) -> Pairing
