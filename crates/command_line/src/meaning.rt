@@ -330,7 +330,8 @@ fn selection_advice(option: SelectionOption) -> &'static str {
             "a time is 2027-01-15T08:00:12.119534506Z, 08:00:12.1195, or nanoseconds since 1970"
         }
         SelectionOption::To => {
-            "a time is as 08:00:12.1195, with a date before it as 2027-01-15T08:00:12Z, or nanoseconds since 1970, and no earlier than --from"
+            "a time is as 08:00:12.1195, with a date before it as 2027-01-15T08:00:12Z, or nanoseconds \
+             since 1970, and no earlier than --from"
         }
         SelectionOption::Filters => "--filters needs a mask: 01 to ff",
         SelectionOption::Around => "--around reads the ledger twice: name a file of it, no pipe",
@@ -370,7 +371,8 @@ fn draft_advice(fault: ConfigFault) -> &'static str {
 fn icd_advice(fault: IcdFault) -> &'static str {
     match fault {
         IcdFault::Head { .. } => {
-            "the first row has the columns' heads: id, and any of name, bag_ms, jitter_us, smax, integrity, redundancy, skew_us"
+            "the first row has the columns' heads: id, and any of name, bag_ms, jitter_us, smax, \
+             integrity, redundancy, skew_us"
         }
         IcdFault::Cells { .. } => "the row has more or fewer cells than the first",
         IcdFault::Value {
