@@ -203,7 +203,8 @@ fn changed(alloc: Global, bytes: &[u8], at: usize, value: u8) -> Result<Vec<u8>,
     Ok(copy)
 }
 
-/// Recordings with one frame, in both byte orders, in each block that has a packet, and among blocks that aren't read.
+/// Recordings with one frame, in both byte orders, in each block that has a packet, and among blocks
+/// that aren't read.
 const OF_ONE: [&[&[u8]]; 5] = [
     &[LITTLE, ETHERNET, PACKET],
     &[BIG, BIG_ETHERNET, BIG_PACKET],

@@ -8,8 +8,8 @@ pub const ETHERTYPE: &str = "ldh [12]\njne #0x806, drop\nret #-1\ndrop: ret #0";
 
 const THREE: Source = Source::K(3);
 
-/// Texts of one statement, with its mnemonic and operand: loads and stores, jumps where the comparison holds and
-/// where it fails, arithmetic, moves and returns.
+/// Texts of one statement, with its mnemonic and operand: loads and stores, jumps where the comparison
+/// holds and where it fails, arithmetic, moves and returns.
 const STATEMENTS: [(&str, Mnemonic, Operand<'static>); 48] = [
     ("ld [4]", Mnemonic::Ld, Operand::Absolute(4)),
     ("ld [x + 4]", Mnemonic::Ld, Operand::Indirect(4)),
