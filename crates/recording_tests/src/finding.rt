@@ -6,6 +6,9 @@ use std::alloc::{AllocError, Global};
 use std::process::Abort;
 use std::test::Fail;
 
+/// What is asked for: a second, an index, and the fault.
+type Asked = (u8, u8, Option<FindFault>);
+
 /// A file header of nanosecond pcap, little-endian, for Ethernet.
 const HEADER: [u8; 24] = [
     0x4d, 0x3c, 0xb2, 0xa1, 2, 0, 4, 0, 0, 0, 0, 0, 0, 0, 0, 0, 0, 0, 4, 0, 1, 0, 0, 0,
@@ -33,12 +36,7 @@ fn recording(alloc: Global, seconds: &[u8]) -> Result<Vec<u8>, AllocError> {
 }
 
 /// Asks for frames at these seconds and indices, in turn: each has the fault, or the frame of the index.
-fn asks(
-    rt: &impl Abort,
-    alloc: Global,
-    source: MemSource,
-    asked: &[(u8, u8, Option<FindFault>)],
-) -> Result<(), Fail> {
+fn asks(rt: &impl Abort, alloc: Global, source: MemSource, asked: &[Asked]) -> Result<(), Fail> {
     let Ok(mut finder) = FrameFinder::open(alloc, source, Network::A) else {
         panic!(rt; "it isn't opened")
     };
@@ -57,75 +55,56 @@ fn asks(
     Ok(())
 }
 
-/// Asks in a recording of frames at these seconds, whose source never fails.
-fn asks_sound(
-    rt: &impl Abort,
-    alloc: Global,
-    seconds: &[u8],
-    asked: &[(u8, u8, Option<FindFault>)],
-) -> Result<(), Fail> {
-    let source = MemSource::new(recording(alloc, seconds)?, SOUND);
-    asks(rt, alloc, source, asked)
-}
+const ABSENT: Option<FindFault> = Some(FindFault::Absent);
 
-const NONE: Option<FindFault> = Some(FindFault::Absent);
-
-#[test]
-fn in_order(rt: HostRuntime) -> Result<(), Fail> {
-    let alloc = rt.alloc();
-    let all = [(1, 0, None), (2, 1, None), (2, 2, None), (5, 3, None)];
-    asks_sound(&rt, alloc, &[1, 2, 2, 5], &all)?;
-    asks_sound(&rt, alloc, &[1, 2, 2, 5], &[(2, 2, None), (5, 3, None)])
-}
-
-#[test]
-fn late_timestamps(rt: HostRuntime) -> Result<(), Fail> {
-    let alloc = rt.alloc();
-    let seconds = [9, 3, 7, 7, 1, 8];
-    let all = [
-        (1, 4, None),
-        (3, 1, None),
-        (7, 2, None),
-        (7, 3, None),
-        (8, 5, None),
-        (9, 0, None),
-    ];
-    asks_sound(&rt, alloc, &seconds, &all)?;
-    // Those that nobody asks for are passed over.
-    asks_sound(
-        &rt,
-        alloc,
-        &seconds,
+/// The seconds of frames, and what is asked for in their recording, whose source never fails.
+const SOUND_ASKED: [(&[u8], &[Asked]); 9] = [
+    // In order, all and some.
+    (
+        &[1, 2, 2, 5],
+        &[(1, 0, None), (2, 1, None), (2, 2, None), (5, 3, None)],
+    ),
+    (&[1, 2, 2, 5], &[(2, 2, None), (5, 3, None)]),
+    // Late ones. Those that nobody asks for are passed over.
+    (
+        &[9, 3, 7, 7, 1, 8],
+        &[
+            (1, 4, None),
+            (3, 1, None),
+            (7, 2, None),
+            (7, 3, None),
+            (8, 5, None),
+            (9, 0, None),
+        ],
+    ),
+    (
+        &[9, 3, 7, 7, 1, 8],
         &[(3, 1, None), (7, 3, None), (9, 0, None)],
-    )
-}
+    ),
+    // Absent ones: of no frames, one past the end, and then one that was passed.
+    (&[], &[(0, 0, ABSENT), (1, 0, ABSENT)]),
+    (&[1, 2], &[(1, 2, ABSENT), (2, 1, None), (3, 2, ABSENT)]),
+    // Another timestamp, read on to and passed, below and above the frame's.
+    (
+        &[4, 6],
+        &[(3, 0, ABSENT), (4, 0, None), (5, 1, ABSENT), (6, 1, None)],
+    ),
+    (&[4, 6], &[(5, 1, ABSENT), (7, 0, ABSENT)]),
+    (&[8, 2], &[(2, 1, None), (7, 0, ABSENT), (8, 0, None)]),
+];
 
 #[test]
-fn absent_frames(rt: HostRuntime) -> Result<(), Fail> {
+fn frames_by_timestamp_and_index(rt: HostRuntime) -> Result<(), Fail> {
     let alloc = rt.alloc();
-    asks_sound(&rt, alloc, &[], &[(0, 0, NONE), (1, 0, NONE)])?;
-    // One past the end; and then one that was passed.
-    asks_sound(
-        &rt,
-        alloc,
-        &[1, 2],
-        &[(1, 2, NONE), (2, 1, None), (3, 2, NONE)],
-    )?;
-    // Another timestamp, read on to and passed, below and above the frame's.
-    asks_sound(
-        &rt,
-        alloc,
-        &[4, 6],
-        &[(3, 0, NONE), (4, 0, None), (5, 1, NONE), (6, 1, None)],
-    )?;
-    asks_sound(&rt, alloc, &[4, 6], &[(5, 1, NONE), (7, 0, NONE)])?;
-    asks_sound(
-        &rt,
-        alloc,
-        &[8, 2],
-        &[(2, 1, None), (7, 0, NONE), (8, 0, None)],
-    )
+    for (seconds, asked) in SOUND_ASKED {
+        let source = MemSource::new(recording(alloc, seconds)?, SOUND);
+        asks(&rt, alloc, source, asked)?;
+    }
+    Ok(())
 }
+
+/// The second frame is truncated.
+const TRUNCATED_ASKED: [Asked; 3] = [(1, 0, None), (2, 1, ABSENT), (3, 1, ABSENT)];
 
 #[test]
 fn a_truncated_recording(rt: HostRuntime) -> Result<(), Fail> {
@@ -133,11 +112,17 @@ fn a_truncated_recording(rt: HostRuntime) -> Result<(), Fail> {
     for len in 41..58 {
         let mut bytes = recording(alloc, &[1, 2])?;
         bytes.truncate(len);
-        let asked = [(1, 0, None), (2, 1, NONE), (3, 1, NONE)];
-        asks(&rt, alloc, MemSource::new(bytes, SOUND), &asked)?;
+        asks(&rt, alloc, MemSource::new(bytes, SOUND), &TRUNCATED_ASKED)?;
     }
     Ok(())
 }
+
+/// The source fails within the second frame.
+const FAILING_ASKED: [Asked; 3] = [
+    (1, 0, None),
+    (2, 1, Some(FindFault::Device)),
+    (3, 1, Some(FindFault::Failed)),
+];
 
 #[test]
 fn a_source_that_fails(rt: HostRuntime) -> Result<(), Fail> {
@@ -146,13 +131,7 @@ fn a_source_that_fails(rt: HostRuntime) -> Result<(), Fail> {
     for most in 41..58 {
         let script = Script { most, ..SOUND };
         let source = MemSource::new(recording(alloc, &[1, 2])?, script);
-        let failed = Some(FindFault::Failed);
-        let asked = [
-            (1, 0, None),
-            (2, 1, Some(FindFault::Device)),
-            (3, 1, failed),
-        ];
-        asks(&rt, alloc, source, &asked)?;
+        asks(&rt, alloc, source, &FAILING_ASKED)?;
     }
     Ok(())
 }

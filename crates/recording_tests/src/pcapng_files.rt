@@ -162,13 +162,15 @@ const RESOLUTION: &[u8] = &[
     0,
 ];
 
+/// An interface with the option `if_tsoffset`, of no seconds.
+const NO_OFFSET: [u8; 32] = [
+    1, 0, 0, 0, 32, 0, 0, 0, 1, 0, 0, 0, 0, 0, 4, 0, 14, 0, 8, 0, 0, 0, 0, 0, 0, 0, 0, 0, 32, 0, 0,
+    0,
+];
+
 /// An interface with the option `if_tsoffset`, in seconds.
 fn with_offset(seconds: i64) -> [u8; 32] {
-    let mut block = [0u8; 32];
-    block.copy_from_slice(&[
-        1, 0, 0, 0, 32, 0, 0, 0, 1, 0, 0, 0, 0, 0, 4, 0, 14, 0, 8, 0, 0, 0, 0, 0, 0, 0, 0, 0, 32,
-        0, 0, 0,
-    ]);
+    let mut block = NO_OFFSET;
     block[20..28].copy_from_slice(&seconds.to_le_bytes());
     block
 }
@@ -243,20 +245,23 @@ fn reads_what_editcap_writes(rt: HostRuntime) -> Result<(), Fail> {
     )
 }
 
+/// Values of the option `if_tsresol`, and the timestamp of the packet in nanoseconds.
+const RESOLUTIONS: [(u8, u64); 9] = [
+    (6, 4_294_967_298_000),
+    (9, 4_294_967_298),
+    (3, 4_294_967_298_000_000),
+    (12, 4_294_967),
+    (19, 0),
+    (40, 0),
+    (138, 4_194_304_001_953_125),
+    (158, 4_000_000_001),
+    (255, 0),
+];
+
 #[test]
 fn reads_each_resolution(rt: HostRuntime) -> Result<(), Fail> {
     let alloc = rt.alloc();
-    for (value, stamp) in [
-        (6, 4_294_967_298_000),
-        (9, 4_294_967_298),
-        (3, 4_294_967_298_000_000),
-        (12, 4_294_967),
-        (19, 0),
-        (40, 0),
-        (138, 4_194_304_001_953_125),
-        (158, 4_000_000_001),
-        (255, 0),
-    ] {
+    for (value, stamp) in RESOLUTIONS {
         let interface = changed(alloc, RESOLUTION, 20, value)?;
         let parts = [LITTLE, &interface, PACKET];
         let frame: [Wanted<'_>; 1] = [(stamp, 60, &[7, 8])];
@@ -274,15 +279,18 @@ fn reads_each_resolution(rt: HostRuntime) -> Result<(), Fail> {
     )
 }
 
+/// Offsets in seconds, and the timestamp of the packet in nanoseconds.
+const OFFSETS: [(i64, u64); 4] = [
+    (1, 4_295_967_298_000),
+    (-1, 4_293_967_298_000),
+    (-4294, 967_298_000),
+    (4_294_963_000, 4_294_967_294_967_298_000),
+];
+
 #[test]
 fn adds_the_offset(rt: HostRuntime) -> Result<(), Fail> {
     let alloc = rt.alloc();
-    for (offset, stamp) in [
-        (1, 4_295_967_298_000),
-        (-1, 4_293_967_298_000),
-        (-4294, 967_298_000),
-        (4_294_963_000, 4_294_967_294_967_298_000),
-    ] {
+    for (offset, stamp) in OFFSETS {
         let interface = with_offset(offset);
         let parts = [LITTLE, &interface, PACKET];
         let frame: [Wanted<'_>; 1] = [(stamp, 60, &[7, 8])];
@@ -391,18 +399,21 @@ const BAD_HEADERS: [(&[&[u8]], HeaderFault); 3] = [
     (&[b"pcn"], HeaderFault::Short),
 ];
 
+/// Which byte of a section header is another, and the fault.
+const HEADER_FAULTS: [(usize, u8, HeaderFault); 7] = [
+    (8, 0, HeaderFault::ByteOrderMagic),
+    (12, 2, HeaderFault::SectionVersion),
+    (4, 29, HeaderFault::SectionLength),
+    (4, 24, HeaderFault::SectionLength),
+    (7, 1, HeaderFault::SectionLength),
+    (24, 27, HeaderFault::SectionLengthsDiffer),
+    (4, 32, HeaderFault::Short),
+];
+
 #[test]
 fn tells_header_faults(rt: HostRuntime) -> Result<(), Fail> {
     let alloc = rt.alloc();
-    for (at, value, fault) in [
-        (8, 0, HeaderFault::ByteOrderMagic),
-        (12, 2, HeaderFault::SectionVersion),
-        (4, 29, HeaderFault::SectionLength),
-        (4, 24, HeaderFault::SectionLength),
-        (7, 1, HeaderFault::SectionLength),
-        (24, 27, HeaderFault::SectionLengthsDiffer),
-        (4, 32, HeaderFault::Short),
-    ] {
+    for (at, value, fault) in HEADER_FAULTS {
         refuses(&rt, alloc, &[&changed(alloc, LITTLE, at, value)?], fault)?;
     }
     for (parts, fault) in BAD_HEADERS {
@@ -411,19 +422,22 @@ fn tells_header_faults(rt: HostRuntime) -> Result<(), Fail> {
     Ok(())
 }
 
+/// Which byte of a packet is another, and the reason.
+const PACKET_REASONS: [(usize, u8, BadReason); 8] = [
+    (4, 35, BadReason::BlockLength),
+    (4, 28, BadReason::BlockLength),
+    (7, 1, BadReason::BlockLength),
+    (8, 1, BadReason::UnknownInterface),
+    (15, 255, BadReason::StampRange),
+    (22, 5, BadReason::Length),
+    (20, 5, BadReason::BlockBounds),
+    (32, 37, BadReason::BlockLengthsDiffer),
+];
+
 #[test]
 fn tells_reasons_of_packets(rt: HostRuntime) -> Result<(), Fail> {
     let alloc = rt.alloc();
-    for (at, value, reason) in [
-        (4, 35, BadReason::BlockLength),
-        (4, 28, BadReason::BlockLength),
-        (7, 1, BadReason::BlockLength),
-        (8, 1, BadReason::UnknownInterface),
-        (15, 255, BadReason::StampRange),
-        (22, 5, BadReason::Length),
-        (20, 5, BadReason::BlockBounds),
-        (32, 37, BadReason::BlockLengthsDiffer),
-    ] {
+    for (at, value, reason) in PACKET_REASONS {
         let packet = changed(alloc, PACKET, at, value)?;
         let parts = [LITTLE, ETHERNET, PACKET, &packet, PACKET];
         holds(&rt, alloc, &parts, Choice::Any, ONE, Ending::Bad(1, reason))?;
@@ -521,6 +535,11 @@ fn given<S: TapSource>(source: &mut S, size: usize, text: &mut [u8; 300]) -> (us
     (done, failures)
 }
 
+/// The header of the packet in nanosecond pcap.
+const PACKET_HEADER: [u8; 16] = [
+    0xc6, 0x10, 0, 0, 0xd0, 0xcb, 0xa7, 0x39, 2, 0, 0, 0, 60, 0, 0, 0,
+];
+
 #[test]
 fn small_buffers_and_failures(rt: HostRuntime) -> Result<(), Fail> {
     let alloc = rt.alloc();
@@ -540,12 +559,7 @@ fn small_buffers_and_failures(rt: HostRuntime) -> Result<(), Fail> {
             let (done, failures) = given(&mut source, size, &mut text);
             assert!(rt; done == 24 + 2 * 18);
             assert!(rt; failures == u64::from(miss.is_some()));
-            assert!(rt;
-                &text[24..40]
-                    == &[
-                        0xc6, 0x10, 0, 0, 0xd0, 0xcb, 0xa7, 0x39, 2, 0, 0, 0, 60, 0, 0, 0
-                    ][..]
-            );
+            assert!(rt; &text[24..40] == &PACKET_HEADER[..]);
             assert!(rt; &text[40..42] == &[7, 8][..]);
             assert!(rt; &text[58..60] == &[7, 8][..]);
         }
@@ -553,16 +567,20 @@ fn small_buffers_and_failures(rt: HostRuntime) -> Result<(), Fail> {
     Ok(())
 }
 
+/// An enhanced packet of interface 0, of 200000 bytes, up to these.
+const LONG_PACKET: [u8; 28] = [
+    6, 0, 0, 0, 0x60, 0x0d, 3, 0, 0, 0, 0, 0, 1, 0, 0, 0, 2, 0, 0, 0, 0x40, 0x0d, 3, 0, 0x40, 0x0d,
+    3, 0,
+];
+
 #[test]
 fn a_long_block(rt: HostRuntime) -> Result<(), Fail> {
     let alloc = rt.alloc();
     // A packet of 200000 bytes, and a block of as many that is skipped.
     for kind in [6, 5] {
         let mut block = Vec::with_capacity(alloc, 200_032)?;
-        block.extend_from_slice(&[
-            kind, 0, 0, 0, 0x60, 0x0d, 3, 0, 0, 0, 0, 0, 1, 0, 0, 0, 2, 0, 0, 0,
-        ])?;
-        block.extend_from_slice(&[0x40, 0x0d, 3, 0, 0x40, 0x0d, 3, 0])?;
+        block.push(kind)?;
+        block.extend_from_slice(&LONG_PACKET[1..])?;
         block.resize(200_028, 9)?;
         block.extend_from_slice(&[0x60, 0x0d, 3, 0])?;
         let parts = [LITTLE, ETHERNET, PACKET, block.as_slice(), PACKET];

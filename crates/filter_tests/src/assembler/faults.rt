@@ -6,40 +6,44 @@ use bpf_text::TextFault;
 use std::alloc::Global;
 use std::test::Fail;
 
+/// Texts that aren't read, each with its fault.
+const TEXT_FAULTS: [(&str, TextFault); 7] = [
+    ("ldq [1]", TextFault::Form { at: 4 }),
+    ("x: ret #0", TextFault::ReservedLabel { at: 0 }),
+    ("X: ret #0", TextFault::ReservedLabel { at: 0 }),
+    ("ld #4294967296", TextFault::Number { at: 4 }),
+    ("ld @", TextFault::Character { at: 3 }),
+    ("l:", TextFault::Form { at: 2 }),
+    // The text's fault comes before those of its labels.
+    ("jmp l ldq [1]", TextFault::Form { at: 10 }),
+];
+
 #[test]
 fn faults_of_a_text(rt: HostRuntime) {
-    let rows = [
-        ("ldq [1]", TextFault::Form { at: 4 }),
-        ("x: ret #0", TextFault::ReservedLabel { at: 0 }),
-        ("X: ret #0", TextFault::ReservedLabel { at: 0 }),
-        ("ld #4294967296", TextFault::Number { at: 4 }),
-        ("ld @", TextFault::Character { at: 3 }),
-        ("l:", TextFault::Form { at: 2 }),
-        // The text's fault comes before those of its labels.
-        ("jmp l ldq [1]", TextFault::Form { at: 10 }),
-    ];
-    for (text, fault) in &rows {
+    for (text, fault) in &TEXT_FAULTS {
         let found = assemble(rt.alloc(), text).err();
         assert!(rt; found == Some(AsmFault::Text(*fault)), "{text}");
     }
 }
 
+/// Texts whose statements make no program, each with its fault.
+const STATEMENT_FAULTS: [(&str, AsmFault); 10] = [
+    ("", AsmFault::Empty),
+    ("; nothing\n/* at all */", AsmFault::Empty),
+    ("jmp l", AsmFault::NoLabel { at: 0 }),
+    ("jmp l\nL: ret #0", AsmFault::NoLabel { at: 0 }),
+    ("l: ret #0 jmp l", AsmFault::Backward { at: 1 }),
+    ("l: jmp l ret #0", AsmFault::Backward { at: 0 }),
+    ("l: ret #0 l: ret #0", AsmFault::TwiceLabel { at: 1 }),
+    // A label that stands twice comes before any target, and targets go from left to right.
+    ("jmp n l: ret #0 l: ret #0", AsmFault::TwiceLabel { at: 2 }),
+    ("l: jeq #0, l, n ret #0", AsmFault::Backward { at: 0 }),
+    ("l: jeq #0, n, l ret #0", AsmFault::NoLabel { at: 0 }),
+];
+
 #[test]
 fn faults_of_statements(rt: HostRuntime) {
-    let rows = [
-        ("", AsmFault::Empty),
-        ("; nothing\n/* at all */", AsmFault::Empty),
-        ("jmp l", AsmFault::NoLabel { at: 0 }),
-        ("jmp l\nL: ret #0", AsmFault::NoLabel { at: 0 }),
-        ("l: ret #0 jmp l", AsmFault::Backward { at: 1 }),
-        ("l: jmp l ret #0", AsmFault::Backward { at: 0 }),
-        ("l: ret #0 l: ret #0", AsmFault::TwiceLabel { at: 1 }),
-        // A label that stands twice comes before any target, and targets go from left to right.
-        ("jmp n l: ret #0 l: ret #0", AsmFault::TwiceLabel { at: 2 }),
-        ("l: jeq #0, l, n ret #0", AsmFault::Backward { at: 0 }),
-        ("l: jeq #0, n, l ret #0", AsmFault::NoLabel { at: 0 }),
-    ];
-    for (text, fault) in &rows {
+    for (text, fault) in &STATEMENT_FAULTS {
         let found = assemble(rt.alloc(), text).err();
         assert!(rt; found == Some(*fault), "{text}");
     }

@@ -23,15 +23,19 @@ const ETHERTYPE: Filter = Filter {
     words: "4,40 0 0 12,21 0 1 2054,6 0 0 4294967295,6 0 0 0,",
 };
 
+const ONE_LINK_SOURCE: &str = "ldh [4]\njne #5, drop\nret #-1\ndrop: ret #0\n";
+
 /// The frames of virtual link 5.
 const ONE_LINK: Filter = Filter {
-    source: "ldh [4]\njne #5, drop\nret #-1\ndrop: ret #0\n",
+    source: ONE_LINK_SOURCE,
     words: "4,40 0 0 4,21 0 1 5,6 0 0 4294967295,6 0 0 0,",
 };
 
+const LAST_BYTE_SOURCE: &str = "ld len\nsub #1\ntax\nldb [x + 0]\nret a\n";
+
 /// Answers with the frame's last byte.
 const LAST_BYTE: Filter = Filter {
-    source: "ld len\nsub #1\ntax\nldb [x + 0]\nret a\n",
+    source: LAST_BYTE_SOURCE,
     words: "5,128 0 0 0,20 0 0 1,7 0 0 0,80 0 0 0,22 0 0 0,",
 };
 
@@ -41,8 +45,10 @@ const UNSTORED: Filter = Filter {
     words: "4,21 0 1 0,2 0 0 0,96 0 0 0,22 0 0 0,",
 };
 
+const JUMP_IF_LESS_SOURCE: &str = "ld len\njlt #61, s\nret #0\ns: ret #60\n";
+
 const JUMP_IF_LESS: Filter = Filter {
-    source: "ld len\njlt #61, s\nret #0\ns: ret #60\n",
+    source: JUMP_IF_LESS_SOURCE,
     words: "4,128 0 0 0,53 0 1 61,6 0 0 0,6 0 0 60,",
 };
 
@@ -96,50 +102,36 @@ fn path_without_a_store(rt: HostRuntime) -> Result<(), Fail> {
     Ok(())
 }
 
-/// A source, a frame by its link, length and last byte, and the answer and steps of its run.
-#[derive(Clone, Copy)]
-struct Run {
-    source: &'static str,
-    frame: (u8, usize, u8),
-    answer: u32,
-    steps: u32,
-}
+/// A source, a frame by its link, length and last byte, and the return value and the steps of its run.
+type Run = (&'static str, (u8, usize, u8), u32, u32);
 
-const fn gives(source: &'static str, frame: (u8, usize, u8), answer: u32, steps: u32) -> Run {
-    Run {
-        source,
-        frame,
-        answer,
-        steps,
-    }
-}
+/// Programs with what their runs give.
+const RUNS: [Run; 13] = [
+    (ONE_LINK_SOURCE, (5, 60, 1), 4294967295, 3),
+    (ONE_LINK_SOURCE, (6, 60, 1), 0, 3),
+    (LAST_BYTE_SOURCE, (5, 60, 0), 0, 5),
+    (LAST_BYTE_SOURCE, (5, 60, 17), 17, 5),
+    // A word load one byte past the frame's end, and at its end.
+    ("ld [57]\nret #1\n", (5, 60, 1), 0, 1),
+    ("ld [56]\nret #1\n", (5, 60, 1), 1, 2),
+    // Byte 14, by an offset that wraps.
+    ("ldx #16\nldb [x + 4294967294]\nret a", (5, 15, 9), 9, 3),
+    ("ld #5\nldx #33\nrsh x\nret a", (5, 60, 1), 0, 4),
+    ("ld #5\nneg\nret a", (5, 60, 1), 4294967291, 3),
+    ("ld #1\ndiv x\nret #9", (5, 60, 1), 0, 2),
+    ("ldxb 4*([59]&0xf)\ntxa\nret a", (5, 60, 19), 12, 3),
+    (JUMP_IF_LESS_SOURCE, (5, 60, 1), 60, 3),
+    (JUMP_IF_LESS_SOURCE, (5, 61, 1), 0, 3),
+];
 
 #[test]
 fn answers_and_steps(rt: HostRuntime) -> Result<(), Fail> {
     let alloc = rt.alloc();
-    let runs = [
-        gives(ONE_LINK.source, (5, 60, 1), 4294967295, 3),
-        gives(ONE_LINK.source, (6, 60, 1), 0, 3),
-        gives(LAST_BYTE.source, (5, 60, 0), 0, 5),
-        gives(LAST_BYTE.source, (5, 60, 17), 17, 5),
-        // A word load one byte past the frame's end, and at its end.
-        gives("ld [57]\nret #1\n", (5, 60, 1), 0, 1),
-        gives("ld [56]\nret #1\n", (5, 60, 1), 1, 2),
-        // Byte 14, by an offset that wraps.
-        gives("ldx #16\nldb [x + 4294967294]\nret a", (5, 15, 9), 9, 3),
-        gives("ld #5\nldx #33\nrsh x\nret a", (5, 60, 1), 0, 4),
-        gives("ld #5\nneg\nret a", (5, 60, 1), 4294967291, 3),
-        gives("ld #1\ndiv x\nret #9", (5, 60, 1), 0, 2),
-        gives("ldxb 4*([59]&0xf)\ntxa\nret a", (5, 60, 19), 12, 3),
-        gives(JUMP_IF_LESS.source, (5, 60, 1), 60, 3),
-        gives(JUMP_IF_LESS.source, (5, 61, 1), 0, 3),
-    ];
-    for row in &runs {
-        let program = Program::load(assemble(alloc, row.source)?)?;
-        let (link, len, last) = row.frame;
+    for (source, (link, len, last), answer, steps) in RUNS {
+        let program = Program::load(assemble(alloc, source)?)?;
         let bytes = frame(alloc, link, len, last)?;
         let ran = run(&program, &FrameView::new(&bytes), u32::try_from(len)?);
-        assert!(rt; ran == (row.answer, row.steps), "{}", row.source);
+        assert!(rt; ran == (answer, steps), "{source}");
     }
     Ok(())
 }

@@ -73,20 +73,23 @@ fn replies(rt: &impl Abort, session: &mut Session, command: Command, right: Repl
     true
 }
 
+/// Commands, and the entry that each ends at.
+const WALK: [(Command, usize); 7] = [
+    (Command::Select(0), 0),
+    (Command::Step(5), 5),
+    (Command::Step(-2), 3),
+    (Command::Cont, 40),
+    (Command::Step(-1), 39),
+    (Command::Step(-50), 0),
+    (Command::Cont, 40),
+];
+
 /// Walks, and says whether there was the memory for each command.
 fn walks(rt: &(impl Abort + AllocGlobal)) -> bool {
     let Some((mut session, mut ample)) = begun(rt) else {
         return false;
     };
-    for (command, m) in [
-        (Command::Select(0), 0),
-        (Command::Step(5), 5),
-        (Command::Step(-2), 3),
-        (Command::Cont, 40),
-        (Command::Step(-1), 39),
-        (Command::Step(-50), 0),
-        (Command::Cont, 40),
-    ] {
+    for (command, m) in WALK {
         ample &= replies(rt, &mut session, command, entry(m));
     }
     ample

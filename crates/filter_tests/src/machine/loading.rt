@@ -39,20 +39,23 @@ fn fault_of(
     }
 }
 
+/// A first instruction before `ret #0`, and its fault.
+const FAULTS: [(&str, [u32; 4], LoadFault); 6] = [
+    ("div #0", [52, 0, 0, 0], LoadFault::ZeroDivisor { at: 0 }),
+    ("code 23", [23, 0, 0, 0], LoadFault::UnknownCode { at: 0 }),
+    ("lsh #32", [100, 0, 0, 32], LoadFault::Shift { at: 0 }),
+    ("st M[16]", [2, 0, 0, 16], LoadFault::Scratch { at: 0 }),
+    (
+        "ld [2^31]",
+        [32, 0, 0, 2147483648],
+        LoadFault::Offset { at: 0 },
+    ),
+    ("ja 1", [5, 0, 0, 1], LoadFault::Jump { at: 0 }),
+];
+
 #[test]
 fn one_fault_each(rt: HostRuntime) -> Result<(), Fail> {
-    for (mnemonic, first, fault) in [
-        ("div #0", [52, 0, 0, 0], LoadFault::ZeroDivisor { at: 0 }),
-        ("code 23", [23, 0, 0, 0], LoadFault::UnknownCode { at: 0 }),
-        ("lsh #32", [100, 0, 0, 32], LoadFault::Shift { at: 0 }),
-        ("st M[16]", [2, 0, 0, 16], LoadFault::Scratch { at: 0 }),
-        (
-            "ld [2^31]",
-            [32, 0, 0, 2147483648],
-            LoadFault::Offset { at: 0 },
-        ),
-        ("ja 1", [5, 0, 0, 1], LoadFault::Jump { at: 0 }),
-    ] {
+    for (mnemonic, first, fault) in FAULTS {
         assert!(rt;
             fault_of(&rt, &[first, RETURN_0])? == Some(fault),
             "{mnemonic}"
@@ -93,6 +96,16 @@ fn canonical_form(rt: HostRuntime) -> Result<(), Fail> {
     Ok(())
 }
 
+/// So many returns, and the fault.
+const LENGTHS: [(usize, Option<LoadFault>); 6] = [
+    (0, Some(LoadFault::Length)),
+    (1, None),
+    (4095, None),
+    (4096, None),
+    (4097, Some(LoadFault::Length)),
+    (65_536, Some(LoadFault::Length)),
+];
+
 #[test]
 fn one_instruction_too_many(rt: HostRuntime) -> Result<(), Fail> {
     let word = Packed {
@@ -101,14 +114,7 @@ fn one_instruction_too_many(rt: HostRuntime) -> Result<(), Fail> {
         jf: 0,
         k: 0,
     };
-    for (count, fault) in [
-        (0, Some(LoadFault::Length)),
-        (1, None),
-        (4095, None),
-        (4096, None),
-        (4097, Some(LoadFault::Length)),
-        (65_536, Some(LoadFault::Length)),
-    ] {
+    for (count, fault) in LENGTHS {
         let words = vec![in rt.alloc(); word; count]?;
         match Program::load(words) {
             Ok(program) => {

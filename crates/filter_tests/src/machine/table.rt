@@ -106,153 +106,146 @@ fn advanced<F: Family>(rt: &impl Abort, insn: F, before: State) -> Outcome {
     }
 }
 
-/// A row of the table: its mnemonic, a word of it, the word's canonical form, and its effect.
-type Row = (&'static str, Packed, Packed, Effect);
+/// Which fields of its word a code reads.
+#[derive(Clone, Copy)]
+enum Reads {
+    /// None of them.
+    Nothing,
+    /// k alone.
+    K,
+    /// Both targets of a conditional jump by A and X.
+    Targets,
+    /// Both targets and k.
+    All,
+}
+
+/// The canonical form of a word whose fields all hold something.
+fn plain_word(code: u16, reads: Reads) -> Packed {
+    match reads {
+        Reads::Nothing => word(code, 0, 0, 0),
+        Reads::K => word(code, 0, 0, 6),
+        Reads::Targets => word(code, 20, 40, 0),
+        Reads::All => full(code),
+    }
+}
+
+/// A row of the table: its mnemonic, its code, what that reads, and its effect.
+type Row = (&'static str, u16, Reads, Effect);
 
 /// The family has these rows and no other. Each word unpacks to an instruction of the family, which
 /// packs in canonical form and has this effect.
 fn family_has<F: Family>(rt: &impl Abort, rows: &[Row]) -> Result<(), Fail> {
     assert!(rt; rows.len() == F::CODES);
-    for (mnemonic, word, plain, effect) in rows {
-        let class = word.code % 8;
+    for (mnemonic, code, reads, effect) in rows {
+        let (word, plain) = (full(*code), plain_word(*code, *reads));
+        let class = *code % 8;
         assert!(rt;
             F::FIRST_CLASS <= class && class <= F::LAST_CLASS,
             "{mnemonic}"
         );
-        let insn = F::unpack(*word).ok_or("not of the family")?;
-        assert!(rt; insn.pack() == *plain, "{mnemonic}");
-        assert!(rt; canonical(*word) == *plain, "{mnemonic}");
+        let insn = F::unpack(word).ok_or("not of the family")?;
+        assert!(rt; insn.pack() == plain, "{mnemonic}");
+        assert!(rt; canonical(word) == plain, "{mnemonic}");
         let want = outcome(BEFORE, *effect);
         assert!(rt; stepped(rt, insn, BEFORE) == want, "{mnemonic}");
         assert!(rt; advanced(rt, insn, BEFORE) == want, "{mnemonic}");
-        let same = Insn::unpack(*plain).ok_or("not listed")?;
-        assert!(rt; same.pack() == *plain, "{mnemonic}");
+        let same = Insn::unpack(plain).ok_or("not listed")?;
+        assert!(rt; same.pack() == plain, "{mnemonic}");
         assert!(rt; stepped(rt, same, BEFORE) == want, "{mnemonic}");
     }
     Ok(())
 }
 
-/// A row whose code reads k alone.
-const fn by_k(mnemonic: &'static str, code: u16, effect: Effect) -> Row {
-    (mnemonic, full(code), word(code, 0, 0, 6), effect)
-}
+/// The rows of each family.
+const LOADS: [Row; 9] = [
+    ("ld #k", 0x00, Reads::K, Effect::A(6)),
+    ("ld [k]", 0x20, Reads::K, Effect::A(0x7d87_98a9)),
+    ("ldh [k]", 0x28, Reads::K, Effect::A(0x7d87)),
+    ("ldb [k]", 0x30, Reads::K, Effect::A(0x7d)),
+    // the offset 17
+    ("ld [x + k]", 0x40, Reads::K, Effect::A(0x1223_3445)),
+    ("ldh [x + k]", 0x48, Reads::K, Effect::A(0x1223)),
+    ("ldb [x + k]", 0x50, Reads::K, Effect::A(0x12)),
+    ("ld M[k]", 0x60, Reads::K, Effect::A(56)),
+    ("ld len", 0x80, Reads::Nothing, Effect::A(1514)),
+];
 
-/// A row whose code reads no field.
-const fn bare(mnemonic: &'static str, code: u16, effect: Effect) -> Row {
-    (mnemonic, full(code), word(code, 0, 0, 0), effect)
-}
+const LOADS_OF_X: [Row; 4] = [
+    ("ldx #k", 0x01, Reads::K, Effect::X(6)),
+    ("ldx M[k]", 0x61, Reads::K, Effect::X(56)),
+    ("ldx len", 0x81, Reads::Nothing, Effect::X(1514)),
+    // 4 * 13
+    ("ldxb 4*([k]&0xf)", 0xb1, Reads::K, Effect::X(52)),
+];
+
+const STORES: [Row; 2] = [
+    ("st M[k]", 0x02, Reads::K, Effect::Slot(74565)),
+    ("stx M[k]", 0x03, Reads::K, Effect::Slot(11)),
+];
 
 #[test]
 fn loads_and_stores(rt: HostRuntime) -> Result<(), Fail> {
-    family_has::<Load>(
-        &rt,
-        &[
-            by_k("ld #k", 0x00, Effect::A(6)),
-            by_k("ld [k]", 0x20, Effect::A(0x7d87_98a9)),
-            by_k("ldh [k]", 0x28, Effect::A(0x7d87)),
-            by_k("ldb [k]", 0x30, Effect::A(0x7d)),
-            // the offset 17
-            by_k("ld [x + k]", 0x40, Effect::A(0x1223_3445)),
-            by_k("ldh [x + k]", 0x48, Effect::A(0x1223)),
-            by_k("ldb [x + k]", 0x50, Effect::A(0x12)),
-            by_k("ld M[k]", 0x60, Effect::A(56)),
-            bare("ld len", 0x80, Effect::A(1514)),
-        ],
-    )?;
-    family_has::<LoadX>(
-        &rt,
-        &[
-            by_k("ldx #k", 0x01, Effect::X(6)),
-            by_k("ldx M[k]", 0x61, Effect::X(56)),
-            bare("ldx len", 0x81, Effect::X(1514)),
-            // 4 * 13
-            by_k("ldxb 4*([k]&0xf)", 0xb1, Effect::X(52)),
-        ],
-    )?;
-    family_has::<Store>(
-        &rt,
-        &[
-            by_k("st M[k]", 0x02, Effect::Slot(74565)),
-            by_k("stx M[k]", 0x03, Effect::Slot(11)),
-        ],
-    )
+    family_has::<Load>(&rt, &LOADS)?;
+    family_has::<LoadX>(&rt, &LOADS_OF_X)?;
+    family_has::<Store>(&rt, &STORES)
 }
+
+const ARITHMETIC: [Row; 21] = [
+    ("add #k", 0x04, Reads::K, Effect::A(74571)),
+    ("add x", 0x0c, Reads::Nothing, Effect::A(74576)),
+    ("sub #k", 0x14, Reads::K, Effect::A(74559)),
+    ("sub x", 0x1c, Reads::Nothing, Effect::A(74554)),
+    ("mul #k", 0x24, Reads::K, Effect::A(447390)),
+    ("mul x", 0x2c, Reads::Nothing, Effect::A(820215)),
+    ("div #k", 0x34, Reads::K, Effect::A(12427)),
+    ("div x", 0x3c, Reads::Nothing, Effect::A(6778)),
+    ("or #k", 0x44, Reads::K, Effect::A(74567)),
+    ("or x", 0x4c, Reads::Nothing, Effect::A(74575)),
+    ("and #k", 0x54, Reads::K, Effect::A(4)),
+    ("and x", 0x5c, Reads::Nothing, Effect::A(1)),
+    ("lsh #k", 0x64, Reads::K, Effect::A(4772160)),
+    ("lsh x", 0x6c, Reads::Nothing, Effect::A(152709120)),
+    ("rsh #k", 0x74, Reads::K, Effect::A(1165)),
+    ("rsh x", 0x7c, Reads::Nothing, Effect::A(36)),
+    ("neg", 0x84, Reads::Nothing, Effect::A(4294892731)),
+    ("mod #k", 0x94, Reads::K, Effect::A(3)),
+    ("mod x", 0x9c, Reads::Nothing, Effect::A(7)),
+    ("xor #k", 0xa4, Reads::K, Effect::A(74563)),
+    ("xor x", 0xac, Reads::Nothing, Effect::A(74574)),
+];
 
 #[test]
 fn arithmetic(rt: HostRuntime) -> Result<(), Fail> {
-    family_has::<Alu>(
-        &rt,
-        &[
-            by_k("add #k", 0x04, Effect::A(74571)),
-            bare("add x", 0x0c, Effect::A(74576)),
-            by_k("sub #k", 0x14, Effect::A(74559)),
-            bare("sub x", 0x1c, Effect::A(74554)),
-            by_k("mul #k", 0x24, Effect::A(447390)),
-            bare("mul x", 0x2c, Effect::A(820215)),
-            by_k("div #k", 0x34, Effect::A(12427)),
-            bare("div x", 0x3c, Effect::A(6778)),
-            by_k("or #k", 0x44, Effect::A(74567)),
-            bare("or x", 0x4c, Effect::A(74575)),
-            by_k("and #k", 0x54, Effect::A(4)),
-            bare("and x", 0x5c, Effect::A(1)),
-            by_k("lsh #k", 0x64, Effect::A(4772160)),
-            bare("lsh x", 0x6c, Effect::A(152709120)),
-            by_k("rsh #k", 0x74, Effect::A(1165)),
-            bare("rsh x", 0x7c, Effect::A(36)),
-            bare("neg", 0x84, Effect::A(4294892731)),
-            by_k("mod #k", 0x94, Effect::A(3)),
-            bare("mod x", 0x9c, Effect::A(7)),
-            by_k("xor #k", 0xa4, Effect::A(74563)),
-            bare("xor x", 0xac, Effect::A(74574)),
-        ],
-    )
+    family_has::<Alu>(&rt, &ARITHMETIC)
 }
 
-/// A conditional jump by A and k: both targets are read.
-const fn by_test(mnemonic: &'static str, code: u16, pc: usize) -> Row {
-    (mnemonic, full(code), full(code), Effect::Goes(pc))
-}
+const JUMPS: [Row; 9] = [
+    ("ja", 0x05, Reads::K, Effect::Goes(17)),
+    ("jeq #k", 0x15, Reads::All, Effect::Goes(51)),
+    ("jeq x", 0x1d, Reads::Targets, Effect::Goes(51)),
+    ("jgt #k", 0x25, Reads::All, Effect::Goes(31)),
+    ("jgt x", 0x2d, Reads::Targets, Effect::Goes(31)),
+    ("jge #k", 0x35, Reads::All, Effect::Goes(31)),
+    ("jge x", 0x3d, Reads::Targets, Effect::Goes(31)),
+    ("jset #k", 0x45, Reads::All, Effect::Goes(31)),
+    ("jset x", 0x4d, Reads::Targets, Effect::Goes(31)),
+];
 
-/// A conditional jump by A and X.
-const fn by_test_x(mnemonic: &'static str, code: u16, pc: usize) -> Row {
-    (
-        mnemonic,
-        full(code),
-        word(code, 20, 40, 0),
-        Effect::Goes(pc),
-    )
-}
+const RETURNS: [Row; 2] = [
+    ("ret #k", 0x06, Reads::K, Effect::Ends(6)),
+    ("ret a", 0x16, Reads::Nothing, Effect::Ends(74565)),
+];
+
+const MOVES: [Row; 2] = [
+    ("tax", 0x07, Reads::Nothing, Effect::X(74565)),
+    ("txa", 0x87, Reads::Nothing, Effect::A(11)),
+];
 
 #[test]
 fn jumps_returns_and_moves(rt: HostRuntime) -> Result<(), Fail> {
-    family_has::<Jump>(
-        &rt,
-        &[
-            by_k("ja", 0x05, Effect::Goes(17)),
-            by_test("jeq #k", 0x15, 51),
-            by_test_x("jeq x", 0x1d, 51),
-            by_test("jgt #k", 0x25, 31),
-            by_test_x("jgt x", 0x2d, 31),
-            by_test("jge #k", 0x35, 31),
-            by_test_x("jge x", 0x3d, 31),
-            by_test("jset #k", 0x45, 31),
-            by_test_x("jset x", 0x4d, 31),
-        ],
-    )?;
-    family_has::<Return>(
-        &rt,
-        &[
-            by_k("ret #k", 0x06, Effect::Ends(6)),
-            bare("ret a", 0x16, Effect::Ends(74565)),
-        ],
-    )?;
-    family_has::<Move>(
-        &rt,
-        &[
-            bare("tax", 0x07, Effect::X(74565)),
-            bare("txa", 0x87, Effect::A(11)),
-        ],
-    )
+    family_has::<Jump>(&rt, &JUMPS)?;
+    family_has::<Return>(&rt, &RETURNS)?;
+    family_has::<Move>(&rt, &MOVES)
 }
 
 /// Carries out a word of the table.
@@ -295,25 +288,27 @@ fn tests_tell_the_four_conditions_apart(rt: HostRuntime) -> Result<(), Fail> {
     Ok(())
 }
 
-/// From A, X and k.
+/// Instructions over numbers at their ends, from A, X and k.
+const NUMBERS: [(&str, u16, u32, u32, u32, Effect); 14] = [
+    ("add #k", 0x04, u32::MAX, 0, 1, Effect::A(0)),
+    ("sub #k", 0x14, 0, 0, 1, Effect::A(u32::MAX)),
+    ("mul #k", 0x24, 65536, 0, 65536, Effect::A(0)),
+    ("mul #k", 0x24, 65537, 0, 65537, Effect::A(131073)),
+    ("lsh x", 0x6c, 3, 31, 0, Effect::A(0x8000_0000)),
+    ("lsh x", 0x6c, 3, 32, 0, Effect::A(0)),
+    ("lsh x", 0x6c, 3, 33, 0, Effect::A(0)),
+    ("rsh x", 0x7c, 0xc000_0000, 31, 0, Effect::A(1)),
+    ("rsh x", 0x7c, 0xc000_0000, 32, 0, Effect::A(0)),
+    ("rsh x", 0x7c, 0xc000_0000, 33, 0, Effect::A(0)),
+    ("div x", 0x3c, 1, 0, 7, Effect::Ends(0)),
+    ("mod x", 0x9c, 1, 0, 7, Effect::Ends(0)),
+    ("neg", 0x84, 5, 0, 0, Effect::A(4294967291)),
+    ("neg", 0x84, 0, 0, 0, Effect::A(0)),
+];
+
 #[test]
 fn numbers_at_their_ends(rt: HostRuntime) -> Result<(), Fail> {
-    for (mnemonic, code, a, x, k, effect) in [
-        ("add #k", 0x04, u32::MAX, 0, 1, Effect::A(0)),
-        ("sub #k", 0x14, 0, 0, 1, Effect::A(u32::MAX)),
-        ("mul #k", 0x24, 65536, 0, 65536, Effect::A(0)),
-        ("mul #k", 0x24, 65537, 0, 65537, Effect::A(131073)),
-        ("lsh x", 0x6c, 3, 31, 0, Effect::A(0x8000_0000)),
-        ("lsh x", 0x6c, 3, 32, 0, Effect::A(0)),
-        ("lsh x", 0x6c, 3, 33, 0, Effect::A(0)),
-        ("rsh x", 0x7c, 0xc000_0000, 31, 0, Effect::A(1)),
-        ("rsh x", 0x7c, 0xc000_0000, 32, 0, Effect::A(0)),
-        ("rsh x", 0x7c, 0xc000_0000, 33, 0, Effect::A(0)),
-        ("div x", 0x3c, 1, 0, 7, Effect::Ends(0)),
-        ("mod x", 0x9c, 1, 0, 7, Effect::Ends(0)),
-        ("neg", 0x84, 5, 0, 0, Effect::A(4294967291)),
-        ("neg", 0x84, 0, 0, 0, Effect::A(0)),
-    ] {
+    for (mnemonic, code, a, x, k, effect) in NUMBERS {
         let before = State { a, x, ..BEFORE };
         let want = outcome(before, effect);
         let found = carried_out(&rt, word(code, 0, 0, k), before)?;
@@ -322,32 +317,34 @@ fn numbers_at_their_ends(rt: HostRuntime) -> Result<(), Fail> {
     Ok(())
 }
 
-/// From X and k: 24 bytes are captured.
+/// Loads at the end of the frame, of which 24 bytes are captured, from X and k.
+const LAST_LOADS: [(&str, u16, u32, u32, Effect); 14] = [
+    ("ld [k]", 0x20, 0, 20, Effect::A(0x4556_6778)),
+    ("ld [k]", 0x20, 0, 21, Effect::Ends(0)),
+    ("ldh [k]", 0x28, 0, 22, Effect::A(0x6778)),
+    ("ldh [k]", 0x28, 0, 23, Effect::Ends(0)),
+    ("ldb [k]", 0x30, 0, 23, Effect::A(0x78)),
+    ("ldb [k]", 0x30, 0, 24, Effect::Ends(0)),
+    ("ld [x + k]", 0x40, 20, 1, Effect::Ends(0)),
+    ("ldh [x + k]", 0x48, 20, 3, Effect::Ends(0)),
+    ("ldb [x + k]", 0x50, 20, 4, Effect::Ends(0)),
+    ("ldxb 4*([k]&0xf)", 0xb1, 0, 23, Effect::X(32)),
+    ("ldxb 4*([k]&0xf)", 0xb1, 0, 24, Effect::Ends(0)),
+    // X + k is 0, 1 and 2 modulo 2^32
+    ("ld [x + k]", 0x40, u32::MAX, 1, Effect::A(0x1021_3243)),
+    (
+        "ldh [x + k]",
+        0x48,
+        0x8000_0000,
+        0x8000_0001,
+        Effect::A(0x2132),
+    ),
+    ("ldb [x + k]", 0x50, 4, 4294967294, Effect::A(0x32)),
+];
+
 #[test]
 fn loads_at_the_end_of_the_frame(rt: HostRuntime) -> Result<(), Fail> {
-    for (mnemonic, code, x, k, effect) in [
-        ("ld [k]", 0x20, 0, 20, Effect::A(0x4556_6778)),
-        ("ld [k]", 0x20, 0, 21, Effect::Ends(0)),
-        ("ldh [k]", 0x28, 0, 22, Effect::A(0x6778)),
-        ("ldh [k]", 0x28, 0, 23, Effect::Ends(0)),
-        ("ldb [k]", 0x30, 0, 23, Effect::A(0x78)),
-        ("ldb [k]", 0x30, 0, 24, Effect::Ends(0)),
-        ("ld [x + k]", 0x40, 20, 1, Effect::Ends(0)),
-        ("ldh [x + k]", 0x48, 20, 3, Effect::Ends(0)),
-        ("ldb [x + k]", 0x50, 20, 4, Effect::Ends(0)),
-        ("ldxb 4*([k]&0xf)", 0xb1, 0, 23, Effect::X(32)),
-        ("ldxb 4*([k]&0xf)", 0xb1, 0, 24, Effect::Ends(0)),
-        // X + k is 0, 1 and 2 modulo 2^32
-        ("ld [x + k]", 0x40, u32::MAX, 1, Effect::A(0x1021_3243)),
-        (
-            "ldh [x + k]",
-            0x48,
-            0x8000_0000,
-            0x8000_0001,
-            Effect::A(0x2132),
-        ),
-        ("ldb [x + k]", 0x50, 4, 4294967294, Effect::A(0x32)),
-    ] {
+    for (mnemonic, code, x, k, effect) in LAST_LOADS {
         let before = State { x, ..BEFORE };
         let want = outcome(before, effect);
         let found = carried_out(&rt, word(code, 0, 0, k), before)?;

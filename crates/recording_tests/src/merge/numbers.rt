@@ -5,6 +5,7 @@
 pub struct Numbers(u64);
 
 impl Numbers {
+    /// The numbers of this seed.
     pub fn new(seed: u64) -> Numbers {
         Numbers(seed)
     }

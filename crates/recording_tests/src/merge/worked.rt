@@ -18,43 +18,75 @@ fn cuts(
     Ok(())
 }
 
-#[test]
-fn four_frames_merged(rt: HostRuntime) -> Result<(), Fail> {
-    let mut merger = Merger::new(rt.alloc(), 0);
-    assert!(rt; merger.wants() == Some(A));
-    fetch(&rt, &mut merger, A, 0, 1);
-    cuts(&rt, &mut merger, &[])?;
-    assert!(rt; merger.wants() == Some(B));
-    fetch(&rt, &mut merger, B, 0, 5);
-    cuts(&rt, &mut merger, &[(1, A, 0)])?;
-    assert!(rt; merger.wants() == Some(A));
-    fetch(&rt, &mut merger, A, 1, 9);
-    cuts(&rt, &mut merger, &[(5, B, 0)])?;
-    fetch(&rt, &mut merger, B, 1, 9);
-    cuts(&rt, &mut merger, &[(9, A, 1)])?;
-    assert!(rt; merger.wants() == Some(A));
-    merger.end(A);
-    assert!(rt; merger.wants() == Some(B));
-    cuts(&rt, &mut merger, &[(9, B, 1)])?;
-    merger.end(B);
-    assert!(rt; merger.wants() == None);
+/// A step of a merge.
+#[derive(Clone, Copy)]
+enum Step {
+    /// This is the network to fetch from next.
+    Wants(Option<Network>),
+    /// Fetches the frame of this network, number and timestamp.
+    Fetch(Network, u64, u64),
+    /// The network has no more frames.
+    End(Network),
+    /// Cuts a round of these frames: timestamp, network and number.
+    Cuts(&'static [(u64, Network, u64)]),
+}
+
+/// Takes these steps from the beginning.
+fn takes_steps(rt: &(impl Abort + AllocGlobal), late: u64, steps: &[Step]) -> Result<(), Fail> {
+    let mut merger = Merger::new(rt.alloc(), late);
+    for step in steps {
+        match *step {
+            Step::Wants(network) => assert!(rt; merger.wants() == network),
+            Step::Fetch(network, number, stamp) => {
+                assert!(rt; fetch(rt, &mut merger, network, number, stamp));
+            }
+            Step::End(network) => merger.end(network),
+            Step::Cuts(expected) => cuts(rt, &mut merger, expected)?,
+        }
+    }
     Ok(())
 }
 
+/// The steps of four frames, none of them late.
+const FOUR_FRAMES: [Step; 18] = [
+    Step::Wants(Some(A)),
+    Step::Fetch(A, 0, 1),
+    Step::Cuts(&[]),
+    Step::Wants(Some(B)),
+    Step::Fetch(B, 0, 5),
+    Step::Cuts(&[(1, A, 0)]),
+    Step::Wants(Some(A)),
+    Step::Fetch(A, 1, 9),
+    Step::Cuts(&[(5, B, 0)]),
+    Step::Fetch(B, 1, 9),
+    Step::Cuts(&[(9, A, 1)]),
+    Step::Wants(Some(A)),
+    Step::End(A),
+    Step::Wants(Some(B)),
+    Step::Cuts(&[(9, B, 1)]),
+    Step::End(B),
+    Step::Wants(None),
+    Step::Cuts(&[]),
+];
+
+/// The steps of frames of which some come late, by 5 ns at most.
+const LATE_FRAMES: [Step; 10] = [
+    Step::Fetch(A, 0, 10),
+    Step::Fetch(A, 1, 5),
+    Step::Fetch(B, 0, 12),
+    Step::Cuts(&[(5, A, 1)]),
+    Step::End(A),
+    Step::Cuts(&[]),
+    Step::Fetch(B, 1, 7),
+    Step::Cuts(&[(7, B, 1)]),
+    Step::End(B),
+    Step::Cuts(&[(10, A, 0), (12, B, 0)]),
+];
+
 #[test]
-fn late_frames_merged(rt: HostRuntime) -> Result<(), Fail> {
-    let mut merger = Merger::new(rt.alloc(), 5);
-    fetch(&rt, &mut merger, A, 0, 10);
-    fetch(&rt, &mut merger, A, 1, 5);
-    fetch(&rt, &mut merger, B, 0, 12);
-    cuts(&rt, &mut merger, &[(5, A, 1)])?;
-    merger.end(A);
-    cuts(&rt, &mut merger, &[])?;
-    fetch(&rt, &mut merger, B, 1, 7);
-    cuts(&rt, &mut merger, &[(7, B, 1)])?;
-    merger.end(B);
-    cuts(&rt, &mut merger, &[(10, A, 0), (12, B, 0)])?;
-    Ok(())
+fn frames_merged_step_by_step(rt: HostRuntime) -> Result<(), Fail> {
+    takes_steps(&rt, 0, &FOUR_FRAMES)?;
+    takes_steps(&rt, 5, &LATE_FRAMES)
 }
 
 #[test]

@@ -113,19 +113,21 @@ fn packets_held_of_each_prefix(rt: HostRuntime) -> Result<(), Fail> {
     Ok(())
 }
 
+/// How many of the packets after the first come whole of so many bytes.
+const HELD: [(usize, u32); 7] = [
+    (45, 0),
+    (46, 0),
+    (60, 0),
+    (61, 1),
+    (62, 1),
+    (96, 1),
+    (97, 2),
+];
+
 #[test]
 fn all_is_held_that_came_before_a_fault(rt: HostRuntime) -> Result<(), Fail> {
     let alloc = rt.alloc();
-    // How many of the packets after the first come whole of so many bytes.
-    for (most, held) in [
-        (45, 0),
-        (46, 0),
-        (60, 0),
-        (61, 1),
-        (62, 1),
-        (96, 1),
-        (97, 2),
-    ] {
+    for (most, held) in HELD {
         let script = Script { most, ..SOUND };
         let source = MemSource::new(three_packets(alloc, false)?, script);
         let mut reader = TapReader::open(source, Network::A, 1 << 32, 0)?;

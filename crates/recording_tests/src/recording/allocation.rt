@@ -89,6 +89,9 @@ fn shares_a_block(rt: &(impl Abort + AllocGlobal)) -> bool {
     true
 }
 
+/// The packet after the seconds of its timestamp.
+const END_OF_PACKET: [u8; 14] = [2, 1, 0, 0, 2, 0, 0, 0, 2, 0, 0, 0, 9, 9];
+
 /// Appends a packet of two bytes twice. Where there was no memory for one, the bytes are as before.
 fn appends_packets(rt: &(impl Abort + AllocGlobal)) -> bool {
     let alloc = rt.alloc();
@@ -109,7 +112,7 @@ fn appends_packets(rt: &(impl Abort + AllocGlobal)) -> bool {
             assert!(rt; bytes.starts_with(b"before"));
             return false;
         }
-        assert!(rt; bytes.ends_with(&[2, 1, 0, 0, 2, 0, 0, 0, 2, 0, 0, 0, 9, 9]));
+        assert!(rt; bytes.ends_with(&END_OF_PACKET));
     }
     appends_apart(rt, &frame)
 }

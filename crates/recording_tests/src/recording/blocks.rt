@@ -53,35 +53,39 @@ fn a_record_across_the_end_of_the_block(rt: HostRuntime) -> Result<(), Fail> {
     Ok(())
 }
 
+/// Lengths of records, around those of a header, of frames and of the block.
+const LENS: [usize; 18] = [
+    60, 0, 1, 15, 16, 17, 1514, 9000, 60, 40_000, 1514, 0, 0, 60, 65_520, 65_536, 3, 1514,
+];
+
 #[test]
 fn reads_of_each_size(rt: HostRuntime) -> Result<(), Fail> {
     let alloc = rt.alloc();
-    let lens = [
-        60, 0, 1, 15, 16, 17, 1514, 9000, 60, 40_000, 1514, 0, 0, 60, 65_520, 65_536, 3, 1514,
-    ];
-    let bytes = recording(alloc, &lens)?;
+    let bytes = recording(alloc, &LENS)?;
     for piece in [1, 15, 16, 17, 1500, BLOCK, usize::MAX] {
         copies_itself(&rt, &bytes, 18, piece)?;
     }
     Ok(())
 }
 
+/// Lengths of records, of which some are the longest.
+const LONG_LENS: [usize; 10] = [
+    60,
+    LONGEST,
+    0,
+    60,
+    LONGEST,
+    LONGEST,
+    60,
+    100_000,
+    LONGEST - 1,
+    60,
+];
+
 #[test]
 fn the_longest_records_between_short_ones(rt: HostRuntime) -> Result<(), Fail> {
     let alloc = rt.alloc();
-    let lens = [
-        60,
-        LONGEST,
-        0,
-        60,
-        LONGEST,
-        LONGEST,
-        60,
-        100_000,
-        LONGEST - 1,
-        60,
-    ];
-    let bytes = recording(alloc, &lens)?;
+    let bytes = recording(alloc, &LONG_LENS)?;
     for piece in [16, 4096, BLOCK, usize::MAX] {
         copies_itself(&rt, &bytes, 10, piece)?;
     }

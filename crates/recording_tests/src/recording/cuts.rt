@@ -29,17 +29,20 @@ fn agrees(
     Ok(())
 }
 
+/// The sizes of the pieces that are read, and of those that are written.
+const PIECES: [(usize, usize); 6] = [
+    (usize::MAX, usize::MAX),
+    (1, usize::MAX),
+    (usize::MAX, 1),
+    (1, 1),
+    (7, 7),
+    (0, 0),
+];
+
 #[test]
 fn every_prefix(rt: HostRuntime) -> Result<(), Fail> {
     for keep in KEEPS {
-        for pieces in [
-            (usize::MAX, usize::MAX),
-            (1, usize::MAX),
-            (usize::MAX, 1),
-            (1, 1),
-            (7, 7),
-            (0, 0),
-        ] {
+        for pieces in PIECES {
             for len in 0..=176 {
                 for way in WAYS {
                     agrees(&rt, &FIRST_RUN[..len], keep, pieces, way)?;
@@ -80,19 +83,21 @@ fn every_changed_byte(rt: HostRuntime) -> Result<(), Fail> {
     Ok(())
 }
 
+/// Lengths to which the recording is truncated, from the first to below the second, and its ending.
+const RANGES: [(usize, usize, End); 6] = [
+    (0, 24, End::Short),
+    (24, 25, End::Clean(0)),
+    (25, 100, End::Cut(0)),
+    (100, 101, End::Clean(1)),
+    (101, 176, End::Cut(1)),
+    (176, 177, End::Clean(2)),
+];
+
 #[test]
 fn known_cuts(rt: HostRuntime) -> Result<(), Fail> {
     let alloc = rt.alloc();
     let mut bytes = FIRST_RUN;
-    let ranges = [
-        (0, 24, End::Short),
-        (24, 25, End::Clean(0)),
-        (25, 100, End::Cut(0)),
-        (100, 101, End::Clean(1)),
-        (101, 176, End::Cut(1)),
-        (176, 177, End::Clean(2)),
-    ];
-    for (from, to, end) in ranges {
+    for (from, to, end) in RANGES {
         for len in from..to {
             assert!(rt; len <= 176);
             assert!(rt;

@@ -79,6 +79,9 @@ fn frame_of_two(alloc: Global) -> Result<TapFrame, Fail> {
     }
 }
 
+/// The packet of which one byte is kept, after the seconds of its timestamp.
+const END_OF_CUT_PACKET: [u8; 13] = [2, 1, 0, 0, 1, 0, 0, 0, 2, 0, 0, 0, 9];
+
 #[test]
 fn a_packet_is_appended_to_what_stands_there(rt: HostRuntime) -> Result<(), Fail> {
     let alloc = rt.alloc();
@@ -92,7 +95,7 @@ fn a_packet_is_appended_to_what_stands_there(rt: HostRuntime) -> Result<(), Fail
     append_packet(&mut bytes, &frame, captured.min(1))?;
     assert!(rt; bytes.len() == 6 + 18 + 17);
     assert!(rt; bytes.starts_with(b"before"));
-    assert!(rt; bytes.ends_with(&[2, 1, 0, 0, 1, 0, 0, 0, 2, 0, 0, 0, 9]));
+    assert!(rt; bytes.ends_with(&END_OF_CUT_PACKET));
     Ok(())
 }
 

@@ -119,18 +119,21 @@ fn endings(rt: HostRuntime) -> Result<(), Fail> {
     Ok(())
 }
 
+/// How long the file header is, which of its bytes is another, and the fault.
+const HEADER_FAULTS: [(usize, usize, u8, HeaderFault); 6] = [
+    (23, 0, 0x4d, HeaderFault::Short),
+    (24, 0, 0x4e, HeaderFault::Magic),
+    (24, 4, 3, HeaderFault::Version),
+    (24, 6, 3, HeaderFault::Version),
+    (24, 20, 2, HeaderFault::LinkType),
+    (24, 23, 1, HeaderFault::LinkType),
+];
+
 #[test]
 fn header_faults(rt: HostRuntime) -> Result<(), Fail> {
     let alloc = rt.alloc();
-    let cases = [
-        (23, 0, 0x4d, HeaderFault::Short),
-        (24, 0, 0x4e, HeaderFault::Magic),
-        (24, 4, 3, HeaderFault::Version),
-        (24, 6, 3, HeaderFault::Version),
-        (24, 20, 2, HeaderFault::LinkType),
-        (24, 23, 1, HeaderFault::LinkType),
-    ];
-    for (len, at, byte, fault) in cases {
+    for (len, at, byte, fault) in HEADER_FAULTS {
+        assert!(rt; len <= 24 && at < 24);
         let mut header = HEADER;
         header[at] = byte;
         let source = MemSource::new(Vec::from_slice(alloc, &header[..len])?, SOUND);
@@ -148,6 +151,9 @@ const MICROSECONDS: [u8; 40] = [
     0, 0, 0, 5, 0, 0, 0, 0x3c, 0, 0, 0, 0x3c,
 ];
 
+/// The header of the record in nanoseconds, of which 40 bytes are kept.
+const NANOSECONDS: [u8; 16] = [1, 0, 0, 0, 0x88, 0x13, 0, 0, 40, 0, 0, 0, 60, 0, 0, 0];
+
 #[test]
 fn microseconds_are_read_and_written_as_nanoseconds(rt: HostRuntime) -> Result<(), Fail> {
     let alloc = rt.alloc();
@@ -161,7 +167,7 @@ fn microseconds_are_read_and_written_as_nanoseconds(rt: HostRuntime) -> Result<(
         writer.put(&frame, 40)?;
     }
     let mut text = Vec::from_slice(alloc, &HEADER)?;
-    text.extend_from_slice(&[1, 0, 0, 0, 0x88, 0x13, 0, 0, 40, 0, 0, 0, 60, 0, 0, 0])?;
+    text.extend_from_slice(&NANOSECONDS)?;
     text.extend_from_slice(&[7; 40])?;
     assert!(rt; writer.finish().taken() == text.as_slice());
     Ok(())

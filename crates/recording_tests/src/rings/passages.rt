@@ -58,21 +58,27 @@ fn passes_in_blocks<R: Threads + Wait + Sync + Abort + AllocGlobal>(
     Ok(())
 }
 
+/// How many frames a batch has room for, and a ring.
+const BATCH: u32 = BATCH_LEN as u32;
+
+const RING: u32 = RING_LEN as u32 * BATCH;
+
+/// Numbers of frames around those of a batch and of a ring.
+const COUNTS: [u32; 9] = [
+    0,
+    1,
+    BATCH - 1,
+    BATCH,
+    BATCH + 1,
+    RING - 1,
+    RING,
+    RING + 1,
+    2 * RING + 1,
+];
+
 #[test]
 fn clean_recordings(rt: HostRuntime) -> Result<(), Fail> {
-    let batch = BATCH_LEN as u32;
-    let ring = RING_LEN as u32 * batch;
-    for count in [
-        0,
-        1,
-        batch - 1,
-        batch,
-        batch + 1,
-        ring - 1,
-        ring,
-        ring + 1,
-        2 * ring + 1,
-    ] {
+    for count in COUNTS {
         let stamps: Vec<u32> = (0..count).collect(rt.alloc())?;
         let bytes = recording(rt.alloc(), &stamps, 60)?;
         passes(&rt, &bytes, 0, Ending::Clean(u64::from(count)))?;
@@ -82,8 +88,7 @@ fn clean_recordings(rt: HostRuntime) -> Result<(), Fail> {
 
 #[test]
 fn an_ending_at_the_end_of_a_batch(rt: HostRuntime) -> Result<(), Fail> {
-    let batch = BATCH_LEN as u32;
-    for count in [batch - 2, batch - 1, batch, batch + 1] {
+    for count in [BATCH - 2, BATCH - 1, BATCH, BATCH + 1] {
         let mut stamps: Vec<u32> = (1..=count).collect(rt.alloc())?;
         // A packet that was read ahead with the frames before it ends the recording.
         stamps.push(0)?;

@@ -473,19 +473,22 @@ fn fails_on_both<R: Threads + Wait + Sync + Abort + AllocGlobal>(
     has_safe(rt, &ran, Some(safe))
 }
 
+/// How many bytes come of each recording before it fails: after the headers, within frames and after
+/// them, and at the ends. The fault, and the frames that are safe.
+const STOPS: [((usize, usize), WatchFault, Safe); 8] = [
+    ((24, 24), READ_A, NONE_SAFE),
+    ((24, 70), READ_A, NONE_SAFE),
+    ((70, 24), READ_A, NONE_SAFE),
+    ((100, 99), READ_B, NONE_SAFE),
+    ((150, 60), READ_B, NONE_SAFE),
+    ((150, 100), READ_A, FIRST_SAFE),
+    ((176, 24), READ_B, NONE_SAFE),
+    ((176, 100), READ_A, A_SAFE),
+];
+
 #[test]
 fn both_sources_stop(rt: HostRuntime) -> Result<(), Fail> {
-    // after the headers, within frames and after them, and at the ends
-    for (given, fault, safe) in [
-        ((24, 24), READ_A, NONE_SAFE),
-        ((24, 70), READ_A, NONE_SAFE),
-        ((70, 24), READ_A, NONE_SAFE),
-        ((100, 99), READ_B, NONE_SAFE),
-        ((150, 60), READ_B, NONE_SAFE),
-        ((150, 100), READ_A, FIRST_SAFE),
-        ((176, 24), READ_B, NONE_SAFE),
-        ((176, 100), READ_A, A_SAFE),
-    ] {
+    for (given, fault, safe) in STOPS {
         fails_on_both(&rt, given, fault, safe)?;
     }
     Ok(())

@@ -113,6 +113,9 @@ fn drawn(generator: &mut Generator, time: u32, before: u8) -> Recorded {
     }
 }
 
+/// The header of a record that claims a byte more than the longest has.
+const TOO_LONG: [u8; 16] = [0, 0, 0, 0, 0, 0, 0, 0, 1, 0, 4, 0, 1, 0, 4, 0];
+
 /// Appends what may stand after the last frame, which came at this time.
 fn push_ending(
     bytes: &mut Vec<u8>,
@@ -134,7 +137,7 @@ fn push_ending(
             }
             Ok(())
         }
-        1 => bytes.extend_from_slice(&[0, 0, 0, 0, 0, 0, 0, 0, 1, 0, 4, 0, 1, 0, 4, 0]),
+        1 => bytes.extend_from_slice(&TOO_LONG),
         2 => push_recorded(bytes, next(1_000_000_000)),
         3 => push_recorded(bytes, next(time.saturating_sub(2001))),
         _ => Ok(()),

@@ -148,20 +148,23 @@ fn fails_early<R: Threads + Wait + Sync + Abort + AllocGlobal>(
     Ok(())
 }
 
+/// How many bytes come of the short recording before it fails, and how many frames are safe where it is
+/// that of A and where it is that of B: its own, and of the others those before its last one. One of A with
+/// the timestamp of that is safe too.
+const EARLY: [(usize, (usize, usize)); 6] = [
+    (24, (0, 0)),
+    (25, (0, 0)),
+    (100, (11, 12)),
+    (140, (11, 12)),
+    (176, (2502, 2503)),
+    (252, (2503, 2504)),
+];
+
 #[test]
 fn a_source_that_fails_early(rt: HostRuntime) -> Result<(), Fail> {
     let many = tap_of(rt.alloc(), 0, 5000)?;
     let short = recording(rt.alloc(), &[(10, 1), (2500, 2), (2500, 3)])?;
-    // Its own frames are safe, and of the others those before its last one. One of A with the stamp of that
-    // is safe too.
-    for (most, safe) in [
-        (24, (0, 0)),
-        (25, (0, 0)),
-        (100, (11, 12)),
-        (140, (11, 12)),
-        (176, (2502, 2503)),
-        (252, (2503, 2504)),
-    ] {
+    for (most, safe) in EARLY {
         fails_early(&rt, &many, &short, most, safe)?;
     }
     Ok(())

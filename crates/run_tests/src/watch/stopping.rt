@@ -55,17 +55,20 @@ fn reads_no_further<R: Threads + Wait + Sync + Abort + AllocGlobal>(
     Ok(())
 }
 
+/// The workers, and how many bytes are written before an output fails.
+const EARLY: [(u32, usize); 6] = [
+    (1, 24),
+    (2, 25),
+    (2, 30_000),
+    (3, 1000),
+    (8, 24),
+    (8, 30_000),
+];
+
 #[test]
 fn an_output_that_fails_early(rt: HostRuntime) -> Result<(), Fail> {
     let tap = tap_of(rt.alloc(), 0, FRAMES)?;
-    for (workers, most) in [
-        (1, 24),
-        (2, 25),
-        (2, 30_000),
-        (3, 1000),
-        (8, 24),
-        (8, 30_000),
-    ] {
+    for (workers, most) in EARLY {
         let fails = Script { most, ..SOUND };
         let of_capture = Scripts {
             capture: fails,

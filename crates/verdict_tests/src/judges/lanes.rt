@@ -83,21 +83,23 @@ fn within_excess_then_skip(rt: HostRuntime) -> Result<(), Fail> {
     Ok(())
 }
 
+/// First byte, link, length on the wire, captured bytes, and the class.
+const CLASSES: [(u8, u16, u32, usize, Class); 7] = [
+    (3, 5, 60, 59, Class::Cut),
+    (3, 5, 59, 59, Class::Runt),
+    (3, 5, 1515, 1515, Class::Oversize),
+    (7, 5, 60, 60, Class::Foreign),
+    (3, 6, 60, 60, Class::Unconfigured),
+    (3, 5, 197, 197, Class::TooLong),
+    (3, 5, 196, 196, Class::Regular),
+];
+
 #[test]
 fn one_frame_of_each_class(rt: HostRuntime) -> Result<(), Fail> {
     let config = Config::read(rt.alloc(), TABLE)?;
     let mut lanes = Lanes::new(rt.alloc(), &config)?;
     let mut place = 0u64;
-    // first byte, link, length on the wire, captured bytes
-    for (first, link, whole, captured, class) in [
-        (3, 5, 60, 59, Class::Cut),
-        (3, 5, 59, 59, Class::Runt),
-        (3, 5, 1515, 1515, Class::Oversize),
-        (7, 5, 60, 60, Class::Foreign),
-        (3, 6, 60, 60, Class::Unconfigured),
-        (3, 5, 197, 197, Class::TooLong),
-        (3, 5, 196, 196, Class::Regular),
-    ] {
+    for (first, link, whole, captured, class) in CLASSES {
         let bytes = bytes_of(rt.alloc(), first, link, captured, 1)?;
         let frame = frame_at(Network::A, place, place, whole, bytes)?;
         assert!(rt; config.class(&frame) == class);

@@ -26,19 +26,22 @@ fn an_account_to_its_last_byte(rt: HostRuntime) -> Result<(), Fail> {
     Ok(())
 }
 
+/// Sequence numbers in turn, and the verdict on each.
+const NUMBERS: [(u8, Integrity); 8] = [
+    (254, Integrity::First),
+    (255, Integrity::Next),
+    (2, Integrity::Skip),
+    (5, Integrity::Out),
+    (6, Integrity::Next),
+    (0, Integrity::Reset),
+    (2, Integrity::Skip),
+    (2, Integrity::Out),
+];
+
 #[test]
 fn numbers_around_the_wrap(rt: HostRuntime) {
     let mut check = Check::new();
-    for (number, verdict) in [
-        (254, Integrity::First),
-        (255, Integrity::Next),
-        (2, Integrity::Skip),
-        (5, Integrity::Out),
-        (6, Integrity::Next),
-        (0, Integrity::Reset),
-        (2, Integrity::Skip),
-        (2, Integrity::Out),
-    ] {
+    for (number, verdict) in NUMBERS {
         let found = check.judge(true, number);
         assert!(rt; found == verdict, "number {number}");
         assert!(rt; found.is_valid() == (verdict != Integrity::Out));

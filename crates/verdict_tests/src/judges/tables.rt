@@ -123,20 +123,23 @@ fn one_fault_of_a_table_each(rt: HostRuntime) -> Result<(), Fail> {
     Ok(())
 }
 
+/// The keys that a table must have, and which link lacks them.
+const REQUIRED: [(&str, Option<u32>); 9] = [
+    ("constant", None),
+    ("id", Some(0)),
+    ("name", Some(0)),
+    ("bag_ms", Some(0)),
+    ("jitter_us", Some(0)),
+    ("smax", Some(0)),
+    ("integrity", Some(0)),
+    ("redundancy", Some(0)),
+    ("skew_us", Some(0)),
+];
+
 #[test]
 fn each_required_key_missing(rt: HostRuntime) -> Result<(), Fail> {
     let alloc = rt.alloc();
-    for (key, link) in [
-        ("constant", None),
-        ("id", Some(0)),
-        ("name", Some(0)),
-        ("bag_ms", Some(0)),
-        ("jitter_us", Some(0)),
-        ("smax", Some(0)),
-        ("integrity", Some(0)),
-        ("redundancy", Some(0)),
-        ("skew_us", Some(0)),
-    ] {
+    for (key, link) in REQUIRED {
         let text = table_with(alloc, key, "")?;
         let fault = ConfigFault::Missing { link };
         assert!(rt;
@@ -146,6 +149,15 @@ fn each_required_key_missing(rt: HostRuntime) -> Result<(), Fail> {
     }
     Ok(())
 }
+
+/// The lines of the second link between its name and its last line.
+const SECOND_LINK: [&str; 5] = [
+    "bag_ms = 128",
+    "jitter_us = 100000",
+    "smax = 1518",
+    "integrity = false",
+    "redundancy = false",
+];
 
 /// Two links: the worked one, and one with this identifier and name, and with a last line.
 fn two_links(
@@ -159,16 +171,10 @@ fn two_links(
     push_line(&mut text, "[[link]]")?;
     push_line(&mut text, id)?;
     push_line(&mut text, name)?;
-    for line in [
-        "bag_ms = 128",
-        "jitter_us = 100000",
-        "smax = 1518",
-        "integrity = false",
-        "redundancy = false",
-        last,
-    ] {
+    for line in SECOND_LINK {
         push_line(&mut text, line)?;
     }
+    push_line(&mut text, last)?;
     Ok(text)
 }
 

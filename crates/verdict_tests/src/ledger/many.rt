@@ -91,6 +91,7 @@ pub fn add_round(
     Ok(ledger.round(&round.frames, &round.verdicts, &round.keeps, &round.masks)?)
 }
 
+/// A ledger in memory, of one filter, in which no frame stands yet.
 pub fn begun(alloc: Global, config: &Config) -> Result<Ledger<WriteSink<Vec<u8>>>, Fail> {
     match Ledger::begin(alloc, config, 1, WriteSink::new(Vec::new(alloc))) {
         Ok(ledger) => Ok(ledger),
@@ -98,6 +99,7 @@ pub fn begun(alloc: Global, config: &Config) -> Result<Ledger<WriteSink<Vec<u8>>
     }
 }
 
+/// The bytes of a ledger that ends after two clean recordings of 50000 frames.
 pub fn finished(ledger: Ledger<WriteSink<Vec<u8>>>) -> Result<Vec<u8>, Fail> {
     match ledger.finish(Ending::Clean(50_000), Ending::Clean(50_000)) {
         Ok((sink, _)) => Ok(sink.into_writer()),

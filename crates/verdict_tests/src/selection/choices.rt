@@ -9,9 +9,12 @@ use std::process::Abort;
 use std::test::Fail;
 use vl_config::Class;
 
-/// A copy on link 301, three hours into the second day, that filters 0 and 2 accept.
+/// Three hours into the second day.
+const NOW: u64 = 97_200_000_000_000;
+
+/// A copy on link 301 at that moment, that filters 0 and 2 accept.
 const COPY: FrameLine = FrameLine {
-    stamp: Stamp(97_200_000_000_000),
+    stamp: Stamp(NOW),
     network: Network::B,
     number: 7,
     link: Some(VlId(301)),
@@ -26,7 +29,7 @@ const COPY: FrameLine = FrameLine {
 
 /// A runt has no link, and no other word.
 const RUNT: FrameLine = FrameLine {
-    stamp: Stamp(97_200_000_000_000),
+    stamp: Stamp(NOW),
     network: Network::A,
     number: 8,
     link: None,
@@ -66,17 +69,20 @@ fn no_part_is_given(rt: HostRuntime) {
     is_taken(&rt, &everything(), true, true);
 }
 
+/// Ranges of links, and whether the copy, of link 301, is taken.
+const RANGES: [(u16, u16, bool); 7] = [
+    (301, 301, true),
+    (300, 302, true),
+    (0, 300, false),
+    (0, 301, true),
+    (302, 65535, false),
+    (301, 65535, true),
+    (302, 300, false),
+];
+
 #[test]
 fn links(rt: HostRuntime) -> Result<(), Fail> {
-    for (first, last, taken) in [
-        (301, 301, true),
-        (300, 302, true),
-        (0, 300, false),
-        (0, 301, true),
-        (302, 65535, false),
-        (301, 65535, true),
-        (302, 300, false),
-    ] {
+    for (first, last, taken) in RANGES {
         let mut set = LinkSet::new(rt.alloc())?;
         set.insert_range(VlId(first), VlId(last));
         let selection = Selection {
@@ -116,20 +122,23 @@ fn networks(rt: HostRuntime) {
     );
 }
 
+/// Words, and whether the copy and the runt are taken.
+const WORDS: [(&str, bool, bool); 10] = [
+    ("copy", true, false),
+    ("next", true, false),
+    ("within", true, false),
+    ("regular", true, false),
+    ("runt", false, true),
+    ("deliver,out", false, false),
+    ("deliver,next", true, false),
+    ("cut,runt,copy", true, true),
+    ("discarded", true, true),
+    ("delivered", false, false),
+];
+
 #[test]
 fn words(rt: HostRuntime) -> Result<(), Fail> {
-    for (text, copy, runt) in [
-        ("copy", true, false),
-        ("next", true, false),
-        ("within", true, false),
-        ("regular", true, false),
-        ("runt", false, true),
-        ("deliver,out", false, false),
-        ("deliver,next", true, false),
-        ("cut,runt,copy", true, true),
-        ("discarded", true, true),
-        ("delivered", false, false),
-    ] {
+    for (text, copy, runt) in WORDS {
         let named = read_words(rt.alloc(), text)?;
         is_taken(
             &rt,
@@ -153,18 +162,30 @@ fn words(rt: HostRuntime) -> Result<(), Fail> {
     Ok(())
 }
 
+/// Moments from which frames are taken, and whether both frames are.
+const FROM: [(Moment, bool); 7] = [
+    (Moment::At(Stamp(NOW)), true),
+    (Moment::At(Stamp(NOW - 1)), true),
+    (Moment::At(Stamp(NOW + 1)), false),
+    (Moment::OfDay(3 * HOUR), true),
+    (Moment::OfDay(3 * HOUR + 1), false),
+    (Moment::OfDay(0), true),
+    (Moment::OfDay(u64::MAX), false),
+];
+
+/// Moments to which frames are taken, and whether both frames are.
+const TO: [(Moment, bool); 6] = [
+    (Moment::At(Stamp(NOW)), true),
+    (Moment::At(Stamp(NOW - 1)), false),
+    (Moment::At(Stamp(NOW + 1)), true),
+    (Moment::OfDay(3 * HOUR), true),
+    (Moment::OfDay(3 * HOUR - 1), false),
+    (Moment::OfDay(u64::MAX), true),
+];
+
 #[test]
 fn moments(rt: HostRuntime) {
-    let now = COPY.stamp.0;
-    for (from, taken) in [
-        (Moment::At(Stamp(now)), true),
-        (Moment::At(Stamp(now - 1)), true),
-        (Moment::At(Stamp(now + 1)), false),
-        (Moment::OfDay(3 * HOUR), true),
-        (Moment::OfDay(3 * HOUR + 1), false),
-        (Moment::OfDay(0), true),
-        (Moment::OfDay(u64::MAX), false),
-    ] {
+    for (from, taken) in FROM {
         is_taken(
             &rt,
             &Selection {
@@ -175,14 +196,7 @@ fn moments(rt: HostRuntime) {
             taken,
         );
     }
-    for (to, taken) in [
-        (Moment::At(Stamp(now)), true),
-        (Moment::At(Stamp(now - 1)), false),
-        (Moment::At(Stamp(now + 1)), true),
-        (Moment::OfDay(3 * HOUR), true),
-        (Moment::OfDay(3 * HOUR - 1), false),
-        (Moment::OfDay(u64::MAX), true),
-    ] {
+    for (to, taken) in TO {
         is_taken(
             &rt,
             &Selection {
@@ -195,17 +209,20 @@ fn moments(rt: HostRuntime) {
     }
 }
 
+/// Masks of filters, and whether the copy is taken.
+const MASKS: [(u8, bool); 7] = [
+    (1, true),
+    (2, false),
+    (4, true),
+    (5, true),
+    (7, true),
+    (250, false),
+    (255, true),
+];
+
 #[test]
 fn filters(rt: HostRuntime) {
-    for (mask, taken) in [
-        (1, true),
-        (2, false),
-        (4, true),
-        (5, true),
-        (7, true),
-        (250, false),
-        (255, true),
-    ] {
+    for (mask, taken) in MASKS {
         is_taken(
             &rt,
             &Selection {
@@ -218,74 +235,87 @@ fn filters(rt: HostRuntime) {
     }
 }
 
+/// Each word, and what it names.
+const NAMED: [(&str, Word); 18] = [
+    ("cut", Word::Class(Class::Cut)),
+    ("runt", Word::Class(Class::Runt)),
+    ("oversize", Word::Class(Class::Oversize)),
+    ("foreign", Word::Class(Class::Foreign)),
+    ("unconfigured", Word::Class(Class::Unconfigured)),
+    ("toolong", Word::Class(Class::TooLong)),
+    ("regular", Word::Class(Class::Regular)),
+    ("within", Word::Policing(Policing::Within)),
+    ("excess", Word::Policing(Policing::Excess)),
+    ("first", Word::Integrity(Integrity::First)),
+    ("reset", Word::Integrity(Integrity::Reset)),
+    ("next", Word::Integrity(Integrity::Next)),
+    ("skip", Word::Integrity(Integrity::Skip)),
+    ("off", Word::Integrity(Integrity::Off)),
+    ("out", Word::Integrity(Integrity::Out)),
+    ("deliver", Word::Redundancy(Redundancy::Deliver)),
+    ("copy", Word::Redundancy(Redundancy::Copy)),
+    ("both", Word::Redundancy(Redundancy::Both)),
+];
+
 #[test]
 fn words_from_text(rt: HostRuntime) -> Result<(), Fail> {
-    for (text, word) in [
-        ("cut", Word::Class(Class::Cut)),
-        ("runt", Word::Class(Class::Runt)),
-        ("oversize", Word::Class(Class::Oversize)),
-        ("foreign", Word::Class(Class::Foreign)),
-        ("unconfigured", Word::Class(Class::Unconfigured)),
-        ("toolong", Word::Class(Class::TooLong)),
-        ("regular", Word::Class(Class::Regular)),
-        ("within", Word::Policing(Policing::Within)),
-        ("excess", Word::Policing(Policing::Excess)),
-        ("first", Word::Integrity(Integrity::First)),
-        ("reset", Word::Integrity(Integrity::Reset)),
-        ("next", Word::Integrity(Integrity::Next)),
-        ("skip", Word::Integrity(Integrity::Skip)),
-        ("off", Word::Integrity(Integrity::Off)),
-        ("out", Word::Integrity(Integrity::Out)),
-        ("deliver", Word::Redundancy(Redundancy::Deliver)),
-        ("copy", Word::Redundancy(Redundancy::Copy)),
-        ("both", Word::Redundancy(Redundancy::Both)),
-    ] {
+    for (text, word) in NAMED {
         let named = read_words(rt.alloc(), text)?;
         assert!(rt; named.as_slice() == [word].as_slice(), "{text}");
     }
     Ok(())
 }
 
+/// What `discarded` stands for.
+const DISCARDED: [Word; 9] = [
+    Word::Class(Class::Cut),
+    Word::Class(Class::Runt),
+    Word::Class(Class::Oversize),
+    Word::Class(Class::Foreign),
+    Word::Class(Class::Unconfigured),
+    Word::Class(Class::TooLong),
+    Word::Policing(Policing::Excess),
+    Word::Integrity(Integrity::Out),
+    Word::Redundancy(Redundancy::Copy),
+];
+
 #[test]
 fn groups_of_words(rt: HostRuntime) -> Result<(), Fail> {
-    let discarded = [
-        Word::Class(Class::Cut),
-        Word::Class(Class::Runt),
-        Word::Class(Class::Oversize),
-        Word::Class(Class::Foreign),
-        Word::Class(Class::Unconfigured),
-        Word::Class(Class::TooLong),
-        Word::Policing(Policing::Excess),
-        Word::Integrity(Integrity::Out),
-        Word::Redundancy(Redundancy::Copy),
-    ];
     let delivered = [
         Word::Redundancy(Redundancy::Deliver),
         Word::Redundancy(Redundancy::Both),
     ];
-    assert!(rt; read_words(rt.alloc(), "discarded")?.as_slice() == discarded.as_slice());
+    assert!(rt; read_words(rt.alloc(), "discarded")?.as_slice() == DISCARDED.as_slice());
     assert!(rt; read_words(rt.alloc(), "delivered")?.as_slice() == delivered.as_slice());
     Ok(())
 }
 
+/// Words that aren't read, and the place of the first wrong one.
+const WRONG_WORDS: [(&str, usize); 8] = [
+    ("", 0),
+    ("-", 0),
+    ("Cut", 0),
+    ("cut ", 0),
+    (",cut", 0),
+    ("cut,", 1),
+    ("cut,,runt", 1),
+    ("cut,runt,nothing,off,?", 2),
+];
+
 #[test]
 fn wrong_words(rt: HostRuntime) {
-    for (text, index) in [
-        ("", 0),
-        ("-", 0),
-        ("Cut", 0),
-        ("cut ", 0),
-        (",cut", 0),
-        ("cut,", 1),
-        ("cut,,runt", 1),
-        ("cut,runt,nothing,off,?", 2),
-    ] {
+    for (text, index) in WRONG_WORDS {
         match read_words(rt.alloc(), text) {
             Ok(_) => assert!(rt; false, "{text}"),
             Err(fault) => assert!(rt; fault == WordFault::Item(index), "{text}"),
         }
     }
 }
+
+/// Texts that are no mask.
+const WRONG_MASKS: [&str; 15] = [
+    "", "0", "00", "g", "1g", "+1", " 1", "001", "100", "/", ":", "@", "G", "`", "0x1",
+];
 
 #[test]
 fn masks(rt: HostRuntime) {
@@ -296,9 +326,7 @@ fn masks(rt: HostRuntime) {
     assert!(rt; read_mask("F") == Some(15));
     assert!(rt; read_mask("fF") == Some(255));
     assert!(rt; read_mask("80") == Some(128));
-    for text in [
-        "", "0", "00", "g", "1g", "+1", " 1", "001", "100", "/", ":", "@", "G", "`", "0x1",
-    ] {
+    for text in WRONG_MASKS {
         assert!(rt; read_mask(text) == None, "{text}");
     }
 }

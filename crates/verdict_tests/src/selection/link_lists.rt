@@ -138,25 +138,28 @@ fn names(rt: HostRuntime) -> Result<(), Fail> {
     )
 }
 
+/// Lists that aren't read, and the place and the fault of the first wrong item.
+const WRONG_ITEMS: [(&str, usize, ItemFault); 15] = [
+    ("", 0, ItemFault::Empty),
+    ("1,,2", 1, ItemFault::Empty),
+    ("1,2,", 2, ItemFault::Empty),
+    ("65536", 0, ItemFault::Number),
+    ("0-65536", 0, ItemFault::Number),
+    ("5-", 0, ItemFault::Number),
+    ("5-6-7", 0, ItemFault::Number),
+    ("5-+6", 0, ItemFault::Number),
+    ("4,5x", 1, ItemFault::Number),
+    ("5-3", 0, ItemFault::Order),
+    ("1-2,65535-0", 1, ItemFault::Order),
+    ("5-3,65536", 0, ItemFault::Order),
+    ("7,+5", 1, ItemFault::NeedsTable),
+    ("-5", 0, ItemFault::NeedsTable),
+    ("Slat", 0, ItemFault::NeedsTable),
+];
+
 #[test]
 fn wrong_items(rt: HostRuntime) -> Result<(), Fail> {
-    for (text, index, fault) in [
-        ("", 0, ItemFault::Empty),
-        ("1,,2", 1, ItemFault::Empty),
-        ("1,2,", 2, ItemFault::Empty),
-        ("65536", 0, ItemFault::Number),
-        ("0-65536", 0, ItemFault::Number),
-        ("5-", 0, ItemFault::Number),
-        ("5-6-7", 0, ItemFault::Number),
-        ("5-+6", 0, ItemFault::Number),
-        ("4,5x", 1, ItemFault::Number),
-        ("5-3", 0, ItemFault::Order),
-        ("1-2,65535-0", 1, ItemFault::Order),
-        ("5-3,65536", 0, ItemFault::Order),
-        ("7,+5", 1, ItemFault::NeedsTable),
-        ("-5", 0, ItemFault::NeedsTable),
-        ("Slat", 0, ItemFault::NeedsTable),
-    ] {
+    for (text, index, fault) in WRONG_ITEMS {
         is_refused(&rt, None, text, index, fault);
     }
     let table = Config::read(rt.alloc(), TABLE)?;
