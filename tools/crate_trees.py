@@ -32,13 +32,13 @@ class Crates:
                 left += self.uses[it]
         return found
 
-    def files(self, name):
+    def files(self, name, parts=PARTS):
         """What a crate is made of."""
-        return sorted(it for part in PARTS for it in (TOP / "crates" / name / part).rglob("*") if it.is_file())
+        return sorted(it for part in parts for it in (TOP / "crates" / name / part).rglob("*") if it.is_file())
 
-    def size(self, name):
+    def size(self, name, parts=PARTS):
         """How many lines a crate has."""
-        return sum(file.read_bytes().count(b"\n") for file in self.files(name))
+        return sum(file.read_bytes().count(b"\n") for file in self.files(name, parts))
 
 
 def plant(crates, name, trees):
