@@ -5,6 +5,7 @@ The program is the first argument, bin/afdxmon by default.
 import os
 import pty
 import random
+import shutil
 import struct
 import subprocess
 import sys
@@ -86,8 +87,8 @@ def ended(command, **how):
         return subprocess.CompletedProcess(command, status, late.stdout or b"", late.stderr or b"")
 
 
-def run(arguments, **how):
-    return ended([PROGRAM, *arguments], stderr=subprocess.PIPE, **how)
+def run(arguments, program=PROGRAM, **how):
+    return ended([program, *arguments], stderr=subprocess.PIPE, **how)
 
 
 def shown(told):
@@ -114,11 +115,19 @@ def told_to(terminal):
         told += piece
 
 
-def run_at_terminal(arguments, **how):
+def readable_program(folder):
+    """A copy of the program in this folder, which another user may look into: that user may not look into the folder that it stands in."""
+    program = shutil.copy(PROGRAM, os.path.join(folder, "program"))
+    os.chmod(folder, 0o755)
+    os.chmod(program, 0o755)
+    return program
+
+
+def run_at_terminal(arguments, program=PROGRAM, **how):
     """Runs with standard error at a terminal. Standard error is a text."""
     ours, theirs = pty.openpty()
     try:
-        ran = ended([PROGRAM, *arguments], stdout=subprocess.PIPE, stderr=theirs, **how)
+        ran = ended([program, *arguments], stdout=subprocess.PIPE, stderr=theirs, **how)
     finally:
         os.close(theirs)
     ran.stderr = told_to(ours)

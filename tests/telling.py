@@ -6,7 +6,7 @@ import subprocess
 
 from analyser import watch
 from blocks import CUSTOM, MOST_INTERFACES, Blocks
-from harness import EVERY, FAULT, PROGRAM, SUCCESS, difference, frame, header, record, run, run_at_terminal, say
+from harness import EVERY, FAULT, PROGRAM, SUCCESS, difference, frame, header, readable_program, record, run, run_at_terminal, say
 from stamps import version_of_the_program
 from texts import ABOUT, ADVICE, ALLOWED, CHECK_SEQUENCES, COUNTS, EXPRESSION, GZIP, LINK_KEYS, NO_DOCUMENT, NOT_NUMERIC
 from texts import PROGRAM_HELP, SOURCE, TOP_KEYS, ZSTD, advice_on, advice_on_ending, help_of
@@ -261,11 +261,11 @@ def refused_to(desk):
     if os.getuid() != 0:
         return
     desk.lay(config=TABLE, filter=EVERY, a=header(), b=header())
-    os.chmod(desk.directory, 0o755)
+    how = {"program": readable_program(desk.directory), "stdin": subprocess.DEVNULL, "user": 65534}
     for option in ("config", "a", "capture"):
         os.chmod(desk.paths[option], 0o600)
         lead = desk.paths[option] + ": Permission denied (os error 13)\n"
-        twice("a file of another user", f"file --{option}", lead, desk.arguments(), stdin=subprocess.DEVNULL, user=65534)
+        twice("a file of another user", f"file --{option}", lead, desk.arguments(), **how)
         os.chmod(desk.paths[option], 0o666)
     os.chmod(desk.directory, 0o700)
 

@@ -3,7 +3,6 @@ import os
 import pty
 import resource
 import select
-import shutil
 import subprocess
 import sys
 import time
@@ -11,7 +10,7 @@ import tty
 
 import long
 from analyser import watch
-from harness import EVERY, FAULT, ODD, PROGRAM, SUCCESS, TOP, ended, header, say, skip
+from harness import EVERY, FAULT, ODD, PROGRAM, SUCCESS, TOP, ended, header, readable_program, say, skip
 from watching import TABLE, read
 
 # The frames of a round at most.
@@ -118,10 +117,7 @@ def few_threads(desk):
     """Where the system lets no thread be started, or a few, the run is the same: the calling thread reads the taps that have none, and does
     what no worker does."""
     steady, short = header() + long.packets(0, 3000), header() + long.packets(0, 300)
-    # That user may not look into the folder that the program stands in.
-    program = shutil.copy(PROGRAM, os.path.join(desk.directory, "program"))
-    os.chmod(desk.directory, 0o755)
-    os.chmod(program, 0o755)
+    program = readable_program(desk.directory)
     if os.getuid() or with_threads([program, "--version"], 4) is None:
         skip("watch: no thread to be had", "the program can't be run as a user who may have no threads")
         return
