@@ -195,7 +195,8 @@ def state_of(child, task):
     try:
         with open(f"/proc/{child.pid}/task/{task}/stat", encoding="ascii") as stat:
             return stat.read().rsplit(")", 1)[1].split()[0]
-    except FileNotFoundError:
+    # It may end before its file is opened, and before that is read.
+    except (FileNotFoundError, ProcessLookupError):
         return "-"
 
 
