@@ -23,11 +23,11 @@ pub struct Decision {
 
 /// The return value of a filter for a frame: the number of bytes to keep, 0 to reject it. `whole` is
 /// the frame's length on the wire in bytes.
-// It is never inlined, so that the loop over the filter's instructions has the registers to itself.
 #[inline(never)]
 pub fn answer_for(program: &Program, view: &FrameView<'_>, whole: u32) -> u32
     ensures { result ≡ answer_of program.now (view_bytes view.now) whole }
 {
+    // This is never inlined, so that the loop over the filter's instructions has the registers to itself.
     let (answer, _steps) = run(program, view, whole);
     answer
 }
