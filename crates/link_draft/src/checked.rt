@@ -135,7 +135,8 @@ fn is_bag_of(link: &Link, specified_ms: Option<u64>) -> bool
     ensures { result ≡ true → (ms : ℕ) → specified_ms ≡ Some ms → link.now.bag ≡ ms * 1000000 }
 {
     match specified_ms {
-        Some(ms) => link.bag / 1_000_000 == ms && link.bag % 1_000_000 == 0,
+        // A link's BAG is whole milliseconds.
+        Some(ms) => link.bag / 1_000_000 == ms,
         None => true,
     }
 }
