@@ -21,7 +21,7 @@
 #   make wireshark-test   the plugin for Wireshark, in tshark (needs tshark, editcap and mergecap)
 #   make fleet-test   many flights, by GNU parallel and by Slurm, and their ledgers in SQLite and PostgreSQL (needs parallel,
 #                     slurmctld, slurmd, munged, sqlite3 and a PostgreSQL server: a part without its tools is skipped)
-#   make mutants-of-the-program   wrong programs that the prover passes: make program refuses each (takes most of an hour)
+#   make mutants-of-the-program   wrong programs that the prover passes: make program refuses each (takes two hours)
 
 RT ?= rt
 PREFIX ?= /usr/local
