@@ -138,12 +138,15 @@ pub fn cut(rt: &HostRuntime, given: &CutArguments<'_>, choices: Choices) -> Resu
     refuse_shared_cut(rt, given)?;
     refuse_several_of_both(rt, given.a, given.b, choices)?;
     let output = create(rt, given.output, FileOption::Output)?;
+    let (ledger, output) = live_source(rt, ledger, output)?;
+    let (a, output) = live_source(rt, a, output)?;
+    let (b, output) = live_source(rt, b, output)?;
     let files = CutDevices {
         selection: &selection,
         neighbours,
-        ledger: live_source(rt, ledger, &output)?,
-        a: recording_of(rt, live_source(rt, a, &output)?, choices.a)?,
-        b: recording_of(rt, live_source(rt, b, &output)?, choices.b)?,
+        ledger,
+        a: recording_of(rt, a, choices.a)?,
+        b: recording_of(rt, b, choices.b)?,
         sink: WriteSink::new(output),
     };
     if given.ledger_only {

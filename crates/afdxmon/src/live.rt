@@ -17,28 +17,68 @@ use tap_queue::TapGate;
 /// How many bytes are handed to the system at once.
 const BLOCK: usize = 65536;
 
-/// An output that is written in blocks, by one thread. It is shared with what hands a part of a block to the
-/// system on that thread.
+/// An output that is written in blocks, by one thread.
 #[derive(Drop)]
-pub struct Blocks {
-    writer: Arc<Mutex<BufWriter<Output>>, Global>,
+pub enum Blocks {
+    /// Nothing else hands its blocks on, so no write takes a lock.
+    Own(BufWriter<Output>),
+    Shared(SharedBlocks),
 }
 
 impl Blocks {
     /// Nothing was written yet. `AllocError` if there is no memory for the block.
     pub fn new(alloc: Global, output: Output) -> Result<Blocks, AllocError> {
-        let Ok(writer) = BufWriter::with_capacity(alloc, BLOCK, output) else {
-            return Err(AllocError);
+        match BufWriter::with_capacity(alloc, BLOCK, output) {
+            Ok(writer) => Ok(Blocks::Own(writer)),
+            Err(_) => Err(AllocError),
+        }
+    }
+
+    /// The output, and what hands a part of a block of it to the system.
+    pub fn share(self, alloc: Global) -> Result<(Blocks, SharedBlocks), AllocError> {
+        let shared = match self {
+            Blocks::Own(writer) => SharedBlocks::new(alloc, writer)?,
+            Blocks::Shared(shared) => shared,
         };
+        let other = shared.share()?;
+        Ok((Blocks::Shared(shared), other))
+    }
+}
+
+impl Write for Blocks {
+    fn write(&mut self, bytes: &[u8]) -> io::Result<usize> {
+        match self {
+            Blocks::Own(writer) => writer.write(bytes),
+            Blocks::Shared(shared) => shared.write(bytes),
+        }
+    }
+
+    fn flush(&mut self) -> io::Result<()> {
+        match self {
+            Blocks::Own(writer) => writer.flush(),
+            Blocks::Shared(shared) => shared.flush(),
+        }
+    }
+}
+
+/// An output that is written in blocks, and shared with what hands a part of a block to the system on the
+/// thread that writes.
+#[derive(Drop)]
+pub struct SharedBlocks {
+    writer: Arc<Mutex<BufWriter<Output>>, Global>,
+}
+
+impl SharedBlocks {
+    fn new(alloc: Global, writer: BufWriter<Output>) -> Result<SharedBlocks, AllocError> {
         match Arc::new(alloc, Mutex::new(writer)) {
-            Ok(writer) => Ok(Blocks { writer }),
+            Ok(writer) => Ok(SharedBlocks { writer }),
             Err(_) => Err(AllocError),
         }
     }
 
     /// The same output.
-    pub fn share(&self) -> Result<Blocks, AllocError> {
-        Ok(Blocks {
+    fn share(&self) -> Result<SharedBlocks, AllocError> {
+        Ok(SharedBlocks {
             writer: Arc::try_clone(&self.writer)?,
         })
     }
@@ -56,7 +96,7 @@ fn is_busy() -> io::Error {
     io::Error::from(ErrorKind::WouldBlock)
 }
 
-impl Write for Blocks {
+impl Write for SharedBlocks {
     fn write(&mut self, bytes: &[u8]) -> io::Result<usize> {
         match self.writer.try_lock() {
             Some(mut writer) => writer.write(bytes),
@@ -76,12 +116,12 @@ impl Write for Blocks {
 #[derive(Drop)]
 pub struct LiveInput {
     input: Input,
-    output: Option<Blocks>,
+    output: Option<SharedBlocks>,
 }
 
 impl LiveInput {
     /// `output` is that of an input that may pause.
-    pub fn new(input: Input, output: Option<Blocks>) -> LiveInput {
+    pub fn new(input: Input, output: Option<SharedBlocks>) -> LiveInput {
         LiveInput { input, output }
     }
 }
@@ -101,8 +141,8 @@ impl Read for LiveInput {
 pub struct Watcher<'a> {
     rt: &'a HostRuntime,
     given: WatchArguments<'a>,
-    capture: Blocks,
-    ledger: Blocks,
+    capture: SharedBlocks,
+    ledger: SharedBlocks,
     progress: Option<&'a Progress>,
     pauses: Option<&'a Pauses>,
     told: &'a AtomicBool,
@@ -113,7 +153,7 @@ impl<'a> Watcher<'a> {
     pub fn new(
         rt: &'a HostRuntime,
         given: WatchArguments<'a>,
-        outputs: (Blocks, Blocks),
+        outputs: (SharedBlocks, SharedBlocks),
         progress: Option<&'a Progress>,
         pauses: Option<&'a Pauses>,
         told: &'a AtomicBool,

@@ -36,7 +36,7 @@ use cutting::cut;
 use files::{refuse_closed, refuse_shared, refuse_shared_output};
 use interface::{Choices, Skipped, choose, interfaces_of};
 use links::links;
-use live::{Blocks, LiveInput, Watcher};
+use live::{Blocks, LiveInput, SharedBlocks, Watcher};
 use pauses::Pauses;
 use pcap_io::{ReadSource, TapSource, WriteSink};
 use pcapng::{Choice, RecordingSource};
@@ -175,9 +175,9 @@ fn blocks_of(rt: &HostRuntime, output: Output) -> Result<Blocks, Fault> {
     Blocks::new(rt.alloc(), output).map_err(|_| NO_RUN)
 }
 
-/// The same output.
-fn same(output: &Blocks) -> Result<Blocks, Fault> {
-    output.share().map_err(|_| NO_RUN)
+/// The output, and what hands a part of a block of it to the system.
+fn shared(rt: &HostRuntime, output: Blocks) -> Result<(Blocks, SharedBlocks), Fault> {
+    output.share(rt.alloc()).map_err(|_| NO_RUN)
 }
 
 /// Opens a file that is written. The first block that is written empties it before.
@@ -259,13 +259,7 @@ fn capture(
     refuse_shared_output(rt, given)?;
     refuse_several(rt, given.recording, FileOption::Recording, choice)?;
     let output = create(rt, given.output, FileOption::Output)?;
-    // What was kept so far can be seen while a pipe gives no more.
-    let live = if recording.may_pause(rt) {
-        Some(same(&output)?)
-    } else {
-        None
-    };
-    let source = ReadSource::new(LiveInput::new(recording, live));
+    let (source, output) = live_source(rt, recording, output)?;
     let source = recording_of(rt, source, choice)?;
     let output = capture_output(rt, output, given.pcapng, Joining::Recording, None)?;
     let CaptureRun {
@@ -311,15 +305,18 @@ fn table_of(rt: &HostRuntime, path: Option<&str>) -> Result<Option<Config>, Faul
 /// An input of which something is written.
 type LiveSource = ReadSource<LiveInput>;
 
-/// What reads an input of which something is written. What was written so far can be seen while a pipe gives
-/// no more.
-fn live_source(rt: &HostRuntime, input: Input, output: &Blocks) -> Result<LiveSource, Fault> {
-    let live = if input.may_pause(rt) {
-        Some(same(output)?)
-    } else {
-        None
-    };
-    Ok(ReadSource::new(LiveInput::new(input, live)))
+/// What reads an input of which something is written to an output, and the output. What was written so far
+/// can be seen while a pipe gives no more.
+fn live_source(
+    rt: &HostRuntime,
+    input: Input,
+    output: Blocks,
+) -> Result<(LiveSource, Blocks), Fault> {
+    if !input.may_pause(rt) {
+        return Ok((ReadSource::new(LiveInput::new(input, None)), output));
+    }
+    let (output, live) = shared(rt, output)?;
+    Ok((ReadSource::new(LiveInput::new(input, Some(live))), output))
 }
 
 /// How a command ended, of `watch` the worst links, if they are to be told, and how many packets that are
@@ -421,9 +418,11 @@ fn watch_networks<R: Threads + Wait + Sync>(
         Progress::begin(rt, a.length(rt), b.length(rt))
     };
     let shown = progress.as_ref();
-    let outputs = (same(&capture)?, same(&ledger)?);
+    let (capture, live_capture) = shared(rt, capture)?;
+    let (ledger, live_ledger) = shared(rt, ledger)?;
     let a = ReadSource::new(Recording::with_pauses(rt, a, Network::A, shown, pauses));
     let b = ReadSource::new(Recording::with_pauses(rt, b, Network::B, shown, pauses));
+    let outputs = (live_capture, live_ledger);
     let watcher = Watcher::new(rt, *given, outputs, shown, pauses, analysis.told);
     let capture = capture_output(
         rt,
