@@ -34,7 +34,8 @@ impl Blocks {
         }
     }
 
-    /// The output, and what hands a part of a block of it to the system.
+    /// The output, and what hands a part of a block of it to the system. `AllocError` if there is no memory
+    /// for what they share.
     pub fn share(self, alloc: Global) -> Result<(Blocks, SharedBlocks), AllocError> {
         let shared = match self {
             Blocks::Own(writer) => SharedBlocks::new(alloc, writer)?,
