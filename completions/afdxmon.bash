@@ -1,4 +1,4 @@
-# Completions of afdxmon for bash.
+# Completions of afdxmon for bash, written by tools/completions.
 
 # Offers the words of a list.
 _afdxmon_words() {
@@ -13,8 +13,6 @@ _afdxmon_files() {
 
 _afdxmon() {
     local current=$2 previous=$3 i=$COMP_CWORD
-    local verdicts='discarded delivered cut runt oversize foreign unconfigured toolong regular excess within'
-    verdicts+=' first next skip reset off out deliver copy both'
     # bash makes three words of --option=value.
     if [ "$current" = '=' ]; then
         current=''
@@ -23,35 +21,32 @@ _afdxmon() {
     fi
     COMPREPLY=()
     if [ "$i" -eq 1 ]; then
-        _afdxmon_words 'watch capture debug cut links report check asm help -h --help -V --version' "$current"
+        _afdxmon_words 'capture asm watch debug cut links report check help -h --help -V --version' "$current"
         return
     fi
     case ${COMP_WORDS[1]} in
-        watch | capture | debug | cut | links | report | check)
+        capture | asm | watch | debug | cut | links | report | check)
             case $previous in
-                --workers) _afdxmon_words '1 2 3 4 5 6 7 8' "$current"; return ;;
+                --late-us) _afdxmon_words 'N any' "$current"; return ;;
                 --network) _afdxmon_words 'A B' "$current"; return ;;
-                --verdict) _afdxmon_words "$verdicts" "$current"; return ;;
-                --code | --link | --from | --to | --filters | --around | --constant) return ;;
-                --quiet | --pcapng | --ledger-only | --json | --help) ;;
+                --verdict) _afdxmon_words 'discarded faults delivered cut runt oversize foreign unconfigured toolong regular excess within first next skip reset off out deliver copy both' "$current"; return ;;
+                --workers) _afdxmon_words '1 2 3 4 5 6 7 8' "$current"; return ;;
+                --around | --code | --constant | --filters | --from | --late-us | --link | --span | --to) return ;;
+                --digest | --help | --json | --ledger-only | --pcapng | --quiet | --verbose | --whole) ;;
                 -o | --*) _afdxmon_files "$current"; return ;;
             esac
             ;;
     esac
     case ${COMP_WORDS[1]}:$current in
-        watch:-*)
-            _afdxmon_words '--config --filter --a --b --capture --ledger --workers --quiet --pcapng -h --help' "$current"
-            ;;
-        capture:-*) _afdxmon_words '--code --filter --source --pcapng -o --output -h --help' "$current" ;;
-        debug:-*) _afdxmon_words '--filter --source --tap -h --help' "$current" ;;
-        links:-*) _afdxmon_words '--a --b --constant --icd -h --help' "$current" ;;
-        cut:-*)
-            _afdxmon_words '--ledger --a --b --config --link --network --verdict --from --to --filters --around --ledger-only --pcapng -o --output -h --help' "$current"
-            ;;
-        report:-*) _afdxmon_words '--config --ledger --json -o --output -h --help' "$current" ;;
-        check:-*) _afdxmon_words '--config --filter --a --b --json -h --help' "$current" ;;
-        asm:-*) _afdxmon_words '-h --help' "$current" ;;
-        help:*) _afdxmon_words 'watch capture debug cut links report check asm help' "$current" ;;
+        capture:-*) _afdxmon_words '--code --filter --source -o --output --pcapng --late-us -v --verbose -h --help' "$current" ;;
+        asm:-*) _afdxmon_words '-v --verbose -h --help' "$current" ;;
+        watch:-*) _afdxmon_words '--config --filter --a --b --capture --ledger --manifest --digest --workers --late-us --quiet --pcapng -v --verbose -h --help' "$current" ;;
+        debug:-*) _afdxmon_words '--filter --source --tap --late-us -v --verbose -h --help' "$current" ;;
+        cut:-*) _afdxmon_words '--ledger --a --b --config --link --network --verdict --from --to --span --filters --around --ledger-only --pcapng -o --output -v --verbose -h --help' "$current" ;;
+        links:-*) _afdxmon_words '--a --b --constant --icd -v --verbose -h --help' "$current" ;;
+        report:-*) _afdxmon_words '--config --ledger --manifest --json -o --output -v --verbose -h --help' "$current" ;;
+        check:-*) _afdxmon_words '--config --filter --a --b --whole --json -v --verbose -h --help' "$current" ;;
+        help:*) _afdxmon_words 'capture asm watch debug cut links report check help' "$current" ;;
         capture:*) _afdxmon_files "$current" ;;
     esac
 }

@@ -36,7 +36,7 @@ def commands():
     """The commands that the page and the advice show."""
     with open(os.path.join(HERE, "..", "docs", "MESSAGES.md"), encoding="utf-8") as page:
         shown = re.findall(r"`([^`]*)`", page.read())
-    told = [text.format(2) for text in (*texts.ADVICE.values(), *texts.ENDINGS.values(), texts.GZIP, texts.ZSTD)]
+    told = [text.format(2) for text in (*texts.ADVICE.values(), *texts.ENDINGS.values())]
     told += [texts.CHECK_SEQUENCES, texts.EXPRESSION, texts.SOURCE, texts.NOT_NUMERIC]
     tool = "|".join(TOOLS)
     files = r"in\.\S+|out\.pcap|1-2|-\S+|[0-9]+|nsecpcap|EN10MB|'[^']*'|asm|<"
@@ -89,7 +89,24 @@ def compiled(command):
     return "" if (taken.returncode, taken.stderr) == (SUCCESS, b"") else f"it isn't taken: {taken.stderr!r}"
 
 
+def unpacked(packer, suffix):
+    """The words that the advice on a compressed recording has stand in its place, in a shell that has them."""
+    with tempfile.TemporaryDirectory() as desk:
+        path = os.path.join(desk, "in.pcap")
+        with open(path, "wb") as out:
+            out.write(WHOLE)
+        subprocess.run([packer, "-q", path], check=True)
+        ran = run(["capture", "-v", "--code", EVERY, path + suffix], stdout=subprocess.PIPE)
+        words = ran.stderr.decode().splitlines()[-1].partition(f"compressed by {packer}: ")[2]
+        ran = subprocess.run(["bash", "-c", f"'{PROGRAM}' capture --code '{EVERY}' {words}"], capture_output=True, timeout=60)
+        expected = header() + b"".join(record(*one) for one in FRAMES)
+        return "" if words and (ran.returncode, ran.stdout) == (SUCCESS, expected) else f"{words!r}: {ran.stderr!r}"
+
+
 def cases():
+    for packer, suffix in (("gzip", ".gz"), ("zstd", ".zst"), ("xz", ".xz")):
+        if shutil.which(packer):
+            say(f"advised: a recording that is compressed by {packer}", unpacked(packer, suffix))
     found = commands()
     missing = [word for word, _, _ in MENDS if not any(word in command for command in found)]
     say("each recording that is mended", f"no command has {missing}" if missing else "")

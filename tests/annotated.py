@@ -14,7 +14,7 @@ import threading
 
 import pairs
 from analyser import table_of, watch
-from cut import chosen, frame_lines, recordings_of
+from cut import chosen, frame_lines, nothing, recordings_of
 from harness import EVERY, FAULT, FIRST_64, LINK5, ODD, PROGRAM, SUCCESS, TOP, USAGE, difference, frame, header, record, recording, run, say, skip
 from reference import capture, parse
 from watching import TABLE, WORKERS, tap
@@ -180,9 +180,10 @@ def cuts(place):
         packets = [held[line.split()[1]][int(line.split()[2])] for line in lines]
         words = [word for name, value in options.items() for word in ("--" + name, value)]
         told = " ".join(words) or "all"
-        say(f"pcapng: cut, {told}", difference(place.cut(*words), SUCCESS, "", annotated(lines, packets, {})))
+        note = "" if lines else nothing(ledger, options)
+        say(f"pcapng: cut, {told}", difference(place.cut(*words), SUCCESS, note, annotated(lines, packets, {})))
         ran = place.cut(*words, "--config", place.path("config"))
-        say(f"pcapng: cut, {told}, with names", difference(ran, SUCCESS, "", annotated(lines, packets, names_of(config))))
+        say(f"pcapng: cut, {told}, with names", difference(ran, SUCCESS, note, annotated(lines, packets, names_of(config))))
 
 
 def faults(place):

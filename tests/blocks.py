@@ -12,11 +12,12 @@ import tempfile
 
 import pairs
 from harness import EVERY, FAULT, FIRST_64, SUCCESS, PROGRAM, difference, frame, header, record, run, say
-from reference import HEADER, parse, record_of
+from reference import HEADER, disorder, parse, record_of
 from watching import TABLE
 
 SECTION, INTERFACE, OLD_PACKET, SIMPLE, NAMES, STATISTICS, PACKET, CUSTOM = 0x0A0D0D0A, 1, 2, 3, 4, 5, 6, 0xBAD
 NAME, RESOLUTION, OFFSET, COMMENT = 2, 9, 14, 1
+LONGEST_NAME = 64
 MOST_CAPTURED, MOST_BLOCK, MOST_INTERFACES, LAST_SECOND = 262144, 1 << 20, 256, 1 << 32
 # The words of an ending's line: settled here, and nowhere else in these tests.
 REASONS = {
@@ -151,20 +152,36 @@ class Reader:
     """Reads the frames of the chosen interface, one block after another."""
 
     def __init__(self, choice):
-        self.choice, self.interfaces, self.frames, self.skipped, self.met, self.high = choice, [], [], 0, None, 0
+        self.choice, self.interfaces, self.frames, self.skipped, self.high, self.late = choice, [], [], 0, 0, None
+        # With no choice: each section's interface that had packets, by its number and its name, and that of this section.
+        self.earlier, self.here = [], None
         self.was_described = choice is None
 
     def chosen(self, number):
         if self.choice is None:
-            if self.met is None:
-                self.met = number
-            elif self.met != number:
+            if self.here is None and self.is_other(number):
                 raise Wrong("severalinterfaces")
+            if self.here not in (None, number):
+                raise Wrong("severalinterfaces")
+            self.here = number
             return True
         if isinstance(self.choice, int):
             return number == self.choice
         names = [one["name"] for one in self.interfaces]
         return self.choice.encode() in names and names.index(self.choice.encode()) == number
+
+    def name_of(self, number):
+        name = self.interfaces[number]["name"]
+        return None if name is None or len(name) > LONGEST_NAME else name
+
+    def is_other(self, number):
+        """An interface of this section isn't the one of earlier sections, whose numbers say nothing where both have names."""
+        if not self.earlier:
+            return False
+        names = [name for _, name in self.earlier if name is not None]
+        if names and self.name_of(number) is not None:
+            return names[-1] != self.name_of(number)
+        return self.earlier[-1][0] != number
 
     def take(self, order, number, high, low, captured, original, rest):
         if number >= len(self.interfaces):
@@ -185,6 +202,7 @@ class Reader:
         if not 0 <= stamp < LAST_SECOND * 10**9:
             raise Wrong("stamprange")
         if stamp < self.high:
+            self.late = self.high - stamp
             raise Wrong("stampback")
         self.high = stamp
         self.frames.append((stamp, max(captured, original), rest[:captured]))
@@ -193,7 +211,9 @@ class Reader:
         if kind == SECTION:
             if struct.unpack_from(order + "H", body, 4)[0] != 1:
                 raise Wrong("section")
-            self.interfaces = []
+            if self.here is not None:
+                self.earlier.append((self.here, self.name_of(self.here)))
+            self.interfaces, self.here = [], None
         elif kind == INTERFACE:
             self.interfaces.append(interface_of(order, body))
             number = len(self.interfaces) - 1
@@ -205,6 +225,11 @@ class Reader:
             self.take(order, number, *fields, body[20:])
         elif kind == SIMPLE:
             raise Wrong("simplepacket")
+
+    def listed(self):
+        """The Ethernet interfaces of the last section, as a fault lists them."""
+        found = ((number, self.name_of(number)) for number, one in enumerate(self.interfaces) if one["ethernet"])
+        return ", ".join(f"{number} {name.decode()}" if name else f"{number}" for number, name in found)
 
     def read(self, data):
         """The frames, the ending in a ledger's words, and how many packets are not of Ethernet."""
@@ -219,14 +244,14 @@ class Reader:
         return self.frames, f"{ending} {len(self.frames)}" + ("" if self.was_described else " nosuchinterface"), self.skipped
 
 
-def note_of(ending, skipped, network=None):
-    """What standard error is told."""
+def note_of(ending, skipped, network=None, late=""):
+    """What standard error is told, of a file with how late a frame was."""
     who = "recording" if network is None else f"recording of network {network}"
     lines = []
     how, count, *reason = ending.split()
     if how != "clean":
         why = REASONS[reason[0]] if reason else "truncated within a record"
-        lines.append(f"afdxmon: note: {who} ends {how} after {count} frame{'' if count == '1' else 's'}: {why}")
+        lines.append(f"afdxmon: note: {who} ends {how} after {count} frame{'' if count == '1' else 's'}: {why}{late}")
     if skipped:
         lines.append(f"afdxmon: note: {who} has {skipped} packet{'' if skipped == 1 else 's'} not of Ethernet")
     return "\n".join(lines)
@@ -246,14 +271,20 @@ class Bench:
 
     def captured(self, name, data, choice=None):
         """`capture` of a file and of standard input writes what the slow reader reads, and notes how that ended."""
-        frames, ending, skipped = Reader(choice).read(data)
+        reader = Reader(choice)
+        frames, ending, skipped = reader.read(data)
         expected = HEADER + b"".join(record_of(*one) for one in frames)
         path = self.put("in.pcapng", data)
         suffix = "" if choice is None else f":{choice}"
         told = note_of(ending, skipped)
-        fault = difference(run(["capture", "--code", EVERY, path + suffix], stdin=subprocess.DEVNULL, stdout=subprocess.PIPE), SUCCESS, told, expected)
+        late = disorder("capture", reader.late) if ending.endswith("stampback") else ""
+        of_file, of_stream = (SUCCESS, note_of(ending, skipped, late=late), expected), (SUCCESS, told, expected)
+        if ending.endswith("nosuchinterface"):
+            # A file is looked at first; of a stream it shows at the end.
+            of_file, of_stream = (FAULT, f"afdxmon: interfaces RECORDING: {reader.listed()}", b""), (FAULT, told, expected)
+        fault = difference(run(["capture", "--code", EVERY, path + suffix], stdin=subprocess.DEVNULL, stdout=subprocess.PIPE), *of_file)
         stream = "/dev/stdin" + suffix if suffix else "-"
-        fault = fault or difference(run(["capture", "--code", EVERY, stream], input=data, stdout=subprocess.PIPE), SUCCESS, told, expected)
+        fault = fault or difference(run(["capture", "--code", EVERY, stream], input=data, stdout=subprocess.PIPE), *of_stream)
         say(f"pcapng: {name}{suffix}", fault)
 
     def refused(self, name, data, line, choice=""):
@@ -345,6 +376,25 @@ def two_of_a_name(bench):
     bench.captured("two interfaces of a name, the first not of Ethernet", kinds, "eth0")
     frames, ending, _ = Reader("eth0").read(file.bytes())
     say("pcapng: a name means the first interface of it", "" if [data[-1] for *_, data in frames] == [1] * len(DATA) else ending)
+
+
+def absent(bench):
+    """A chosen interface that isn't there, or comes late, in files larger than what is looked at first."""
+    large = plain()
+    for i in range(1000):
+        large.packet((SECOND + i) * 10**9, bytes(1500) + bytes([i % 256]))
+    late = large.bytes() + Blocks().section().interface("eth0").interface("late").packet((SECOND + 2000) * 10**6, DATA[0], 1).bytes()
+    for choice in (9, "late", "eth0", 0, 1):
+        bench.captured("one interface, 1.5 MB", large.bytes(), choice)
+        bench.captured("an interface of a second section, after 1.5 MB", late, choice)
+    for name, words in (("watch", ["--config", bench.put("table", TABLE.encode()), "--a", "FILE", "--ledger", "OUT"]), ("links", ["--a", "FILE"]), ("cut", ["--ledger", bench.put("ledger", b"afdx-ledger 2\n"), "--a", "FILE", "-o", "OUT"])):
+        places = {"FILE": bench.put("in.pcapng", large.bytes()) + ":9", "OUT": bench.put("older", b"older")}
+        ran = run([name, *(places.get(word, word) for word in words)], stdin=subprocess.DEVNULL, stdout=subprocess.PIPE)
+        reader = Reader(9)
+        reader.read(large.bytes())
+        fault = difference(ran, FAULT, f"afdxmon: interfaces --a: {reader.listed()}", b"")
+        with open(places["OUT"], "rb") as out:
+            say(f"pcapng: {name} of an interface that isn't there", fault or ("" if out.read() == b"older" else "an output was begun"))
 
 
 def choices(bench):
@@ -539,5 +589,5 @@ def tools(bench):
 def cases():
     with tempfile.TemporaryDirectory() as directory:
         bench = Bench(directory)
-        for part in (formats, sections, choices, wrong, heads, cuts, other_commands, generated, tools):
+        for part in (formats, sections, choices, absent, wrong, heads, cuts, other_commands, generated, tools):
             part(bench)

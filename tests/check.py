@@ -210,7 +210,7 @@ def first_difference(found, expected):
 
 def judged(name, ran, text, line=None):
     """An answer: its text whole, and the status and standard error that go with it."""
-    sound = text.endswith("sound: yes\n")
+    sound = "\nsound: yes" in text
     fault = difference(ran, SUCCESS if sound else FAULT, ("" if sound else UNSOUND) if line is None else line)
     say(f"check: {name}", fault or first_difference(ran.stdout.decode(), text))
 
@@ -393,7 +393,21 @@ class Reference:
         out += [f"does the recording of network {n} hold frame check sequences? Take them off: editcap -L -C -4" for n in checks]
         if not checks and nearly_all(self.long, self.all):
             out.append(f"does 'smax' count a frame without its check sequence? {self.long} of {self.all} frames are longer")
+        out += self.classes()
         return out + (self.clocks() if not checks and not self.same() else [])
+
+    def classes(self):
+        unlisted, out = sum(self.unlisted.values()), []
+        if 2 * unlisted > self.all:
+            out.append(f"is the table that of another aircraft? {unlisted} of {self.all} frames are of links that it lacks")
+        for network, tap in self.taps.items():
+            held = [len(data) for _, length, data in tap if len(data) < length]
+            if len(held) > len(tap) // 100:
+                out.append(
+                    f"does the recorder of network {network} cut frames at {max(held)} bytes? {len(held)} of {len(tap)} frames are cut short. "
+                    "What becomes of them isn't known: record them whole, tcpdump -s 0"
+                )
+        return out
 
     def clocks(self):
         a, b, copies, skew = self.pairs()
@@ -406,6 +420,7 @@ class Reference:
         if told:
             ahead, nanos = "B" if told[0] > 0 else "A", abs(told[0])
             text += f" By equal sequence numbers that of {ahead} is {nanos // 10**9}.{nanos % 10**9:09} s ahead, say {told[1]} of {told[2]} links"
+            text += f"; editcap -F nsecpcap -t -{nanos // 10**9}.{nanos % 10**9:09} in.pcap out.pcap sets it back"
         return [text]
 
     def notes(self):
@@ -501,6 +516,10 @@ def pairs():
     yield "a recording that is cut short", links, file_of(a)[:-7], file_of(b)
     yield "a frame out of order", links, file_of(a) + record(a[0][0], a[0][1]), file_of(b)
     yield "frames that aren't whole", links, file_of(a), file_of(b) + record(b[-1][0], frame(9, 60, 1), original=100)
+    for frames, cut in ((99, 1), (100, 1), (100, 2), (199, 1), (199, 2), (200, 2), (200, 3)):
+        tap = sent(chance, links, 100)[1][:frames]
+        held = b"".join(record(stamp, data[:50 if k < cut else None], original=len(data)) for k, (stamp, data) in enumerate(tap))
+        yield f"{cut} of {frames} frames that aren't whole", links, file_of(a), header() + held
 
 
 def of_recordings(work):
@@ -566,7 +585,7 @@ def of_long_recordings(work):
         text = f"table: {config}: 1 link, constant 50331648\n"
         text += f"network A: {paths[0]}: pcap, little-endian, nanoseconds; 1000000 frames, {moment(START)} to {moment(START)}; {goes_on}\n"
         text += f"network B: {paths[1]}: pcap, little-endian, nanoseconds; 1 frame, {moment(START + 5)} to {moment(START + 5)}; it ends clean\n"
-        text += "overlap: not within what was read of the recordings\nsound: yes\n" if more else "overlap: none\nquestion: do the recordings belong together? One ends before the other begins\nsound: no, 0 faults and 1 question\n"
+        text += "overlap: not within what was read of the recordings\nsound: yes; of A by its first 1000000 frames\n" if more else "overlap: none\nquestion: do the recordings belong together? One ends before the other begins\nsound: no, 0 faults and 1 question\n"
         judged(name, asked("--config", config, "--a", paths[0], "--b", paths[1]), text)
 
 

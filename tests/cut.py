@@ -3,8 +3,8 @@
 The slow cut takes a ledger's lines one by one, tries each option on each, and looks frames up in the parsed recordings.
 It shares nothing with the product. Ledgers come of `afdxmon watch` on the pairs of tests/pairs.py.
 
-A line's number counts the ledger's lines from 1, its head among them. Times of day are those of the day of the ledger's
-first frame.
+A line's number counts the ledger's lines from 1, its head among them. A span within a day is sought day by day: it is the
+first one that isn't over before the ledger's first frame.
 """
 import datetime
 import os
@@ -37,24 +37,59 @@ LINES = {
     "selection": "afdxmon: cut 8 Selection {} at {}",
     "open": "afdxmon: file {}",
     "aborted": "afdxmon: note: ledger ends without its total",
+    "passed": "afdxmon: note: {} selected line{} of network {} passed over: no recording is given",
+    "nothing": "afdxmon: note: no line is selected:{}\nafdxmon: note: the ledger has frames from {} to {}",
+    "frameless": "afdxmon: note: no line is selected: the ledger has no frames",
 }
 DISCARDED = set("cut runt oversize foreign unconfigured toolong excess out copy".split())
-GROUPS = {"discarded": DISCARDED, "delivered": {"deliver", "both"}}
+GROUPS = {"discarded": DISCARDED, "delivered": {"deliver", "both"}, "faults": DISCARDED - {"copy"}}
 DAY = 86_400 * 10**9
-OPTIONS = ("link", "network", "verdict", "from", "to", "filters", "around")
+UNITS = {"ms": 10**6, "us": 10**3, "s": 10**9}
+OPTIONS = ("link", "network", "verdict", "from", "to", "span", "filters", "around")
 
 
-def moment(text, day):
-    """Nanoseconds since 1970. `day` is the midnight before the ledger's first frame."""
+def said(text):
+    """What a time says, and nanoseconds: since 1970 (`at`), since midnight (`day`) or since the ledger's first frame (`since`)."""
     if text.isdigit():
-        return int(text)
+        return "at", int(text)
     whole, _, fraction = text.removesuffix("Z").partition(".")
     nanoseconds = int(fraction.ljust(9, "0")) if fraction else 0
+    if text.startswith("+"):
+        return "since", int(whole) * 10**9 + nanoseconds
     if not text.endswith("Z"):
         hours, minutes, seconds = map(int, whole.split(":"))
-        return day + ((hours * 60 + minutes) * 60 + seconds) * 10**9 + nanoseconds
+        return "day", ((hours * 60 + minutes) * 60 + seconds) * 10**9 + nanoseconds
     at = datetime.datetime.fromisoformat(whole + "+00:00")
-    return round((at - datetime.datetime.fromisoformat("1970-01-01T00:00:00+00:00")) / datetime.timedelta(seconds=1)) * 10**9 + nanoseconds
+    return "at", round((at - datetime.datetime.fromisoformat("1970-01-01T00:00:00+00:00")) / datetime.timedelta(seconds=1)) * 10**9 + nanoseconds
+
+
+def length(text):
+    """The nanoseconds of a length of time."""
+    unit = next(unit for unit in UNITS if text.endswith(unit))
+    whole, _, fraction = text.removesuffix(unit).partition(".")
+    return int(whole) * UNITS[unit] + int(fraction.ljust(len(str(UNITS[unit])) - 1, "0") or "0")
+
+
+def next_of(clock, earliest):
+    """The first moment of a time of day from a moment on, sought day by day."""
+    days = (earliest // DAY + step for step in range(-1, 3))
+    return next(day * DAY + clock for day in days if day * DAY + clock >= earliest)
+
+
+def span_of(options, first):
+    """The first and the last moment that are selected, in nanoseconds since 1970; None where there is none."""
+    kind, start = said(options["from"]) if "from" in options else (None, None)
+    until, end = said(options["to"]) if "to" in options else ("span", length(options["span"])) if "span" in options else (None, None)
+    if kind == "day" and (until == "day" and start <= end or until == "span" and start + end < DAY):
+        days = ((first // DAY + step) * DAY for step in range(3))
+        spans = ((day + start, day + (end if until == "day" else start + end)) for day in days)
+        return next(span for span in spans if span[1] >= first)
+    low = {None: None, "at": start, "since": first + (start or 0), "day": first // DAY * DAY + (start or 0)}[kind]
+    if until is None:
+        return low, None
+    if until == "day":
+        return low, next_of(end, first if low is None else low)
+    return low, {"at": end, "since": first + end, "span": (first if low is None else low) + end}[until]
 
 
 def written(time):
@@ -82,17 +117,17 @@ def nameless(text, config):
 
 
 def refused_option(options, config):
-    """The first option that is refused, and the item of its text. Of two times of one kind --to isn't the earlier one."""
+    """The first option that is refused, and the item of its text. Of two times of one kind, not of the day, --to isn't the earlier one."""
     wrong = nameless(options["link"], config) if "link" in options else None
     if wrong is not None:
         return "link", wrong
-    ends = [options[end] for end in ("from", "to") if end in options]
-    kinds = {":" in text and "T" not in text for text in ends}
-    return ("to", 0) if len(ends) == 2 and len(kinds) == 1 and moment(ends[1], 0) < moment(ends[0], 0) else None
+    ends = [said(options[end]) for end in ("from", "to") if end in options]
+    kinds = {kind for kind, _ in ends}
+    return ("to", 0) if len(ends) == 2 and len(kinds) == 1 and kinds != {"day"} and ends[1][1] < ends[0][1] else None
 
 
-def meets(fields, options, config, day):
-    """Does a frame's line meet each option?"""
+def meets(fields, options, config, span):
+    """Does a frame's line meet each option? `span`: the first moment and the last, if there are such."""
     words = set()
     for word in options.get("verdict", "").split(","):
         words |= GROUPS.get(word, {word})
@@ -101,8 +136,8 @@ def meets(fields, options, config, day):
         ("network" not in options or fields[1] == options["network"])
         and ("link" not in options or fields[3] != "-" and int(fields[3]) in links_of(options["link"], config))
         and ("verdict" not in options or bool(words & set(fields[5:9])))
-        and ("from" not in options or moment(options["from"], day) <= time)
-        and ("to" not in options or time <= moment(options["to"], day))
+        and (span[0] is None or span[0] <= time)
+        and (span[1] is None or time <= span[1])
         and ("filters" not in options or int(options["filters"], 16) & int(fields[10], 16) != 0)
     )
 
@@ -123,8 +158,8 @@ def nearby(links, selected, around):
 def chosen(ledger, options, config):
     """The lines of the selected frames, and of those around them."""
     lines = [line.split() for line in frame_lines(ledger)]
-    day = int(lines[0][0]) // DAY * DAY if lines else 0
-    selected = [meets(fields, options, config, day) for fields in lines]
+    span = span_of(options, int(lines[0][0])) if lines else (None, None)
+    selected = [meets(fields, options, config, span) for fields in lines]
     if "around" in options:
         selected = nearby([fields[3] for fields in lines], selected, min(int(options["around"]), len(lines)))
     return [line for line, one in zip(frame_lines(ledger), selected) if one]
@@ -185,8 +220,37 @@ def recordings_of(a, b, networks="ab"):
     return {network.upper(): parse(given, 1 << 62)[0] for network, given in (("a", a), ("b", b)) if network in networks}
 
 
+def utc(time):
+    """A moment as the notes write it: without zeros at its end."""
+    whole, fraction = written(time).removesuffix("Z").split(".")
+    return whole + ("." + fraction.rstrip("0") if fraction.strip("0") else "") + "Z"
+
+
+def nothing(ledger, options):
+    """The note on a selection that takes no line."""
+    times = [int(line.split()[0]) for line in frame_lines(ledger)]
+    if not times:
+        return LINES["frameless"]
+    texts = "".join(f" --{name} {options[name]}" for name in ("link", "network", "verdict", "filters") if name in options)
+    ends = "".join(f" {word} {utc(max(end, 0))}" for word, end in zip(("from", "to"), span_of(options, times[0])) if end is not None)
+    return LINES["nothing"].format(texts + ends, utc(times[0]), utc(times[-1]))
+
+
+def notes_of(ledger, options, lines, networks):
+    """The notes of a cut of these lines, with the recordings of these networks; none means that lines are printed."""
+    passed = [line for line in lines if networks and line.split()[1].lower() not in networks]
+    if passed:
+        return LINES["passed"].format(len(passed), "" if len(passed) == 1 else "s", passed[0].split()[1])
+    return "" if lines else nothing(ledger, options)
+
+
+def told_of(*lines):
+    """What standard error is told, without its last newline."""
+    return "\n".join(line for line in lines if line)
+
+
 def compared(bench, name, options, config, a, b, networks="ab", line=""):
-    """A cut that has to succeed, or ends at the first line of a network without a recording: its packets, and the lines without packets.
+    """A cut that has to succeed: its packets and its lines, without those of a network that has no recording, and all lines without recordings.
     A name that no link has is refused, and a span that ends before it begins."""
     ledger = bench.read("ledger")
     wrong = refused_option(options, config)
@@ -195,13 +259,12 @@ def compared(bench, name, options, config, a, b, networks="ab", line=""):
         fault = difference(bench.cut(options, networks), FAULT, told, b"") or difference(bench.cut(options, "", "--ledger-only"), FAULT, told, b"")
         return say(f"cut: {name}: --{wrong[0]} is refused", fault)
     lines = chosen(ledger, options, config)
-    frames = frame_lines(ledger)
-    others = [at for at, one in enumerate(frames) if one.split()[1].lower() not in networks]
-    status, told = (FAULT, LINES["absent"].format(others[0] + 2)) if others else (SUCCESS, line)
-    before = [one for one in lines if one in frames[: others[0]]] if others else lines
-    fault = difference(bench.cut(options, networks), status, told, packets_of(before, recordings_of(a, b, networks)))
-    everything = "".join(chosen(ledger, options, config)).encode()
-    fault = fault or difference(bench.cut(options, "", "--ledger-only"), SUCCESS, line, everything)
+    read = "".join(one for one in lines if one.split()[1].lower() in networks).encode()
+    told = told_of(notes_of(ledger, options, lines, networks), line)
+    fault = difference(bench.cut(options, networks), SUCCESS, told, packets_of(lines, recordings_of(a, b, networks)))
+    fault = fault or difference(bench.cut(options, networks, "--ledger-only"), SUCCESS, told, read)
+    alone = told_of(notes_of(ledger, options, lines, ""), line)
+    fault = fault or difference(bench.cut(options, "", "--ledger-only"), SUCCESS, alone, "".join(lines).encode())
     say(f"cut: {name}: {' '.join(f'--{key} {value}' for key, value in options.items())}", fault)
 
 
@@ -210,13 +273,21 @@ def times_of(chance, ledger):
     lines = frame_lines(ledger)
     stamp = int(chance.choice(lines).split()[0]) + chance.choice((0, 0, -1, 1)) if lines else 0
     stamp = max(0, stamp)
-    day = int(lines[0].split()[0]) // DAY * DAY if lines else 0
-    forms = [str(stamp), written(stamp)]
-    if 0 <= stamp - day < DAY:
-        forms.append(written(stamp)[11:29])
-        if stamp % 10**9 == 0:
-            forms.append(written(stamp)[11:19])
+    forms = [str(stamp), written(stamp), written(stamp)[11:29]]
+    if stamp % 10**9 == 0:
+        forms.append(written(stamp)[11:19])
+    first = int(lines[0].split()[0]) if lines else 0
+    if stamp >= first:
+        forms.append(f"+{(stamp - first) // 10**9}.{(stamp - first) % 10**9:09}")
     return chance.choice(forms)
+
+
+def length_of(chance, ledger):
+    """The time between two frames, or a nanosecond less or more, in seconds, or in a smaller unit where it is so many whole nanoseconds."""
+    times = [int(line.split()[0]) for line in frame_lines(ledger)] or [0]
+    time = max(0, abs(chance.choice(times) - chance.choice(times)) + chance.choice((0, 0, -1, 1)))
+    unit, scale = chance.choice(list(UNITS.items()))
+    return f"{time // scale}.{str(time % scale).rjust(len(str(scale)) - 1, '0')}{unit}" if time // scale < 2**32 else f"{time // 10**9}s"
 
 
 def some_options(chance, ledger, config):
@@ -229,10 +300,12 @@ def some_options(chance, ledger, config):
         "verdict": lambda: ",".join(chance.sample(words, chance.choice((1, 1, 2, 3)))),
         "from": lambda: times_of(chance, ledger),
         "to": lambda: times_of(chance, ledger),
+        "span": lambda: length_of(chance, ledger),
         "filters": lambda: chance.choice(("01", "02", "06", "ff", "80", "fe")),
         "around": lambda: chance.choice(("0", "1", "1", "2", "3", "5", "65535")),
     }
-    return {name: make[name]() for name in chance.sample(OPTIONS, chance.choice((0, 1, 1, 2, 3)))}
+    names = chance.sample(OPTIONS, chance.choice((0, 1, 1, 2, 3)))
+    return {name: make[name]() for name in names if name != "span" or "to" not in names}
 
 
 def generated(bench):
@@ -275,6 +348,15 @@ def bounds(bench):
     cases += [{"from": "12:00:02", "to": "12:00:02"}, {"from": "00:00:00", "to": "23:59:59.999999999"}, {"from": "12:00:02.0", "to": "12:00:02.000000001"}]
     cases += [{"from": str(two + 1), "to": str(two)}, {"from": "0", "to": str(2**32 * 10**9 - 1)}]
     cases += [{"from": first, "to": last} for first in (written(two + 1), "12:00:02.000000001") for last in (written(two), "12:00:02", str(two))]
+    cases += [{end: text} for end in ("from", "to") for text in ("+0", "+2", "+2.0", "+1.999999999", "+2.000000001", "+2.000000002", "+4", "+4.000000001", "+4294967295.999999999")]
+    cases += [{"from": "+1", "to": text} for text in ("+1", "+2", "+0.999999999", "12:00:02", "12:00:00", str(two), written(two))]
+    cases += [{"to": text} for text in ("12:00:00", "11:59:59.999999999", "12:00:00.000000001", "00:00:00", "23:59:59.999999999")]
+    cases += [{"from": text} for text in ("11:59:59.999999999", "00:00:00", "23:59:59.999999999")]
+    cases += [{"from": "12:00:01", "to": "12:00:00.999999999"}, {"from": "11:00:00", "to": "11:59:59"}, {"from": "11:00:00", "to": "12:00:00"}, {"from": written(two), "to": "12:00:01"}]
+    spans = ("0s", "0.000000001s", "2s", "2.000000001s", "1.999999999s", "2000ms", "1999.999999ms", "2000000us", "2000000.001us", "0us", "4294967295.999999999s", "86399s", "86400s", "43200s")
+    cases += [{**start, "span": text} for start in ({}, {"from": "+0"}, {"from": "+2"}, {"from": str(two)}, {"from": "12:00:02"}, {"from": "11:59:58"}, {"from": "00:00:00"}, {"from": str(2**32 * 10**9 - 1)})
+              for text in spans]
+    cases += [{"verdict": text} for text in ("faults", "faults,copy", "discarded,faults")]
     cases += [{"link": text} for text in ("5", "5-5", "4-5", "5-6", "6", "4", "7-65535", "0-4,6-65535", "brake", "br*", "*", "b*e", "br*ake", "*rak", "6,brake")]
     cases += [{"network": "A"}, {"network": "B"}, {"verdict": "first"}, {"verdict": "next,unconfigured"}, {"verdict": "discarded"}, {"verdict": "delivered"}, {"verdict": "regular"}]
     cases += [{"filters": "01"}, {"filters": "fe"}, {"filters": "03"}]
@@ -282,6 +364,36 @@ def bounds(bench):
     cases += [{"around": text, **more} for text in ("0", "1", "2", "3", "4", "5", "6", "65534", "65535") for more in ({}, {"verdict": "first"}, {"from": str(two), "to": str(two)}, {"link": "6"})]
     for options in cases:
         compared(bench, "bounds", options, TABLE, a, b)
+    for network in "ab":
+        for options in ({}, {"network": "A"}, {"network": "B"}, {"verdict": "copy"}, {"link": "6"}, {"from": "+4"}, {"from": "+2", "around": "1"}, {"verdict": "runt"}):
+            compared(bench, f"recording {network.upper()} alone", options, TABLE, a, b, network)
+
+
+def midnight(bench):
+    """A run across midnight, by times of day alone, and one that begins just after it."""
+    for first in (NOON + DAY // 2 - 10 * 10**9, NOON + DAY // 2 - 2 * 10**9 + 1, NOON + DAY // 2, NOON + DAY // 2 + 10**9, 0, 10**9):
+        packets = [(first + second * 10**9, frame(5, 60, second % 255 + 1)) for second in range(30)]
+        a = tap(*packets)
+        bench.watched(TABLE, EVERY, a, HEADER)
+        ends = ("23:59:58", "23:59:58.000000001", "00:00:00", "00:00:02", "00:00:06", "12:00:00")
+        cases = [{"from": start, "to": end} for start in ends for end in ends] + [{end: text} for end in ("from", "to") for text in ends]
+        cases += [{"from": start, "span": span} for start in ends for span in ("0s", "2s", "8s", "86400s")]
+        for options in cases:
+            compared(bench, f"from {written(first)}", options, TABLE, a, HEADER, "a")
+
+
+def every_fault(bench):
+    """`faults` takes each discard but copies, on a ledger that has each word of fields 6 to 9."""
+    fields = {"cut": "cut - - -", "runt": "runt - - -", "oversize": "oversize - - -", "foreign": "foreign - - -", "unconfigured": "unconfigured - - -",
+              "toolong": "toolong - - -", "excess": "regular excess - -", "out": "regular within out -", "copy": "regular within next copy",
+              "deliver": "regular within skip deliver", "both": "regular within off both"}
+    linked = {word for word in fields if word not in ("cut", "runt", "oversize", "foreign")}
+    lines = [f"{NOON + at} A {at} {'5' if word in linked else '-'} {'1' if word in linked else '-'} {text} - 00\n"
+             for at, (word, text) in enumerate(fields.items())]
+    bench.put(ledger="afdx-ledger 2\n" + "".join(lines))
+    taken = [line for line, word in zip(lines, fields) if word not in ("copy", "deliver", "both")]
+    ran = bench.cut({"verdict": "faults"}, "", "--ledger-only")
+    say("cut: --verdict faults, each word", difference(ran, SUCCESS, LINES["aborted"], "".join(taken).encode()))
 
 
 def late(bench):
@@ -341,6 +453,8 @@ def other_recordings(bench):
     changed("an earlier timestamp", 3, str(NOON + 10**9).encode(), str(NOON - 1).encode(), "order", third)
     changed("a line of other words", 3, b"unconfigured", b"unknown", "class", third)
     changed("a line without its last field", 3, b" 01\n", b"\n", "mask", third)
+    changed("bytes kept for no filter", 3, b" 60 01\n", b" 60 00\n", "mask", third)
+    changed("a filter that keeps no bytes", 3, b" 60 01\n", b" - 01\n", "mask", third)
     changed("another version", 0, b"ledger 2", b"ledger 1", "head", head)
     bench.put(ledger=b"".join([*lines[:3], lines[2], *lines[3:]]))
     refused(bench, "a line twice", LINES["order"].format(4), third, a, b)
@@ -417,14 +531,17 @@ def usage(bench):
     whole = bench.arguments()
     cases = [("no ledger", ["cut", "--a", bench.path("a")], "--ledger"), ("no recording", whole[:3], "--a, --b")]
     cases += [(f"--{name} twice", [*whole, f"--{name}", value, f"--{name}", value], f"--{name}") for name, value in
-              (("link", "5"), ("network", "A"), ("verdict", "out"), ("from", "1"), ("to", "1"), ("filters", "01"), ("around", "1"))]
+              (("link", "5"), ("network", "A"), ("verdict", "out"), ("from", "1"), ("to", "1"), ("span", "1s"), ("filters", "01"), ("around", "1"))]
     cases += [(f"--around {text!r}", [*whole, f"--around={text}"], "--around") for text in ("65536", "-1", "", "1.5", "one")]
     cases += [(f"--network {text!r}", [*whole, f"--network={text}"], "--network") for text in ("C", "a", "AB", "")]
     wrong = [("link", text) for text in ("5-4", "65536", "5,", ",5", "5--6", "", "brake", "5-")]
     wrong += [("verdict", text) for text in ("exces", "out,", "", "A", "out copy", "-")]
     wrong += [("filters", text) for text in ("", "0", "100", "0g", "+1", "00")]
     wrong += [(end, text) for end in ("from", "to") for text in ("24:00:00", "12:00", "12:60:00", "12:00:00.", "12:00:00.1234567890", "1969-12-31T23:59:59Z",
-              "2027-02-29T00:00:00Z", "2106-02-07T06:28:16Z", str(2**32 * 10**9), "-1", "+1", "noon", "2027-01-15T08:00:12", "2027-01-15T08:00:12+01:00", "")]
+              "2027-02-29T00:00:00Z", "2106-02-07T06:28:16Z", str(2**32 * 10**9), "-1", "noon", "+", "++1", "+-1", "+1.", "+.5", "+1.0123456789", "+1s", "1+1", "+ 1", "+1.2.3", "+1.+5", "+4294967296", "2027-01-15T08:00:12", "2027-01-15T08:00:12+01:00", "")]
+    wrong += [("span", text) for text in ("", "2", "s", "ms", "2m", "2h", "2ns", "-1s", "+1s", "1.s", ".5s", "1.0000000001s", "1.0000001ms", "1.0001us", "2 s", "2S", "2ss",
+              "2mss", "1e3s", "1:00s", "1.2.3s", "4294967296s", "4294967296us")]
+    cases += [("--to and --span", [*whole, "--to", "1", "--span", "1s"], "--to and --span both end the span of time: give one of them")]
     for name, arguments, mentioned in cases:
         ran = run(arguments, stdin=subprocess.DEVNULL, stdout=subprocess.PIPE)
         say(f"cut: {name}", difference(ran, USAGE, lambda told: mentioned in told, b""))
@@ -458,6 +575,22 @@ def devices(bench):
         say(f"cut: -o /dev/full {' '.join(flags)}", difference(bench.cut(None, "ab", *flags, "-o", "/dev/full"), FAULT, LINES["write"], b""))
 
 
+def older_outputs(bench):
+    """An output holds what a run without a fault wrote, be it nothing. After a fault before that it stands."""
+    a, b = small()
+    bench.watched(TABLE, EVERY, a, b)
+    out = bench.path("older")
+    for flags, written in (((), header()), (("--ledger-only",), b"")):
+        for name, options, status, line, left in (
+            ("no line is selected", {"verdict": "oversize"}, SUCCESS, nothing(bench.read("ledger"), {"verdict": "oversize"}), written),
+            ("a selection that is refused", {"verdict": "nonsense"}, FAULT, LINES["selection"].format("verdict", 0), b"older"),
+        ):
+            bench.put(older=b"older")
+            fault = difference(bench.cut(options, "ab", *flags, "-o", out), status, line, b"")
+            found = bench.read("older")
+            say(f"cut: an older output, {name} {' '.join(flags)}", fault or ("" if found == left else f"it holds {found!r}"))
+
+
 def a_million(bench, frames=1_000_000):
     """A ledger of a million lines and its recordings, in closed form: every 1000th frame on A, and all lines of B."""
     stamps = range(NOON, NOON + frames // 2 * 10**6, 10**6)
@@ -484,5 +617,5 @@ def a_million(bench, frames=1_000_000):
 def cases():
     with tempfile.TemporaryDirectory() as directory:
         bench = Bench(directory)
-        for part in (bounds, late, truncated_frames, unfinished, other_recordings, streams, ledger_of_a_pipe, usage, devices, generated, a_million):
+        for part in (bounds, midnight, every_fault, late, truncated_frames, unfinished, other_recordings, streams, ledger_of_a_pipe, usage, devices, older_outputs, generated, a_million):
             part(bench)

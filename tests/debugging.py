@@ -76,7 +76,9 @@ NOTE = "afdxmon: note: recording ends "
 ENDINGS = (
     ("truncated", ONE_FRAME + ONE_FRAME[24:99], 1, NOTE + "cut after 1 frame: truncated within a record"),
     ("truncated at its first packet", header() + b"\0", 0, NOTE + "cut after 0 frames: truncated within a record"),
-    ("out of order", header() + b"".join(record(stamp, frame(5, 60, 1)) for stamp in (7, 8, 6)), 2, NOTE + "bad after 2 frames: timestamp out of order"),
+    ("truncated within its first packet's bytes", ONE_FRAME[:99], 0, NOTE + "cut after 0 frames: truncated within a record"),
+    ("truncated within its second packet's header", (ONE_FRAME + ONE_FRAME[24:])[:115], 1, NOTE + "cut after 1 frame: truncated within a record"),
+    ("out of order", header() + b"".join(record(stamp, frame(5, 60, 1)) for stamp in (7, 8, 6)), 2, NOTE + "bad after 2 frames: timestamp out of order by 2 ns (--late-us 1 takes it)"),
 )
 
 

@@ -1,14 +1,19 @@
-"""The commands of README, docs/GUIDE.md and the man pages do what stands there, and what is said beside them is so."""
+"""The commands of README, docs/GUIDE.md, docs/FILTERS.md and the man pages do what stands there, and what is said beside them is so."""
 import os
 import re
 import shutil
+import signal
 import subprocess
 import tempfile
+import time
 
 from analyser import watch
-from harness import EVERY, PROGRAM, SUCCESS, TOP, difference, frame, header, say, skip
+from harness import EVERY, PROGRAM, SUCCESS, TOP, difference, frame, header, judge, run, say, skip
+from reference import HEADER, frames_of, record_of
 from watching import TABLE, Desk, read, tap
 
+# The interpreter for which Debian's packages are.
+DEBIAN_PYTHON = "/usr/bin/python3"
 TOOLS = ("editcap", "gzip", "jq", "mergecap", "tcpdump", "tshark", "xxd", "zcat")
 WRITTEN = re.compile(r"(?:(?<!2)>|\s(?:-w|-o|--ledger|--capture))\s*([\w.]+)")
 MS = 10**6
@@ -31,27 +36,68 @@ def surroundings(directory):
     return {"cwd": directory, "env": {**os.environ, "LC_ALL": "C", "PATH": path}, "timeout": 60}
 
 
+def has_pandas():
+    return subprocess.run([DEBIAN_PYTHON, "-c", "import pandas, matplotlib"], capture_output=True).returncode == 0
+
+
 def with_program(directory):
     os.mkdir(os.path.join(directory, "bin"))
     os.symlink(PROGRAM, os.path.join(directory, "bin", "afdxmon"))
+    if os.path.exists(DEBIAN_PYTHON):
+        os.symlink(DEBIAN_PYTHON, os.path.join(directory, "bin", "python3"))
 
 
-def pages(directory):
-    """Runs the commands of the pages in a directory with the examples."""
-    with_program(directory)
-    os.symlink(os.path.join(TOP, "examples"), os.path.join(directory, "examples"))
+def page_in(directory, page):
+    """Runs the commands of a page in a directory, one after another."""
     how = {**surroundings(directory), "stdout": subprocess.PIPE, "stderr": subprocess.STDOUT}
     absent = set()
-    for page in (os.path.join("docs", "GUIDE.md"), "README.md"):
-        for command, printed in commands_of(page):
-            name = f"{page}: {' '.join(command.split())[:100]}"
-            why = missing_for(command, absent)
-            if why:
-                absent.update(WRITTEN.findall(command))
-                skip(name, why)
-                continue
-            ran = subprocess.run(["bash", "-c", command], **how)
-            say(name, "" if ran.stdout == printed.encode() else f"printed {ran.stdout[:300]!r}")
+    for command, printed in commands_of(page):
+        name = f"{page}: {' '.join(command.split())[:100]}"
+        why = missing_for(command, absent)
+        if why:
+            absent.update(WRITTEN.findall(command))
+            skip(name, why)
+            continue
+        ran = subprocess.run(["bash", "-c", command], **how)
+        say(name, "" if ran.stdout == printed.encode() else f"printed {ran.stdout[:300]!r}")
+
+
+def pages():
+    """The commands of the pages for users run in a copy of the examples."""
+    for page in ("README.md", os.path.join("examples", "README.md"), os.path.join("docs", "GUIDE.md"), os.path.join("docs", "FILTERS.md")):
+        with tempfile.TemporaryDirectory() as directory:
+            copy = shutil.copytree(os.path.join(TOP, "examples"), os.path.join(directory, "examples"))
+            with_program(copy)
+            page_in(copy, page)
+
+
+def sources():
+    """The example of docs/FILTERS.md keeps what its comment says."""
+    (source,) = re.findall(r"^```\n(; .*?)^```", read(os.path.join(TOP, "docs", "FILTERS.md")).decode(), re.M | re.S)
+    with open(os.path.join(TOP, "examples", "three_links.pcap"), "rb") as given:
+        recorded = given.read()
+    keeps = [(stamp, whole, data[: {5: whole, 6: whole, 7: 100}.get(int.from_bytes(data[4:6], "big"), 0)]) for stamp, whole, data in frames_of(recorded)]
+    expected = HEADER + b"".join(record_of(stamp, whole, kept) for stamp, whole, kept in keeps)
+    with tempfile.TemporaryDirectory() as directory:
+        path = os.path.join(directory, "example.asm")
+        with open(path, "w", encoding="utf-8") as out:
+            out.write(source)
+        ran = run(["capture", "--source", path], input=recorded, stdout=subprocess.PIPE)
+    judge("docs/FILTERS.md: the example", ran, SUCCESS, "", expected)
+
+
+def session():
+    """The commands of docs/DEBUGGER.md write its files, and begin its session."""
+    page = read(os.path.join(TOP, "docs", "DEBUGGER.md")).decode()
+    command = re.search(r"^```\n(echo .*?)^```", page, re.M | re.S)[1]
+    tool = missing_tool(command)
+    if tool:
+        skip("docs/DEBUGGER.md: its files", f"no {tool} here")
+        return
+    with tempfile.TemporaryDirectory() as directory:
+        with_program(directory)
+        ran = subprocess.run(["bash", "-e", "-c", command], input=b"tally\n", capture_output=True, **surroundings(directory))
+    judge("docs/DEBUGGER.md: its files", ran, SUCCESS, "", b"frames 3\ntally accepted 0 rejected 3\n")
 
 
 def missing_for(command, absent):
@@ -64,35 +110,9 @@ def missing_for(command, absent):
 
 
 def missing_tool(command):
+    if "import ledger" in command and not has_pandas():
+        return "pandas and matplotlib"
     return next((tool for tool in TOOLS if re.search(rf"\b{tool} ", command) and not shutil.which(tool)), None)
-
-
-def scripts():
-    """The commands of README whose output isn't shown end well, and say nothing on standard error."""
-    for block in re.findall(r"^```sh\n(.*?)^```", read(os.path.join(TOP, "README.md")).decode(), re.M | re.S):
-        with tempfile.TemporaryDirectory() as directory:
-            with_program(directory)
-            os.symlink(os.path.join(TOP, "examples"), os.path.join(directory, "examples"))
-            runs(f"README.md: {' '.join(block.split())[:100]}", block, directory)
-
-
-def anchors(page):
-    """The headings of a page, as links name them."""
-    headings = re.findall(r"^#+ (.*)", read(page).decode(), re.M)
-    return {re.sub(r"[^\w -]", "", heading.lower()).replace(" ", "-") for heading in headings}
-
-
-def links():
-    """Each link between the documents leads to a file, and to a heading there."""
-    documents = [os.path.join(TOP, "docs", name) for name in sorted(os.listdir(os.path.join(TOP, "docs"))) if name.endswith(".md")]
-    for page in (os.path.join(TOP, "README.md"), os.path.join(TOP, "examples", "README.md"), *documents):
-        broken = []
-        for link in re.findall(r"\]\((?!https?:)(.*?)\)", read(page).decode()):
-            path, _, anchor = link.partition("#")
-            target = os.path.join(os.path.dirname(page), path) if path else page
-            if not os.path.exists(target) or anchor and anchor not in anchors(target):
-                broken.append(link)
-        say(f"the links of {os.path.relpath(page, TOP)}", " ".join(broken))
 
 
 def runs(name, command, directory):
@@ -109,7 +129,7 @@ def literals(page):
     """The examples of a man page."""
     text = read(os.path.join(TOP, "man", page)).decode()
     blocks = re.findall(r"^\.Bd -literal.*?\n(.*?)^\.Ed", text, re.M | re.S)
-    return [block.replace("\\e", "\\") for block in blocks]
+    return [block.replace("\\&", "").replace("\\e", "\\") for block in blocks]
 
 
 def manual(directory):
@@ -123,8 +143,9 @@ def manual(directory):
     with_table = run.partition("\n")[2].replace("examples/flight.toml", "table.toml").replace("flight.ledger", "table.ledger")
     for command in (run, *others, with_table, search):
         runs(f"the manual: {' '.join(command.split())[:100]}", command, directory)
-    same = lines in read(os.path.join(directory, "flight.ledger")).decode()
-    say("the manual: lines of a ledger", "" if same else "the flight's has others")
+    ledger = read(os.path.join(directory, "flight.ledger")).decode()
+    others = [part for part in lines.split("..\n") if part not in ledger]
+    say("the manual: lines of a ledger", f"the flight's hasn't {others}" if others else "")
 
 
 def table_of_csv(directory):
@@ -163,14 +184,51 @@ def tagged(desk):
     say("frames with VLAN tags", difference(ran, SUCCESS, "", b"") or ("" if found == expected else f"judged {found}"))
 
 
+def interrupted(command, directory):
+    """What a ledger has half a second after Ctrl-C, of a run whose recorders pause at their recordings' ends. Is it whole?"""
+    how = {**surroundings(directory), "stdout": subprocess.DEVNULL, "stderr": subprocess.DEVNULL}
+    del how["timeout"]
+    # As a terminal starts it, whatever this process ignores.
+    child = subprocess.Popen(["bash", "-c", command], start_new_session=True, preexec_fn=lambda: signal.signal(signal.SIGINT, signal.SIG_DFL), **how)
+    ledger = os.path.join(directory, "stopped.ledger")
+    deadline = time.monotonic() + 60
+    while time.monotonic() < deadline and not (os.path.exists(ledger) and read(ledger).count(b"\n") == 9369):
+        time.sleep(0.05)
+    time.sleep(0.3)
+    os.killpg(child.pid, signal.SIGINT)
+    try:
+        child.wait(10)
+    except subprocess.TimeoutExpired:
+        os.killpg(child.pid, signal.SIGKILL)
+        child.wait()
+    text = read(ledger)
+    os.remove(ledger)
+    return text
+
+
+def stopping(directory):
+    """A live run that Ctrl-C stops, and one whose recorders alone it stops, as the guide has them."""
+    with_program(directory)
+    os.symlink(os.path.join(TOP, "examples"), os.path.join(directory, "examples"))
+    taps = " ".join(f"--{tap} <(trap - INT; cat examples/flight_{tap}.pcap; exec sleep 60)" for tap in "ab")
+    command = f"afdxmon watch --config examples/flight.toml {taps} --ledger stopped.ledger"
+    left = interrupted(command, directory)
+    whole = interrupted(f"(trap '' INT; exec {command})", directory)
+    say("Ctrl-C leaves a recorders' run complete", "" if whole.splitlines()[-1].startswith(b"total ") else f"{whole[-100:]!r}")
+    is_first = whole.startswith(left) and left.endswith(b"\n") and left.count(b"\n") == 9369
+    say("Ctrl-C leaves whole lines of what was safe", "" if is_first and b"\ntotal" not in left else f"{left[-100:]!r}")
+
+
 def cases():
-    links()
-    scripts()
+    pages()
+    sources()
+    session()
     with tempfile.TemporaryDirectory() as directory:
-        pages(directory)
         table_of_csv(directory)
     with tempfile.TemporaryDirectory() as directory:
         with_program(directory)
         manual(directory)
+    with tempfile.TemporaryDirectory() as directory:
+        stopping(directory)
     with tempfile.TemporaryDirectory() as directory:
         tagged(Desk(directory))

@@ -9,8 +9,10 @@ import re
 import struct
 import subprocess
 import tempfile
+from decimal import Decimal
 from itertools import accumulate
 
+from check import moment
 from harness import EVERY, FAULT, SUCCESS, difference, frame, header, record, run, say
 from reference import parse
 
@@ -69,7 +71,7 @@ class Side:
             return f"# {network}: no frame.\n"
         text = f"# {network}: {len(self.stamps)} frames; of their numbers {self.follow} follow, {self.others} don't.\n"
         if self.gaps:
-            reach = f"{min(self.gaps) // 1000} to {max(self.gaps) // 1000} us, median from {self.median[0] // 1000} us"
+            reach = f"{min(self.gaps) // 1000} to {max(self.gaps) // 1000} us, median about {about(self.median[0])}"
             text += f"# {network}: intervals {reach}.\n"
         return text
 
@@ -79,7 +81,7 @@ class Side:
         if not most:
             return 0, ""
         at = self.stamps[1 + needs.index(max(needs))]
-        text = f"# {network}: a jitter of {most} us is needed first at {at // 10**9} s {at % 10**9} ns"
+        text = f"# {network}: the largest jitter needed is {most} us, first at {moment(at)}"
         text += ", more than a table allows" if most > 100_000 else ""
         enough = [p for p in range(18) if sum(need // 1000 >= 1 << p for need in needs) <= len(self.stamps) // 1000]
         text += f"; all but 0.1 per cent of the frames need less than {1 << enough[0]} us" if enough else ""
@@ -146,6 +148,21 @@ def draft(a, b, wanted=None):
     return drafted(HEAD, a, b, wanted, lambda links: "".join(link_text(link, links[link]) for link in sorted(links)))
 
 
+def about(nanos):
+    """A length of time in three digits, rounded up."""
+    micros = -(-nanos // 1000)
+    step = 10 ** max(len(str(micros)) - 3, 0)
+    micros = -(-micros // min(step, 1000)) * min(step, 1000)
+    return f"{micros} us" if micros < 1000 else f"{Decimal(micros) / 1000:f} ms"
+
+
+def window_text(a, b, late):
+    """The line of `late_us`: twice what was seen, at least 100 and at most 1000000."""
+    seen = -(-late // 1000)
+    why = "no recording was given" if a is None and b is None else f"one was {seen} us late" if seen else "none was seen"
+    return f"late_us = {min(max(2 * seen, 100), 10**6)}  # room for timestamps out of order: {why}\n"
+
+
 def drafted(head, a, b, wanted, texts):
     """A draft with this head, and the text of all links, by their frames."""
     text, frames, unusable, late = head, [], 0, 0
@@ -170,16 +187,18 @@ def drafted(head, a, b, wanted, texts):
             strays += 1
             continue
         fields.setdefault(constant, []).append((link, network, stamp, length, data[-1]))
-    text += f"# {unusable} frames weren't recorded whole, or aren't of 60 to 1514 bytes.\n" if unusable else ""
+    text += f"# {unusable} frames weren't recorded whole, or aren't of 60 to 1514 bytes. A link that has no others isn't here.\n" if unusable else ""
     if not fields:
         none = "this constant field" if wanted is not None else "a constant field with bits 24 and 25 set"
-        return text + f"# No frame has {none}.\nconstant = {GROUP if wanted is None else wanted}\n" + texts({})
+        none = f"No frame has {none}" if a is not None or b is not None else "No recording was given"
+        assumed = f"{none}: 0x{GROUP:08x} is assumed" if wanted is None else none
+        return text + f"# {assumed}.\nconstant = {GROUP if wanted is None else wanted}\n" + window_text(a, b, late) + texts({})
     main = max(fields, key=lambda constant: len(fields[constant]))
     for constant, of in fields.items():
         text += f"# Another constant field: {constant}, in {len(of)} frames.\n" if constant != main else ""
     text += f"# {strays} frames have further constant fields.\n" if strays else ""
     text += f"\nconstant = {main}  # {len(fields[main])} frames\n"
-    text += f"late_us = {-(-late // 1000)}  # a frame came so much after one of a later timestamp\n" if late else ""
+    text += window_text(a, b, late)
     links = {}
     for link, network, stamp, length, number in fields[main]:
         links.setdefault(link, []).append((network, stamp, length, number))

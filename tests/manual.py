@@ -73,10 +73,10 @@ def options_of_the_page(options):
     say("the man page has each command", differ(described, {command for command in options if command}))
     for command in filter(None, options):
         if command != "help":
-            own = options[command] - {"-h", "--help"}
+            own = options[command] - {"-h", "--help", "-v", "--verbose"}
             say(f"the man page on {command}", differ(options_in_page(described.get(command, "")), own))
             say(f"the synopsis of {command}", differ(usage.get(command, ()), own))
-    say("the man page's own options", differ(options_in_page(sections(page, "Sh")["OPTIONS"]), options[""]))
+    say("the man page's own options", differ(options_in_page(sections(page, "Sh")["OPTIONS"]), options[""] | {"-v", "--verbose"}))
 
 
 class Bash:
@@ -179,6 +179,23 @@ def offered(shell, options):
             say(f"{shell.name} completes the file of {command} {option}", differ(names, {"afdxmon.bash"}))
 
 
+def generated():
+    """The completions and the synopsis are those that tools/completions makes of the help, and two man pages those that
+    tools/manuals makes of their documents."""
+    tools = (
+        ("completions", [PROGRAM], "the help", ("completions/_afdxmon", "completions/afdxmon.bash", "completions/afdxmon.fish", "man/afdxmon.1")),
+        ("manuals", [], "its document", ("man/afdxmon-table.5", "man/afdxmon-ledger.5")),
+    )
+    with tempfile.TemporaryDirectory() as folder:
+        for part in ("completions", "docs", "man"):
+            shutil.copytree(os.path.join(TOP, part), os.path.join(folder, part))
+        for tool, arguments, source, names in tools:
+            subprocess.run([os.path.join(TOP, "tools", tool), *arguments, folder], check=True, timeout=120)
+            for name in names:
+                same = read(folder, name) == read(TOP, name)
+                say(f"{name} is as made of {source}", "" if same else f"it isn't: make {tool}")
+
+
 def completions(options):
     for shell in (Bash(), Fish(), Zsh()):
         if not shutil.which(shell.name):
@@ -195,7 +212,7 @@ def entries(page, macro="Ic"):
 
 
 def numbers(text):
-    return set(re.findall(r"(?<![\w.])\d+(?![\w.])", text))
+    return set(re.findall(r"(?<![\w.])\d+(?!\.?\w)", text))
 
 
 def keys():
@@ -214,10 +231,10 @@ def words():
     """The words of a ledger, and its lines of counts."""
     described = {word.split()[0] for word in entries(read(MAN, "afdxmon-ledger.5"))}
     document = read(TOP, "docs", "LEDGER.md")
-    tables = document.partition("## What a switch")[2].partition("What to look for")[0]
+    tables = document.partition("## Discarded")[2].partition("What to look for")[0]
     known = {word for row in re.findall(r"^\| (`.*?) \|", tables, re.M) for word in re.findall(r"`(\w+)`", row)}
     known |= set(re.findall(r"^\| `(\w+) ", document.partition("## The lines of counts")[2], re.M))
-    say("afdxmon-ledger(5) has each word", differ(described, known | {"regular"}))
+    say("afdxmon-ledger(5) has each word", differ(described, known))
 
 
 def fault_lines():
@@ -225,8 +242,8 @@ def fault_lines():
     tagged = [row for page in PAGES for row in re.findall(r"^\.It Li (\w+ \d.*)", read(MAN, page), re.M)]
     found = {" ".join(re.sub(r"\bAr \w+|\bLi\b", "", row).split()) for row in tagged}
     documents = read(TOP, "docs", "MESSAGES.md") + read(TOP, "docs", "TABLE.md")
-    lines = re.findall(r"`(?:afdxmon: )?((?:asm|debug|numeric|load|cut|watch|config) \d \w[\w ]*)`", documents)
-    known = {re.sub(r"(?<=at) [NI]\b|(?<=word) W\b|(?<=link) \d| (?:WHAT|REASON|OPTION)\b", "", line) for line in lines}
+    lines = re.findall(r"`(?:afdxmon: )?((?:asm|debug|numeric|load|cut|links|check|report|watch|config) \d \w[\w ]*)`", documents)
+    known = {re.sub(r"(?<=at) [NI]\b|(?<=word) W\b|(?<=link) \d| (?:WHAT|REASON|OPTION|COLUMN|FAULT)\b", "", line) for line in lines}
     say("the man pages have each fault line", differ(found, known))
 
 
@@ -250,6 +267,7 @@ def cases():
     options = {command: options_in_help(help_on(command)) for command in commands_in_help() if command != "help"}
     options.update({"": options_in_help(help_on()), "help": set()})
     options_of_the_page(options)
+    generated()
     completions(options)
     keys()
     words()

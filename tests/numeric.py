@@ -1,6 +1,6 @@
 """A slow reader of the numeric form, and a filter's text cut at every byte and changed at every byte, beside it.
 
-The reader follows docs/FORMATS.md on the whole list of bytes: commas and newlines separate items, other blanks the numbers
+The reader follows docs/FILTERS.md on the whole list of bytes: commas and newlines separate items, other blanks the numbers
 of an item, and the first fault has the byte offset that the table there gives it.
 """
 import re

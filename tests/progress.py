@@ -9,7 +9,7 @@ import time
 
 from analyser import watch
 from harness import EVERY, PROGRAM, SUCCESS, frame, header, recording, say, shown
-from summaries import NO_COPY, summary_of
+from summaries import OTHER_TABLE, summary_of
 from watching import TABLE, Desk, tap
 
 LINE = re.compile(r"afdxmon: (?:A (\d+) %, )?(?:B (\d+) %, )?(\d+) frames, (\d+) a second")
@@ -78,7 +78,7 @@ def networks(desk):
         many = recording(1001, layout, unit, sizes=(60, 300))
         cut = len(many) - 40
         expected = watch(TABLE, EVERY, many, few)
-        summary = summary_of(expected.lines + expected.summary, NO_COPY)
+        summary = summary_of(expected.lines + expected.summary, OTHER_TABLE)
         for quiet in (False, True):
             desk.lay(config=TABLE, filter=EVERY, b=few)
             arguments = desk.arguments(a=pipe) + ["--quiet"] * quiet

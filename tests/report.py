@@ -156,6 +156,66 @@ def silences_of_one_network(folder):
     say("report: one network alone: page", page_fault(table, ledger))
 
 
+STEP = 10**6
+OF_NO_LINK = frame(9999, 60, 1)
+
+
+def one_link():
+    return [{"id": 10, "name": "link", "bag_ms": 1, "jitter_us": 0, "smax": 100, "integrity": True, "redundancy": True, "skew_us": 1000}]
+
+
+def lines_between(own, counts):
+    """Frames of the link on one network, each second number missing, and so many of no link on the other between each two."""
+    other = report_reference.OTHER[own]
+    taps, number = {own: [(0, frame(10, 60, 1))], other: []}, 1
+    for i, count in enumerate(counts):
+        taps[other] += [(i * STEP + 1000 * (j + 1), OF_NO_LINK) for j in range(count)]
+        number = following(following(number))
+        taps[own].append(((i + 1) * STEP, frame(10, 60, number)))
+    return taps
+
+
+def so_many_alone(own, count):
+    """Frames of the link on both networks, then so many on one alone, while others come on the other, then on the other first."""
+    other = report_reference.OTHER[own]
+    taps = {own: [(0, frame(10, 60, 1))], other: [(100, frame(10, 60, 1))]}
+    for i in range(1, count + 1):
+        taps[own].append((i * STEP, frame(10, 60, i + 1)))
+        taps[other].append((i * STEP + 500, OF_NO_LINK))
+    last = (count + 1) * STEP
+    taps[other].append((last, frame(10, 60, count + 2)))
+    taps[own].append((last + 100, frame(10, 60, count + 2)))
+    return taps
+
+
+def at_the_bounds(folder):
+    """The bounds of docs/REPORT.md: the slow counter has them too, and what they make of each ledger is said here as well."""
+    table = table_of(one_link())
+
+    def judged(name, taps, wanted, told_of):
+        paths = ledger_in(folder, table, taps)[:2]
+        fault = numbers_fault(*paths)
+        if not fault:
+            told = told_of(json.loads(report(*paths, "--json").stdout))
+            fault = "" if told == wanted else f"{told} in place of {wanted}"
+        say(f"report: {name}", fault)
+
+    for own in "AB":
+        mine, other = own.lower(), report_reference.OTHER[own].lower()
+
+        def silences(told):
+            lane = told["links"][0][mine]
+            lost = sum(sign["count"] for sign in lane["signs"] if sign["sign"] == "lost")
+            return [s["lines"] for s in told[mine]["silences"]], told[mine]["more_silences"], lost, lane["lost_after_silence"]
+
+        judged(f"63, 64 and 65 lines between two of {own}", lines_between(own, (63, 64, 65)), ([64, 65], 0, 1, 2), silences)
+        judged(f"1024 silences of {own}", lines_between(own, [64] * 1024), ([64] * 1024, 0, 0, 1024), silences)
+        judged(f"1025 silences of {own}", lines_between(own, [64] * 1025), ([64] * 1024, 1, 1, 1024), silences)
+        for count, wanted in ((7, None), (8, 8), (9, 9)):
+            judged(f"{count} lines in a row on {own} alone", so_many_alone(own, count), wanted,
+                   lambda told: (told["links"][0][other]["absence"] or {"lines": None})["lines"])
+
+
 def empty_and_many(folder):
     links = [dict(links_of(random.Random(1), 1)[0], id=i + 1, name=f"l{i}", redundancy=True, integrity=True, smax=200)
              for i in range(4096)]
@@ -195,9 +255,16 @@ def broken(folder):
             mine[at] = mine[at].replace(old, new, 1)
         return edit
 
+    def ended_by(at, fields):
+        def edit(mine):
+            mine[at] = " ".join([*mine[at].split()[:9], fields]) + "\n"
+        return edit
+
     number = lines[regular].split()[3]
     told("no head", put(0, "2", "1"), "report 1 Ledger at 1 head")
     told("a line that doesn't read", put(regular, "regular", "irregular"), f"report 1 Ledger at {regular + 1} class")
+    told("bytes kept for no filter", ended_by(regular, "60 00"), f"report 1 Ledger at {regular + 1} mask")
+    told("a filter that keeps no bytes", ended_by(regular, "- ff"), f"report 1 Ledger at {regular + 1} mask")
     told("a link outside the table", put(regular, f" {number} ", " 9999 "), f"report 2 Contradiction at {regular + 1} link")
     told("a copy without its delivery", put(copy, lines[copy].split()[1], "AB"[lines[copy].split()[1] == "A"]),
          f"report 2 Contradiction at {copy + 1} copy")
@@ -217,7 +284,7 @@ def in_a_browser(folder):
     page = os.path.join(folder, "report.html")
     run(["report", "--config", table, "--ledger", ledger, "-o", page])
     shown, printed = os.path.join(folder, "page.png"), os.path.join(folder, "page.pdf")
-    ways = [(f"{width} pixels wide", shown, [f"--window-size={width},1000", f"--screenshot={shown}"]) for width in (1400, 800)]
+    ways = [(f"{width} pixels wide", shown, [f"--window-size={width},1000", f"--screenshot={shown}"]) for width in (1400, 800, 500)]
     ways.append(("in the dark", shown, ["--blink-settings=preferredColorScheme=0", f"--screenshot={shown}"]))
     ways.append(("on A4", printed, ["--no-pdf-header-footer", f"--print-to-pdf={printed}"]))
     for name, made, options in ways:
@@ -235,6 +302,7 @@ def cases():
     with tempfile.TemporaryDirectory() as folder:
         generated(folder)
         silences_of_one_network(folder)
+        at_the_bounds(folder)
         empty_and_many(folder)
         broken(folder)
         in_a_browser(folder)

@@ -16,6 +16,7 @@ SIGNS = CLASSES + ["excess", "out", "lost", "repeat", "reset", "alone", "late", 
 TROUBLES = ["toolong", "excess", "out", "lost", "late", "alone"]
 OTHER = {"A": "B", "B": "A"}
 SILENT_LINES, MOST_SILENCES, ABSENT_LINES, WINDOW_BAGS, BINS = 64, 1024, 8, 127, 240
+SECOND, WHOLE = 10**9, 262144
 
 
 def optional(field, read=int):
@@ -74,6 +75,18 @@ def counts(lines):
     return said
 
 
+def takes_whole(text):
+    """Is the filter one `ret #k` that takes every frame whole?"""
+    form = text.split(",")
+    fields = form[1].split()
+    return int(form[0]) == 1 and fields[0] == "6" and int(fields[3]) >= WHOLE
+
+
+def bytes_of(ledger, lines):
+    """With the check sequence, where sizes are known."""
+    return sum(l.kept + 4 for l in lines if l.kept is not None) if ledger.sizes else None
+
+
 def place(line):
     return {"stamp": str(line.stamp), "number": line.number}
 
@@ -90,17 +103,21 @@ def signs(hits):
 
 
 class Ledger:
-    def __init__(self, lines):
-        self.lines = lines
+    def __init__(self, lines, sizes):
+        self.lines, self.sizes = lines, sizes
         self.of = {n: [l for l in lines if l.network == n] for n in "AB"}
         self.places = {n: [l.at for l in self.of[n]] for n in "AB"}
-        self.silences, self.more = {}, {}
+        self.silences, self.more, self.usual = {}, {}, {}
         for n in "AB":
-            found = []
+            found, usual = [], [0]
             for p, q in zip(self.of[n], self.of[n][1:]):
-                if q.at - p.at - 1 >= SILENT_LINES:
+                long = p.ordinal >= SILENT_LINES and q.stamp - p.stamp >= max(SECOND, 8 * max(usual))
+                if not long:
+                    usual.append(q.stamp - p.stamp)
+                if q.at - p.at - 1 >= SILENT_LINES or long:
                     found.append({"after": p.ordinal, "from": str(p.stamp), "to": str(q.stamp), "lines": q.at - p.at - 1})
             self.silences[n], self.more[n] = found[:MOST_SILENCES], max(0, len(found) - MOST_SILENCES)
+            self.usual[n] = max(usual)
         self.silent = {n: {s["after"] for s in self.silences[n]} for n in "AB"}
 
     def covered(self, network, at):
@@ -112,12 +129,54 @@ class Ledger:
         return any(p.ordinal <= after < q.ordinal for after in self.silent[p.network])
 
 
-def median(skews):
-    if not skews:
+def ranked(values, index):
+    """The value at this index of the rising order, rounded down to five binary digits."""
+    if not values:
         return 0
-    value = sorted(skews)[(len(skews) - 1) // 2]
+    value = min(sorted(values)[index], 2**31 - 1)
     shift = max(0, value.bit_length() - 5)
     return value >> shift << shift
+
+
+def median(skews):
+    return ranked(skews, (len(skews) - 1) // 2)
+
+
+def interval(p, q):
+    return {"from": str(p), "to": str(q)}
+
+
+def gaps_of(ledger, link, seen, lanes):
+    """The times between deliveries, and which of them are told."""
+    delivered = [l for l in seen if l.redundancy in ("deliver", "both")]
+    pairs = [(p.stamp, q.stamp) for p, q in zip(delivered, delivered[1:])
+             if not any(p.stamp <= int(s["from"]) and s["after"] < q.ordinal for s in ledger.silences[q.network])]
+    times = [q - p for p, q in pairs]
+    most = max(0, len(times) - 1)
+    longest = max(pairs, key=lambda pair: pair[1] - pair[0], default=None)
+    usual, fourth = ranked(times, most - most // 4), ranked(times, max(0, len(times) - 4))
+    last = delivered[-1].stamp if delivered else None
+    said = {"gaps": {"last": None if last is None else str(last), "count": len(times), "longest": longest and interval(*longest),
+                     "usual": usual, "fourth": fourth}, "gap": None, "stop": None}
+    if len(times) >= 127 and fourth < 31 << 26:
+        bound = max(fourth, link["bag"]) * (64 if fourth > 32 * usual else 8)
+        end = max(ledger.of[n][-1].stamp for n in "AB" if lanes[n])
+        said["gap"] = interval(*longest) if longest[1] - longest[0] > bound else None
+        said["stop"] = interval(last, end) if end - last > bound else None
+    return said, len(times) >= 127 and fourth <= 2 * usual
+
+
+def missing_in_silences(ledger, link, lane, network, intervals, has_rate):
+    """About how many numbers are missing in silences of the network, where the rate is known."""
+    if not lane or not link["integrity"]:
+        return 0
+    first, last = lane[0].stamp, lane[-1].stamp
+    time = sum(max(0, min(int(s["to"]), last) - max(int(s["from"]), first)) for s in ledger.silences[network])
+    if time == 0:
+        return 0
+    if not has_rate:
+        return None
+    return (2 * time * len(intervals) + sum(intervals)) // (2 * sum(intervals)) if sum(intervals) else 0
 
 
 def losses(ledger, lane):
@@ -207,7 +266,7 @@ def row_of(name, of, start, width, merge=sum):
 
 def timeline(lines, hits, copies, start, width):
     """The rows in which something came."""
-    rows = [("frames", [(l, 1) for l in lines], sum), ("bytes", [(l, l.kept + 24) for l in lines if l.kept is not None], sum),
+    rows = [("frames", [(l, 1) for l in lines], sum), ("load", [(l, l.kept + 24) for l in lines if l.kept is not None], sum),
             ("skew", copies, max)]
     rows += [(sign, [(l, n) for s, l, n in hits if s == sign and n > 0], sum) for sign in SIGNS]
     return [row_of(name, of, start, width, merge) for name, of, merge in rows if of]
@@ -227,9 +286,9 @@ def absence(ledger, seen, network):
     return best
 
 
-def lane_of(ledger, link, lane, own_fates, seen, network):
+def lane_of(ledger, link, lane, own_fates, seen, network, has_rate):
     hits = []
-    said = {"frames": len(lane), "bytes": sum(l.kept + 4 for l in lane if l.kept is not None), "excess_lead": 0,
+    said = {"frames": len(lane), "bytes": bytes_of(ledger, lane), "excess_lead": 0,
             "lost_after_silence": 0, "out_after_silence": 0}
     intervals = []
     for p, q in zip(lane, lane[1:]):
@@ -261,6 +320,7 @@ def lane_of(ledger, link, lane, own_fates, seen, network):
     said["least"] = min(intervals, default=None)
     said["greatest"] = max(intervals, default=None)
     said["interval_sum"], said["intervals"] = sum(intervals), len(intervals)
+    said["missing_in_silences"] = missing_in_silences(ledger, link, lane, network, intervals, has_rate)
     said["uncovered"] = sum(fate == "uncovered" for fate, _ in own_fates)
     said["absence"] = absence(ledger, seen, network)
     said["signs"] = signs(hits)
@@ -277,14 +337,19 @@ def link_of(ledger, link):
             "fates": {f: sum(g == f for g, _ in ends) for f in ("paired", "late", "first", "met", "uncovered", "alone")},
             "copies": len(of_copies), "skew_sum": sum(of_copies), "skew_greatest": max(of_copies, default=0),
             "skew_median": median(of_copies), "late_greatest": max(late, default=0), "lost_both": lost_on_both(ledger, link, lanes)}
+    gaps, has_rate = gaps_of(ledger, link, seen, lanes)
+    said.update(gaps)
     hits = {}
     for n in "AB":
-        said[n.lower()], hits[n] = lane_of(ledger, link, lanes[n], [(f, l) for f, l in ends if l.network == n], seen, n)
+        said[n.lower()], hits[n] = lane_of(ledger, link, lanes[n], [(f, l) for f, l in ends if l.network == n], seen, n, has_rate)
     said["signs"] = sum(amount for n in "AB" for sign, _, amount in hits[n] if sign in TROUBLES)
     resets = any(sign == "reset" for n in "AB" for sign, _, _ in hits[n])
-    never = any(not lanes[n] and ledger.of[n] for n in "AB")
-    said["level"] = ("silent" if not seen else "trouble" if never or said["signs"] >= 3 and said["signs"] * 1000 >= len(seen)
-                     else "notice" if said["signs"] or resets else "clean")
+    never = link["redundancy"] and any(not lanes[n] and ledger.of[n] for n in "AB")
+    said["open"] = sum(min(sum(amount for sign, _, amount in hits[m] if sign == word), sum(l.cls == "cut" for l in ledger.of[n]))
+                       for n in "AB" for m, word in ((n, "lost"), (OTHER[n], "alone")))
+    sure = said["signs"] - said["open"]
+    many = sure >= 3 and sure * 1000 >= len(seen)
+    said["level"] = ("silent" if not seen else "trouble" if never or many or said["gap"] or said["stop"] else "notice" if said["signs"] or resets else "clean")
     return said, hits, copies
 
 
@@ -300,7 +365,7 @@ def network_of(ledger, network, tail, hits, copies, start, width):
     own = [(rule_of(l), l, 1) for l in lines if rule_of(l)]
     own += [(s, l, n) for s, l, n in hits if s in ("lost", "repeat", "reset", "alone", "late")]
     return {"frames": len(lines), "first": str(lines[0].stamp) if lines else None, "last": str(lines[-1].stamp) if lines else None,
-            "bytes": sum(l.kept + 24 for l in lines if l.kept is not None), "counts": counts(lines),
+            "bytes": bytes_of(ledger, lines), "counts": counts(lines), "usual": ledger.usual[network],
             "silences": ledger.silences[network], "more_silences": ledger.more[network], "ending": ending_of(tail, network),
             "signs": signs(own), "timeline": timeline(lines, own, copies, start, width)}
 
@@ -309,7 +374,7 @@ def reference(table_path, ledger_path):
     with open(table_path, "rb") as table:
         table = tomllib.load(table)
     lines, tail = read_lines(ledger_path)
-    ledger = Ledger(lines)
+    ledger = Ledger(lines, any(takes_whole(text) for text in table.get("filters", [])))
     links = []
     hits, copies = {"A": [], "B": []}, {"A": [], "B": []}
     for link in sorted(table.get("link", []), key=lambda l: l["id"]):

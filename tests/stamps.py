@@ -44,7 +44,7 @@ def of_the_program():
 class Tree:
     """A repository with a crate and a linked program, and tools/stamp."""
 
-    LINKED = b"\x7fELF and more\0afdxmon 0.1.0 (commit unknown-tree)\0unknown-tree\0"
+    LINKED = b"\x7fELF and more\0afdxmon 0.2.0 (commit unknown-tree)\0unknown-tree\0"
 
     def __init__(self, directory):
         self.directory = directory

@@ -4,6 +4,7 @@ filter, its recording and its output.
 import itertools
 import os
 import pty
+import select
 import subprocess
 import tempfile
 
@@ -197,6 +198,73 @@ def capture_faults(files):
     say("capture: a source's fault is shown at a terminal", "" if (ran.returncode, ran.stderr) == (FAULT, whole) else f"{ran.returncode}, {ran.stderr!r}")
 
 
+def ends_while_it_pauses(name, arguments, given, line, output):
+    """A command whose output can't be written, and whose input stays open after these bytes, ends at once."""
+    reads, writes = os.pipe()
+    os.write(writes, given)
+    child = subprocess.Popen([PROGRAM, *arguments], stdin=reads, stdout=output, stderr=subprocess.PIPE)
+    os.close(reads)
+    try:
+        told = child.communicate(timeout=5)[1].decode()
+        fault = "" if (child.returncode, told) == (FAULT, f"afdxmon: {line}\n") else f"status {child.returncode}, {told!r}"
+    except subprocess.TimeoutExpired:
+        child.kill()
+        child.wait()
+        fault = "it goes on"
+    os.close(writes)
+    say(f"{name} while its input pauses", fault)
+
+
+def refused_outputs(files):
+    """An output that can't be written, of an input that pauses after a part of a packet or of a line."""
+    some, lines = RECORDING[:5000], ledger_of(WHOLE)[:3000]
+    ledger = ["cut", "--ledger", "-", "--a", files.write("a.pcap", A), "--b", files.write("b.pcap", B)]
+    for name, arguments, given, line in (
+        ("capture", ["capture", "--code", EVERY], some, "watch 4 Write capture"),
+        ("capture --pcapng", ["capture", "--code", EVERY, "--pcapng"], some, "watch 4 Write capture"),
+        ("cut", ledger, lines, "cut 6 Write Output"),
+        ("cut --ledger-only", [*ledger, "--ledger-only"], lines, "cut 6 Write Output"),
+    ):
+        ends_while_it_pauses(f"{name} -o /dev/full", [*arguments, "-o", "/dev/full"], given, line, subprocess.DEVNULL)
+        reads, writes = os.pipe()
+        os.close(reads)
+        ends_while_it_pauses(f"{name} to a closed pipe", arguments, given, line, writes)
+        os.close(writes)
+
+
+def tells_while_it_pauses(name, arguments, given, line, held):
+    """A run whose output can't be written, and whose inputs stay open after these bytes, tells it at once, and ends with them."""
+    reads, writes = os.pipe()
+    os.write(writes, given)
+    child = subprocess.Popen([PROGRAM, *arguments], stdin=reads, stdout=subprocess.DEVNULL, stderr=subprocess.PIPE)
+    os.close(reads)
+    told = os.read(child.stderr.fileno(), 4096) if select.select([child.stderr], [], [], 5)[0] else b"nothing"
+    os.close(writes)
+    os.close(held)
+    try:
+        rest = child.communicate(timeout=20)[1]
+        fits = (child.returncode, told, rest) == (FAULT, f"afdxmon: {line}\n".encode(), b"")
+        fault = "" if fits else f"status {child.returncode}, {told!r}, then {rest!r}"
+    except subprocess.TimeoutExpired:
+        child.kill()
+        child.wait()
+        fault = "it goes on"
+    say(f"{name} while its inputs pause", fault)
+
+
+def refused_outputs_of_watch(desk):
+    """An output of `watch` that can't be written, while both recordings pause after a part of a packet."""
+    desk.lay(**GIVEN)
+    fifo = os.path.join(desk.directory, "fifo")
+    os.mkfifo(fifo)
+    for output in ("capture", "ledger"):
+        held = os.open(fifo, os.O_RDWR)
+        os.write(held, B[:5000])
+        arguments = desk.arguments(a="-", b=fifo, **{output: "/dev/full"})
+        tells_while_it_pauses(f"watch --{output} /dev/full", arguments, A[:5000], f"watch 4 Write {output}", held)
+    os.remove(fifo)
+
+
 def same_files(files):
     """An output that is the recording, the filter or the source, by each way to name it."""
     paths = {"filter": files.write("code", LINK5), "source": files.write("source", LINK5_SOURCE), "recording": files.write("in.pcap", RECORDING)}
@@ -299,6 +367,8 @@ def cases():
             files = Files(folder)
             captures(files)
             capture_faults(files)
+            refused_outputs(files)
+            refused_outputs_of_watch(desk)
             same_files(files)
             terminals(desk, files)
             misuse(files)

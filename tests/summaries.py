@@ -1,11 +1,11 @@
-"""Tests of the summary that `watch` ends with at a terminal: whole, with each hint, and nowhere else."""
+"""Tests of the summary that `watch` ends with at a terminal or with --verbose: whole, with each hint, and nowhere else."""
 import os
 import re
 import subprocess
 import tempfile
 
 from analyser import watch
-from harness import EVERY, SUCCESS, TOP, difference, frame, run_at_terminal, say
+from harness import EVERY, SUCCESS, TOP, difference, frame, header, record, run_at_terminal, say
 from texts import advice_on_ending
 from watching import LINK_5, TABLE, Desk, notes_on, read, tap
 
@@ -43,6 +43,8 @@ def summary_of(ledger, hint):
 FOREIGN = "nearly all frames are foreign: is the table's 'constant' that of this network?"
 TOO_LONG = "nearly all frames are too long: does 'smax' count a frame without its check sequence?"
 NO_COPY = "no frame is a copy of another: are the clocks of the taps apart?"
+OTHER_TABLE = "more than half of the frames are unconfigured: is the table that of another aircraft?"
+CUT_FRAMES = "more than one frame in a hundred is cut short: record frames whole, tcpdump -s 0"
 ONE_RECORDING = "each frame has its copy: are --a and --b two names of one recording?"
 
 
@@ -57,18 +59,22 @@ def tap_of(note):
 
 
 def summed(desk, name, config, a, b, hint):
-    """A run at a terminal, and then with --quiet: the notes alone."""
+    """A run at a terminal, and in a pipe with --verbose; and both with --quiet: the notes alone."""
     expected = watch(config, EVERY, a, b)
     ledger = expected.lines + expected.summary
-    told = "".join(f"{note}\n{desk.paths[tap_of(note)]}: {advice_on_ending(note)}\n" for note in notes_on(ledger).splitlines())
+    notes = notes_on(ledger, {"A": a, "B": b})
+    told = "".join(f"{note}\n{desk.paths[tap_of(note)]}: {advice_on_ending(note)}\n" for note in notes.splitlines())
     for more, whole in (((), told + summary_of(ledger, hint)), (("--quiet",), told)):
         desk.lay(config=config, filter=EVERY, a=a, b=b)
         ran = run_at_terminal([*desk.arguments(), *more], stdin=subprocess.DEVNULL)
         fault = "" if (ran.returncode, ran.stderr, ran.stdout) == (SUCCESS, whole, b"") else f"status {ran.returncode}, {ran.stderr!r}, not {whole!r}"
         left = desk.compared("capture", expected.capture) or desk.compared("ledger", ledger)
         say(" ".join(["watch: the summary", *more, "of", name]), fault or left)
+        desk.lay(config=config, filter=EVERY, a=a, b=b)
+        ran = desk.watch("--verbose", *more)
+        say(" ".join(["watch: the summary in a pipe --verbose", *more, "of", name]), difference(ran, SUCCESS, lambda text: text == whole, b""))
     desk.lay(config=config, filter=EVERY, a=a, b=b)
-    say(f"watch: --quiet in a pipe, of {name}", difference(desk.watch("--quiet"), SUCCESS, notes_on(ledger), b""))
+    say(f"watch: --quiet in a pipe, of {name}", difference(desk.watch("--quiet"), SUCCESS, notes, b""))
 
 
 def worst(desk):
@@ -113,6 +119,13 @@ def cases():
         summed(desk, "nine foreign frames in ten", other, tap(*few, (10**9, frame(5, 60, 1))), tap(), FOREIGN)
         summed(desk, "nine foreign frames in eleven", other, tap(*few, *frames(2, start=10**9)), tap(), None)
         summed(desk, "frames over Smax", short, tap(*frames(20, size=120)), tap(*frames(20, size=120)), TOO_LONG)
+        for unlisted, listed, hint in ((20, 20, None), (21, 20, OTHER_TABLE), (20, 0, OTHER_TABLE)):
+            strange = [(stamp, frame(77, 60, 1)) for stamp, _ in frames(unlisted, start=10**9)]
+            summed(desk, f"{unlisted} frames of {unlisted + listed} that the table lacks", TABLE, tap(*frames(listed), *strange), tap(), hint)
+        for cut, count, hint in ((1, 100, None), (2, 100, CUT_FRAMES), (1, 99, CUT_FRAMES), (2, 200, None), (3, 200, CUT_FRAMES)):
+            held = header() + b"".join(
+                record(stamp, data[: 50 if k < cut else 60], original=60) for k, (stamp, data) in enumerate(frames(count)))
+            summed(desk, f"{cut} cut frames of {count}", TABLE, held, tap(), hint)
         summed(desk, "taps a day apart", TABLE, tap(*sound), tap(*day), NO_COPY)
         summed(desk, "one recording twice", TABLE, tap(*sound), tap(*sound), ONE_RECORDING)
         example = [read(os.path.join(TOP, "examples", "flight" + end)) for end in (".toml", "_a.pcap", "_b.pcap")]

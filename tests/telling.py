@@ -8,8 +8,8 @@ from analyser import watch
 from blocks import CUSTOM, MOST_INTERFACES, Blocks
 from harness import EVERY, FAULT, PROGRAM, SUCCESS, difference, frame, header, readable_program, record, run, run_at_terminal, say
 from stamps import version_of_the_program
-from texts import ABOUT, ADVICE, ALLOWED, CHECK_SEQUENCES, COUNTS, EXPRESSION, GZIP, LINK_KEYS, NO_DOCUMENT, NOT_NUMERIC
-from texts import PROGRAM_HELP, SOURCE, TOP_KEYS, ZSTD, advice_on, advice_on_ending, help_of
+from texts import ABOUT, ADVICE, ALLOWED, CHECK_SEQUENCES, COUNTS, EXPRESSION, FULL, GZIP, LINK_KEYS, NO_DOCUMENT, NOT_NUMERIC
+from texts import PROGRAM_HELP, SOURCE, TOP_KEYS, XZ, ZSTD, advice_on, advice_on_ending, help_of
 from watching import LINK_5, TABLE
 
 MIB = 1 << 20
@@ -174,6 +174,7 @@ HEADS = (
     (b"\x0a\x0d\x0d\x0a" + bytes(40), "5 ByteOrderMagic", ADVICE["watch 2 Header A 5"]),
     (b"\x1f\x8b\x08\0" + bytes(40), "2 Magic", GZIP),
     (b"\x28\xb5\x2f\xfd" + bytes(40), "2 Magic", ZSTD),
+    (b"\xfd7zXZ\0" + bytes(40), "2 Magic", XZ),
     (header(link_type=0x24000001), "4 LinkType", CHECK_SEQUENCES),
     (header(layout=">", link_type=0x24000001), "4 LinkType", CHECK_SEQUENCES),
     (header(magic=0xA1B2C3D4, link_type=0x44000001), "4 LinkType", CHECK_SEQUENCES),
@@ -184,7 +185,7 @@ HEADS = (
 
 def twice(name, line, lead, arguments, advice=None, **how):
     """A fault at a terminal and elsewhere: the same status and fault line, and what leads to the advice, and that, at the
-    terminal alone. Whole lines lead to it, or the file's name before it."""
+    terminal and with -v alone. Whole lines lead to it, or the file's name before it."""
     expected = f"afdxmon: {line}\n"
     ran = run(arguments, stdout=subprocess.PIPE, **how)
     fault = difference(ran, FAULT, lambda told: told == expected, b"")
@@ -192,6 +193,9 @@ def twice(name, line, lead, arguments, advice=None, **how):
     whole = expected + lead + (advice or advice_on(line)) + "\n"
     if not fault and (ran.returncode != FAULT or ran.stderr != whole):
         fault = f"at a terminal: status {ran.returncode}, {ran.stderr!r}, not {whole!r}"
+    ran = run([arguments[0], "-v", *arguments[1:]], stdout=subprocess.PIPE, **how)
+    if not fault and (ran.returncode != FAULT or ran.stderr.decode() != whole):
+        fault = f"with -v: status {ran.returncode}, {ran.stderr!r}, not {whole!r}"
     say(f"{name}: {line}", fault)
     return line
 
@@ -216,6 +220,8 @@ def faults(desk):
     told += reports(desk)
     told.append(twice("a draft", "links 1 Constant", "", ["links", "--a", desk.paths["a"], "--constant", "5"], stdin=subprocess.DEVNULL))
     told.append("check 1 Unsound")  # check.py has it, beside the answer
+    told += ["file --manifest", "watch 4 Write manifest"]  # manifest.py has these
+    told += [f"report 5 Manifest {what}" for what in ("at 1 form", "version", "table", "ledger")]
     told += little_memory(desk)
     for key in ADVICE:
         if not any((line + " ").startswith(key) for line in told):
@@ -231,13 +237,14 @@ def runs(desk):
         desk.lay(**{"config": TABLE, "filter": EVERY, "a": header(), "b": header(), **contents})
         paths = {option: places[place] for option, place in elsewhere.items()}
         lead = lead.format(**{**desk.paths, **paths})
-        told.append(twice("a run", line, lead, desk.arguments(**paths), stdin=subprocess.DEVNULL))
+        advice = FULL if "4 Write" in line else None
+        told.append(twice("a run", line, lead, desk.arguments(**paths), advice=advice, stdin=subprocess.DEVNULL))
     desk.lay(config=TABLE, filter=EVERY, a=header(), b=header())
     twice("a path that is relative", "file --a", "./x: " + MISSING + "\n", desk.arguments(a="./x"), cwd=desk.directory, stdin=subprocess.DEVNULL)
     for given, fault, advice in HEADS:
         desk.lay(config=TABLE, filter=EVERY, a=header(), b=given)
         lead = desk.paths["b"] + ": "
-        twice("a file that is no recording", f"watch 2 Header B {fault}", lead, desk.arguments(), advice=advice, stdin=subprocess.DEVNULL)
+        twice("a file that is no recording", f"watch 2 Header B {fault}", lead, desk.arguments(), advice=advice.format(desk.paths["b"]), stdin=subprocess.DEVNULL)
     # Standard input isn't read again, so nothing more is known of it.
     given, lead = b"no recording: 0123456789", "standard input: "
     twice("a stream that is no recording", "watch 2 Header A 2 Magic", lead, ["capture", "--code", EVERY], input=given)
@@ -338,7 +345,7 @@ def reports(desk):
             out.write(text)
         told.append(twice("a report", line, f"{ledger}: ", ["report", "--config", desk.paths["config"], "--ledger", ledger], stdin=subprocess.DEVNULL))
     arguments = ["report", "--config", desk.paths["config"], "--ledger", desk.directory]
-    told.append(twice("a report", "report 3 Read Ledger", f"{desk.directory}: ", arguments, stdin=subprocess.DEVNULL))
+    told.append(twice("a report", "report 3 Read Ledger", f"{desk.directory}: ", arguments, advice=DIRECTORY, stdin=subprocess.DEVNULL))
     return told
 
 
@@ -370,7 +377,7 @@ def helps():
         asked += [([command, "--help"], help_of(command)), ([command, "-h"], help_of(command)), (["help", command], help_of(command))]
     for arguments, text in asked:
         # Where the usage is clap's own it names the program by its file.
-        for usage in ("Usage: afdxmon <COMMAND>", "Usage: afdxmon asm"):
+        for usage in ("Usage: afdxmon <COMMAND>", "Usage: afdxmon asm [OPTIONS]"):
             text = text.replace(usage, usage.replace("afdxmon", os.path.basename(PROGRAM)))
         fault = difference(run(arguments, stdin=subprocess.DEVNULL, stdout=subprocess.PIPE), SUCCESS, "", text.encode())
         ran = run_at_terminal(arguments, stdin=subprocess.DEVNULL)
@@ -418,11 +425,12 @@ def notes(desk):
     """The note on a recording that ends early, and at a terminal what to do with it. Elsewhere the note stands alone."""
     for given, ending in EARLY:
         note = f"afdxmon: note: recording ends {ending}\n"
+        late = " by 2 ns (--late-us 1 takes it)" if ending.endswith("out of order") else ""
         desk.lay(filter=EVERY, a=given)
         debug = ["debug", "--filter", desk.paths["filter"], "--tap", desk.paths["a"]]
-        for arguments, how, name in (
-            (["capture", "--code", EVERY], {"input": given}, "standard input"),
-            (debug, {"stdin": subprocess.DEVNULL}, desk.paths["a"]),
+        for arguments, how, name, note in (
+            (["capture", "--code", EVERY], {"input": given}, "standard input", note),
+            (debug, {"stdin": subprocess.DEVNULL}, desk.paths["a"], f"{note[:-1]}{late}\n"),
         ):
             ran = run(arguments, stdout=subprocess.PIPE, **how)
             fault = difference(ran, SUCCESS, note[:-1])

@@ -25,6 +25,7 @@ ADVICE = {
     "file --output": OUTPUT.format("output"),
     "file --capture": OUTPUT.format("capture"),
     "file --ledger": OUTPUT.format("ledger"),
+    "file --manifest": OUTPUT.format("manifest"),
     "file -": "standard input or output fails, or the text is longer than 16 MiB or not UTF-8",
     "asm 1 Text 1": "no token begins with this byte",
     "asm 1 Text 2": "not a number, or too large: 0x1f, 0b11, 017 and 31 are numbers",
@@ -66,6 +67,7 @@ ADVICE = {
     "watch 3 Read B": UNREADABLE,
     "watch 4 Write capture": "the capture can't be written: is the disk full, or the pipe closed?",
     "watch 4 Write ledger": "the ledger can't be written: is the disk full, or the pipe closed?",
+    "watch 4 Write manifest": "the manifest can't be written: is the disk full, or the pipe closed?",
     "watch 7": NO_MEMORY,
     "links 1 Constant": "--constant is a number of 32 bits, as 0x03000000 or 50331648",
     "check 1 Unsound": "a run with these inputs would not be sound: the answer says why",
@@ -75,6 +77,10 @@ ADVICE = {
     "report 2 Contradiction at 2 copy": "a copy without its delivery before it: was the ledger changed?",
     "report 2 Contradiction at 3 counts": "counts that its frames' lines don't give: was the ledger changed?",
     "report 3 Read Ledger": "the ledger can't be read: is it a file or a pipe?",
+    "report 5 Manifest at": "no manifest: afdxmon watch writes one by --manifest",
+    "report 5 Manifest version": "a manifest of another version than 1",
+    "report 5 Manifest table": "another SHA-256 than the manifest has: is it the table of the run?",
+    "report 5 Manifest ledger": "another length or SHA-256 than the manifest has: is it the ledger of the run?",
 }
 # What a table may have at each key.
 ALLOWED = {
@@ -96,8 +102,11 @@ TOP_KEYS = "the table has constant, late_us, filters and the links"
 LINK_KEYS = "a link has id, name, bag_ms, jitter_us, smax, integrity, redundancy and skew_us"
 COUNTS = "at most 4096 links and 7 filters"
 # The advice on a file that is no recording, by the first bytes that it has.
-GZIP = "compressed by gzip: gunzip in.pcap.gz"
-ZSTD = "compressed by zstd: unzstd in.pcap.zst"
+GZIP = "compressed by gzip: --b <(zcat {})"
+ZSTD = "compressed by zstd: --b <(zstdcat {})"
+XZ = "compressed by xz: --b <(xzcat {})"
+# What the system says of an output that it takes no longer.
+FULL = "No space left on device (os error 28)"
 CHECK_SEQUENCES = "its frames have their check sequence: editcap -F nsecpcap -L -C -4 in.pcap out.pcap takes it off"
 # The advice on a recording that ends early, by the words of its note.
 DAMAGED = "damaged there: editcap -F nsecpcap -r in.pcap out.pcap 1-{} keeps what is before"
@@ -124,7 +133,7 @@ DAMAGED_AT_ONCE = "the file is damaged at its first packet: record again"
 
 def advice_on_ending(note):
     """The advice on the recording of a note, a line of standard error."""
-    count, why = re.search(r"after (\d+) frames?: (.*)", note).groups()
+    count, why = re.search(r"after (\d+) frames?: (.*?)(?: by \S+ \S+(?: \(.*\))?)?$", note.rstrip("\n")).groups()
     advice = ENDINGS[why]
     return DAMAGED_AT_ONCE if "{}" in advice and count == "0" else advice.format(count)
 
@@ -155,12 +164,14 @@ Arguments:
   [RECORDING]  The recording, a pcap or pcapng file [default: -]
 
 Options:
-      --code <TEXT>    The filter in the numeric form, as `tcpdump -ddd` prints it
-      --filter <FILE>  The filter in the numeric form, as `afdxmon asm` prints it
-      --source <FILE>  The filter's source, as `afdxmon asm` reads it
-  -o, --output <FILE>  The capture to write, a nanosecond pcap file [default: -]
-      --pcapng         Write the capture as pcapng
-  -h, --help           Print help
+      --code <TEXT>      The filter in the numeric form, as `tcpdump -ddd` prints it
+      --filter <FILE>    The filter in the numeric form, as `afdxmon asm` prints it
+      --source <FILE>    The filter's source, as `afdxmon asm` reads it
+  -o, --output <FILE>    The capture to write, a nanosecond pcap file [default: -]
+      --pcapng           Write the capture as pcapng
+      --late-us <N|any>  Take timestamps that are out of order by N microseconds, or in any order
+  -v, --verbose          Tell standard error, whatever it is, what a terminal is told but progress
+  -h, --help             Print help
 
 One of --code, --filter and --source gives the filter. '-' is standard input, or standard output.
 
@@ -168,10 +179,11 @@ Example: keep the frames of virtual link 5
   afdxmon capture --code "$(tcpdump -y EN10MB -ddd 'ether[4:2] = 5')" recording.pcap -o link5.pcap
 """,
     "asm": r"""
-Usage: afdxmon asm
+Usage: afdxmon asm [OPTIONS]
 
 Options:
-  -h, --help  Print help
+  -v, --verbose  Tell standard error, whatever it is, what a terminal is told but progress
+  -h, --help     Print help
 
 Example: keep the frames of virtual link 5
   printf 'ldh [4]\njne #5, drop\nret #-1\ndrop: ret #0\n' | afdxmon asm
@@ -180,16 +192,20 @@ Example: keep the frames of virtual link 5
 Usage: afdxmon watch [OPTIONS] --config <FILE> --ledger <FILE> <--a <FILE>|--b <FILE>>
 
 Options:
-      --config <FILE>   The table of virtual links, a TOML document
-      --filter <FILE>   The filter in the numeric form, as `afdxmon asm` prints it
-      --a <FILE>        The recording of network A, a pcap or pcapng file
-      --b <FILE>        The recording of network B, a pcap or pcapng file
-      --capture <FILE>  The capture to write, a nanosecond pcap file
-      --ledger <FILE>   The ledger of verdicts to write
-      --workers <N>     The number of workers, 1 to 8 [default: 2]
-      --quiet           Leave out progress and summary at a terminal
-      --pcapng          Write the capture as pcapng, with verdicts as packet comments
-  -h, --help            Print help
+      --config <FILE>    The table of virtual links, a TOML document
+      --filter <FILE>    The filter in the numeric form, as `afdxmon asm` prints it
+      --a <FILE>         The recording of network A, a pcap or pcapng file
+      --b <FILE>         The recording of network B, a pcap or pcapng file
+      --capture <FILE>   The capture to write, a nanosecond pcap file
+      --ledger <FILE>    The ledger of verdicts to write
+      --manifest <FILE>  The manifest to write: a JSON text of what the run was of
+      --digest           Take the SHA-256 of recordings and outputs into the manifest
+      --workers <N>      The number of workers, 1 to 8 [default: 2]
+      --late-us <N>      Take timestamps out of order by N microseconds, in place of the table's late_us
+      --quiet            Leave out progress and summary at a terminal
+      --pcapng           Write the capture as pcapng, with verdicts as packet comments
+  -v, --verbose          Tell standard error, whatever it is, what a terminal is told but progress
+  -h, --help             Print help
 
 A network whose recording isn't given has no frames. Without --filter no frame is accepted, and
 --capture can't be given. '-' is standard input, or standard output.
@@ -199,13 +215,15 @@ Example: keep the frames that examples/flight.filter accepts, and judge them all
     --capture kept.pcap --ledger verdicts.ledger
 """,
     "debug": r"""
-Usage: afdxmon debug --tap <FILE> <--filter <FILE>|--source <FILE>>
+Usage: afdxmon debug [OPTIONS] --tap <FILE> <--filter <FILE>|--source <FILE>>
 
 Options:
-      --filter <FILE>  The filter in the numeric form, as `afdxmon asm` prints it
-      --source <FILE>  The filter's source, as `afdxmon asm` reads it
-      --tap <FILE>     The recording, a pcap or pcapng file
-  -h, --help           Print help
+      --filter <FILE>    The filter in the numeric form, as `afdxmon asm` prints it
+      --source <FILE>    The filter's source, as `afdxmon asm` reads it
+      --tap <FILE>       The recording, a pcap or pcapng file
+      --late-us <N|any>  Take timestamps that are out of order by N microseconds, or in any order
+  -v, --verbose          Tell standard error, whatever it is, what a terminal is told but progress
+  -h, --help             Print help
 
 Commands: select <n>, step [+|-]<n>, cont, breakpoint <n>, disassemble, tally, quit
 
@@ -222,20 +240,24 @@ Options:
       --config <FILE>   The table of virtual links: --link may then have their names
       --link <LIST>     Virtual links, as '301-305,42' or 'engine_*'; '*' stands for any letters
       --network <A|B>   The network
-      --verdict <LIST>  Words of the ledger's fields 6 to 9, 'discarded' or 'delivered'
+      --verdict <LIST>  Words of the ledger's fields 6 to 9, 'discarded', 'faults' or 'delivered'
       --from <TIME>     The first moment
       --to <TIME>       The last moment
+      --span <LENGTH>   How long after --from the last moment is: '2s', '250ms', '80us'
       --filters <MASK>  A mask of filters in hexadecimal: '06' is what filter 1 or 2 accepts
       --around <N>      Take N frames of the same link before and after each selected one too [default: 0]
       --ledger-only     Print the ledger's lines of the selected frames in place of packets
       --pcapng          Write the capture as pcapng, with verdicts as packet comments
   -o, --output <FILE>   The nanosecond pcap file to write, or the text file of lines [default: -]
+  -v, --verbose         Tell standard error, whatever it is, what a terminal is told but progress
   -h, --help            Print help
 
 Frames are written whole, as recorded, in the ledger's order. A frame is selected if it meets every
 option from --link to --filters that is given. With --around the ledger is read twice: it has to be
-a file. A TIME is '2027-01-15T08:00:12.119534506Z', the '08:00:12.1195' of the recording's day in
-UTC, or nanoseconds since 1970. '-' is standard input, or standard output.
+a file. Lines of a network whose recording isn't given are passed over. A TIME is
+'2027-01-15T08:00:12.119534506Z', the '08:00:12.1195' of the recording's day in UTC, '+12.1195'
+seconds after the ledger's first frame, or nanoseconds since 1970. A --to earlier in the day than
+--from is one of the next day. '-' is standard input, or standard output.
 
 Example: keep the frames that policing discarded
   afdxmon cut --ledger flight.ledger --a a.pcap --b b.pcap --verdict excess -o excess.pcap
@@ -248,6 +270,7 @@ Options:
       --b <FILE>           The recording of network B, a pcap or pcapng file
       --constant <NUMBER>  The constant field of the links' frames, as 0x03000000
       --icd <FILE>         The links that are specified, comma-separated values
+  -v, --verbose            Tell standard error, whatever it is, what a terminal is told but progress
   -h, --help               Print help
 
 The draft says what was seen and not what was specified: check it against the ICD. With --icd it says
@@ -264,11 +287,13 @@ Example: a table from two recordings, and a run with it
 Usage: afdxmon report [OPTIONS] --config <FILE> --ledger <FILE>
 
 Options:
-      --config <FILE>  The table of virtual links, a TOML document
-      --ledger <FILE>  The ledger of verdicts, as `afdxmon watch` writes it
-      --json           Write the page's numbers as JSON in place of the page
-  -o, --output <FILE>  The page to write, or the JSON text [default: -]
-  -h, --help           Print help
+      --config <FILE>    The table of virtual links, a TOML document
+      --ledger <FILE>    The ledger of verdicts, as `afdxmon watch` writes it
+      --manifest <FILE>  The manifest of the run, as `afdxmon watch` writes it
+      --json             Write the page's numbers as JSON in place of the page
+  -o, --output <FILE>    The page to write, or the JSON text [default: -]
+  -v, --verbose          Tell standard error, whatever it is, what a terminal is told but progress
+  -h, --help             Print help
 
 The page is one file without scripts and links. Without -o a terminal is shown the first part as text.
 '-' is standard input, or standard output.
@@ -284,11 +309,14 @@ Options:
       --filter <FILE>  The filter in the numeric form, as `afdxmon asm` prints it
       --a <FILE>       The recording of network A, a pcap or pcapng file
       --b <FILE>       The recording of network B, a pcap or pcapng file
+      --whole          Read the recordings to their ends, not their first 1000000 frames
       --json           Write the answer as JSON in place of text
+  -v, --verbose        Tell standard error, whatever it is, what a terminal is told but progress
   -h, --help           Print help
 
 The answer goes to standard output; nothing else is written. Of each recording the first 1000000
-frames are read. The exit status is 0 where a run would be sound, else 1. '-' is standard input.
+frames are read, by --whole all. The exit status is 0 where a run would be sound, else 1. '-' is
+standard input.
 
 Example: whether a table, a filter and two recordings belong together
   afdxmon check --config flight.toml --filter flight.filter --a a.pcap --b b.pcap
@@ -301,7 +329,7 @@ PROGRAM_HELP = (
     + "Options:\n  -h, --help     Print help\n  -V, --version  Print version\n"
 )
 # The commit is in the place of the letters, of which the program has as many.
-VERSION = "afdxmon 0.1.0 (commit unknown-tree)\n"
+VERSION = "afdxmon 0.2.0 (commit unknown-tree)\n"
 # What a session at a terminal begins with.
 COMMANDS = "commands: select N, step [+|-]N, cont, breakpoint N, disassemble, tally, quit"
 
@@ -318,6 +346,8 @@ MISUSE = {
     "NoLinks": "no recording is given: --a, --b or both name one, or --icd an ICD",
     "Unfiltered": "--capture needs --filter, which says what frames it is to have",
     "Uncaptured": "--pcapng needs --capture: it says how the capture is written",
+    "NoLateness": "--late-us is a number of microseconds, 0 to 1000000, and of capture and debug also any",
+    "Unordered": "--late-us any is for capture and debug: watch puts the frames of both networks in order",
     "NoPackets": "--pcapng says how packets are written, and --ledger-only leaves them out",
 }
 

@@ -11,7 +11,7 @@ import threading
 import pairs
 from analyser import watch
 from harness import EVERY, FAULT, ODD, PROGRAM, SUCCESS, TOP, USAGE, difference, frame, header, record, run, say
-from reference import HEADER
+from reference import HEADER, disorder, lateness_after
 
 LINK_5 = """
 [[link]]
@@ -48,13 +48,15 @@ REASONS = {
 }
 
 
-def notes_on(ledger):
-    """What standard error has of the recordings of this ledger, without the last newline."""
+def notes_on(ledger, files=None):
+    """What standard error has of the recordings of this ledger, without the last newline. Of files it tells how late a frame was."""
     notes = []
     for line in ledger.decode().splitlines():
         if line.startswith("tap ") and " clean " not in line:
             network, way, count, *reason = line.split()[1:]
             why = REASONS[reason[0]] if reason else "truncated within a record"
+            if reason == ["stampback"] and files:
+                why += disorder("watch", lateness_after(files[network], int(count)))
             frames = f"{count} frame{'' if count == '1' else 's'}"
             notes.append(f"afdxmon: note: recording of network {network} ends {way} after {frames}: {why}")
     return "\n".join(notes)
@@ -97,7 +99,8 @@ class Desk:
 
     def agrees(self, ran, capture, ledger):
         """How a run that should succeed differs from that. It notes each recording that its ledger doesn't call clean."""
-        return difference(ran, SUCCESS, notes_on(ledger), b"") or self.compared("capture", capture) or self.compared("ledger", ledger)
+        files = {network: self.left(network.lower()) if os.path.exists(self.paths[network.lower()]) else b"" for network in "AB"}
+        return difference(ran, SUCCESS, notes_on(ledger, files), b"") or self.compared("capture", capture) or self.compared("ledger", ledger)
 
     def refused(self, name, ran, line, capture, ledger):
         """A run that should end with a fault, and leave these outputs."""
@@ -258,6 +261,7 @@ def config_faults(desk):
         (TABLE + other.replace("= 6", "= 5"), "6 TwiceId link 1"),
         (TABLE + other.replace("flaps", "brake"), "7 TwiceName link 1"),
         (f"filters = {['1,6 0 0 0,'] * 8}\n" + TABLE, "8 TooMany"),
+        ("constant = 50331648\n" + "[[link]]\n" * 4096, "2 Missing link 0"),
         ("constant = 50331648\n" + "[[link]]\n" * 4097, "8 TooMany"),
     ]
     for config, line in cases:

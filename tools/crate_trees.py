@@ -1,9 +1,10 @@
-"""The crates of crates.txt, and trees in which one of them is worked on beside others.
+"""The crates of crates.txt, those of the program with the sum of its sources, and trees in which one is worked on beside others.
 
 An rt keeps others out of all crates below its own, so crates that share one below them would wait for each other. In a tree of its
 own a crate has its files, and those of the crates below with what was built of them: links to the same files.
 """
 
+import hashlib
 import os
 import pathlib
 import re
@@ -39,6 +40,23 @@ class Crates:
     def size(self, name, parts=PARTS):
         """How many lines a crate has."""
         return sum(file.read_bytes().count(b"\n") for file in self.files(name, parts))
+
+
+class Program(Crates):
+    """The program's crate and those that it stands on."""
+
+    def __init__(self):
+        super().__init__()
+        self.names = sorted({"afdxmon", *self.below("afdxmon")})
+
+    def sources(self):
+        """A sum of all that the program is made of: its lines of crates.txt, and the files of its crates."""
+        found = hashlib.sha256()
+        for name in self.names:
+            found.update(self.lines[name].encode())
+            for file in self.files(name):
+                found.update(f"{file.relative_to(TOP)}\0".encode() + file.read_bytes() + b"\0")
+        return found.hexdigest()
 
 
 def plant(crates, name, trees):

@@ -9,7 +9,7 @@ use crate::view::FrameView;
 
 /// A frame whose captured bytes are borrowed, as a reader finds them in its block. It keeps the
 /// bounds of a [`TapFrame`](crate::TapFrame), and copies none of its bytes.
-#[derive(Clone, Copy, Debug)]
+#[derive(Clone, Copy)]
 pub struct LentFrame<'a> {
     network: Network,
     number: u64,

@@ -6,7 +6,7 @@ ghost use Rattle.afdx_frame.specs.View.{view_bytes, constant_of, link_of, sequen
 use crate::key::VlId;
 
 /// The bytes that were captured of a frame, borrowed: nothing is copied.
-#[derive(Clone, Copy, Debug)]
+#[derive(Clone, Copy)]
 pub struct FrameView<'a> {
     bytes: &'a [u8],
 }

@@ -3,14 +3,13 @@
 use crate::live::Blocks;
 use afdx_frame::{LentFrame, Network, Stamp};
 use analyser::LineObserver;
-use ledger_text::{FrameLine, read_frame};
-use memchr::memchr;
+use ledger_text::FrameLine;
+use packet_format::append_comment;
 use pcapng_writer::{Comment, Interfaces, append_head, append_packet};
 use std::alloc::{AllocError, Global};
 use std::io;
 use std::io::{ErrorKind, Write};
 use std::sync::{Arc, Mutex};
-use verdict_comment::append_comment;
 use vl_config::Config;
 
 /// How many bytes a pcap file's header has.
@@ -29,8 +28,6 @@ pub enum Joining {
     Recording,
     /// That which is told before the packet.
     Told,
-    /// The first that comes after the packet, with bytes kept, and isn't another packet's.
-    Ledger,
 }
 
 /// The little-endian number of four bytes.
@@ -77,8 +74,6 @@ struct Annotator<'a> {
     from: usize,
     /// The line that was told last.
     told: Option<FrameLine>,
-    /// What came of a line of the ledger.
-    line: Vec<u8>,
     /// A packet's comment.
     text: Vec<u8>,
     /// The blocks that were made and not written.
@@ -91,7 +86,7 @@ impl Annotator<'_> {
     fn interfaces(&self) -> Interfaces {
         match self.joining {
             Joining::Recording => Interfaces::One,
-            Joining::Told | Joining::Ledger => Interfaces::Networks,
+            Joining::Told => Interfaces::Networks,
         }
     }
 
@@ -151,50 +146,12 @@ impl Annotator<'_> {
         self.header_left = self.header_left.saturating_sub(skipped);
         self.packets
             .extend_from_slice(bytes.get(skipped..).unwrap_or(&[]))?;
-        if let Joining::Ledger = self.joining {
-            return Ok(());
-        }
         // Each turn but the last passes a packet on.
         for _ in 0..u64::MAX {
             if self.packets.is_empty() || !self.pass_first(self.told)? {
                 break;
             }
         }
-        self.write_made()
-    }
-
-    /// Takes a line of the ledger, of which these bytes came last. The head and the lines of counts are none
-    /// of frames.
-    fn end_line(&mut self, last: &[u8]) -> io::Result<()> {
-        let found = if self.line.is_empty() {
-            read_frame(last)
-        } else {
-            self.line.extend_from_slice(last)?;
-            let found = read_frame(&self.line);
-            self.line.clear();
-            found
-        };
-        match found {
-            Ok(line) if line.kept.is_some() => {
-                self.pass_first(Some(line))?;
-                Ok(())
-            }
-            Ok(_) | Err(_) => Ok(()),
-        }
-    }
-
-    /// Takes the next bytes of the ledger.
-    fn pass(&mut self, bytes: &[u8]) -> io::Result<()> {
-        let mut rest = bytes;
-        // Each turn but the last takes a line.
-        for _ in 0..u64::MAX {
-            let Some(at) = memchr(b'\n', rest) else {
-                break;
-            };
-            self.end_line(rest.get(..at).unwrap_or(&[]))?;
-            rest = rest.get(at.saturating_add(1)..).unwrap_or(&[]);
-        }
-        self.line.extend_from_slice(rest)?;
         self.write_made()
     }
 }
@@ -227,7 +184,6 @@ impl<'a> Annotated<'a> {
             packets: Vec::new(alloc),
             from: 0,
             told: None,
-            line: Vec::new(alloc),
             text: Vec::new(alloc),
             made: Vec::new(alloc),
             failed: false,
@@ -245,12 +201,12 @@ impl<'a> Annotated<'a> {
         })
     }
 
-    /// Takes what was written to the ledger. A fault is told to the next that writes packets.
-    pub fn pass(&self, bytes: &[u8]) {
-        if let Some(mut annotator) = self.shared.try_lock() {
-            if !annotator.failed && annotator.pass(bytes).is_err() {
-                annotator.failed = true;
-            }
+    /// Hands the system all that was written. Where the run met no fault, an older file to which it wrote
+    /// nothing is emptied.
+    pub fn finish(&mut self, sound: bool) -> io::Result<()> {
+        match self.shared.try_lock() {
+            Some(mut annotator) if !annotator.failed => annotator.blocks.finish(sound),
+            Some(_) | None => Err(is_lost()),
         }
     }
 }

@@ -1,6 +1,7 @@
 //! The captures that commands write: pcap files, and pcapng files where these are asked for.
 use crate::annotated::{Annotated, Joining};
 use crate::live::Blocks;
+use crate::seen::Seen;
 use analyser::LineObserver;
 use ledger_text::FrameLine;
 use std::alloc::{AllocError, Global};
@@ -39,6 +40,15 @@ impl<'a> CaptureOutput<'a> {
             CaptureOutput::Pcapng(annotated) => Ok(Some(annotated.share()?)),
         }
     }
+
+    /// Hands the system all that was written. Where the run met no fault, an older file to which it wrote
+    /// nothing is emptied.
+    pub fn finish(&mut self, sound: bool) -> io::Result<()> {
+        match self {
+            CaptureOutput::Pcap(blocks) => blocks.finish(sound),
+            CaptureOutput::Pcapng(annotated) => annotated.finish(sound),
+        }
+    }
 }
 
 impl Write for CaptureOutput<'_> {
@@ -57,14 +67,26 @@ impl Write for CaptureOutput<'_> {
     }
 }
 
-/// Who is told the lines of a cut: a capture that has their verdicts, or nobody.
+/// Who is told the lines of a cut: what is seen of the ledger, and a capture that has their verdicts.
 #[derive(Drop)]
-pub struct CutObserver<'a>(pub Option<Annotated<'a>>);
+pub struct CutObserver<'a> {
+    pub annotated: Option<Annotated<'a>>,
+    pub seen: &'a Seen,
+}
 
 impl LineObserver for CutObserver<'_> {
+    fn reads(&self, line: &FrameLine) {
+        self.seen.reads(line);
+    }
+
     fn writes(&self, line: &FrameLine) {
-        if let Some(annotated) = &self.0 {
+        self.seen.writes();
+        if let Some(annotated) = &self.annotated {
             annotated.writes(line);
         }
+    }
+
+    fn passes(&self, _line: &FrameLine) {
+        self.seen.passes();
     }
 }

@@ -6,16 +6,19 @@ use afdx_frame::Network;
 use analyser::{CheckArguments, Exit, Fault, FileOption, WatchFault, filter_of, is_standard};
 use bpf_loader::Program;
 use check_text::{Answer, FilterAnswer, TapAnswer, json_of, text_of as answer_text, verdict_of};
-use input_check::{FORMAT_LEN, Format, Inputs, Look, Reach, format_of, questions_of};
+use input_check::{
+    FORMAT_LEN, Format, Inputs, Look, Reach, format_of, link_questions, questions_of,
+};
 use pcap_io::ReadSource;
 use pcapng::RecordingSource;
+use run_outcome::MAX_FRAMES;
 use std::io;
 use std::io::Read;
 use survey_run::{Extent, Pass, Recorded, show_recordings};
 use table_check::{TableFault, table_faults};
 use vl_config::Config;
 
-/// How many frames of each recording are read at most.
+/// How many frames of each recording are read at most, where they aren't read whole.
 const MOST_FRAMES: u64 = 1_000_000;
 
 /// How far a timestamp may lie below an earlier one where no table says so, in nanoseconds.
@@ -125,7 +128,7 @@ fn read_recordings<'a>(
 ) -> Result<Passed<'a>, Refused> {
     let (a, b) = open_both(rt, given, choices)?;
     let extent = Extent {
-        frames: MOST_FRAMES,
+        frames: if given.whole { MAX_FRAMES } else { MOST_FRAMES },
         late: config.map_or(MOST_LATE, |config| config.late()),
     };
     let Pass { outcome, a, b } = show_recordings(rt.alloc(), extent, a, b, inputs);
@@ -252,7 +255,10 @@ fn tell_inputs(
         a: reach_of(passed.a),
         b: reach_of(passed.b),
     };
-    let questions = questions_of(rt.alloc(), inputs, look).map_err(|_| NO_RUN)?;
+    let mut questions = questions_of(rt.alloc(), inputs, look).map_err(|_| NO_RUN)?;
+    for question in link_questions(rt.alloc(), inputs).map_err(|_| NO_RUN)? {
+        questions.push(question).map_err(|_| NO_RUN)?;
+    }
     let answer = Answer {
         table: shown_path(given.config),
         text: table.text,
@@ -283,8 +289,12 @@ fn tell_answer(
     } else {
         answer_text(alloc, answer).map_err(|_| NO_RUN)?
     };
-    if rt.print(&text).is_err() {
-        return Err(Refused::from(Fault::File(FileOption::Standard)));
+    if let Err(error) = rt.print(&text) {
+        return Err(Refused {
+            fault: Fault::File(FileOption::Standard),
+            source: None,
+            reason: Some(error),
+        });
     }
     let exit = if verdict_of(answer).is_sound() {
         Exit::Success
@@ -295,5 +305,6 @@ fn tell_answer(
         exit,
         worst: None,
         skipped: Skipped::none(),
+        reason: None,
     })
 }

@@ -1,21 +1,22 @@
 //! The frames of a ledger's lines, cut from its recordings.
 use crate::annotated::Joining;
 use crate::captures::CutObserver;
-use crate::files::refuse_shared_cut;
+use crate::files::refuse_shared;
 use crate::interface::{Choices, Skipped};
 use crate::live::Blocks;
+use crate::seen::Seen;
 use crate::{
     Ended, LiveSource, NO_RUN, Refused, capture_output, create, is_at_terminal, live_source, open,
     open_tap, recording_of, refuse_several_of_both, table_of,
 };
 use afdx_frame::Network;
 use analyser::{
-    CutArguments, Exit, Fault, FileOption, LinesRun, Neighbours, NeighboursRun, Selection,
-    SelectionOption, cut_frames, is_standard, neighbours_of, print_lines, selection_of,
+    CutArguments, CutEnding, CutFault, Exit, Fault, FileOption, Invocation, LinesRun, Neighbours,
+    NeighboursRun, Selection, SelectionOption, cut_frames, is_standard, neighbours_of, print_lines,
+    selection_of,
 };
 use pcap_io::{ReadSource, WriteSink};
 use pcapng::RecordingSource;
-use std::io::Write;
 use vl_config::Config;
 
 /// What is read and written by a cut.
@@ -23,10 +24,32 @@ use vl_config::Config;
 struct CutDevices<'a> {
     selection: &'a Selection,
     neighbours: Option<Neighbours>,
+    /// The network whose lines are passed over.
+    skips: Option<Network>,
+    seen: &'a Seen,
     ledger: LiveSource,
     a: RecordingSource<LiveSource>,
     b: RecordingSource<LiveSource>,
     sink: WriteSink<Blocks>,
+}
+
+/// How a cut ended. A ledger ends where the output can't be written, maybe within a line, so that fault comes
+/// first.
+fn exit_of(outcome: Result<CutEnding, CutFault>, flushed: bool) -> Exit {
+    if flushed {
+        Exit::of_cut(outcome.map_err(Fault::Cut), true)
+    } else {
+        Exit::Fault(Fault::Cut(CutFault::Write))
+    }
+}
+
+/// The network whose lines are passed over: that of which no recording is given, where the other's is.
+fn skipped(given: &CutArguments<'_>) -> Option<Network> {
+    match (given.a, given.b) {
+        (Some(_), None) => Some(Network::B),
+        (None, Some(_)) => Some(Network::A),
+        _ => None,
+    }
 }
 
 /// Prints the lines that the selection takes. They are checked against the recordings that are given.
@@ -34,27 +57,43 @@ fn cut_lines(rt: &HostRuntime, files: CutDevices<'_>, is_checked: bool) -> Ended
     let CutDevices {
         selection,
         neighbours,
+        skips,
+        seen,
         ledger,
         a,
         b,
         sink,
     } = files;
     let recordings = if is_checked { Some((a, b)) } else { None };
+    let observer = CutObserver {
+        annotated: None,
+        seen,
+    };
     let LinesRun {
         outcome,
         ledger: _,
         recordings,
         output,
-    } = print_lines(rt.alloc(), selection, neighbours, ledger, recordings, sink);
+    } = print_lines(
+        rt.alloc(),
+        selection,
+        neighbours,
+        skips,
+        ledger,
+        recordings,
+        sink,
+        &observer,
+    );
     let skipped = match recordings {
         Some((a, b)) => Skipped::two(a.skipped(), b.skipped()),
         None => Skipped::none(),
     };
-    let flushed = output.into_writer().flush().is_ok();
+    let reason = output.into_writer().finish(outcome.is_ok()).err();
     Ended {
-        exit: Exit::of_cut(outcome.map_err(Fault::Cut), flushed),
+        exit: exit_of(outcome, reason.is_none()),
         worst: None,
         skipped,
+        reason,
     }
 }
 
@@ -69,28 +108,35 @@ fn cut_packets(
     let CutDevices {
         selection,
         neighbours,
+        skips,
+        seen,
         ledger,
         a,
         b,
         sink,
     } = files;
     let output = capture_output(rt, sink.into_writer(), is_pcapng, Joining::Told, config)?;
-    let observer = CutObserver(output.annotated().map_err(|_| NO_RUN)?);
+    let observer = CutObserver {
+        annotated: output.annotated().map_err(|_| NO_RUN)?,
+        seen,
+    };
     let run = cut_frames(
         rt.alloc(),
         selection,
         neighbours,
+        skips,
         ledger,
         a,
         b,
         WriteSink::new(output),
         &observer,
     );
-    let flushed = run.output.into_writer().flush().is_ok();
+    let reason = run.output.into_writer().finish(run.outcome.is_ok()).err();
     Ok(Ended {
-        exit: Exit::of_cut(run.outcome.map_err(Fault::Cut), flushed),
+        exit: exit_of(run.outcome, reason.is_none()),
         worst: None,
         skipped: Skipped::two(run.a.skipped(), run.b.skipped()),
+        reason,
     })
 }
 
@@ -135,23 +181,30 @@ pub fn cut(rt: &HostRuntime, given: &CutArguments<'_>, choices: Choices) -> Resu
     let ledger = open(rt, given.ledger, FileOption::Ledger)?;
     let a = open_tap(rt, given.a, Network::A, None)?;
     let b = open_tap(rt, given.b, Network::B, None)?;
-    refuse_shared_cut(rt, given)?;
+    refuse_shared(rt, Invocation::Cut(*given))?;
     refuse_several_of_both(rt, given.a, given.b, choices)?;
     let output = create(rt, given.output, FileOption::Output)?;
     let (ledger, output) = live_source(rt, ledger, output)?;
     let (a, output) = live_source(rt, a, output)?;
     let (b, output) = live_source(rt, b, output)?;
+    let (skips, seen) = (skipped(given), Seen::new());
     let files = CutDevices {
         selection: &selection,
         neighbours,
+        skips,
+        seen: &seen,
         ledger,
         a: recording_of(rt, a, choices.a)?,
         b: recording_of(rt, b, choices.b)?,
         sink: WriteSink::new(output),
     };
-    if given.ledger_only {
-        Ok(cut_lines(rt, files, given.a.is_some() || given.b.is_some()))
+    let ended = if given.ledger_only {
+        cut_lines(rt, files, given.a.is_some() || given.b.is_some())
     } else {
-        cut_packets(rt, files, given.pcapng, config.as_ref())
+        cut_packets(rt, files, given.pcapng, config.as_ref())?
+    };
+    if ended.exit.status() == 0 {
+        let _ = seen.tell(rt, given, &selection, skips);
     }
+    Ok(ended)
 }

@@ -1,7 +1,6 @@
 //! That no output is another file of its command, and that the standard streams are there.
 use analyser::{
-    CaptureArguments, CaptureFiles, CutArguments, CutFiles, Fault, FileOption, FilterArgument,
-    Inode, Named, ReportArguments, ReportFiles, WatchArguments, WatchFiles, is_standard,
+    Fault, GivenFile, Inode, Invocation, Named, NamedFile, WatchArguments, is_standard,
 };
 use std::fs::Metadata;
 use std::io::{ErrorKind, Read, Write};
@@ -46,90 +45,33 @@ fn named_by<'a>(rt: &HostRuntime, path: &'a str) -> Named<'a> {
     }
 }
 
-/// What the path of an input names. Standard input may be a file too.
-fn input<'a>(rt: &HostRuntime, path: &'a str) -> Named<'a> {
-    named_by(
-        rt,
-        if is_standard(path) {
-            "/dev/stdin"
-        } else {
-            path
-        },
-    )
-}
-
-/// What the path of an output names. Standard output may be a file too.
-fn output<'a>(rt: &HostRuntime, path: &'a str) -> Named<'a> {
-    named_by(
-        rt,
-        if is_standard(path) {
-            "/dev/stdout"
-        } else {
-            path
-        },
-    )
-}
-
-/// What an input names, if it is given.
-fn input_if<'a>(rt: &HostRuntime, path: Option<&'a str>) -> Named<'a> {
-    match path {
-        Some(path) => input(rt, path),
+/// What the path of a file names. Standard input and output may be files too.
+fn named_file<'a>(rt: &HostRuntime, file: GivenFile<'a>) -> NamedFile<'a> {
+    let named = match file.path {
+        Some(path) if !is_standard(path) => named_by(rt, path),
+        Some(_) if file.is_written => named_by(rt, "/dev/stdout"),
+        Some(_) => named_by(rt, "/dev/stdin"),
         None => Named::Other,
+    };
+    NamedFile {
+        option: file.option,
+        is_written: file.is_written,
+        named,
     }
 }
 
-/// Refuses an output of `watch` that is another of its six files.
-pub fn refuse_shared(rt: &HostRuntime, given: &WatchArguments<'_>) -> Result<(), Fault> {
-    let files = WatchFiles {
-        config: input(rt, given.config),
-        filter: input_if(rt, given.filter),
-        a: input_if(rt, given.a),
-        b: input_if(rt, given.b),
-        capture: match given.capture {
-            Some(path) => output(rt, path),
-            None => Named::Other,
-        },
-        ledger: output(rt, given.ledger),
-    };
-    files.refuse_shared()
-}
-
-/// Refuses an output of `capture` that is its filter or its recording.
-pub fn refuse_shared_output(rt: &HostRuntime, given: &CaptureArguments<'_>) -> Result<(), Fault> {
-    let (filter, source) = match given.filter {
-        FilterArgument::Code(_) => (Named::Other, Named::Other),
-        FilterArgument::Numeric(path) => (input(rt, path), Named::Other),
-        FilterArgument::Source(path) => (Named::Other, input(rt, path)),
-    };
-    let files = CaptureFiles {
-        filter,
-        source,
-        recording: input(rt, given.recording),
-        output: output(rt, given.output),
-    };
-    files.refuse_shared()
-}
-
-/// Refuses an output of `cut` that is one of its inputs.
-pub fn refuse_shared_cut(rt: &HostRuntime, given: &CutArguments<'_>) -> Result<(), Fault> {
-    let files = CutFiles {
-        ledger: input(rt, given.ledger),
-        a: input_if(rt, given.a),
-        b: input_if(rt, given.b),
-        config: input_if(rt, given.config),
-        output: output(rt, given.output),
-    };
-    files.refuse_shared()
-}
-
-/// Refuses an output of `report` that is its table or its ledger.
-pub fn refuse_shared_report(rt: &HostRuntime, given: &ReportArguments<'_>) -> Result<(), Fault> {
-    let files = ReportFiles {
-        config: input(rt, given.config),
-        ledger: input(rt, given.ledger),
-        output: output(rt, given.output),
-    };
-    files.refuse_shared()
+/// Refuses an output of a command that is another of its files.
+pub fn refuse_shared(rt: &HostRuntime, command: Invocation<'_>) -> Result<(), Fault> {
+    let [first, second, third, fourth, fifth, sixth, seventh] = command.files();
+    analyser::refuse_shared(&[
+        named_file(rt, first),
+        named_file(rt, second),
+        named_file(rt, third),
+        named_file(rt, fourth),
+        named_file(rt, fifth),
+        named_file(rt, sixth),
+        named_file(rt, seventh),
+    ])
 }
 
 /// The system's error for a stream that is closed.
@@ -143,27 +85,20 @@ fn is_closed(answer: &io::Result<usize>) -> bool {
     }
 }
 
+/// Is the standard stream that a file is closed?
+fn is_of_closed(rt: &HostRuntime, file: GivenFile<'_>) -> bool {
+    match file.path {
+        Some(path) if is_standard(path) && file.is_written => is_closed(&rt.stdout().write(&[])),
+        Some(path) if is_standard(path) => is_closed(&rt.stdin().read(&mut [])),
+        Some(_) | None => false,
+    }
+}
+
 /// Refuses a standard stream of `watch` that is closed: the next file that is opened would get its number.
 pub fn refuse_closed(rt: &HostRuntime, given: &WatchArguments<'_>) -> Result<(), Fault> {
-    let inputs = [
-        (FileOption::Config, Some(given.config)),
-        (FileOption::Filter, given.filter),
-        (FileOption::A, given.a),
-        (FileOption::B, given.b),
-    ];
-    for (option, path) in inputs {
-        if path.is_some_and(|path| is_standard(path)) && is_closed(&rt.stdin().read(&mut [])) {
-            return Err(Fault::File(option));
-        }
+    let files = Invocation::Watch(*given).files();
+    match files.iter().find(|file| is_of_closed(rt, **file)) {
+        Some(file) => Err(Fault::File(file.option)),
+        None => Ok(()),
     }
-    let outputs = [
-        (FileOption::Capture, given.capture),
-        (FileOption::Ledger, Some(given.ledger)),
-    ];
-    for (option, path) in outputs {
-        if path.is_some_and(|path| is_standard(path)) && is_closed(&rt.stdout().write(&[])) {
-            return Err(Fault::File(option));
-        }
-    }
-    Ok(())
 }

@@ -19,6 +19,16 @@ pub struct Choices {
     pub b: Choice,
 }
 
+impl Choices {
+    /// The one Ethernet interface of each.
+    pub fn any() -> Choices {
+        Choices {
+            a: Choice::Any,
+            b: Choice::Any,
+        }
+    }
+}
+
 /// The interface that a person names: digits are a number, and anything else is a name.
 fn choice_of(text: &str) -> Option<Choice> {
     if text.is_empty() {
@@ -112,7 +122,7 @@ pub fn choose<'a>(rt: &HostRuntime, command: Invocation<'a>) -> (Invocation<'a>,
             let (a, b, choices) = chosen_of_both(rt, given.a, given.b);
             (Invocation::Check(CheckArguments { a, b, ..given }), choices)
         }
-        Invocation::Asm | Invocation::Report(_) => (command, of_one(Choice::Any)),
+        Invocation::Asm | Invocation::Report(_) => (command, Choices::any()),
     }
 }
 
@@ -180,22 +190,50 @@ fn is_pcapng(rt: &HostRuntime, path: &str) -> io::Result<bool> {
     Ok(first == SECTION)
 }
 
-/// The reader of a file's start, after its last frame there, if that ends at a packet of a second interface.
-fn read_start(rt: &HostRuntime, path: &str) -> Option<RecordingSource<ReadSource<Take<File>>>> {
-    let start = File::open(rt, path).ok()?.take(LOOKED_AT);
-    let source = RecordingSource::new(rt.alloc(), ReadSource::new(start), Choice::Any).ok()?;
-    // No timestamp is late: what counts is whose packets there are.
-    let mut reader = TapReader::open(source, Network::A, 1 << 32, u64::MAX).ok()?;
+/// The recording that so many bytes at the start of a file are, whose timestamps may stand in any order.
+pub fn start_of(
+    rt: &HostRuntime,
+    path: &str,
+    choice: Choice,
+    bytes: u64,
+) -> Option<TapReader<RecordingSource<ReadSource<Take<File>>>>> {
+    let start = File::open(rt, path).ok()?.take(bytes);
+    let source = RecordingSource::new(rt.alloc(), ReadSource::new(start), choice).ok()?;
+    TapReader::open(source, Network::A, 1 << 32, u64::MAX).ok()
+}
+
+/// The interfaces at a file's start, if that ends at a packet of a second Ethernet interface.
+fn several_in(rt: &HostRuntime, path: &str) -> Option<String> {
+    let mut reader = start_of(rt, path, Choice::Any, LOOKED_AT)?;
     for _ in 0..LOOKED_AT {
         match reader.advance(rt.alloc()) {
             Ok(Found::Frame) => {}
             Ok(Found::End(Ending::Bad(_, BadReason::SeveralInterfaces))) => {
-                return Some(reader.into_source());
+                return list_of(rt, reader.into_source().interfaces());
             }
             Ok(Found::End(_)) | Err(_) => return None,
         }
     }
     None
+}
+
+/// Does a file's start have a frame of the chosen interface?
+fn has_frame(rt: &HostRuntime, path: &str, choice: Choice) -> bool {
+    match start_of(rt, path, choice, LOOKED_AT) {
+        Some(mut reader) => matches!(reader.advance(rt.alloc()), Ok(Found::Frame)),
+        None => false,
+    }
+}
+
+/// The interfaces of a whole file, if none of them is the chosen one.
+fn others_in(rt: &HostRuntime, path: &str, choice: Choice) -> Option<String> {
+    let mut reader = start_of(rt, path, choice, u64::MAX)?;
+    match reader.advance(rt.alloc()) {
+        Ok(Found::End(Ending::Bad(_, BadReason::NoSuchInterface))) => {
+            list_of(rt, reader.into_source().interfaces())
+        }
+        Ok(Found::Frame | Found::End(_)) | Err(_) => None,
+    }
 }
 
 /// An interface's name, if it can be shown.
@@ -225,12 +263,32 @@ fn list_of(rt: &HostRuntime, interfaces: &[Interface]) -> Option<String> {
     Some(list)
 }
 
-/// The Ethernet interfaces of a pcapng file that begins with packets of several, if none is chosen: the
-/// number of each, and its name.
-pub fn interfaces_of(rt: &HostRuntime, path: &str, choice: Choice) -> Option<String> {
-    if !matches!(choice, Choice::Any) || !is_pcapng(rt, path).unwrap_or(false) {
+/// The Ethernet interfaces of a pcapng file, the number of each and its name, if it begins with packets of
+/// several and none is chosen, or if it doesn't describe the one that is. More than its start is read only
+/// where that has no frame of it.
+pub fn refused_interfaces(rt: &HostRuntime, path: &str, choice: Choice) -> Option<String> {
+    if !is_pcapng(rt, path).unwrap_or(false) {
         return None;
     }
-    let source = read_start(rt, path)?;
-    list_of(rt, source.interfaces())
+    match choice {
+        Choice::Any => several_in(rt, path),
+        Choice::Number(_) | Choice::Name(_) if has_frame(rt, path, choice) => None,
+        Choice::Number(_) | Choice::Name(_) => others_in(rt, path, choice),
+    }
+}
+
+/// Was the chosen interface never described?
+fn lacks_interface(ending: Ending) -> bool {
+    matches!(ending, Ending::Bad(_, BadReason::NoSuchInterface))
+}
+
+/// The exit status. Where the chosen interface never came, as may be of a pipe, it is that of a fault, though
+/// the note tells why.
+pub fn status_of(exit: &Exit) -> u8 {
+    let lacks = match exit {
+        Exit::Note(ending) => lacks_interface(*ending),
+        Exit::Watched(summary) => lacks_interface(summary.a) || lacks_interface(summary.b),
+        _ => false,
+    };
+    if lacks { 1 } else { exit.status() }
 }

@@ -7,7 +7,6 @@ use icd_links::IcdLinks;
 use link_draft::{Comparison, DraftFault, Recordings, Sources, draft_of};
 use pcap_io::{Ending, ReadSource};
 use std::io;
-use std::io::IsTerminal;
 use survey_run::{Survey, SurveyRun, survey_recordings};
 use vl_config::ConfigFault;
 
@@ -51,9 +50,9 @@ fn icd_of(rt: &HostRuntime, path: Option<&str>) -> Result<Option<IcdLinks>, Faul
     }
 }
 
-/// Tells a person at a terminal how many links differ, of each kind that there is.
+/// Tells a person how many links differ, of each kind that there is.
 fn tell_comparison(rt: &HostRuntime, comparison: Comparison) -> io::Result<()> {
-    if comparison.is_empty() || !rt.stderr().is_terminal() {
+    if comparison.is_empty() {
         return Ok(());
     }
     eprintln!(rt; "afdxmon: note: {comparison}. The draft's comments say how")
@@ -75,7 +74,7 @@ fn print_draft<'s>(
     icd: &'s Option<IcdLinks>,
     recordings: Recordings,
     constant: Option<u32>,
-) -> Result<(), Fault> {
+) -> Result<Comparison, Refused> {
     let sources = Sources {
         survey,
         recordings,
@@ -83,11 +82,14 @@ fn print_draft<'s>(
         icd: icd.as_ref(),
     };
     let draft = draft_of(rt.alloc(), &sources).map_err(fault_of)?;
-    if rt.print(&draft.text).is_err() {
-        return Err(Fault::File(FileOption::Standard));
+    match rt.print(&draft.text) {
+        Ok(()) => Ok(draft.comparison),
+        Err(error) => Err(Refused {
+            fault: Fault::File(FileOption::Standard),
+            source: None,
+            reason: Some(error),
+        }),
     }
-    let _ = tell_comparison(rt, draft.comparison);
-    Ok(())
 }
 
 /// Prints a draft of the table of virtual links that recordings have and a document specifies.
@@ -95,6 +97,7 @@ pub fn links(
     rt: &HostRuntime,
     given: &LinksArguments<'_>,
     choices: Choices,
+    full: bool,
 ) -> Result<Ended, Refused> {
     let constant = constant_of(given.constant)?;
     let icd = icd_of(rt, given.icd)?;
@@ -111,10 +114,11 @@ pub fn links(
                 a: given.a.map(|_| a),
                 b: given.b.map(|_| b),
             };
-            match print_draft(rt, &survey, &icd, recordings, constant) {
-                Ok(()) => exit_of(a.ending, b.ending),
-                Err(fault) => Exit::Fault(fault),
+            let comparison = print_draft(rt, &survey, &icd, recordings, constant)?;
+            if full {
+                let _ = tell_comparison(rt, comparison);
             }
+            exit_of(a.ending, b.ending)
         }
         Err(fault) => Exit::Fault(Fault::Watch(fault)),
     };
@@ -122,5 +126,6 @@ pub fn links(
         exit,
         worst: None,
         skipped,
+        reason: None,
     })
 }

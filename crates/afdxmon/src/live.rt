@@ -1,34 +1,40 @@
 //! What is written of inputs that pause, as pipes do: it is handed to the system before the program waits for
 //! more, and a fault is told before the program waits for its threads.
+use crate::interface::Choices;
 use crate::pauses::Pauses;
 use crate::progress::Progress;
 use crate::streams::{Input, Output};
-use crate::telling::tell;
+use crate::telling::{Known, tell};
 use afdx_frame::Network;
 use analyser::{Exit, Fault, Invocation, RunObserver, WatchArguments, WatchFault};
 use filter_workers::RunGate;
+use run_manifest::{Digesting, Sum, Tally};
 use std::alloc::{AllocError, Global};
-use std::io;
 use std::io::{BufWriter, ErrorKind, Read, Write};
 use std::sync::atomic::{AtomicBool, Ordering};
 use std::sync::{Arc, Mutex};
+use std::{io, mem};
 use tap_queue::TapGate;
 
 /// How many bytes are handed to the system at once.
 const BLOCK: usize = 65536;
 
+/// What hands an output its bytes in blocks, which are counted, and hashed if that is asked for.
+type BlockWriter = BufWriter<Digesting<Output>>;
+
 /// An output that is written in blocks, by one thread.
 #[derive(Drop)]
 pub enum Blocks {
     /// Nothing else hands its blocks on, so no write takes a lock.
-    Own(BufWriter<Output>),
+    Own(BlockWriter),
     Shared(SharedBlocks),
 }
 
 impl Blocks {
-    /// Nothing was written yet. `AllocError` if there is no memory for the block.
-    pub fn new(alloc: Global, output: Output) -> Result<Blocks, AllocError> {
-        match BufWriter::with_capacity(alloc, BLOCK, output) {
+    /// Nothing was written yet. Is what is written to be hashed? `AllocError` if there is no memory for the
+    /// block.
+    pub fn new(alloc: Global, output: Output, hashed: bool) -> Result<Blocks, AllocError> {
+        match BufWriter::with_capacity(alloc, BLOCK, Digesting::new(output, hashed)) {
             Ok(writer) => Ok(Blocks::Own(writer)),
             Err(_) => Err(AllocError),
         }
@@ -44,6 +50,42 @@ impl Blocks {
         let other = shared.share()?;
         Ok((Blocks::Shared(shared), other))
     }
+
+    /// Hands the system all that was written. Where the run met no fault, an older file to which it wrote
+    /// nothing is emptied.
+    pub fn finish(&mut self, sound: bool) -> io::Result<()> {
+        match self {
+            Blocks::Own(writer) => finish_writer(writer, sound),
+            Blocks::Shared(shared) => match shared.writer.try_lock() {
+                Some(mut writer) => finish_writer(&mut writer, sound),
+                None => Err(is_busy()),
+            },
+        }
+    }
+
+    /// The sum of what the system took. It begins anew.
+    pub fn take_sum(&mut self) -> Sum {
+        let tally = match self {
+            Blocks::Own(writer) => take_tally(writer),
+            Blocks::Shared(shared) => match shared.writer.try_lock() {
+                Some(mut writer) => take_tally(&mut writer),
+                None => Tally::new(false),
+            },
+        };
+        tally.end()
+    }
+}
+
+fn take_tally(writer: &mut BlockWriter) -> Tally {
+    mem::replace(&mut writer.get_mut().tally, Tally::new(false))
+}
+
+fn finish_writer(writer: &mut BlockWriter, sound: bool) -> io::Result<()> {
+    writer.flush()?;
+    if sound {
+        writer.get_mut().inner.empty()?;
+    }
+    Ok(())
 }
 
 impl Write for Blocks {
@@ -66,11 +108,11 @@ impl Write for Blocks {
 /// thread that writes.
 #[derive(Drop)]
 pub struct SharedBlocks {
-    writer: Arc<Mutex<BufWriter<Output>>, Global>,
+    writer: Arc<Mutex<BlockWriter>, Global>,
 }
 
 impl SharedBlocks {
-    fn new(alloc: Global, writer: BufWriter<Output>) -> Result<SharedBlocks, AllocError> {
+    fn new(alloc: Global, writer: BlockWriter) -> Result<SharedBlocks, AllocError> {
         match Arc::new(alloc, Mutex::new(writer)) {
             Ok(writer) => Ok(SharedBlocks { writer }),
             Err(_) => Err(AllocError),
@@ -85,9 +127,10 @@ impl SharedBlocks {
     }
 
     /// Hands the system what was written. What it refuses is refused again to the next that is written.
-    fn hand_over(&self) {
-        if let Some(mut writer) = self.writer.try_lock() {
-            let _ = writer.flush();
+    fn hand_over(&self) -> io::Result<()> {
+        match self.writer.try_lock() {
+            Some(mut writer) => writer.flush(),
+            None => Ok(()),
         }
     }
 }
@@ -113,7 +156,8 @@ impl Write for SharedBlocks {
     }
 }
 
-/// An input whose output is handed to the system before more is read, where the input may pause.
+/// An input whose output is handed to the system before more is read, where the input may pause. It ends once
+/// the output can't be written, which the command then tells when it ends its output.
 #[derive(Drop)]
 pub struct LiveInput {
     input: Input,
@@ -129,10 +173,10 @@ impl LiveInput {
 
 impl Read for LiveInput {
     fn read(&mut self, buf: &mut [u8]) -> io::Result<usize> {
-        if let Some(output) = &self.output {
-            output.hand_over();
+        match &self.output {
+            Some(output) if output.hand_over().is_err() => Ok(0),
+            Some(_) | None => self.input.read(buf),
         }
-        self.input.read(buf)
     }
 }
 
@@ -147,17 +191,19 @@ pub struct Watcher<'a> {
     progress: Option<&'a Progress>,
     pauses: Option<&'a Pauses>,
     told: &'a AtomicBool,
+    full: bool,
 }
 
 impl<'a> Watcher<'a> {
-    /// Of the capture and the ledger. `told` becomes true once a fault was told.
+    /// Of the capture and the ledger. `told` becomes true once a fault was told, in full if a person is to be
+    /// told all of it.
     pub fn new(
         rt: &'a HostRuntime,
         given: WatchArguments<'a>,
         outputs: (SharedBlocks, SharedBlocks),
         progress: Option<&'a Progress>,
         pauses: Option<&'a Pauses>,
-        told: &'a AtomicBool,
+        (told, full): (&'a AtomicBool, bool),
     ) -> Watcher<'a> {
         let (capture, ledger) = outputs;
         Watcher {
@@ -168,18 +214,23 @@ impl<'a> Watcher<'a> {
             progress,
             pauses,
             told,
+            full,
         }
     }
-}
 
-impl RunObserver for Watcher<'_> {
-    fn waits(&self) {
-        self.capture.hand_over();
-        self.ledger.hand_over();
+    /// Hands the system what was written to both outputs. Which doesn't take it, and why?
+    fn hand_over(&self) -> Result<(), (analyser::Output, io::Error)> {
+        let capture = self.capture.hand_over();
+        let ledger = self.ledger.hand_over();
+        capture.map_err(|error| (analyser::Output::Capture, error))?;
+        ledger.map_err(|error| (analyser::Output::Ledger, error))
     }
 
-    fn aborts(&self, fault: WatchFault) {
-        self.waits();
+    /// Tells standard error of the first fault, and for which reason an output wasn't written.
+    fn tell_fault(&self, fault: WatchFault, reason: Option<io::Error>) {
+        if self.told.load(Ordering::SeqCst) {
+            return;
+        }
         if let Some(pauses) = self.pauses {
             pauses.end();
         }
@@ -188,8 +239,29 @@ impl RunObserver for Watcher<'_> {
         }
         // Where standard error can't be written, the status alone tells of it.
         let command = Invocation::Watch(self.given);
-        let _ = tell(self.rt, command, &Exit::Fault(Fault::Watch(fault)), None);
+        let known = Known {
+            source: None,
+            reason,
+            choices: Choices::any(),
+            full: self.full,
+        };
+        let _ = tell(self.rt, command, &Exit::Fault(Fault::Watch(fault)), known);
         self.told.store(true, Ordering::SeqCst);
+    }
+}
+
+impl RunObserver for Watcher<'_> {
+    /// Tells at once that an output can't be written. No thread can end the read that another waits in, so the
+    /// run goes on until that comes to its end.
+    fn waits(&self) {
+        if let Err((output, error)) = self.hand_over() {
+            self.tell_fault(WatchFault::Write { output }, Some(error));
+        }
+    }
+
+    fn aborts(&self, fault: WatchFault) {
+        let reason = self.hand_over().err().map(|(_, error)| error);
+        self.tell_fault(fault, reason);
     }
 }
 

@@ -8,24 +8,29 @@ mod annotated;
 mod captures;
 mod check;
 mod cutting;
+mod disorder;
 mod files;
 mod interface;
 mod links;
 mod live;
+mod manifest;
 mod packets;
 mod pauses;
 mod progress;
 mod report;
+mod seen;
+mod spans;
 mod streams;
 mod telling;
 mod worst;
 
 use afdx_frame::{Network, TapFrame};
 use analyser::{
-    AsmRun, CaptureArguments, CaptureRun, DebugArguments, Exit, Fault, FileOption, FilterArgument,
-    HeldTap, Invocation, Summary, TapRead, USAGE, WatchArguments, WatchFault, WatchRefused,
-    Watched, answer_line, begin_session, capture_by, filter_of, filter_of_source, is_standard,
-    load_filters, read_arguments, read_config, read_file, read_tap, run_asm, run_session,
+    AsmRun, CaptureArguments, CaptureRun, CommandLine, DebugArguments, Exit, Fault, FileOption,
+    FilterArgument, HeldTap, Invocation, Lateness, MAX_LATE_MICROS, Plan, RunSizes, Summary,
+    TapRead, USAGE, WatchArguments, WatchFault, WatchRefused, Watched, answer_line, begin_session,
+    capture_by, filter_of, filter_of_source, is_standard, load_filters, read_arguments,
+    read_config, read_file, read_tap, run_asm, run_session, sized_watch,
 };
 use annotated::Joining;
 use bpf_debugger::DebugFault;
@@ -33,15 +38,20 @@ use bpf_loader::Program;
 use captures::CaptureOutput;
 use check::check;
 use cutting::cut;
-use files::{refuse_closed, refuse_shared, refuse_shared_output};
-use interface::{Choices, Skipped, choose, interfaces_of};
+use files::{refuse_closed, refuse_shared};
+use interface::{Choices, Skipped, choose, refused_interfaces, status_of};
 use links::links;
 use live::{Blocks, LiveInput, SharedBlocks, Watcher};
+use manifest::{RunSums, TextSums, with_manifest};
+use packet_format::PacketFormat;
 use pauses::Pauses;
 use pcap_io::{ReadSource, TapSource, WriteSink};
 use pcapng::{Choice, RecordingSource};
+use pcapng_writer::Interfaces;
 use progress::{Progress, Recording};
 use report::report;
+use run_manifest::{Sum, sum_of};
+use spans::Spans;
 use std::alloc::Global;
 use std::io::{BufRead, BufReader, BufWriter, ErrorKind, IsTerminal, Write};
 use std::process::ExitCode;
@@ -50,7 +60,7 @@ use std::sync::atomic::{AtomicBool, Ordering};
 use std::thread::Threads;
 use std::{io, thread};
 use streams::{Input, Output};
-use telling::tell;
+use telling::{Known, tell};
 use vl_config::Config;
 use worst::{LedgerWriter, WorstLinks};
 
@@ -58,11 +68,12 @@ use worst::{LedgerWriter, WorstLinks};
 const BLOCK: usize = 65536;
 
 /// Why a command was not begun. Of a filter's source the text shows a person where its fault lies; of a file
-/// of several interfaces it lists them.
+/// of several interfaces it lists them. Of an output that can't be written the system says why.
 #[derive(Drop)]
 struct Refused {
     fault: Fault,
     source: Option<String>,
+    reason: Option<io::Error>,
 }
 
 impl From<Fault> for Refused {
@@ -70,6 +81,7 @@ impl From<Fault> for Refused {
         Refused {
             fault,
             source: None,
+            reason: None,
         }
     }
 }
@@ -86,11 +98,12 @@ fn asm(rt: &HostRuntime) -> Result<Exit, Refused> {
         ReadSource::new(rt.stdin()),
         WriteSink::new(rt.stdout()),
     );
-    let flushed = sink.into_writer().flush().is_ok();
-    match Exit::of_text(outcome, flushed) {
+    let reason = sink.into_writer().flush().err();
+    match Exit::of_text(outcome, reason.is_none()) {
         Exit::Fault(fault) => Err(Refused {
             fault,
             source: text,
+            reason,
         }),
         exit => Ok(exit),
     }
@@ -138,17 +151,19 @@ fn recording_of<S: TapSource + Drop>(
     RecordingSource::new(rt.alloc(), source, choice).map_err(|_| NO_RUN)
 }
 
-/// Refuses a file that begins with packets of several interfaces, if none is chosen.
+/// Refuses a file that begins with packets of several interfaces, if none is chosen, and one that doesn't
+/// describe the one that is.
 fn refuse_several(
     rt: &HostRuntime,
     path: &str,
     file: FileOption,
     choice: Choice,
 ) -> Result<(), Refused> {
-    match interfaces_of(rt, path, choice) {
+    match refused_interfaces(rt, path, choice) {
         Some(listed) => Err(Refused {
             fault: Fault::Interfaces(file),
             source: Some(listed),
+            reason: None,
         }),
         None => Ok(()),
     }
@@ -170,9 +185,9 @@ fn refuse_several_of_both(
     Ok(())
 }
 
-/// What hands an output its bytes in blocks.
-fn blocks_of(rt: &HostRuntime, output: Output) -> Result<Blocks, Fault> {
-    Blocks::new(rt.alloc(), output).map_err(|_| NO_RUN)
+/// What hands an output its bytes in blocks. Are they to be hashed?
+fn blocks_of(rt: &HostRuntime, output: Output, hashed: bool) -> Result<Blocks, Fault> {
+    Blocks::new(rt.alloc(), output, hashed).map_err(|_| NO_RUN)
 }
 
 /// The output, and what hands a part of a block of it to the system.
@@ -182,8 +197,18 @@ fn shared(rt: &HostRuntime, output: Blocks) -> Result<(Blocks, SharedBlocks), Fa
 
 /// Opens a file that is written. The first block that is written empties it before.
 fn create(rt: &HostRuntime, path: &str, file: FileOption) -> Result<Blocks, Fault> {
+    create_hashed(rt, path, file, false)
+}
+
+/// The same of a file whose bytes are hashed, or aren't.
+fn create_hashed(
+    rt: &HostRuntime,
+    path: &str,
+    file: FileOption,
+    hashed: bool,
+) -> Result<Blocks, Fault> {
     match Output::open(rt, path) {
-        Ok(opened) => blocks_of(rt, opened),
+        Ok(opened) => blocks_of(rt, opened, hashed),
         Err(_) => Err(Fault::File(file)),
     }
 }
@@ -199,17 +224,24 @@ fn capture_output<'a>(
     CaptureOutput::new(rt.alloc(), output, is_pcapng, joining, config).map_err(|_| NO_RUN)
 }
 
-/// Opens the capture and the ledger, if neither is another file of the run.
-fn open_outputs(rt: &HostRuntime, given: &WatchArguments<'_>) -> Result<(Blocks, Blocks), Fault> {
-    refuse_shared(rt, given)?;
+/// The capture, the ledger, and the manifest if there is one.
+type RunOutputs = (Blocks, Blocks, Option<Blocks>);
+
+/// Opens the outputs, if none is another file of the run.
+fn open_outputs(rt: &HostRuntime, given: &WatchArguments<'_>) -> Result<RunOutputs, Fault> {
+    refuse_shared(rt, Invocation::Watch(*given))?;
     let capture = match given.capture {
-        Some(path) => create(rt, path, FileOption::Capture)?,
-        None => blocks_of(rt, Output::Nowhere)?,
+        Some(path) => create_hashed(rt, path, FileOption::Capture, given.digest)?,
+        None => blocks_of(rt, Output::Nowhere, false)?,
     };
-    let ledger = create(rt, given.ledger, FileOption::Ledger)?;
+    let ledger = create_hashed(rt, given.ledger, FileOption::Ledger, given.digest)?;
+    let manifest = match given.manifest {
+        Some(path) => Some(create(rt, path, FileOption::Manifest)?),
+        None => None,
+    };
     // Of one new file with two names, as that of a link to it, this shows only once it is there.
-    refuse_shared(rt, given)?;
-    Ok((capture, ledger))
+    refuse_shared(rt, Invocation::Watch(*given))?;
+    Ok((capture, ledger, manifest))
 }
 
 /// The text of a file.
@@ -233,6 +265,7 @@ fn filter(rt: &HostRuntime, given: FilterArgument<'_>) -> Result<Program, Refuse
                 Err(fault) => Err(Refused {
                     fault,
                     source: Some(text),
+                    reason: None,
                 }),
             }
         }
@@ -242,6 +275,11 @@ fn filter(rt: &HostRuntime, given: FilterArgument<'_>) -> Result<Program, Refuse
 /// Is this path standard output, and that a terminal?
 fn is_at_terminal(rt: &HostRuntime, path: &str) -> bool {
     is_standard(path) && rt.stdout().is_terminal()
+}
+
+/// How late a timestamp may be, in nanoseconds: not at all where no option says so.
+fn late_of(late: Option<Lateness>) -> u64 {
+    late.map_or(0, |late| late.nanoseconds())
 }
 
 /// Copies the frames of a recording that the filter accepts. What was written before a fault is handed to
@@ -256,7 +294,7 @@ fn capture(
     }
     let program = filter(rt, given.filter)?;
     let recording = open(rt, given.recording, FileOption::Recording)?;
-    refuse_shared_output(rt, given)?;
+    refuse_shared(rt, Invocation::Capture(*given))?;
     refuse_several(rt, given.recording, FileOption::Recording, choice)?;
     let output = create(rt, given.output, FileOption::Output)?;
     let (source, output) = live_source(rt, recording, output)?;
@@ -266,31 +304,55 @@ fn capture(
         outcome,
         source,
         sink,
-    } = capture_by(rt.alloc(), &program, source, WriteSink::new(output));
-    let flushed = sink.into_writer().flush().is_ok();
+    } = capture_by(
+        rt.alloc(),
+        &program,
+        late_of(given.late),
+        source,
+        WriteSink::new(output),
+    );
+    let reason = sink.into_writer().finish(outcome.is_ok()).err();
     Ok(Ended {
-        exit: Exit::of_capture(outcome, flushed),
+        exit: Exit::of_capture(outcome, reason.is_none()),
         worst: None,
         skipped: Skipped::one(source.skipped()),
+        reason,
     })
 }
 
 /// A filter that accepts no frame.
 const NO_FRAME: &str = "1,6 0 0 0,";
 
-/// The table, and the filters of the command line and of the table. Where the command line has none, one that
-/// accepts no frame stands in its place.
-fn set_up(rt: &HostRuntime, given: &WatchArguments<'_>) -> Result<(Config, Vec<Program>), Fault> {
+/// The greatest window for late timestamps of a run over two recordings, in nanoseconds.
+const MAX_LATE: u64 = MAX_LATE_MICROS * 1000;
+
+/// The table, with the window that the command line gives, and the filters of the command line and of the
+/// table. Where the command line has none, one that accepts no frame stands in its place. The sums are those of
+/// the texts, hashed where there is a manifest.
+fn set_up(
+    rt: &HostRuntime,
+    given: &WatchArguments<'_>,
+) -> Result<(Config, Vec<Program>, TextSums), Fault> {
+    let hashed = given.manifest.is_some();
     let table = text_of(rt, given.config, FileOption::Config)?;
     let config = read_config(rt.alloc(), &table)?;
+    let config = match given.late {
+        Some(late) => config.with_late(late.nanoseconds().min(MAX_LATE)),
+        None => config,
+    };
+    let mut sums = TextSums {
+        config: sum_of(table.as_bytes(), hashed),
+        filter: None,
+    };
     let programs = match given.filter {
         Some(path) => {
             let code = text_of(rt, path, FileOption::Filter)?;
+            sums.filter = Some(sum_of(code.as_bytes(), hashed));
             load_filters(rt.alloc(), &code, &config)?
         }
         None => load_filters(rt.alloc(), NO_FRAME, &config)?,
     };
-    Ok((config, programs))
+    Ok((config, programs, sums))
 }
 
 /// The table of virtual links, if it is given.
@@ -319,13 +381,14 @@ fn live_source(
     Ok((ReadSource::new(LiveInput::new(input, Some(live))), output))
 }
 
-/// How a command ended, of `watch` the worst links, if they are to be told, and how many packets that are
-/// not of Ethernet its recordings have.
+/// How a command ended, of `watch` the worst links, if they are to be told, how many packets that are not of
+/// Ethernet its recordings have, and why the system took an output no longer.
 #[derive(Drop)]
 struct Ended {
     exit: Exit,
     worst: Option<WorstLinks>,
     skipped: Skipped,
+    reason: Option<io::Error>,
 }
 
 impl From<Exit> for Ended {
@@ -334,30 +397,41 @@ impl From<Exit> for Ended {
             exit,
             worst: None,
             skipped: Skipped::none(),
+            reason: None,
         }
     }
 }
 
 /// The capture of `watch`.
-type CaptureSink<'a> = WriteSink<CaptureOutput<'a>>;
+type CaptureSink = WriteSink<Blocks>;
 
 /// The ledger of `watch`.
-type LedgerSink<'a> = WriteSink<LedgerWriter<'a>>;
+type LedgerSink = WriteSink<LedgerWriter>;
 
-/// How a run over two recordings ended, whose outputs are handed to the system.
-fn settle<'a, S: TapSource + Drop>(
+/// What reads a recording of `watch`.
+type WatchSource<'p> = RecordingSource<ReadSource<Recording<'p>>>;
+
+/// The sum of what was read of a recording.
+fn read_sum(source: WatchSource<'_>) -> Sum {
+    source.into_source().into_reader().into_sum()
+}
+
+/// How a run over two recordings ended, whose outputs are handed to the system, and the sums of its files.
+fn settle<'p>(
     run: Result<
-        Watched<RecordingSource<S>, RecordingSource<S>, CaptureSink<'a>, LedgerSink<'a>>,
-        WatchRefused<RecordingSource<S>, RecordingSource<S>, CaptureSink<'a>, LedgerSink<'a>>,
+        Watched<WatchSource<'p>, WatchSource<'p>, CaptureSink, LedgerSink>,
+        WatchRefused<WatchSource<'p>, WatchSource<'p>, CaptureSink, LedgerSink>,
     >,
-) -> Ended {
-    let (outcome, skipped, capture, ledger) = match run {
+) -> (Ended, RunSums) {
+    let (outcome, skipped, a, b, capture, ledger) = match run {
         Ok(done) => {
             let [a, b] = done.endings;
             let totals = done.totals;
             (
                 Ok(Summary { a, b, totals }),
                 Skipped::two(done.a.skipped(), done.b.skipped()),
+                Some(done.a),
+                Some(done.b),
                 done.capture,
                 done.ledger,
             )
@@ -365,26 +439,47 @@ fn settle<'a, S: TapSource + Drop>(
         Err(refused) => (
             Err(Fault::Watch(refused.fault)),
             Skipped::none(),
+            refused.a,
+            refused.b,
             refused.capture,
             refused.ledger,
         ),
     };
-    let mut ledger = ledger.into_writer();
-    let capture_flushed = capture.into_writer().flush().is_ok();
-    let ledger_flushed = ledger.flush().is_ok();
-    Ended {
-        exit: Exit::of_watch(outcome, capture_flushed, ledger_flushed),
-        worst: ledger.into_worst(),
+    let (mut capture, mut ledger) = (capture.into_writer(), ledger.into_writer());
+    let capture_fails = capture.finish(outcome.is_ok()).err();
+    let ledger_fails = ledger.finish(outcome.is_ok()).err();
+    let sums = [capture.take_sum(), ledger.take_sum()];
+    let (worst, spans) = ledger.into_found();
+    let ended = Ended {
+        exit: Exit::of_watch(outcome, capture_fails.is_none(), ledger_fails.is_none()),
+        worst,
         skipped,
-    }
+        reason: capture_fails.or(ledger_fails),
+    };
+    (
+        ended,
+        RunSums::new([a.map(read_sum), b.map(read_sum)], sums, spans),
+    )
 }
 
 /// The worst links of a ledger that is to be written, if a person is to be told.
-fn worst_links(rt: &HostRuntime, given: &WatchArguments<'_>) -> Option<WorstLinks> {
-    if given.quiet || !rt.stderr().is_terminal() {
+fn worst_links(rt: &HostRuntime, analysis: &Analysis<'_>) -> Option<WorstLinks> {
+    if analysis.given.quiet || !analysis.full {
         None
     } else {
         Some(WorstLinks::new(rt.alloc()))
+    }
+}
+
+/// The format of the capture of a run over two recordings.
+fn format_of<'a>(given: &WatchArguments<'_>, config: &'a Config) -> PacketFormat<'a> {
+    if given.pcapng {
+        PacketFormat::Pcapng {
+            interfaces: Interfaces::Networks,
+            names: Some(config),
+        }
+    } else {
+        PacketFormat::Pcap
     }
 }
 
@@ -394,7 +489,11 @@ struct Analysis<'a> {
     given: &'a WatchArguments<'a>,
     config: &'a Config,
     programs: &'a [Program],
+    /// The sums of the texts of the table and of the filter.
+    texts: TextSums,
     choices: Choices,
+    /// Is a person told all of how the run ended?
+    full: bool,
     /// Becomes true once a fault was told.
     told: &'a AtomicBool,
 }
@@ -411,7 +510,7 @@ fn watch_networks<R: Threads + Wait + Sync>(
     let a = open_tap(rt, given.a, Network::A, pauses)?;
     let b = open_tap(rt, given.b, Network::B, pauses)?;
     refuse_several_of_both(rt, given.a, given.b, choices)?;
-    let (capture, ledger) = open_outputs(rt, given)?;
+    let (capture, ledger, manifest) = open_outputs(rt, given)?;
     let progress = if given.quiet {
         None
     } else {
@@ -420,34 +519,38 @@ fn watch_networks<R: Threads + Wait + Sync>(
     let shown = progress.as_ref();
     let (capture, live_capture) = shared(rt, capture)?;
     let (ledger, live_ledger) = shared(rt, ledger)?;
-    let a = ReadSource::new(Recording::with_pauses(rt, a, Network::A, shown, pauses));
-    let b = ReadSource::new(Recording::with_pauses(rt, b, Network::B, shown, pauses));
+    let hashed = given.digest;
+    let a = ReadSource::new(Recording::with_pauses(rt, a, hashed, Network::A, shown, pauses));
+    let b = ReadSource::new(Recording::with_pauses(rt, b, hashed, Network::B, shown, pauses));
     let outputs = (live_capture, live_ledger);
-    let watcher = Watcher::new(rt, *given, outputs, shown, pauses, analysis.told);
-    let capture = capture_output(
-        rt,
-        capture,
-        given.pcapng,
-        Joining::Ledger,
-        Some(analysis.config),
-    )?;
-    let annotated = capture.annotated().map_err(|_| NO_RUN)?;
-    let run = analyser::watch(
+    let told = (analysis.told, analysis.full);
+    let watcher = Watcher::new(rt, *given, outputs, shown, pauses, told);
+    let spans = manifest.as_ref().map(|_| Spans::new());
+    let plan = Plan {
+        programs: analysis.programs,
+        format: format_of(given, analysis.config),
+    };
+    let run = sized_watch(
         threads,
         rt.alloc(),
+        RunSizes::default(),
         analysis.config,
-        analysis.programs,
+        plan,
         u32::from(given.workers),
         recording_of(rt, a, choices.a)?,
         recording_of(rt, b, choices.b)?,
         WriteSink::new(capture),
-        WriteSink::new(LedgerWriter::new(ledger, worst_links(rt, given), annotated)),
+        WriteSink::new(LedgerWriter::new(ledger, worst_links(rt, analysis), spans)),
         &watcher,
     );
     if let Some(progress) = &progress {
         progress.erase(rt);
     }
-    Ok(settle(run))
+    let (ended, sums) = settle(run);
+    match manifest {
+        Some(output) => Ok(with_manifest(rt, given, analysis.texts, ended, &sums, output)),
+        None => Ok(ended),
+    }
 }
 
 /// Judges and filters the frames of two recordings that may pause, while another thread tells of pauses.
@@ -472,18 +575,20 @@ fn watch<R: Threads + Wait + Sync>(
     threads: &R,
     given: &WatchArguments<'_>,
     choices: Choices,
-    told: &AtomicBool,
+    (told, full): (&AtomicBool, bool),
 ) -> Result<Ended, Refused> {
     if given.capture.is_some_and(|path| is_at_terminal(rt, path)) {
         return Ok(Ended::from(Exit::Terminal));
     }
     refuse_closed(rt, given)?;
-    let (config, programs) = set_up(rt, given)?;
+    let (config, programs, texts) = set_up(rt, given)?;
     let analysis = Analysis {
         given,
         config: &config,
         programs: &programs,
+        texts,
         choices,
+        full,
         told,
     };
     let ended = match Pauses::begin(rt, given) {
@@ -555,11 +660,12 @@ fn read_tap_shown(
     rt: &HostRuntime,
     tap: Input,
     choice: Choice,
+    late: u64,
 ) -> Result<(HeldTap, Skipped), Fault> {
     let progress = Progress::begin(rt, tap.length(rt), None);
     let recording = Recording::new(rt, tap, Network::A, progress.as_ref());
     let source = recording_of(rt, ReadSource::new(recording), choice)?;
-    let TapRead { outcome, source } = read_tap(rt.alloc(), source);
+    let TapRead { outcome, source } = read_tap(rt.alloc(), late, source);
     if let Some(progress) = &progress {
         progress.erase(rt);
     }
@@ -574,7 +680,7 @@ fn debug(rt: &HostRuntime, given: &DebugArguments<'_>, choice: Choice) -> Result
     let program = filter(rt, given.filter)?;
     let tap = open(rt, given.tap, FileOption::Tap)?;
     refuse_several(rt, given.tap, FileOption::Tap, choice)?;
-    let (tap, skipped) = read_tap_shown(rt, tap, choice)?;
+    let (tap, skipped) = read_tap_shown(rt, tap, choice, late_of(given.late))?;
     let exit = if rt.stdin().is_terminal() {
         let outcome = debug_terminal(rt, program, tap.frames);
         Exit::of_session(tap.ending, outcome, true)
@@ -585,17 +691,15 @@ fn debug(rt: &HostRuntime, given: &DebugArguments<'_>, choice: Choice) -> Result
         exit,
         worst: None,
         skipped,
+        reason: None,
     })
 }
 
-/// Tells a person at a terminal what a run over two recordings came to.
+/// Tells a person what a run over two recordings came to.
 fn summarise(rt: &HostRuntime, ended: &Ended) -> io::Result<()> {
     let Exit::Watched(summary) = &ended.exit else {
         return Ok(());
     };
-    if !rt.stderr().is_terminal() {
-        return Ok(());
-    }
     rt.eprintln(*summary)?;
     match &ended.worst {
         Some(worst) if !worst.is_empty() => eprintln!(rt; "{worst}"),
@@ -622,44 +726,64 @@ fn run<R: Threads + Wait + Sync>(
     threads: &R,
     command: Invocation<'_>,
     choices: Choices,
-    told: &AtomicBool,
+    (told, full): (&AtomicBool, bool),
 ) -> Result<Ended, Refused> {
     command.refuse_taken()?;
     match command {
-        Invocation::Watch(given) => watch(rt, threads, &given, choices, told),
+        Invocation::Watch(given) => watch(rt, threads, &given, choices, (told, full)),
         Invocation::Asm => Ok(Ended::from(asm(rt)?)),
         Invocation::Capture(given) => capture(rt, &given, choices.a),
         Invocation::Debug(given) => debug(rt, &given, choices.a),
         Invocation::Cut(given) => cut(rt, &given, choices),
-        Invocation::Links(given) => links(rt, &given, choices),
+        Invocation::Links(given) => links(rt, &given, choices, full),
         Invocation::Report(given) => report(rt, &given),
         Invocation::Check(given) => check(rt, &given, choices),
     }
 }
 
-/// Carries out a command, and tells standard error how it ended.
+/// Carries out what a command line asks for, and tells standard error how it ended: all of it, where that is
+/// asked for or standard error is a terminal.
 fn carry_out<R: Threads + Wait + Sync>(
     rt: &HostRuntime,
     threads: &R,
-    command: Invocation<'_>,
+    asked: CommandLine<'_>,
 ) -> Exit {
-    let quiet = matches!(command, Invocation::Watch(given) if given.quiet);
+    let quiet = matches!(asked.command, Invocation::Watch(given) if given.quiet);
+    let full = asked.verbose || rt.stderr().is_terminal();
     let told = AtomicBool::new(false);
-    let (command, choices) = choose(rt, command);
-    let ended = match run(rt, threads, command, choices, &told) {
+    let (command, choices) = choose(rt, asked.command);
+    let ended = match run(rt, threads, command, choices, (&told, full)) {
         Ok(ended) if told.load(Ordering::SeqCst) => ended,
         Ok(ended) => {
-            let _ = tell(rt, command, &ended.exit, None);
+            let known = Known {
+                source: None,
+                reason: ended.reason,
+                choices,
+                full,
+            };
+            let _ = tell(rt, command, &ended.exit, known);
             let _ = ended.skipped.tell(rt, &ended.exit);
             ended
         }
-        Err(Refused { fault, source }) => {
+        Err(
+            Refused {
+                fault,
+                source,
+                reason,
+            },
+        ) => {
             let exit = Exit::Fault(fault);
-            let _ = tell(rt, command, &exit, source.as_deref());
+            let known = Known {
+                source: source.as_deref(),
+                reason,
+                choices,
+                full,
+            };
+            let _ = tell(rt, command, &exit, known);
             Ended::from(exit)
         }
     };
-    if !quiet {
+    if full && !quiet {
         let _ = summarise(rt, &ended);
     }
     ended.exit
@@ -675,7 +799,7 @@ fn main(rt: HostRuntime) -> ExitCode {
         }
     };
     let status = match read_arguments(rt.alloc(), &arguments) {
-        Ok(command) => carry_out(&rt, &rt, command).status(),
+        Ok(asked) => status_of(&carry_out(&rt, &rt, asked)),
         // Help and the version are asked for: they go to standard output, and are no mistake.
         Err(error) => {
             let _ = error.print(&rt);

@@ -4,6 +4,7 @@ use crate::packets::PacketCount;
 use crate::pauses::Pauses;
 use crate::streams::Input;
 use afdx_frame::Network;
+use run_manifest::{Digesting, Sum};
 use std::fmt::{Display, Formatter};
 use std::io::{IsTerminal, Read};
 use std::sync::atomic::{AtomicU64, Ordering};
@@ -148,7 +149,7 @@ impl Display for ProgressLine {
 /// A recording whose reading is shown, or isn't.
 #[derive(Drop)]
 pub struct Recording<'p> {
-    input: Input,
+    input: Digesting<Input>,
     network: Network,
     shown: Option<(&'p HostRuntime, &'p Progress)>,
     noted: Option<(&'p HostRuntime, &'p Pauses)>,
@@ -163,24 +164,30 @@ impl<'p> Recording<'p> {
         network: Network,
         progress: Option<&'p Progress>,
     ) -> Recording<'p> {
-        Recording::with_pauses(rt, input, network, progress, None)
+        Recording::with_pauses(rt, input, false, network, progress, None)
     }
 
-    /// A recording whose pauses are noted too.
+    /// A recording whose pauses are noted too, and which is hashed, or isn't.
     pub fn with_pauses(
         rt: &'p HostRuntime,
         input: Input,
+        hashed: bool,
         network: Network,
         progress: Option<&'p Progress>,
         pauses: Option<&'p Pauses>,
     ) -> Recording<'p> {
         Recording {
-            input,
+            input: Digesting::new(input, hashed),
             network,
             shown: progress.map(|progress| (rt, progress)),
             noted: pauses.map(|pauses| (rt, pauses)),
             packets: PacketCount::new(),
         }
+    }
+
+    /// The sum of what was read.
+    pub fn into_sum(self) -> Sum {
+        self.input.tally.end()
     }
 
     /// A read is about to begin.

@@ -1,11 +1,15 @@
 //! The page on what a ledger says.
-use crate::files::refuse_shared_report;
+use crate::files::refuse_shared;
 use crate::{Ended, Refused, create, is_at_terminal, open, text_of};
-use analyser::{Contradiction, Exit, Fault, FileOption, ReportArguments, ReportFault, read_config};
+use analyser::{
+    Contradiction, Exit, Fault, FileOption, Invocation, ManifestFault, ReportArguments,
+    ReportFault, read_config,
+};
 use ledger_report::{Report, WrongLine, read_report};
 use ledger_text::LineFault;
 use pcap_io::ReadSource;
 use report_page::{has_sizes, json_of, page_of, summary_of};
+use run_manifest::{Digesting, Manifest, Sum, read_manifest, sum_of};
 use std::io::Write;
 use vl_config::Config;
 
@@ -38,43 +42,99 @@ fn fault_of(fault: ledger_report::ReportFault) -> Fault {
     })
 }
 
+/// What the program tells of a manifest that isn't that of the report's files.
+fn not_of(fault: ManifestFault) -> Fault {
+    Fault::Report(ReportFault::Manifest(fault))
+}
+
+/// What the program tells of a text that is no manifest.
+fn no_manifest(fault: run_manifest::ManifestFault) -> Fault {
+    match fault {
+        run_manifest::ManifestFault::Form(error) if error.is_memory() => NO_REPORT,
+        run_manifest::ManifestFault::Form(error) => not_of(ManifestFault::Form {
+            line: error.line() as u64,
+        }),
+        run_manifest::ManifestFault::Version => not_of(ManifestFault::Version),
+    }
+}
+
+/// The manifest of the run, if it is given. It has the digest of the table.
+fn manifest_of(
+    rt: &HostRuntime,
+    given: &ReportArguments<'_>,
+    table: &str,
+) -> Result<Option<Manifest>, Fault> {
+    let Some(path) = given.manifest else {
+        return Ok(None);
+    };
+    let text = text_of(rt, path, FileOption::Manifest)?;
+    let manifest = read_manifest(rt.alloc(), &text).map_err(no_manifest)?;
+    let config = &manifest.inputs.config;
+    let may_be = config.may_be_of(rt.alloc(), sum_of(table.as_bytes(), true));
+    if config.sha256.is_none() || !may_be.map_err(|_| NO_REPORT)? {
+        return Err(not_of(ManifestFault::Table));
+    }
+    Ok(Some(manifest))
+}
+
+/// Refuses a ledger whose bytes aren't those of the manifest.
+fn refuse_other(rt: &HostRuntime, manifest: Option<&Manifest>, ledger: Sum) -> Result<(), Fault> {
+    let Some(manifest) = manifest else {
+        return Ok(());
+    };
+    let may_be = manifest.outputs.ledger.may_be_of(rt.alloc(), ledger);
+    if may_be.map_err(|_| NO_REPORT)? {
+        Ok(())
+    } else {
+        Err(not_of(ManifestFault::Ledger))
+    }
+}
+
 /// The page, the numbers, or at a terminal the first part as text.
 fn text_for(
     rt: &HostRuntime,
     given: &ReportArguments<'_>,
     report: &Report,
     config: &Config,
+    manifest: Option<&Manifest>,
 ) -> Result<String, Fault> {
     let sizes = has_sizes(config);
     if given.json {
-        return json_of(rt.alloc(), report, config, sizes).map_err(|_| NO_REPORT);
+        return json_of(rt.alloc(), report, config, sizes, manifest).map_err(|_| NO_REPORT);
     }
     if is_at_terminal(rt, given.output) {
         return summary_of(rt.alloc(), report, config).map_err(|_| NO_REPORT);
     }
-    page_of(rt.alloc(), report, config, sizes).map_err(|_| NO_REPORT)
+    page_of(rt.alloc(), report, config, sizes, manifest).map_err(|_| NO_REPORT)
 }
 
 /// Writes a page on what a ledger says, or its numbers. The output is touched only once there is something to
 /// write.
 pub fn report(rt: &HostRuntime, given: &ReportArguments<'_>) -> Result<Ended, Refused> {
     let table = text_of(rt, given.config, FileOption::Config)?;
+    let manifest = manifest_of(rt, given, &table)?;
+    let manifest = manifest.as_ref();
     let config = read_config(rt.alloc(), &table)?;
-    let ledger = open(rt, given.ledger, FileOption::Ledger)?;
-    refuse_shared_report(rt, given)?;
-    let report = read_report(rt.alloc(), &config, ReadSource::new(ledger)).map_err(|fault| fault_of(
-        fault,
-    ))?;
-    let text = text_for(rt, given, &report, &config)?;
+    let hashed = manifest.is_some_and(|manifest| manifest.outputs.ledger.sha256.is_some());
+    let mut ledger = Digesting::new(open(rt, given.ledger, FileOption::Ledger)?, hashed);
+    refuse_shared(rt, Invocation::Report(*given))?;
+    let report = read_report(rt.alloc(), &config, ReadSource::new(&mut ledger)).map_err(
+        |fault| fault_of(fault),
+    )?;
+    refuse_other(rt, manifest, ledger.tally.end())?;
+    let text = text_for(rt, given, &report, &config, manifest)?;
     let mut output = create(rt, given.output, FileOption::Output)?;
-    let written = output.write_all(text.as_bytes()).is_ok();
-    if written && output.flush().is_ok() {
-        Ok(Ended::from(if report.whole {
-            Exit::Success
-        } else {
-            Exit::WithoutTotal
-        }))
-    } else {
-        Err(Refused::from(Fault::File(FileOption::Output)))
+    let written = match output.write_all(text.as_bytes()) {
+        Ok(()) => output.flush(),
+        Err(error) => Err(error),
+    };
+    match written {
+        Ok(()) if report.whole => Ok(Ended::from(Exit::Success)),
+        Ok(()) => Ok(Ended::from(Exit::WithoutTotal)),
+        Err(error) => Err(Refused {
+            fault: Fault::File(FileOption::Output),
+            source: None,
+            reason: Some(error),
+        }),
     }
 }

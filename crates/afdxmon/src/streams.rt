@@ -70,8 +70,9 @@ impl Read for Input {
     }
 }
 
-/// A file that is written. A regular one is emptied by the first write to it, so that what stood there is
-/// lost only once there is something to write. Devices and pipes can't be emptied.
+/// A file that is written. A regular one is emptied by the first write to it, or at the end of a run that
+/// wrote nothing and met no fault, so that what stood there is lost only once something stands in its place.
+/// Devices and pipes can't be emptied.
 #[derive(Drop)]
 pub struct OutputFile {
     file: File,
@@ -89,13 +90,21 @@ impl OutputFile {
             to_be_emptied,
         })
     }
+
+    /// Empties a regular file to which nothing was written.
+    fn empty(&mut self) -> io::Result<()> {
+        if self.to_be_emptied {
+            self.file.set_len(0)?;
+            self.to_be_emptied = false;
+        }
+        Ok(())
+    }
 }
 
 impl Write for OutputFile {
     fn write(&mut self, bytes: &[u8]) -> io::Result<usize> {
-        if self.to_be_emptied && !bytes.is_empty() {
-            self.file.set_len(0)?;
-            self.to_be_emptied = false;
+        if !bytes.is_empty() {
+            self.empty()?;
         }
         self.file.write(bytes)
     }
@@ -121,6 +130,14 @@ impl Output {
             return Ok(Output::Standard(rt.stdout()));
         }
         Ok(Output::File(OutputFile::open(rt, path)?))
+    }
+
+    /// Empties a regular file to which nothing was written.
+    pub fn empty(&mut self) -> io::Result<()> {
+        match self {
+            Output::File(file) => file.empty(),
+            Output::Standard(_) | Output::Nowhere => Ok(()),
+        }
     }
 }
 

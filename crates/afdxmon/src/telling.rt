@@ -1,21 +1,24 @@
 //! What standard error is told of a command's end: the fault line or the notes, and at a terminal which file
 //! it is about, why, and what to do. What a file is found to be by then is only told, and decides nothing.
+use crate::disorder::Disorder;
+use crate::interface::Choices;
 use crate::streams::Output;
 use afdx_frame::Network;
 use analyser::{
-    CutFault, EndingAdvice, Exit, Fault, FileOption, FilterArgument, HEAD_LEN, Invocation,
-    MAX_TEXT, Note, TO_A_TERMINAL, TapNote, WITHOUT_TOTAL, WatchFault, advice, caret_at, file_of,
-    header_advice, is_standard, load_offset, numeric_advice, numeric_offset, place_at,
-    source_offset, written_as,
+    Advice, CutFault, EndingAdvice, Exit, Fault, FileOption, GivenFile, HEAD_LEN, Invocation,
+    MAX_TEXT, ManifestFault, Note, ReportFault, TO_A_TERMINAL, TapNote, WITHOUT_TOTAL, WatchFault,
+    caret_at, compressed_advice, file_of, header_advice, is_standard, load_offset, numeric_advice,
+    numeric_offset, place_at, source_offset, written_as,
 };
 use bpf_asm::AsmFault;
 use config_place::{key_offset, slip_of};
 use icd_links::IcdFault;
-use pcap_io::{Ending, HeaderFault};
-use std::alloc::Global;
+use pcap_io::{BadReason, Ending, HeaderFault};
+use pcapng::Choice;
+use run_manifest::read_manifest;
 use std::fmt::{Display, Formatter};
 use std::fs::File;
-use std::io::{IsTerminal, Read};
+use std::io::Read;
 use std::{fmt, fs, io};
 use vl_config::{Config, ConfigFault};
 
@@ -40,116 +43,65 @@ impl Display for Reason {
     }
 }
 
-/// The file that a filter stands in, if it is no argument.
-fn filter_file(filter: FilterArgument<'_>) -> Option<&str> {
-    match filter {
-        FilterArgument::Code(_) => None,
-        FilterArgument::Numeric(path) | FilterArgument::Source(path) => Some(path),
-    }
-}
-
-/// What an option was given. `A` is the one recording of `capture` and `debug` too, and `Capture` what
-/// `capture` writes.
-fn given<'a>(command: Invocation<'a>, file: FileOption) -> Option<&'a str> {
-    match (command, file) {
-        (Invocation::Watch(given), FileOption::Config) => Some(given.config),
-        (Invocation::Watch(given), FileOption::Filter) => given.filter,
-        (Invocation::Watch(given), FileOption::A) => given.a,
-        (Invocation::Watch(given), FileOption::B) => given.b,
-        (Invocation::Watch(given), FileOption::Capture) => given.capture,
-        (Invocation::Watch(given), FileOption::Ledger) => Some(given.ledger),
-        (Invocation::Debug(given), FileOption::Filter | FileOption::Source) => {
-            filter_file(given.filter)
-        }
-        (Invocation::Debug(given), FileOption::Tap | FileOption::A) => Some(given.tap),
-        (Invocation::Capture(given), FileOption::Filter | FileOption::Source) => {
-            filter_file(given.filter)
-        }
-        (Invocation::Capture(given), FileOption::Recording | FileOption::A) => {
-            Some(given.recording)
-        }
-        (Invocation::Capture(given), FileOption::Output | FileOption::Capture) => {
-            Some(given.output)
-        }
-        (Invocation::Cut(given), FileOption::Ledger) => Some(given.ledger),
-        (Invocation::Cut(given), FileOption::A) => given.a,
-        (Invocation::Cut(given), FileOption::B) => given.b,
-        (Invocation::Cut(given), FileOption::Config) => given.config,
-        (Invocation::Cut(given), FileOption::Output) => Some(given.output),
-        (Invocation::Links(given), FileOption::A) => given.a,
-        (Invocation::Links(given), FileOption::B) => given.b,
-        (Invocation::Links(given), FileOption::Icd) => given.icd,
-        (Invocation::Check(given), FileOption::Config) => Some(given.config),
-        (Invocation::Check(given), FileOption::Filter) => given.filter,
-        (Invocation::Check(given), FileOption::A) => given.a,
-        (Invocation::Check(given), FileOption::B) => given.b,
-        (Invocation::Report(given), FileOption::Config) => Some(given.config),
-        (Invocation::Report(given), FileOption::Ledger) => Some(given.ledger),
-        (Invocation::Report(given), FileOption::Output) => Some(given.output),
-        _ => None,
-    }
+/// What the program knows of a command's end, beside how it ended.
+#[derive(Clone, Copy)]
+pub struct Known<'a> {
+    /// The text in which a fault lies, or a list of a file's interfaces.
+    pub source: Option<&'a str>,
+    /// Why the system took an output no longer.
+    pub reason: Option<io::Error>,
+    /// What was read of the recordings.
+    pub choices: Choices,
+    /// Is a person told all of it? Else there is the fault line, or the notes.
+    pub full: bool,
 }
 
 /// The path that an option was given, if it is no standard stream.
 fn path_of<'a>(command: Invocation<'a>, file: FileOption) -> Option<&'a str> {
-    let path = given(command, file)?;
+    let path = command.file_of(file)?.path?;
     if is_standard(path) { None } else { Some(path) }
 }
 
-/// Is it a ledger, which `cut` or `report` reads?
-fn is_ledger_read(command: Invocation<'_>, file: FileOption) -> bool {
-    let reads = matches!(command, Invocation::Cut(_) | Invocation::Report(_));
-    reads && file == FileOption::Ledger
+/// What a ledger or a manifest that is read needs. None: it is none, or is written.
+fn needs_to_be_read(command: Invocation<'_>, file: FileOption) -> Option<&'static str> {
+    if command.file_of(file).is_some_and(|file| file.is_written) {
+        return None;
+    }
+    match file {
+        FileOption::Ledger => Some(LEDGER_ADVICE),
+        FileOption::Manifest => Some(MANIFEST_ADVICE),
+        _ => None,
+    }
 }
 
 /// What a person knows a file by: its path, or the stream or option that is in its place.
 fn name_of<'a>(command: Invocation<'a>, file: FileOption) -> Option<&'a str> {
-    match (given(command, file), file) {
-        (Some(path), _) if is_standard(path) && is_ledger_read(command, file) => {
-            Some("standard input")
-        }
-        (Some(path), FileOption::Capture | FileOption::Ledger | FileOption::Output)
-            if is_standard(path) => { Some("standard output") }
-        (Some(path), _) if is_standard(path) => Some("standard input"),
-        (Some(path), _) => Some(path),
-        (None, FileOption::Filter) => code_of(command).map(|_| "--code"),
-        (None, _) => None,
-    }
-}
-
-/// The filter that stands in the arguments.
-fn code_of<'a>(command: Invocation<'a>) -> Option<&'a str> {
-    let filter = match command {
-        Invocation::Capture(given) => given.filter,
-        Invocation::Debug(given) => given.filter,
-        Invocation::Asm
-        | Invocation::Watch(_)
-        | Invocation::Cut(_)
-        | Invocation::Links(_)
-        | Invocation::Report(_)
-        | Invocation::Check(_) => return None,
-    };
-    match filter {
-        FilterArgument::Code(code) => Some(code),
-        FilterArgument::Numeric(_) | FilterArgument::Source(_) => None,
+    match command.file_of(file) {
+        Some(
+            GivenFile {
+                path: Some(path),
+                is_written,
+                ..
+            },
+        ) => Some(if !is_standard(path) {
+            path
+        } else if is_written {
+            "standard output"
+        } else {
+            "standard input"
+        }),
+        _ if file == FileOption::Filter => command.code().map(|_| "--code"),
+        _ => None,
     }
 }
 
 /// The file of the filter's source.
 fn source_of<'a>(command: Invocation<'a>) -> Option<&'a str> {
-    let filter = match command {
-        Invocation::Capture(given) => given.filter,
-        Invocation::Debug(given) => given.filter,
-        Invocation::Asm
-        | Invocation::Watch(_)
-        | Invocation::Cut(_)
-        | Invocation::Links(_)
-        | Invocation::Report(_)
-        | Invocation::Check(_) => return None,
-    };
-    match filter {
-        FilterArgument::Source(path) => Some(path),
-        FilterArgument::Code(_) | FilterArgument::Numeric(_) => None,
+    let file = command.file_of(FileOption::Source)?;
+    if file.option == FileOption::Source {
+        file.path
+    } else {
+        None
     }
 }
 
@@ -191,9 +143,11 @@ fn reason_of_input(rt: &HostRuntime, path: &str, file: FileOption) -> Option<Rea
         return None;
     }
     match file {
-        FileOption::Config | FileOption::Filter | FileOption::Source | FileOption::Icd => {
-            reason_of_text(rt, path, found.len())
-        }
+        FileOption::Config
+        | FileOption::Filter
+        | FileOption::Source
+        | FileOption::Icd
+        | FileOption::Manifest => reason_of_text(rt, path, found.len()),
         _ => reason_of_recording(rt, path),
     }
 }
@@ -208,7 +162,9 @@ fn reason_of_output(rt: &HostRuntime, path: &str) -> Option<Reason> {
 
 fn reason_of(rt: &HostRuntime, path: &str, file: FileOption) -> Option<Reason> {
     match file {
-        FileOption::Capture | FileOption::Ledger | FileOption::Output => reason_of_output(rt, path),
+        FileOption::Capture | FileOption::Ledger | FileOption::Output | FileOption::Manifest => {
+            reason_of_output(rt, path)
+        }
         _ => reason_of_input(rt, path, file),
     }
 }
@@ -222,16 +178,8 @@ fn head_of(rt: &HostRuntime, path: &str) -> io::Result<[u8; HEAD_LEN]> {
     Ok(head)
 }
 
-/// What to do with a file that is no recording.
-fn advice_on_header(rt: &HostRuntime, path: Option<&str>, fault: HeaderFault) -> &'static str {
-    match path.map(|path| head_of(rt, path)) {
-        Some(Ok(head)) => header_advice(fault, &head),
-        Some(Err(_)) | None => header_advice(fault, &[]),
-    }
-}
-
 /// Tells what to do, after the name of the file that it is about.
-fn advise(rt: &HostRuntime, name: Option<&str>, advice: &str) -> io::Result<()> {
+fn advise<D: Display + Drop>(rt: &HostRuntime, name: Option<&str>, advice: D) -> io::Result<()> {
     match name {
         Some(name) => eprintln!(rt; "{name}: {advice}"),
         None => rt.eprintln(advice),
@@ -276,6 +224,10 @@ fn show_caret(rt: &HostRuntime, text: &str, at: usize) -> io::Result<()> {
 /// What a ledger that is read needs.
 const LEDGER_ADVICE: &str = "--ledger needs a ledger that can be read: a file of watch, or a pipe";
 
+/// What a manifest that is read needs.
+const MANIFEST_ADVICE: &str =
+    "--manifest needs a manifest that can be read: a file of watch, at most 16 MiB of UTF-8";
+
 /// Tells why a file can't be opened, read or written, and what it needs.
 fn explain_file(
     rt: &HostRuntime,
@@ -283,29 +235,29 @@ fn explain_file(
     file: FileOption,
     fault: &Fault,
 ) -> io::Result<()> {
-    let is_read = is_ledger_read(command, file);
+    let needs = needs_to_be_read(command, file);
     let reason = path_of(command, file).and_then(|path| {
-        if is_read {
+        if needs.is_some() {
             reason_of_input(rt, path, file)
         } else {
             reason_of(rt, path, file)
         }
     });
-    match (name_of(command, file), reason) {
-        (Some(name), Some(reason)) if is_read => eprintln!(rt; "{name}: {reason}"),
-        (name, None) if is_read => advise(rt, name, LEDGER_ADVICE),
-        (Some(name), Some(reason)) => {
+    match (name_of(command, file), reason, needs) {
+        (Some(name), Some(reason), Some(_)) => eprintln!(rt; "{name}: {reason}"),
+        (name, None, Some(needs)) => advise(rt, name, needs),
+        (Some(name), Some(reason), None) => {
             eprintln!(rt; "{name}: {reason}")?;
-            rt.eprintln(advice(fault))
+            rt.eprintln(Advice(fault))
         }
-        (name, _) => advise(rt, name, advice(fault)),
+        (name, ..) => advise(rt, name, Advice(fault)),
     }
 }
 
 /// Shows what is wrong with a table: the key in its line, what stands there, and what is allowed.
 fn explain_table(rt: &HostRuntime, command: Invocation<'_>, fault: ConfigFault) -> io::Result<()> {
     let Some(path) = path_of(command, FileOption::Config) else {
-        return rt.eprintln(advice(&Fault::Config(fault)));
+        return rt.eprintln(Advice(&Fault::Config(fault)));
     };
     let slip = match text_again(rt, path) {
         Some(text) => match slip_of(rt.alloc(), &text, fault) {
@@ -315,7 +267,7 @@ fn explain_table(rt: &HostRuntime, command: Invocation<'_>, fault: ConfigFault) 
         None => None,
     };
     let Some((text, slip)) = slip else {
-        return advise(rt, Some(path), advice(&Fault::Config(fault)));
+        return advise(rt, Some(path), Advice(&Fault::Config(fault)));
     };
     let found = slip.found.as_str();
     match slip.at {
@@ -327,10 +279,32 @@ fn explain_table(rt: &HostRuntime, command: Invocation<'_>, fault: ConfigFault) 
 
 /// Tells what is wrong in a line of a document of links.
 fn explain_icd(rt: &HostRuntime, name: Option<&str>, fault: IcdFault) -> io::Result<()> {
-    let advice = advice(&Fault::Icd(fault));
+    let advice = Advice(&Fault::Icd(fault));
     match (name, fault.line()) {
         (Some(name), Some(line)) => eprintln!(rt; "{name}:{line}: {advice}"),
         _ => advise(rt, name, advice),
+    }
+}
+
+/// Tells what is wrong with a manifest first, where its text can be had again.
+fn explain_manifest(
+    rt: &HostRuntime,
+    command: Invocation<'_>,
+    name: Option<&str>,
+    fault: &Fault,
+) -> io::Result<()> {
+    let text = path_of(command, FileOption::Manifest).and_then(|path| text_again(rt, path));
+    match (name, text) {
+        (Some(name), Some(text)) => {
+            if let Err(run_manifest::ManifestFault::Form(error)) = read_manifest(
+                rt.alloc(),
+                &text,
+            ) {
+                eprintln!(rt; "{name}: {error}")?;
+            }
+            rt.eprintln(Advice(fault))
+        }
+        _ => advise(rt, name, Advice(fault)),
     }
 }
 
@@ -347,7 +321,7 @@ fn explain_source(
             show_place(rt, name, source, at, None)?;
         }
     }
-    rt.eprintln(advice(&Fault::Asm(fault)))
+    rt.eprintln(Advice(&Fault::Asm(fault)))
 }
 
 /// Where in the numeric form of a filter a fault lies. In a blank text it is nowhere.
@@ -359,23 +333,33 @@ fn filter_offset(fault: &Fault, text: &str) -> Option<usize> {
     }
 }
 
-/// What to do with a text that is no filter, by what it looks like.
-fn filter_advice(alloc: Global, fault: &Fault, text: &str) -> &'static str {
+/// Tells what to do with a text that is no filter, by what it looks like.
+fn advise_filter(
+    rt: &HostRuntime,
+    name: Option<&str>,
+    text: &str,
+    fault: &Fault,
+) -> io::Result<()> {
     match *fault {
-        Fault::Numeric { fault, .. } => numeric_advice(fault, written_as(alloc, text)),
-        _ => advice(fault),
+        Fault::Numeric { fault, .. } => {
+            advise(
+                rt,
+                name,
+                numeric_advice(fault, written_as(rt.alloc(), text)),
+            )
+        }
+        _ => advise(rt, name, Advice(fault)),
     }
 }
 
 /// Shows where in a filter's text a fault lies.
 fn show_filter(rt: &HostRuntime, name: &str, text: &str, fault: &Fault) -> io::Result<()> {
-    let advice = filter_advice(rt.alloc(), fault, text);
     match filter_offset(fault, text) {
         Some(at) => {
             show_place(rt, name, text, at, None)?;
-            rt.eprintln(advice)
+            advise_filter(rt, None, text, fault)
         }
-        None => advise(rt, Some(name), advice),
+        None => advise_filter(rt, Some(name), text, fault),
     }
 }
 
@@ -394,15 +378,15 @@ fn show_table_filter(
         None => eprintln!(rt; "{path}: {found}")?,
     }
     let Ok(config) = Config::read(alloc, table) else {
-        return rt.eprintln(advice(fault));
+        return rt.eprintln(Advice(fault));
     };
     let Some(text) = config.filters().get(usize::from(number).saturating_sub(1)) else {
-        return rt.eprintln(advice(fault));
+        return rt.eprintln(Advice(fault));
     };
     if let Some(at) = filter_offset(fault, text) {
         show_caret(rt, text, at)?;
     }
-    rt.eprintln(filter_advice(alloc, fault, text))
+    advise_filter(rt, None, text, fault)
 }
 
 /// Shows where in a filter a fault lies: in that of the arguments or of a file, or in a numbered one of the
@@ -413,19 +397,19 @@ fn explain_filter(
     fault: &Fault,
     number: Option<u8>,
 ) -> io::Result<()> {
-    if let Some(code) = code_of(command) {
+    if let Some(code) = command.code() {
         return show_filter(rt, "--code", code, fault);
     }
     if let Some(path) = source_of(command) {
-        return advise(rt, Some(path), advice(fault));
+        return advise(rt, Some(path), Advice(fault));
     }
     let Some(path) = file_of(fault).and_then(|file| path_of(command, file)) else {
-        return rt.eprintln(advice(fault));
+        return rt.eprintln(Advice(fault));
     };
     match (text_again(rt, path), number) {
         (Some(text), None) => show_filter(rt, path, &text, fault),
         (Some(text), Some(number)) => show_table_filter(rt, path, &text, number, fault),
-        (None, _) => advise(rt, Some(path), advice(fault)),
+        (None, _) => advise(rt, Some(path), Advice(fault)),
     }
 }
 
@@ -436,8 +420,15 @@ fn explain_header(
     file: FileOption,
     fault: HeaderFault,
 ) -> io::Result<()> {
-    let advice = advice_on_header(rt, path_of(command, file), fault);
-    advise(rt, name_of(command, file), advice)
+    let name = name_of(command, file);
+    let Some(Ok(head)) = path_of(command, file).map(|path| head_of(rt, path)) else {
+        return advise(rt, name, header_advice(fault, &[]));
+    };
+    let given = command.file_of(file);
+    match given.and_then(|given| compressed_advice(&head, given)) {
+        Some(advice) if fault == HeaderFault::Magic => advise(rt, name, advice),
+        Some(_) | None => advise(rt, name, header_advice(fault, &head)),
+    }
 }
 
 /// Tells a person what a fault line means: the file and the place in it, why it can't be had or taken, and
@@ -446,40 +437,71 @@ fn explain(
     rt: &HostRuntime,
     command: Invocation<'_>,
     fault: &Fault,
-    source: Option<&str>,
+    known: Known<'_>,
 ) -> io::Result<()> {
     let file = file_of(fault);
     let name = file.and_then(|file| name_of(command, file));
+    if let Some(error) = known.reason {
+        // Only an output has one, and that is what failed.
+        let name = name.unwrap_or("standard output");
+        return eprintln!(rt; "{name}: {error}");
+    }
     match (*fault, file) {
         (Fault::File(_) | Fault::Watch(WatchFault::Read { .. }), Some(file)) => {
             explain_file(rt, command, file, fault)
         }
-        (Fault::Cut(CutFault::Read { .. }), Some(file)) => explain_file(rt, command, file, fault),
+        (Fault::Cut(CutFault::Read { .. }) | Fault::Report(ReportFault::Read), Some(file)) => {
+            explain_file(rt, command, file, fault)
+        }
         (Fault::Watch(WatchFault::Header { fault, .. }), Some(file)) => {
             explain_header(rt, command, file, fault)
         }
         (Fault::Cut(CutFault::Header { fault, .. }), Some(file)) => {
             explain_header(rt, command, file, fault)
         }
+        (Fault::Report(ReportFault::Manifest(ManifestFault::Form { .. })), _) => {
+            explain_manifest(rt, command, name, fault)
+        }
         (Fault::Config(fault), _) => explain_table(rt, command, fault),
         (Fault::Icd(fault), _) => explain_icd(rt, name, fault),
-        (Fault::Asm(fault), _) => explain_source(rt, command, fault, source),
+        (Fault::Asm(fault), _) => explain_source(rt, command, fault, known.source),
         (Fault::Numeric { filter, .. } | Fault::Load { filter, .. }, _) => {
             explain_filter(rt, command, fault, filter)
         }
-        _ => advise(rt, name, advice(fault)),
+        _ => advise(rt, name, Advice(fault)),
     }
 }
 
-/// Tells a person at a terminal what to do with a recording that ended early.
+/// Notes how a recording ended, and where a frame out of order ended it, by how much.
+fn tell_ending<D: Display + Drop>(
+    rt: &HostRuntime,
+    command: Invocation<'_>,
+    (file, choice): (FileOption, Choice),
+    ending: Ending,
+    note: D,
+) -> io::Result<()> {
+    let disorder = match (ending, path_of(command, file)) {
+        (Ending::Bad(count, BadReason::StampBack), Some(path)) => {
+            Disorder::of(rt, command, (path, choice), count)
+        }
+        _ => None,
+    };
+    match disorder {
+        Some(disorder) => eprintln!(rt; "{note}{disorder}"),
+        None => rt.eprintln(note),
+    }
+}
+
+/// Tells a person what to do with a recording that ended early.
 fn explain_ending(
     rt: &HostRuntime,
     command: Invocation<'_>,
     file: FileOption,
     ending: Ending,
+    full: bool,
 ) -> io::Result<()> {
     match name_of(command, file) {
-        Some(name) if rt.stderr().is_terminal() => {
+        Some(name) if full => {
             let advice = EndingAdvice(ending);
             eprintln!(rt; "{name}: {advice}")
         }
@@ -493,47 +515,50 @@ fn note_ending(
     command: Invocation<'_>,
     network: Network,
     ending: Ending,
+    known: Known<'_>,
 ) -> io::Result<()> {
     if let Ending::Clean(_) = ending {
         return Ok(());
     }
-    rt.eprintln(TapNote(network, ending))?;
-    let file = match network {
-        Network::A => FileOption::A,
-        Network::B => FileOption::B,
+    let (file, choice) = match network {
+        Network::A => (FileOption::A, known.choices.a),
+        Network::B => (FileOption::B, known.choices.b),
     };
-    explain_ending(rt, command, file, ending)
+    let note = TapNote(network, ending);
+    tell_ending(rt, command, (file, choice), ending, note)?;
+    explain_ending(rt, command, file, ending, known.full)
 }
 
-/// Tells standard error how a command ended: the fault line or the notes, and to a person at a terminal
-/// which file it is about, where in it a fault lies, and what to do.
+/// Tells standard error how a command ended: the fault line or the notes, and in full which file it is about,
+/// where in it a fault lies, and what to do.
 pub fn tell(
     rt: &HostRuntime,
     command: Invocation<'_>,
     exit: &Exit,
-    source: Option<&str>,
+    known: Known<'_>,
 ) -> io::Result<()> {
     match exit {
         Exit::Success => Ok(()),
         Exit::Terminal => rt.eprintln(TO_A_TERMINAL),
         Exit::Note(ending) => {
-            rt.eprintln(Note(*ending))?;
-            explain_ending(rt, command, FileOption::A, *ending)
+            let recording = (FileOption::A, known.choices.a);
+            tell_ending(rt, command, recording, *ending, Note(*ending))?;
+            explain_ending(rt, command, FileOption::A, *ending, known.full)
         }
         Exit::Watched(run) => {
-            note_ending(rt, command, Network::A, run.a)?;
-            note_ending(rt, command, Network::B, run.b)
+            note_ending(rt, command, Network::A, run.a, known)?;
+            note_ending(rt, command, Network::B, run.b, known)
         }
         Exit::WithoutTotal => rt.eprintln(WITHOUT_TOTAL),
         Exit::Fault(fault) => {
-            match (fault, source) {
+            match (fault, known.source) {
                 (Fault::Interfaces(_), Some(listed)) => eprintln!(rt; "{fault}: {listed}")?,
                 _ => rt.eprintln(*fault)?,
             }
-            if !rt.stderr().is_terminal() {
+            if !known.full {
                 return Ok(());
             }
-            explain(rt, command, fault, source)
+            explain(rt, command, fault, known)
         }
     }
 }

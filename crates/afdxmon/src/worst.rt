@@ -1,7 +1,8 @@
 //! The virtual links with the most discards, for a person at a terminal: read off the lines of the links as
 //! they are written to the ledger, so that the counts are the ledger's.
-use crate::annotated::Annotated;
 use crate::live::Blocks;
+use crate::spans::Spans;
+use run_manifest::Sum;
 use std::alloc::{AllocError, Global};
 use std::fmt::{Display, Formatter};
 use std::io::Write;
@@ -156,33 +157,39 @@ impl Display for WorstLinks {
     }
 }
 
-/// A ledger that is written, of which the worst links are told, or aren't, and whose verdicts a capture may
-/// have.
+/// A ledger that is written. Of it the worst links are told, or aren't, and the spans of its networks.
 #[derive(Drop)]
-pub struct LedgerWriter<'a> {
+pub struct LedgerWriter {
     blocks: Blocks,
     worst: Option<WorstLinks>,
-    capture: Option<Annotated<'a>>,
+    spans: Option<Spans>,
 }
 
-impl<'a> LedgerWriter<'a> {
-    /// A ledger whose bytes go on to `blocks`; no links are told where `worst` is None, and no capture has
-    /// its verdicts where `capture` is None.
-    pub fn new(
-        blocks: Blocks,
-        worst: Option<WorstLinks>,
-        capture: Option<Annotated<'a>>,
-    ) -> LedgerWriter<'a> {
+impl LedgerWriter {
+    /// A ledger whose bytes go on to `blocks`; no links are told where `worst` is None, and no spans where
+    /// `spans` is.
+    pub fn new(blocks: Blocks, worst: Option<WorstLinks>, spans: Option<Spans>) -> LedgerWriter {
         LedgerWriter {
             blocks,
             worst,
-            capture,
+            spans,
         }
     }
 
-    /// The links that were found; None where they aren't told, or there was no memory for them.
-    pub fn into_worst(self) -> Option<WorstLinks> {
-        self.worst
+    /// The links that were found, None where they aren't told or there was no memory for them, and the spans.
+    pub fn into_found(self) -> (Option<WorstLinks>, Option<Spans>) {
+        (self.worst, self.spans)
+    }
+
+    /// The sum of what the system took.
+    pub fn take_sum(&mut self) -> Sum {
+        self.blocks.take_sum()
+    }
+
+    /// Hands the system all that was written. Where the run met no fault, an older file to which it wrote
+    /// nothing is emptied.
+    pub fn finish(&mut self, sound: bool) -> io::Result<()> {
+        self.blocks.finish(sound)
     }
 
     /// Looks at what was written. Without memory nothing is told.
@@ -192,17 +199,17 @@ impl<'a> LedgerWriter<'a> {
                 self.worst = None;
             }
         }
-        if let Some(capture) = &self.capture {
-            capture.pass(bytes);
-        }
     }
 }
 
-impl Write for LedgerWriter<'_> {
+impl Write for LedgerWriter {
     fn write(&mut self, bytes: &[u8]) -> io::Result<usize> {
         let count = self.blocks.write(bytes)?;
         if let Some(written) = bytes.get(..count) {
             self.note(written);
+        }
+        if let Some(spans) = &mut self.spans {
+            spans.pass(bytes, count);
         }
         Ok(count)
     }

@@ -14,28 +14,113 @@
 //! This crate is the one door to all of it: its parts stand in crates that are proved side by side.
 #![tactic(auto)]
 
-pub use capture_run::{capture_gives_the_accepted_frames, capture_one};
-pub use command_line::{
-    CaptureArguments, CaptureFiles, Caret, CheckArguments, Contradiction, CutArguments, CutFiles,
-    DebugArguments, EndingAdvice, Exit, Fault, FileOption, FilterArgument, HEAD_LEN, Hint, Inode,
-    Invocation, LinksArguments, Misuse, Named, Note, Place, ReportArguments, ReportFault,
-    ReportFiles, SelectionOption, SkippedNote, Summary, TO_A_TERMINAL, TapNote, USAGE,
-    WITHOUT_TOTAL, WatchArguments, WatchFiles, Written, advice, caret_at, fault_line, file_of,
-    header_advice, hint_of, is_standard, load_offset, numeric_advice, numeric_offset, place_at,
-    read_arguments, source_offset, written_as,
-};
-pub use commands::{
-    AsmRun, CaptureRun, DebugRun, HeldTap, MAX_TEXT, Ran, TapRead, answer_line, asm_over,
-    begin_session, capture_by, capture_over, debug_over, filter_of, filter_of_source, load_filters,
-    read_config, read_file, read_tap, run_asm, run_capture, run_debug, run_session, selection_of,
-    source_means_its_program,
-};
-pub use cut_run::{
-    CutEnding, CutFault, CutRun, CutSource, LineObserver, LinesRun, NeighboursRun, cut_frames,
-    neighbours_of, print_lines,
-};
-pub use line_selection::{Neighbours, Selection};
-pub use run_outcome::{Output, WatchFault, WatchRefused};
-pub use watch_run::{
-    OpenGate, RunObserver, Watched, same_bytes_in_same_bytes_out, watch, watch_whole,
-};
+pub use capture_run::capture_gives_the_accepted_frames;
+pub use capture_run::capture_one;
+pub use capture_run::capture_within;
+pub use command_line::Advice;
+pub use command_line::CaptureArguments;
+pub use command_line::Caret;
+pub use command_line::CheckArguments;
+pub use command_line::CommandLine;
+pub use command_line::CompressedAdvice;
+pub use command_line::Contradiction;
+pub use command_line::CutArguments;
+pub use command_line::DebugArguments;
+pub use command_line::EndingAdvice;
+pub use command_line::Exit;
+pub use command_line::Fault;
+pub use command_line::FileOption;
+pub use command_line::FilterArgument;
+pub use command_line::GivenFile;
+pub use command_line::HEAD_LEN;
+pub use command_line::Hint;
+pub use command_line::Inode;
+pub use command_line::Invocation;
+pub use command_line::Lateness;
+pub use command_line::LinksArguments;
+pub use command_line::MAX_FILES;
+pub use command_line::MAX_LATE_MICROS;
+pub use command_line::ManifestFault;
+pub use command_line::Misuse;
+pub use command_line::Named;
+pub use command_line::NamedFile;
+pub use command_line::Note;
+pub use command_line::Place;
+pub use command_line::ReportArguments;
+pub use command_line::ReportFault;
+pub use command_line::SelectionOption;
+pub use command_line::SkippedNote;
+pub use command_line::Summary;
+pub use command_line::TO_A_TERMINAL;
+pub use command_line::TapNote;
+pub use command_line::USAGE;
+pub use command_line::WITHOUT_TOTAL;
+pub use command_line::WatchArguments;
+pub use command_line::Written;
+pub use command_line::caret_at;
+pub use command_line::compressed_advice;
+pub use command_line::fault_line;
+pub use command_line::file_of;
+pub use command_line::header_advice;
+pub use command_line::hint_of;
+pub use command_line::is_standard;
+pub use command_line::load_offset;
+pub use command_line::numeric_advice;
+pub use command_line::numeric_offset;
+pub use command_line::place_at;
+pub use command_line::read_arguments;
+pub use command_line::refuse_shared;
+pub use command_line::source_offset;
+pub use command_line::version;
+pub use command_line::written_as;
+pub use commands::AsmRun;
+pub use commands::CaptureRun;
+pub use commands::DebugRun;
+pub use commands::HeldTap;
+pub use commands::MAX_TEXT;
+pub use commands::Ran;
+pub use commands::TapRead;
+pub use commands::answer_line;
+pub use commands::asm_over;
+pub use commands::begin_session;
+pub use commands::capture_by;
+pub use commands::capture_over;
+pub use commands::debug_over;
+pub use commands::filter_of;
+pub use commands::filter_of_source;
+pub use commands::load_filters;
+pub use commands::read_config;
+pub use commands::read_file;
+pub use commands::read_tap;
+pub use commands::run_asm;
+pub use commands::run_capture;
+pub use commands::run_debug;
+pub use commands::run_session;
+pub use commands::selection_of;
+pub use commands::source_means_its_program;
+pub use cut_run::CutEnding;
+pub use cut_run::CutFault;
+pub use cut_run::CutRun;
+pub use cut_run::CutSource;
+pub use cut_run::LineObserver;
+pub use cut_run::LinesRun;
+pub use cut_run::NeighboursRun;
+pub use cut_run::cut_frames;
+pub use cut_run::neighbours_of;
+pub use cut_run::print_lines;
+pub use line_selection::Neighbours;
+pub use line_selection::Selection;
+pub use run_outcome::Output;
+pub use run_outcome::WatchFault;
+pub use run_outcome::WatchRefused;
+pub use watch_run::OpenGate;
+pub use watch_run::Plan;
+pub use watch_run::RunObserver;
+pub use watch_run::RunSizes;
+pub use watch_run::Watched;
+pub use watch_run::pcap_has_accepted_frames;
+pub use watch_run::same_bytes_in_same_bytes_out;
+pub use watch_run::sized_watch;
+pub use watch_run::sized_watch_whole;
+pub use watch_run::watch;
+pub use watch_run::watch_whole;

@@ -13,7 +13,7 @@ use bpf_loader::Program;
 use std::marker::Model;
 
 /// A scratch memory slot with its old value.
-#[derive(Clone, Copy, Debug)]
+#[derive(Clone, Copy)]
 pub(crate) struct Slot {
     pub(crate) index: usize,
     pub(crate) value: u32,
@@ -21,7 +21,7 @@ pub(crate) struct Slot {
 
 /// What one step of the machine overwrites: the pc, A and X, and the value of the scratch memory slot
 /// that a store changes. No step changes more.
-#[derive(Debug, Drop)]
+#[derive(Drop)]
 pub struct Undo {
     pub(crate) pc: usize,
     pub(crate) a: u32,

@@ -19,7 +19,7 @@ use std::marker::Model;
 
 /// A filter on the frames of a tap, with a selected frame, a position on the filter's run on it, and
 /// breakpoints.
-#[derive(Debug, Drop)]
+#[derive(Drop)]
 pub struct Session {
     alloc: Global,
     program: Program,

@@ -19,7 +19,7 @@ use std::alloc::{AllocError, Global};
 
 /// Where a session stands on the run of its filter on the selected frame: the current state, or the
 /// filter's return value and the last state before it, and a record for each step made.
-#[derive(Debug, Drop)]
+#[derive(Drop)]
 pub(crate) struct Walk {
     state: State,
     answer: Option<u32>,

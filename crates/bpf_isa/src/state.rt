@@ -10,7 +10,7 @@ pub const MAX_INSNS: usize = 4096;
 pub const SCRATCH_SLOTS: usize = 16;
 
 /// The state of the machine between two instructions (McCanne and Jacobson 1993, section 3).
-#[derive(Clone, Copy, Debug, PartialEq, Eq)]
+#[derive(Clone, Copy, PartialEq, Eq)]
 pub struct State {
     /// The program counter: the index of the next instruction, from 0.
     pub place: usize,
@@ -39,7 +39,7 @@ impl State {
 }
 
 /// The outcome of one instruction.
-#[derive(Clone, Copy, Debug, PartialEq, Eq)]
+#[derive(Clone, Copy, PartialEq, Eq)]
 pub enum Outcome {
     /// The filter continues from this state.
     On(State),

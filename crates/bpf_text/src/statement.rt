@@ -3,7 +3,7 @@
 use crate::keyword::Mnemonic;
 
 /// A statement of the source: an instruction, with the label before it.
-#[derive(Clone, Copy, Debug, PartialEq, Eq)]
+#[derive(Clone, Copy, PartialEq, Eq)]
 pub struct Statement<'a> {
     /// The byte offset of the statement's first token in the text, from 0. That is the label's,
     /// where there is one.
@@ -26,7 +26,7 @@ pub enum Source {
 }
 
 /// The operand of an instruction. A number is taken modulo 2^32, so `#-1` is 4294967295.
-#[derive(Clone, Copy, Debug, PartialEq, Eq)]
+#[derive(Clone, Copy, PartialEq, Eq)]
 pub enum Operand<'a> {
     /// No operand: neg, tax, txa.
     None,

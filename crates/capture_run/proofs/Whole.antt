@@ -17,7 +17,7 @@ use Rattle.pcap_io.specs.declared.recording.Ending.{Ending}
 use Rattle.pcap_io.proofs.Parse.{reads_to_end}
 use Rattle.run_outcome.specs.Recording.{HasReadTap, LeavesUnread, most_frames}
 use Rattle.run_outcome.specs.Device.{Devices}
-use Rattle.capture_run.specs.Capture.{IsAborted, IsCaptured, capture_text, record_of}
+use Rattle.capture_run.specs.Capture.{IsAbortedWithin, IsCapturedWithin, capture_text, record_of}
 use Rattle.capture_run.specs.Copy.{Copying, IsCopied, StopsCopy}
 use Rattle.run_outcome.specs.declared.fault.Output.TheVariants as output
 use Rattle.run_outcome.specs.declared.fault.WatchFault.{WatchFault}
@@ -27,8 +27,8 @@ use Rattle.run_outcome.proofs.Recording.{complete, read_within}
 
 -- Between `old` and `new` a copy was made: before it the reader was opened and the file header written, and after it both devices were
 -- given back.
-pub record Brackets (before after : Devices) (old new : Copying) : Type 0 where
-  pub start : old.reading.position ≡ start_at networks.A old.reading.position.layout (2 ^ 32) 0
+pub record Brackets (late : ℕ) (before after : Devices) (old new : Copying) : Type 0 where
+  pub start : old.reading.position ≡ start_at networks.A old.reading.position.layout (2 ^ 32) late
   pub opens : Opens before.source.remaining old.reading.remaining old.reading.position.layout
   pub header : Appends before.sink.contents old.contents capture_header
   pub source_before : old.reading.failures ≡ before.source.failures
@@ -38,28 +38,28 @@ pub record Brackets (before after : Devices) (old new : Copying) : Type 0 where
   pub source_after : after.source.failures ≡ new.reading.failures
   pub sink_after : after.sink.failures ≡ new.failures
 
-has_read : (before after : Devices) (old new : Copying) (frames : List Frame) (position : Position) (left : Option (List ℕ)) → Brackets before after old new
-    → Reads old.reading.position old.reading.remaining frames position left → HasReadTap networks.A 0 before.source.remaining frames position left
-has_read before after old new frames position left b reads = record {
+has_read : (late : ℕ) (before after : Devices) (old new : Copying) (frames : List Frame) (position : Position) (left : Option (List ℕ)) → Brackets late before after old new
+    → Reads old.reading.position old.reading.remaining frames position left → HasReadTap networks.A late before.source.remaining frames position left
+has_read late before after old new frames position left b reads = record {
   layout = old.reading.position.layout;
   opened = old.reading.remaining;
   opens = b.opens;
   reads = subst (λ (x : Position). Reads x old.reading.remaining frames position left) b.start reads;
-  bounded = read_within (start_at networks.A old.reading.position.layout most_frames 0) position old.reading.remaining left frames
+  bounded = read_within (start_at networks.A old.reading.position.layout most_frames late) position old.reading.remaining left frames
       (subst (λ (x : Position). Reads x old.reading.remaining frames position left) b.start reads) (omega arith);
 }
 
-pub captured : (p : List Packed) (ending : Ending) (before after : Devices) (old new : Copying) → Brackets before after old new → IsCopied p ending old new
-    → IsCaptured p ending before after
-captured p ending before after old new b c =
-    let read = has_read before after old new c.frames c.position c.left b c.copied.reads in
+pub captured : (late : ℕ) (p : List Packed) (ending : Ending) (before after : Devices) (old new : Copying) → Brackets late before after old new → IsCopied p ending old new
+    → IsCapturedWithin late p ending before after
+captured late p ending before after old new b c =
+    let read = has_read late before after old new c.frames c.position c.left b c.copied.reads in
     record {
       frames = c.frames;
       position = c.position;
       left = c.left;
       rest = new.reading.remaining;
       read = read;
-      complete = complete networks.A 0 before.source.remaining read.opened c.left read.layout c.frames c.position ending read.opens read.reads c.ends;
+      complete = complete networks.A late before.source.remaining read.opened c.left read.layout c.frames c.position ending read.opens read.reads c.ends;
       taken = c.taken;
       gone = c.gone;
       ahead = new.unread;
@@ -73,16 +73,16 @@ captured p ending before after old new b c =
 counted : (a b c d : ℕ) → b ≡ a → d ≡ c → CountsFailure b c → CountsFailure a d
 counted a b c d before after h = after ∙ subst (λ (x : ℕ). CountsFailure x c) before h
 
-pub aborted : (p : List Packed) (fault : WatchFault) (before after : Devices) (old new : Copying) → Brackets before after old new → StopsCopy p fault old new
-    → IsAborted p fault before after
-aborted p watch.Workers before after old new b h = absurd h
-aborted p (watch.Header network fault) before after old new b h = absurd h
-aborted p (watch.Read networks.A) before after old new b h = inr (record {
+pub aborted : (late : ℕ) (p : List Packed) (fault : WatchFault) (before after : Devices) (old new : Copying) → Brackets late before after old new → StopsCopy p fault old new
+    → IsAbortedWithin late p fault before after
+aborted late p watch.Workers before after old new b h = absurd h
+aborted late p (watch.Header network fault) before after old new b h = absurd h
+aborted late p (watch.Read networks.A) before after old new b h = inr (record {
   frames = h.frames;
   position = h.position;
   left = h.left;
   rest = new.reading.remaining;
-  read = has_read before after old new h.frames h.position h.left b h.copied.reads;
+  read = has_read late before after old new h.frames h.position h.left b h.copied.reads;
   ahead = new.unread;
   unread = b.unread;
   lacks = h.lacks;
@@ -91,15 +91,15 @@ aborted p (watch.Read networks.A) before after old new b h = inr (record {
   source = counted _ _ _ _ b.source_before b.source_after h.source;
   sink = b.sink_after ∙ h.sink ∙ b.sink_before;
 })
-aborted p (watch.Read networks.B) before after old new b h = absurd h
-aborted p (watch.Write output.Capture) before after old new b h = inr (record {
+aborted late p (watch.Read networks.B) before after old new b h = absurd h
+aborted late p (watch.Write output.Capture) before after old new b h = inr (record {
   frames = h.frames;
   frame = h.frame;
   position = h.position;
   left = new.reading.remaining;
   count = h.count;
   within = h.within;
-  read = has_read before after old new (h.frames ++ h.frame ∷ []) h.position new.reading.remaining b h.reads;
+  read = has_read late before after old new (h.frames ++ h.frame ∷ []) h.position new.reading.remaining b h.reads;
   ahead = new.unread;
   unread = b.unread;
   written = subst (λ (x : Option (List ℕ)). Appends before.sink.contents x (capture_text p h.frames ++ take h.count (record_of p h.frame))) (sym b.contents)
@@ -107,15 +107,15 @@ aborted p (watch.Write output.Capture) before after old new b h = inr (record {
   source = b.source_after ∙ h.source ∙ b.source_before;
   sink = counted _ _ _ _ b.sink_before b.sink_after h.sink;
 })
-aborted p (watch.Write output.Ledger) before after old new b h = absurd h
-aborted p watch.Spawn before after old new b h = absurd h
-aborted p watch.RingLost before after old new b h = absurd h
-aborted p watch.Memory before after old new b h = record {
+aborted late p (watch.Write output.Ledger) before after old new b h = absurd h
+aborted late p watch.Spawn before after old new b h = absurd h
+aborted late p watch.RingLost before after old new b h = absurd h
+aborted late p watch.Memory before after old new b h = record {
   frames = h.frames;
   position = h.position;
   left = h.left;
   rest = new.reading.remaining;
-  read = has_read before after old new h.frames h.position h.left b h.copied.reads;
+  read = has_read late before after old new h.frames h.position h.left b h.copied.reads;
   ahead = new.unread;
   unread = b.unread;
   lacks = h.lacks;
@@ -124,4 +124,4 @@ aborted p watch.Memory before after old new b h = record {
       (written_after p before.sink.contents old.contents new.contents h.frames b.header h.copied.written);
   no_failure = record { source = b.source_after ∙ h.source ∙ b.source_before; sink = b.sink_after ∙ h.sink ∙ b.sink_before };
 }
-aborted p watch.Filters before after old new b h = absurd h
+aborted late p watch.Filters before after old new b h = absurd h

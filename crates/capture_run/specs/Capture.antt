@@ -52,15 +52,16 @@ pub record NoFailures (before after : Devices) : Type 0 where
 
 -- ---- a whole capture
 
--- The recording was read to its ending, and the sink has the capture of its frames. Of the source nothing is left after a clean or a
+-- The recording, in which a timestamp may lie `late` nanoseconds below the greatest before it, was read to its ending, and the sink has the
+-- capture of its frames. Of the source nothing is left after a clean or a
 -- truncated recording. After a bad one no more is gone than the header of the packet that ends it, and what was read ahead.
-pub record IsCaptured (p : List Packed) (ending : Ending) (before after : Devices) : Type 0 where
+pub record IsCapturedWithin (late : ℕ) (p : List Packed) (ending : Ending) (before after : Devices) : Type 0 where
   pub frames : List Frame
   pub position : Position
   pub left : Option (List ℕ)
   pub rest : Option (List ℕ)
-  pub read : HasReadTap networks.A 0 before.source.remaining frames position left
-  pub complete : IfSome before.source.remaining (λ bytes. IsRecording networks.A 0 bytes frames ending)
+  pub read : HasReadTap networks.A late before.source.remaining frames position left
+  pub complete : IfSome before.source.remaining (λ bytes. IsRecording networks.A late bytes frames ending)
   pub taken : EndLeaves left rest ending
   pub gone : TakesAPacket left rest
   pub ahead : List ℕ
@@ -86,12 +87,12 @@ pub record FailsToOpen (before after : Devices) : Type 0 where
   pub sink : after.sink.failures ≡ before.sink.failures
 
 -- The source failed after these frames, of which the sink has the whole capture, and before it gave the next packet whole.
-pub record FailsToRead (p : List Packed) (before after : Devices) : Type 0 where
+pub record FailsToRead (late : ℕ) (p : List Packed) (before after : Devices) : Type 0 where
   pub frames : List Frame
   pub position : Position
   pub left : Option (List ℕ)
   pub rest : Option (List ℕ)
-  pub read : HasReadTap networks.A 0 before.source.remaining frames position left
+  pub read : HasReadTap networks.A late before.source.remaining frames position left
   pub ahead : List ℕ
   pub unread : LeavesUnread ahead rest after.source.remaining
   pub lacks : LacksBytes position left rest ahead
@@ -101,12 +102,12 @@ pub record FailsToRead (p : List Packed) (before after : Devices) : Type 0 where
 
 -- There was no memory for the packet after these frames. Its header is good, claims at least 1 byte and is gone, and fewer bytes than it
 -- claims were read ahead. The sink has the whole capture of the frames.
-pub record FailsToAllocate (p : List Packed) (before after : Devices) : Type 0 where
+pub record FailsToAllocate (late : ℕ) (p : List Packed) (before after : Devices) : Type 0 where
   pub frames : List Frame
   pub position : Position
   pub left : Option (List ℕ)
   pub rest : Option (List ℕ)
-  pub read : HasReadTap networks.A 0 before.source.remaining frames position left
+  pub read : HasReadTap networks.A late before.source.remaining frames position left
   pub ahead : List ℕ
   pub unread : LeavesUnread ahead rest after.source.remaining
   pub lacks : LacksBytes position left rest ahead
@@ -126,13 +127,13 @@ pub record FailsToBegin (before after : Devices) : Type 0 where
 
 -- The sink failed at the packet of an accepted frame, the last that was read. It has the whole capture of the frames before that, and a
 -- prefix of the packet.
-pub record FailsToWrite (p : List Packed) (before after : Devices) : Type 0 where
+pub record FailsToWrite (late : ℕ) (p : List Packed) (before after : Devices) : Type 0 where
   pub frames : List Frame
   pub frame : Frame
   pub position : Position
   pub left : Option (List ℕ)
   pub count : ℕ
-  pub read : HasReadTap networks.A 0 before.source.remaining (frames ++ frame ∷ []) position left
+  pub read : HasReadTap networks.A late before.source.remaining (frames ++ frame ∷ []) position left
   pub ahead : List ℕ
   pub unread : LeavesUnread ahead left after.source.remaining
   pub within : count < length (record_of p frame)
@@ -141,9 +142,17 @@ pub record FailsToWrite (p : List Packed) (before after : Devices) : Type 0 wher
   pub sink : CountsFailure before.sink.failures after.sink.failures
 
 -- why a capture was aborted, and what stands then
+abbrev pub IsAbortedWithin : ℕ → List Packed → WatchFault → Devices → Devices → Type 0
+IsAbortedWithin late p (watch.Header networks.A fault) before after = IsHeaderFault fault before after
+IsAbortedWithin late p (watch.Read networks.A) before after = FailsToOpen before after ⊎ FailsToRead late p before after
+IsAbortedWithin late p (watch.Write output.Capture) before after = FailsToBegin before after ⊎ FailsToWrite late p before after
+IsAbortedWithin late p watch.Memory before after = FailsToAllocate late p before after
+IsAbortedWithin late p _ before after = ⊥
+
+-- ---- without a window
+
+abbrev pub IsCaptured : List Packed → Ending → Devices → Devices → Type 0
+IsCaptured p ending before after = IsCapturedWithin 0 p ending before after
+
 abbrev pub IsAborted : List Packed → WatchFault → Devices → Devices → Type 0
-IsAborted p (watch.Header networks.A fault) before after = IsHeaderFault fault before after
-IsAborted p (watch.Read networks.A) before after = FailsToOpen before after ⊎ FailsToRead p before after
-IsAborted p (watch.Write output.Capture) before after = FailsToBegin before after ⊎ FailsToWrite p before after
-IsAborted p watch.Memory before after = FailsToAllocate p before after
-IsAborted p _ before after = ⊥
+IsAborted p fault before after = IsAbortedWithin 0 p fault before after

@@ -6,7 +6,7 @@ ghost use Rattle.pcap_io.specs.Device.{Writes};
 ghost use Rattle.pcap_io.specs.Reader.{position_of, reading_of, unread_of};
 ghost use Rattle.pcap_io.specs.Writer.{sink_of, has_failed};
 ghost use Rattle.pcap_io.specs.declared.recording.Stage.TheVariants.{Going};
-ghost use Rattle.capture_run.specs.Capture.{record_of, IsCaptured, IsAborted};
+ghost use Rattle.capture_run.specs.Capture.{record_of, IsAborted, IsAbortedWithin, IsCaptured, IsCapturedWithin};
 ghost use Rattle.run_outcome.specs.Device.{devices_of};
 ghost use Rattle.run_outcome.specs.Fault.{open_fault};
 ghost use Rattle.capture_run.specs.Copy.{IsCopied, StopsCopy, copying_of};
@@ -121,7 +121,32 @@ pub fn capture_one<S: TapSource, W: OutSink>(
         (devices_of S.TapSource W.OutSink a refused.capture))) }
     ensures back { IfErr result (λ refused. IsSome refused.a × (refused.b ≡ None)) }
 {
-    let mut reader = match TapReader::open(source, Network::A, MAX_FRAMES, 0) {
+    capture_within(alloc, program, 0, source, sink)
+}
+
+/// [`capture_one`] of a recording in which a timestamp may lie by `late` nanoseconds below the greatest one
+/// before it. The frames stand in the capture as in the recording.
+///
+/// # Errors
+///
+/// Those of [`capture_one`].
+pub fn capture_within<S: TapSource, W: OutSink>(
+    alloc: Global,
+    program: &Program,
+    late: u64,
+    source: S,
+    sink: W,
+) -> Result<(Ending, S, W), WatchRefused<S, (), W, ()>>
+    ensures captured { IfOk result (λ done. IsCapturedWithin late program.now done.0
+        (devices_of S.TapSource W.OutSink source sink)
+        (devices_of S.TapSource W.OutSink done.1 done.2)) }
+    ensures aborted { IfErr result (λ refused. IfSome refused.a (λ a.
+        IsAbortedWithin late program.now refused.fault
+        (devices_of S.TapSource W.OutSink source sink)
+        (devices_of S.TapSource W.OutSink a refused.capture))) }
+    ensures back { IfErr result (λ refused. IsSome refused.a × (refused.b ≡ None)) }
+{
+    let mut reader = match TapReader::open(source, Network::A, MAX_FRAMES, late) {
         Ok(reader) => reader,
         Err(OpenRefused { source, fault }) => {
             return Err(refused(fault_of_open(Network::A, fault), source, sink));

@@ -5,5 +5,5 @@
 mod capture;
 mod laws;
 
-pub use capture::capture_one;
+pub use capture::{capture_one, capture_within};
 pub use laws::capture_gives_the_accepted_frames;

@@ -7,7 +7,7 @@ use table_check::TableFault;
 use vl_config::Config;
 
 /// A filter: that of the command line has no number, those of the table are counted from 1.
-#[derive(Debug, Drop)]
+#[derive(Drop)]
 pub struct FilterAnswer {
     pub number: Option<u8>,
     /// How many instructions it has, or why it isn't loaded.
@@ -15,7 +15,7 @@ pub struct FilterAnswer {
 }
 
 /// A recording that was read.
-#[derive(Clone, Copy, Debug)]
+#[derive(Clone, Copy)]
 pub struct TapAnswer<'a> {
     /// What a person knows it by.
     pub name: &'a str,
@@ -26,7 +26,7 @@ pub struct TapAnswer<'a> {
 }
 
 /// What was found of all inputs.
-#[derive(Clone, Copy, Debug)]
+#[derive(Clone, Copy)]
 pub struct Answer<'a> {
     /// What a person knows the table by.
     pub table: &'a str,

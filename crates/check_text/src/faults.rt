@@ -12,7 +12,7 @@ use vl_config::{FaultyKey, Key};
 pub const MOST_TOLD: usize = 100;
 
 /// A fault of the table as it is told.
-#[derive(Debug, Drop)]
+#[derive(Drop)]
 pub struct ToldFault {
     pub place: Option<Place>,
     /// The name of the fault.

@@ -15,7 +15,7 @@ use serde_json::Error;
 use std::alloc::{AllocError, Global};
 use std::fmt::Write;
 
-#[derive(Debug, Drop, Serialize)]
+#[derive(Drop, Serialize)]
 struct JsonFault {
     fault: &'static str,
     line: Option<u64>,
@@ -28,7 +28,7 @@ struct JsonFault {
     allowed: String,
 }
 
-#[derive(Debug, Drop, Serialize)]
+#[derive(Drop, Serialize)]
 struct JsonTable<'a> {
     path: &'a str,
     links: Option<u64>,
@@ -37,7 +37,7 @@ struct JsonTable<'a> {
     faults: Vec<JsonFault>,
 }
 
-#[derive(Debug, Drop, Serialize)]
+#[derive(Drop, Serialize)]
 struct JsonFilter {
     filter: u8,
     instructions: Option<u64>,
@@ -45,7 +45,7 @@ struct JsonFilter {
 }
 
 /// Timestamps are in nanoseconds since 1970, as decimal strings, and in UTC.
-#[derive(Debug, Drop, Serialize)]
+#[derive(Drop, Serialize)]
 struct JsonTap<'a> {
     path: &'a str,
     format: &'static str,
@@ -60,7 +60,7 @@ struct JsonTap<'a> {
     not_ethernet: u64,
 }
 
-#[derive(Debug, Drop, Serialize)]
+#[derive(Drop, Serialize)]
 struct JsonLink<'a> {
     id: u16,
     name: &'a str,
@@ -69,13 +69,13 @@ struct JsonLink<'a> {
     copies: u64,
 }
 
-#[derive(Debug, Drop, Serialize)]
+#[derive(Drop, Serialize)]
 struct JsonUnlisted {
     id: u16,
     frames: u32,
 }
 
-#[derive(Debug, Drop, Serialize)]
+#[derive(Drop, Serialize)]
 struct JsonDifference {
     ahead: &'static str,
     nanoseconds: String,
@@ -83,14 +83,14 @@ struct JsonDifference {
     of: u64,
 }
 
-#[derive(Debug, Drop, Serialize)]
+#[derive(Drop, Serialize)]
 struct JsonQuestion {
     question: &'static str,
     text: String,
     difference: Option<JsonDifference>,
 }
 
-#[derive(Debug, Drop, Serialize)]
+#[derive(Drop, Serialize)]
 struct JsonAnswer<'a> {
     version: u8,
     sound: bool,

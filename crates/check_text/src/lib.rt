@@ -1,4 +1,4 @@
-//! The answer of `check`, as text for a person and as JSON for scripts (docs/CHECK-JSON.md): whether a run of
+//! The answer of `check`, as text for a person and as JSON for scripts (docs/MESSAGES.md): whether a run of
 //! `watch` with these inputs would be sound.
 #![tactic(auto)]
 

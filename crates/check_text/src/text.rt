@@ -141,6 +141,19 @@ fn push_taps(out: &mut String, alloc: Global, answer: &Answer<'_>) -> Result<(),
     }
 }
 
+/// What part of the recordings was read, where that isn't all of them.
+fn push_extent(out: &mut String, answer: &Answer<'_>) -> Result<(), AllocError> {
+    for (network, tap) in [("A", answer.a), ("B", answer.b)] {
+        if let Some(tap) = tap {
+            if !tap.recorded.whole {
+                let frames = Counted(frames_before(tap.recorded.ending), "frame");
+                write!(out, "; of {network} by its first {frames}")?;
+            }
+        }
+    }
+    out.push_str("\n")
+}
+
 /// The answer as lines of text.
 ///
 /// # Errors
@@ -164,11 +177,12 @@ pub fn text_of(alloc: Global, answer: &Answer<'_>) -> Result<String, AllocError>
     }
     let verdict = verdict_of(answer);
     if verdict.is_sound() {
-        out.push_str("sound: yes\n")?;
+        out.push_str("sound: yes")?;
     } else {
         let faults = Counted(verdict.faults as u64, "fault");
         let questions = Counted(verdict.questions as u64, "question");
-        writeln!(out, "sound: no, {faults} and {questions}")?;
+        write!(out, "sound: no, {faults} and {questions}")?;
     }
+    push_extent(&mut out, answer)?;
     Ok(out)
 }

@@ -7,7 +7,7 @@ use crate::answer::{Answer, TapAnswer};
 use pcap_io::Ending;
 
 /// How many faults there are, and how many questions.
-#[derive(Clone, Copy, Debug)]
+#[derive(Clone, Copy)]
 pub struct Verdict {
     pub faults: usize,
     pub questions: usize,

@@ -1,7 +1,7 @@
 //! The words of the answer.
 
 use afdx_frame::Network;
-use input_check::{Difference, Format, Order, Question, Unit, Wiring};
+use input_check::{Constant, Difference, Drift, Format, Order, Question, Unit, Wiring};
 use jiff::Timestamp;
 use pcap_io::Ending;
 use std::fmt;
@@ -108,6 +108,24 @@ pub fn question_word(question: &Question) -> &'static str {
         Question::CheckSequence(Network::A) => "check_sequence_a",
         Question::CheckSequence(Network::B) => "check_sequence_b",
         Question::TooLong { .. } => "too_long",
+        Question::OtherTable { .. } => "other_table",
+        Question::Cut {
+            network: Network::A,
+            ..
+        } => "cut_a",
+        Question::Cut {
+            network: Network::B,
+            ..
+        } => "cut_b",
+        Question::Twice {
+            network: Network::A,
+            ..
+        } => "twice_a",
+        Question::Twice {
+            network: Network::B,
+            ..
+        } => "twice_b",
+        Question::Drift(_) => "drift",
         Question::Clocks(_) => "clocks",
     }
 }
@@ -129,12 +147,45 @@ const TAKE_THEM_OFF: &str = "hold frame check sequences? Take them off: editcap 
 
 const SMAX: &str = "does 'smax' count a frame without its check sequence?";
 
+const OTHER_TABLE: &str = "is the table that of another aircraft?";
+
+const CUT: &str = "cut frames at";
+
+const WHOLE: &str = "\
+frames are cut short. What becomes of them isn't known: record them whole, tcpdump -s 0";
+
+const SPLIT: &str = "\
+hold both networks? Most links' numbers come again at once. Split it by the network in the source address: \
+tcpdump --nano -r x.pcap -w a.pcap 'ether[11] & 0xe0 = 0x20', and with 0x40 for b.pcap";
+
+const ONCE: &str = "\
+hold its frames twice? Most links' numbers come again at once. \
+Record each frame once, or take off the second: editcap -F nsecpcap -d";
+
+const DRIFT: &str = "\
+do the clocks of the taps drift? Synchronise them (PTP), or judge short parts: \
+cut the recordings with editcap -F nsecpcap -i";
+
 const CLOCKS: &str = "\
 are the clocks of the taps apart? Hardly a frame is a copy within its SkewMax.";
 
 /// A question in words.
 #[derive(Clone, Copy)]
 pub struct Asked<'a>(pub &'a Question);
+
+/// The constant field that most frames have, after the question.
+#[derive(Clone, Copy)]
+struct ConstantPart(Option<Constant>);
+
+impl Display for ConstantPart {
+    fn fmt<W: fmt::Write>(&self, f: &mut Formatter<W>) -> fmt::Result {
+        let Some(most) = self.0 else {
+            return Ok(());
+        };
+        let (constant, frames) = (most.constant, most.frames);
+        write!(f, "; {frames} have {constant}")
+    }
+}
 
 /// How far the clocks are apart, after the question.
 #[derive(Clone, Copy)]
@@ -150,7 +201,60 @@ impl Display for DifferencePart {
         write!(
             f,
             " By equal sequence numbers that of {ahead} is {nanos} ahead, say {links} of {of} links"
+        )?;
+        let (seconds, rest) = (
+            difference.nanos / 1_000_000_000,
+            difference.nanos % 1_000_000_000,
+        );
+        write!(
+            f,
+            "; editcap -F nsecpcap -t -{seconds}.{rest:09} in.pcap out.pcap sets it back"
         )
+    }
+}
+
+/// How fast the clocks move apart, after the question.
+#[derive(Clone, Copy)]
+struct DriftPart(Drift);
+
+impl Display for DriftPart {
+    fn fmt<W: fmt::Write>(&self, f: &mut Formatter<W>) -> fmt::Result {
+        let faster = letter_of(self.0.faster);
+        let (whole, tenth) = (self.0.parts / 1_000_000, self.0.parts / 100_000 % 10);
+        let (links, of) = (self.0.links, self.0.of);
+        write!(
+            f,
+            ". That of {faster} is {whole}.{tenth} ppm faster, say {links} of {of} links"
+        )
+    }
+}
+
+/// What a network's recorder does: it cuts frames, or records them twice.
+#[derive(Clone, Copy)]
+struct RecorderPart<'a>(&'a Question);
+
+impl Display for RecorderPart<'_> {
+    fn fmt<W: fmt::Write>(&self, f: &mut Formatter<W>) -> fmt::Result {
+        match *self.0 {
+            Question::Cut {
+                network,
+                frames,
+                of,
+                snaplen,
+            } => {
+                let network = letter_of(network);
+                write!(
+                    f,
+                    "does the recorder of network {network} {CUT} {snaplen} bytes? {frames} of {of} {WHOLE}"
+                )
+            }
+            Question::Twice { network, mixed } => {
+                let network = letter_of(network);
+                let advice = if mixed { SPLIT } else { ONCE };
+                write!(f, "does the recording of network {network} {advice}")
+            }
+            _ => Ok(()),
+        }
     }
 }
 
@@ -163,14 +267,8 @@ impl Display for Asked<'_> {
             Question::Wiring(Wiring::BothOfB) => f.write_str(BOTH_OF_B),
             Question::Apart => f.write_str(APART),
             Question::Constant { frames, of, most } => {
-                write!(f, "{CONSTANT} {frames} of {of} frames")?;
-                match most {
-                    Some(most) => {
-                        let (constant, frames) = (most.constant, most.frames);
-                        write!(f, "; {frames} have {constant}")
-                    }
-                    None => Ok(()),
-                }
+                let part = ConstantPart(most);
+                write!(f, "{CONSTANT} {frames} of {of} frames{part}")
             }
             Question::CheckSequence(network) => {
                 let network = letter_of(network);
@@ -178,6 +276,20 @@ impl Display for Asked<'_> {
             }
             Question::TooLong { frames, of } => {
                 write!(f, "{SMAX} {frames} of {of} frames are longer")
+            }
+            Question::OtherTable { frames, of } => {
+                write!(
+                    f,
+                    "{OTHER_TABLE} {frames} of {of} frames are of links that it lacks"
+                )
+            }
+            Question::Cut { .. } | Question::Twice { .. } => {
+                let part = RecorderPart(self.0);
+                write!(f, "{part}")
+            }
+            Question::Drift(drift) => {
+                let part = DriftPart(drift);
+                write!(f, "{DRIFT}{part}")
             }
             Question::Clocks(difference) => {
                 let part = DifferencePart(difference);

@@ -1,10 +1,10 @@
 pub mod Arguments
 pub mod Caret
 pub mod Exit
+pub mod Files
 pub mod Line
 pub mod Moment
+pub mod Options
 pub mod Place
 pub mod Refused
-pub mod Shared
-pub mod Standard
 pub mod Summary

@@ -32,12 +32,19 @@ use Rattle.cut_run.specs.declared.fault.CutSource.{CutSource}
 use Rattle.cut_run.specs.declared.fault.CutSource.TheVariants as source
 use Rattle.command_line.specs.declared.fault.Contradiction.{Contradiction}
 use Rattle.command_line.specs.declared.fault.Contradiction.TheVariants as contradiction
+use Rattle.command_line.specs.declared.fault.ManifestFault.{ManifestFault}
+use Rattle.command_line.specs.declared.fault.ManifestFault.TheVariants as manifest
 use Rattle.command_line.specs.declared.fault.ReportFault.{ReportFault}
 use Rattle.command_line.specs.declared.fault.ReportFault.TheVariants as report
 use Rattle.command_line.specs.declared.fault.SelectionOption.{SelectionOption}
 use Rattle.command_line.specs.declared.fault.SelectionOption.TheVariants as selection
 use Rattle.command_line.specs.declared.fault.FileOption.{FileOption}
 use Rattle.command_line.specs.declared.fault.FileOption.TheVariants as file
+use Rattle.command_line.specs.declared.line.About.{About}
+use Rattle.command_line.specs.declared.line.About.TheVariants as about
+use Rattle.command_line.specs.declared.line.Line.{Line}
+use Rattle.command_line.specs.declared.line.Line.TheVariants as lines
+use Rattle.command_line.specs.declared.line.Part.{Part}
 use Rattle.command_line.specs.declared.fault.Fault.{Fault}
 use Rattle.command_line.specs.declared.fault.Fault.TheVariants as fault
 
@@ -45,6 +52,9 @@ use Rattle.command_line.specs.declared.fault.Fault.TheVariants as fault
 abbrev pub place_part : Option ℕ → List ℕ
 place_part None = codes " top"
 place_part (Some link) = codes " link " ++ decimal link
+
+abbrev pub placed_text : List ℕ → Option ℕ → List ℕ
+placed_text name link = name ++ place_part link
 
 abbrev pub config_part : ConfigFault → List ℕ
 config_part config.Text = codes "1 Text"
@@ -107,6 +117,7 @@ file_part file.Source = codes "--source"
 file_part file.Recording = codes "RECORDING"
 file_part file.Output = codes "--output"
 file_part file.Icd = codes "--icd"
+file_part file.Manifest = codes "--manifest"
 
 abbrev pub header_part : HeaderFault → List ℕ
 header_part header.Short = codes "1 Short"
@@ -182,20 +193,28 @@ contradiction_part contradiction.Link = codes "link"
 contradiction_part contradiction.Copy = codes "copy"
 contradiction_part contradiction.Counts = codes "counts"
 
+-- where a text isn't that of a manifest, or what it isn't of
+abbrev pub manifest_part : ManifestFault → List ℕ
+manifest_part (manifest.Form at) = codes "5 Manifest at " ++ decimal at ++ codes " " ++ codes "form"
+manifest_part manifest.Version = codes "5 Manifest version"
+manifest_part manifest.Table = codes "5 Manifest table"
+manifest_part manifest.Ledger = codes "5 Manifest ledger"
+
 abbrev pub report_part : ReportFault → List ℕ
 report_part (report.Ledger at f) = codes "1 Ledger at " ++ decimal at ++ codes " " ++ line_fault_part f
 report_part (report.Contradiction at found) = codes "2 Contradiction at " ++ decimal at ++ codes " " ++ contradiction_part found
 report_part report.Read = codes "3 Read Ledger"
 report_part report.Memory = codes "4 Memory"
+report_part (report.Manifest f) = manifest_part f
 
 -- where a document of links is wrong, and what is: the heads, a row's length, the column of a value, or what an earlier row has
 abbrev pub icd_part : IcdFault → List ℕ
-icd_part (icd.Head at) = codes "2 Icd at " ++ decimal at ++ codes " head"
-icd_part (icd.Cells at) = codes "2 Icd at " ++ decimal at ++ codes " cells"
+icd_part (icd.Head at) = codes "2 Icd at " ++ decimal at ++ codes " " ++ codes "head"
+icd_part (icd.Cells at) = codes "2 Icd at " ++ decimal at ++ codes " " ++ codes "cells"
 icd_part (icd.Value at column) = codes "2 Icd at " ++ decimal at ++ codes " " ++ key_name column
-icd_part (icd.TwiceId at) = codes "2 Icd at " ++ decimal at ++ codes " twiceid"
-icd_part (icd.TwiceName at) = codes "2 Icd at " ++ decimal at ++ codes " twicename"
-icd_part (icd.TooMany at) = codes "2 Icd at " ++ decimal at ++ codes " toomany"
+icd_part (icd.TwiceId at) = codes "2 Icd at " ++ decimal at ++ codes " " ++ codes "twiceid"
+icd_part (icd.TwiceName at) = codes "2 Icd at " ++ decimal at ++ codes " " ++ codes "twicename"
+icd_part (icd.TooMany at) = codes "2 Icd at " ++ decimal at ++ codes " " ++ codes "toomany"
 icd_part icd.Memory = codes "4 Memory"
 
 -- the option whose text selects nothing
@@ -204,13 +223,14 @@ selection_part selection.Link = codes "link"
 selection_part selection.Verdict = codes "verdict"
 selection_part selection.From = codes "from"
 selection_part selection.To = codes "to"
+selection_part selection.Span = codes "span"
 selection_part selection.Filters = codes "filters"
 selection_part selection.Around = codes "around"
 
 -- the number of a filter of the table; that of the command line has none
-abbrev pub filter_part : Option ℕ → List ℕ
-filter_part None = []
-filter_part (Some number) = codes " filter " ++ decimal number
+abbrev pub with_filter : List ℕ → Option ℕ → List ℕ
+with_filter text None = text
+with_filter text (Some number) = text ++ codes " filter " ++ decimal number
 
 abbrev pub line_of : Fault → List ℕ
 line_of (fault.File f) = codes "afdxmon: file " ++ file_part f
@@ -218,15 +238,38 @@ line_of (fault.Shared output other) = codes "afdxmon: file " ++ file_part output
 line_of (fault.Taken f by) = codes "afdxmon: file " ++ file_part f
 line_of (fault.Config f) = codes "afdxmon: config " ++ config_part f
 line_of (fault.Asm f) = codes "afdxmon: asm " ++ asm_part f
-line_of (fault.Numeric f filter) = codes "afdxmon: numeric " ++ numeric_part f ++ filter_part filter
-line_of (fault.Load f filter) = codes "afdxmon: load " ++ load_part f ++ filter_part filter
+line_of (fault.Numeric f filter) = with_filter (codes "afdxmon: numeric " ++ numeric_part f) filter
+line_of (fault.Load f filter) = with_filter (codes "afdxmon: load " ++ load_part f) filter
 line_of (fault.Watch f) = codes "afdxmon: watch " ++ watch_part f
+line_of fault.Manifest = codes "afdxmon: watch 4 Write manifest"
 line_of (fault.Debug f) = codes "afdxmon: debug " ++ debug_part f
 line_of (fault.Cut f) = codes "afdxmon: cut " ++ cut_part f
-line_of (fault.Selection option item) = codes "afdxmon: cut 8 Selection " ++ selection_part option ++ codes " at " ++ decimal item
+line_of (fault.Selection option item) = codes "afdxmon: cut 8 Selection " ++ (selection_part option ++ (codes " at " ++ decimal item))
 line_of (fault.Interfaces f) = codes "afdxmon: interfaces " ++ file_part f
 line_of (fault.Report f) = codes "afdxmon: report " ++ report_part f
 line_of fault.Constant = codes "afdxmon: links 1 Constant"
 line_of (fault.Icd f) = codes "afdxmon: links " ++ icd_part f
 line_of (fault.Draft f) = codes "afdxmon: links 3 Draft " ++ config_part f
 line_of fault.Unsound = codes "afdxmon: check 1 Unsound"
+
+-- ---- what the program's types hold
+
+abbrev pub about_text : About → List ℕ
+about_text about.Nothing = []
+about_text (about.At at) = codes " at " ++ decimal at
+about_text (about.AtWord at word) = codes " at " ++ decimal at ++ codes " " ++ word.now
+about_text (about.AtSlot at slot) = codes " at " ++ decimal at ++ codes " word " ++ decimal slot
+about_text (about.Link link) = codes " link " ++ decimal link
+about_text (about.Word word) = codes " " ++ word.now
+about_text (about.Words first second) = codes " " ++ first.now ++ codes " " ++ second.now
+
+abbrev pub part_text : Part → List ℕ
+part_text part = part.name.now ++ about_text part.about
+
+abbrev pub filtered_text : List ℕ → List ℕ → Option ℕ → List ℕ
+filtered_text of part filter = with_filter (codes "afdxmon: " ++ of ++ codes " " ++ part) filter
+
+abbrev pub line_text : Line → List ℕ
+line_text (lines.Word of word) = codes "afdxmon: " ++ of.now ++ codes " " ++ word.now
+line_text (lines.Part of part) = codes "afdxmon: " ++ of.now ++ codes " " ++ part_text part
+line_text (lines.Filter of part number) = codes "afdxmon: " ++ of.now ++ codes " " ++ part_text part ++ codes " filter " ++ decimal number

@@ -12,6 +12,8 @@ use Rattle.cut_run.specs.declared.fault.CutSource.{CutSource}
 use Rattle.cut_run.specs.declared.fault.CutSource.TheVariants as source
 use Rattle.icd_links.specs.declared.fault.IcdFault.{IcdFault}
 use Rattle.icd_links.specs.declared.fault.IcdFault.TheVariants as icd
+use Rattle.command_line.specs.declared.fault.ManifestFault.{ManifestFault}
+use Rattle.command_line.specs.declared.fault.ManifestFault.TheVariants as manifest
 use Rattle.command_line.specs.declared.fault.ReportFault.{ReportFault}
 use Rattle.command_line.specs.declared.fault.ReportFault.TheVariants as report
 use Rattle.command_line.specs.declared.fault.FileOption.{FileOption}
@@ -57,12 +59,20 @@ file_of_cut (cut.Read from) = Some (file_of_source from)
 file_of_cut cut.Write = Some file.Output
 file_of_cut cut.Memory = None
 
+-- the manifest that isn't one, or the file that it isn't of
+abbrev pub file_of_manifest : ManifestFault → FileOption
+file_of_manifest (manifest.Form at) = file.Manifest
+file_of_manifest manifest.Version = file.Manifest
+file_of_manifest manifest.Table = file.Config
+file_of_manifest manifest.Ledger = file.Ledger
+
 -- the ledger, whose line it is or which can't be read
 abbrev pub file_of_report : ReportFault → Option FileOption
 file_of_report (report.Ledger at f) = Some file.Ledger
 file_of_report (report.Contradiction at found) = Some file.Ledger
 file_of_report report.Read = Some file.Ledger
 file_of_report report.Memory = None
+file_of_report (report.Manifest f) = Some (file_of_manifest f)
 
 -- the document, whose line it is
 abbrev pub file_of_icd : IcdFault → Option FileOption
@@ -83,6 +93,7 @@ file_of (fault.Asm f) = Some file.Standard
 file_of (fault.Numeric f filter) = Some (refused_filter filter)
 file_of (fault.Load f filter) = Some (refused_filter filter)
 file_of (fault.Watch f) = file_of_run f
+file_of fault.Manifest = Some file.Manifest
 file_of (fault.Debug f) = None
 file_of (fault.Cut f) = file_of_cut f
 file_of (fault.Selection option item) = None

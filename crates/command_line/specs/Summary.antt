@@ -29,6 +29,8 @@ abbrev pub hint_by : ℕ → ℕ → Totals → Option Hint
 hint_by a b totals =
     if is_nearly_all totals.foreign totals.frames then Some hint.Constant
     else if is_nearly_all totals.toolong totals.frames then Some hint.FrameLength
+    else if nat_lt (totals.frames / 2) totals.unconfigured then Some hint.OtherTable
+    else if nat_lt (totals.frames / 100) totals.cut then Some hint.CutFrames
     else if has_no_copy a b totals then Some hint.Clocks
     else if has_each_copy a b totals then Some hint.OneRecording else None
 
@@ -38,6 +40,8 @@ hint_of a b totals = hint_by (frames_before a) (frames_before b) totals
 abbrev pub hint_words : Hint → List ℕ
 hint_words hint.Constant = codes "nearly all frames are foreign: is the table's 'constant' that of this network?"
 hint_words hint.FrameLength = codes "nearly all frames are too long: does 'smax' count a frame without its check sequence?"
+hint_words hint.OtherTable = codes "more than half of the frames are unconfigured: is the table that of another aircraft?"
+hint_words hint.CutFrames = codes "more than one frame in a hundred is cut short: record frames whole, tcpdump -s 0"
 hint_words hint.Clocks = codes "no frame is a copy of another: are the clocks of the taps apart?"
 hint_words hint.OneRecording = codes "each frame has its copy: are --a and --b two names of one recording?"
 

@@ -1,21 +1,18 @@
-//! The command-line arguments.
-ghost use Rattle.std.specs.Prelude.{◌≡◌, [], false, true, map, IfOk, IfErr, option_map, string_bytes, Ok};
-ghost use Rattle.clap.specs.Words.{FailsBy, app_of, found_of, kind_of, rows_of, rule_of, subcommand_rows_of, takes};
+//! The command-line arguments: what a command line asks for, read from what clap found.
+ghost use Rattle.std.specs.Prelude.{◌≡◌, [], true, codes, map, IfOk, IfErr, option_map, string_bytes, Ok};
+ghost use Rattle.clap.specs.Words.{FailsBy, first_of, found_of, kind_of, rows_of, subcommand_rows_of, takes};
 ghost use Rattle.clap.specs.declared.error.kind.ErrorKind.TheVariants.{OutOfMemory};
-ghost use Rattle.command_line.specs.Arguments.{IsAsm, IsCapture, IsCheck, IsCut, IsDebug, IsLinks, IsReport, IsWatch, afdxmon_app, around_rule, capture_in, capture_words, check_in, check_words, checked, checked_cut, checked_links, cut_in, cut_words, debug_in, debug_words, filter_in, filter_words, flag_rule, is_network, kinds_asked, links_in, links_words, mapped, meant_asked, meant_by, meant_in, misuse_kind, misuse_kinds, one_filter, option_rule, output_rule, program_app, recording_rule, report_in, report_words, text_of, watch_in, watch_words, workers_rule};
+ghost use Rattle.command_line.specs.Arguments.{capture_in, capture_words, check_in, check_words, checked, checked_cut, checked_links, command_named, cut_in, cut_words, debug_in, debug_words, filter_in, filter_words, flag_at, is_network, kinds_asked, late_in, links_in, line_with, links_words, mapped, meant_asked, meant_by, meant_for, meant_if, meant_in, meant_line, misuse_kind, misuse_kinds, number_at, one_filter, report_in, report_words, text_of, watch_in, watch_words};
+ghost use Rattle.command_line.specs.Options.{afdxmon_app};
 
+use crate::lateness::{Lateness, read_lateness};
 use crate::misuse::Misuse;
-use crate::usage::{
-    A_HELP, ASM_EXAMPLE, B_HELP, CAPTURE_EXAMPLE, CAPTURE_USAGE, CHECK_EXAMPLE, CHECK_USAGE,
-    COMMENTED_HELP, CUT_EXAMPLE, CUT_USAGE, DEBUG_EXAMPLE, DEBUG_USAGE, LINES_HELP, LINKS_EXAMPLE,
-    LINKS_USAGE, NUMERIC_HELP, OUTPUT_HELP, QUIET_HELP, REPORT_EXAMPLE, REPORT_USAGE, SOURCE_HELP,
-    TABLE_HELP, WATCH_EXAMPLE, WATCH_USAGE,
-};
-use clap::{Arg, ArgAction, ArgMatches, Command, Error};
+use crate::options::{named_command, whole_command};
+use clap::{ArgMatches, Error};
 use std::alloc::{AllocError, Global};
 
 /// What the arguments ask for.
-#[derive(Clone, Copy, Debug, PartialEq, Eq)]
+#[derive(Clone, Copy, PartialEq, Eq)]
 pub enum Invocation<'a> {
     /// Copy the frames of a recording that a filter accepts.
     Capture(CaptureArguments<'a>),
@@ -35,8 +32,16 @@ pub enum Invocation<'a> {
     Check(CheckArguments<'a>),
 }
 
+/// What a command line asks for.
+#[derive(Clone, Copy, PartialEq, Eq)]
+pub struct CommandLine<'a> {
+    pub command: Invocation<'a>,
+    /// Is standard error, whatever it is, told what a terminal is told?
+    pub verbose: bool,
+}
+
 /// A filter, by how it is given.
-#[derive(Clone, Copy, Debug, PartialEq, Eq)]
+#[derive(Clone, Copy, PartialEq, Eq)]
 pub enum FilterArgument<'a> {
     /// The text of its numeric form.
     Code(&'a str),
@@ -47,7 +52,7 @@ pub enum FilterArgument<'a> {
 }
 
 /// A filter, and the files of a capture. `-` is standard input or output.
-#[derive(Clone, Copy, Debug, PartialEq, Eq)]
+#[derive(Clone, Copy, PartialEq, Eq)]
 pub struct CaptureArguments<'a> {
     pub filter: FilterArgument<'a>,
     /// The recording.
@@ -56,11 +61,13 @@ pub struct CaptureArguments<'a> {
     pub output: &'a str,
     /// Is the capture a pcapng file?
     pub pcapng: bool,
+    /// How late a timestamp may be. Without it none is.
+    pub late: Option<Lateness>,
 }
 
 /// The files of a run over two recordings, its number of workers, and what it tells. `-` is standard input
 /// or output.
-#[derive(Clone, Copy, Debug, PartialEq, Eq)]
+#[derive(Clone, Copy, PartialEq, Eq)]
 pub struct WatchArguments<'a> {
     /// The table of virtual links, a TOML document.
     pub config: &'a str,
@@ -75,25 +82,33 @@ pub struct WatchArguments<'a> {
     pub capture: Option<&'a str>,
     /// The ledger that is written.
     pub ledger: &'a str,
+    /// The manifest that is written, if one is.
+    pub manifest: Option<&'a str>,
+    /// Are the recordings and the outputs hashed for it?
+    pub digest: bool,
     /// How many workers there are to be.
     pub workers: u8,
     /// Is a terminal to be told of faults and notes alone?
     pub quiet: bool,
     /// Is the capture a pcapng file, whose packets have their verdicts as comments?
     pub pcapng: bool,
+    /// How late a timestamp may be, in place of what the table says.
+    pub late: Option<Lateness>,
 }
 
 /// A filter, which is never given by its text, and the recording of a session.
-#[derive(Clone, Copy, Debug, PartialEq, Eq)]
+#[derive(Clone, Copy, PartialEq, Eq)]
 pub struct DebugArguments<'a> {
     pub filter: FilterArgument<'a>,
     /// The recording.
     pub tap: &'a str,
+    /// How late a timestamp may be. Without it none is.
+    pub late: Option<Lateness>,
 }
 
 /// A ledger, its recordings, and what selects frames of it, as texts that nothing has read yet. Where an
 /// option isn't given, it leaves every frame selected. `-` is standard input or output.
-#[derive(Clone, Copy, Debug, PartialEq, Eq)]
+#[derive(Clone, Copy, PartialEq, Eq)]
 pub struct CutArguments<'a> {
     /// The ledger.
     pub ledger: &'a str,
@@ -113,6 +128,8 @@ pub struct CutArguments<'a> {
     pub from: Option<&'a str>,
     /// The last moment.
     pub to: Option<&'a str>,
+    /// How long after the first moment the last one is, in place of that.
+    pub span: Option<&'a str>,
     /// A mask of filters, of which one is to accept the frame.
     pub filters: Option<&'a str>,
     /// How many frames of the same link are taken before and after each selected one.
@@ -126,7 +143,7 @@ pub struct CutArguments<'a> {
 }
 
 /// The recordings from which a table is drafted. `-` is standard input.
-#[derive(Clone, Copy, Debug, PartialEq, Eq)]
+#[derive(Clone, Copy, PartialEq, Eq)]
 pub struct LinksArguments<'a> {
     /// The recording of network A. One of the two is given, or a document.
     pub a: Option<&'a str>,
@@ -141,12 +158,14 @@ pub struct LinksArguments<'a> {
 
 /// A table and a ledger, and the page or the numbers that are written of them. `-` is standard input or
 /// output.
-#[derive(Clone, Copy, Debug, PartialEq, Eq)]
+#[derive(Clone, Copy, PartialEq, Eq)]
 pub struct ReportArguments<'a> {
     /// The table of virtual links, a TOML document.
     pub config: &'a str,
     /// The ledger.
     pub ledger: &'a str,
+    /// The manifest of the ledger's run, if it is known.
+    pub manifest: Option<&'a str>,
     /// Are the numbers written as JSON in place of a page?
     pub json: bool,
     /// Where the page or the numbers are written.
@@ -154,7 +173,7 @@ pub struct ReportArguments<'a> {
 }
 
 /// What a run over two recordings would be given, and how the answer is written. `-` is standard input.
-#[derive(Clone, Copy, Debug, PartialEq, Eq)]
+#[derive(Clone, Copy, PartialEq, Eq)]
 pub struct CheckArguments<'a> {
     /// The table of virtual links, a TOML document.
     pub config: &'a str,
@@ -164,280 +183,76 @@ pub struct CheckArguments<'a> {
     pub a: Option<&'a str>,
     /// The recording of network B.
     pub b: Option<&'a str>,
+    /// Are the recordings read to their ends?
+    pub whole: bool,
     /// Is the answer written as JSON in place of text?
     pub json: bool,
 }
 
-/// The version that `--version` prints. In a copy of the linked program `tools/stamp` puts the commit in the
-/// place of the 12 letters.
-const VERSION: &str = "0.1.0 (commit unknown-tree)";
-
-/// An option with a value.
-fn option<'a>(
-    alloc: Global,
-    name: &'a str,
-    value: &'a str,
-    help: &'a str,
-    required: bool,
-) -> Arg<'a>
-    ensures rule { rule_of result ≡ option_rule name.now required }
-    ensures local { result.global ≡ false }
-{
-    Arg::new(alloc, name)
-        .long(name)
-        .value_name(value)
-        .help(help)
-        .required(required)
-        .action(ArgAction::Set)
+/// A command of the program.
+#[derive(Clone, Copy)]
+enum Verb {
+    Capture,
+    Asm,
+    Watch,
+    Debug,
+    Cut,
+    Links,
+    Report,
+    Check,
 }
 
-/// An option without a value, which says yes where it is given.
-fn flag<'a>(alloc: Global, name: &'a str, help: &'a str) -> Arg<'a>
-    ensures rule { rule_of result ≡ flag_rule name.now }
-    ensures local { result.global ≡ false }
+/// The command of a name.
+fn command_named(name: &str) -> Option<Verb>
+    ensures { result ≡ command_named name.now }
 {
-    Arg::new(alloc, name)
-        .long(name)
-        .help(help)
-        .action(ArgAction::SetTrue)
+    if name == "capture" {
+        Some(Verb::Capture)
+    } else if name == "asm" {
+        Some(Verb::Asm)
+    } else if name == "watch" {
+        Some(Verb::Watch)
+    } else if name == "debug" {
+        Some(Verb::Debug)
+    } else if name == "cut" {
+        Some(Verb::Cut)
+    } else if name == "links" {
+        Some(Verb::Links)
+    } else if name == "report" {
+        Some(Verb::Report)
+    } else if name == "check" {
+        Some(Verb::Check)
+    } else {
+        None
+    }
 }
 
-/// The option that names the file that is written.
-fn output_option<'a>(alloc: Global, help: &'a str) -> Arg<'a>
-    ensures rule { rule_of result ≡ output_rule }
-    ensures local { result.global ≡ false }
+/// The text of an argument, if it has one.
+fn text<'a>(given: &ArgMatches<'a>, name: &str) -> Option<&'a str>
+    ensures { option_map text_of result ≡ first_of name.now (rows_of (found_of given.now)) }
 {
-    option(alloc, "output", "FILE", help, false)
-        .short('o')
-        .default_value("-")
+    given.get_str(name)
 }
 
-/// The word that names the recording.
-fn recording_word<'a>(alloc: Global) -> Arg<'a>
-    ensures rule { rule_of result ≡ recording_rule }
-    ensures local { result.global ≡ false }
+/// Whether a flag is given.
+fn flag(given: &ArgMatches<'_>, name: &str) -> Option<bool>
+    ensures { result ≡ flag_at name.now (rows_of (found_of given.now)) }
 {
-    Arg::new(alloc, "recording")
-        .value_name("RECORDING")
-        .help("The recording, a pcap or pcapng file")
-        .default_value("-")
-        .action(ArgAction::Set)
+    given.get_one(name)
 }
 
-/// The command `capture`.
-fn capture_command<'a>(alloc: Global) -> Result<Command<'a>, AllocError>
-    ensures { IfOk result IsCapture }
+/// The number of 8 bits of an argument.
+fn number8(given: &ArgMatches<'_>, name: &str) -> Option<u8>
+    ensures { result ≡ number_at 8 name.now (rows_of (found_of given.now)) }
 {
-    Command::new(alloc, "capture")
-        .about("Copies the frames of a recording that a filter accepts")
-        .override_usage(CAPTURE_USAGE)
-        .after_help(CAPTURE_EXAMPLE)
-        .arg(option(
-            alloc,
-            "code",
-            "TEXT",
-            "The filter in the numeric form, as `tcpdump -ddd` prints it",
-            false,
-        ))?
-        .arg(option(alloc, "filter", "FILE", NUMERIC_HELP, false))?
-        .arg(option(alloc, "source", "FILE", SOURCE_HELP, false))?
-        .arg(output_option(alloc, OUTPUT_HELP))?
-        .arg(flag(alloc, "pcapng", "Write the capture as pcapng"))?
-        .arg(recording_word(alloc))
+    given.get_one(name)
 }
 
-/// The command `asm`.
-fn asm_command<'a>(alloc: Global) -> Command<'a>
-    ensures { IsAsm result }
+/// The number of 16 bits of an argument.
+fn number16(given: &ArgMatches<'_>, name: &str) -> Option<u16>
+    ensures { result ≡ number_at 16 name.now (rows_of (found_of given.now)) }
 {
-    Command::new(alloc, "asm")
-        .about("Assembles a filter's source from standard input, and prints its numeric form")
-        .after_help(ASM_EXAMPLE)
-}
-
-/// The option that names the number of workers.
-fn workers_option<'a>(alloc: Global) -> Arg<'a>
-    ensures rule { rule_of result ≡ workers_rule }
-    ensures local { result.global ≡ false }
-{
-    option(
-        alloc,
-        "workers",
-        "N",
-        "The number of workers, 1 to 8",
-        false,
-    )
-    .value_parser(clap::value_parser!(u8))
-    .default_value("2")
-}
-
-/// The command `watch`.
-fn watch_command<'a>(alloc: Global) -> Result<Command<'a>, AllocError>
-    ensures { IfOk result IsWatch }
-{
-    Command::new(alloc, "watch")
-        .about("Judges the frames of two recordings, and writes those that a filter accepts")
-        .override_usage(WATCH_USAGE)
-        .after_help(WATCH_EXAMPLE)
-        .arg(option(alloc, "config", "FILE", TABLE_HELP, true))?
-        .arg(option(alloc, "filter", "FILE", NUMERIC_HELP, false))?
-        .arg(option(alloc, "a", "FILE", A_HELP, false))?
-        .arg(option(alloc, "b", "FILE", B_HELP, false))?
-        .arg(option(alloc, "capture", "FILE", OUTPUT_HELP, false))?
-        .arg(option(
-            alloc,
-            "ledger",
-            "FILE",
-            "The ledger of verdicts to write",
-            true,
-        ))?
-        .arg(workers_option(alloc))?
-        .arg(flag(alloc, "quiet", QUIET_HELP))?
-        .arg(flag(alloc, "pcapng", COMMENTED_HELP))
-}
-
-/// The command `debug`.
-fn debug_command<'a>(alloc: Global) -> Result<Command<'a>, AllocError>
-    ensures { IfOk result IsDebug }
-{
-    Command::new(alloc, "debug")
-        .about(
-            "Steps through a filter on the frames of a recording, by commands from standard input",
-        )
-        .override_usage(DEBUG_USAGE)
-        .after_help(DEBUG_EXAMPLE)
-        .arg(option(alloc, "filter", "FILE", NUMERIC_HELP, false))?
-        .arg(option(alloc, "source", "FILE", SOURCE_HELP, false))?
-        .arg(option(
-            alloc,
-            "tap",
-            "FILE",
-            "The recording, a pcap or pcapng file",
-            true,
-        ))
-}
-
-/// The option that takes frames around those that are selected.
-fn around_option<'a>(alloc: Global) -> Arg<'a>
-    ensures rule { rule_of result ≡ around_rule }
-    ensures local { result.global ≡ false }
-{
-    let help = "Take N frames of the same link before and after each selected one too";
-    option(alloc, "around", "N", help, false)
-        .value_parser(clap::value_parser!(u16))
-        .default_value("0")
-}
-
-/// The command `cut`.
-fn cut_command<'a>(alloc: Global) -> Result<Command<'a>, AllocError>
-    ensures { IfOk result IsCut }
-{
-    let config = "The table of virtual links: --link may then have their names";
-    let link = "Virtual links, as '301-305,42' or 'engine_*'; '*' stands for any letters";
-    let verdict = "Words of the ledger's fields 6 to 9, 'discarded' or 'delivered'";
-    let filters = "A mask of filters in hexadecimal: '06' is what filter 1 or 2 accepts";
-    let output = "The nanosecond pcap file to write, or the text file of lines";
-    Command::new(alloc, "cut")
-        .about("Copies the frames of two recordings that a ledger's lines select")
-        .override_usage(CUT_USAGE)
-        .after_help(CUT_EXAMPLE)
-        .arg(option(
-            alloc,
-            "ledger",
-            "FILE",
-            "The ledger of the recordings",
-            true,
-        ))?
-        .arg(option(alloc, "a", "FILE", A_HELP, false))?
-        .arg(option(alloc, "b", "FILE", B_HELP, false))?
-        .arg(option(alloc, "config", "FILE", config, false))?
-        .arg(option(alloc, "link", "LIST", link, false))?
-        .arg(option(alloc, "network", "A|B", "The network", false))?
-        .arg(option(alloc, "verdict", "LIST", verdict, false))?
-        .arg(option(alloc, "from", "TIME", "The first moment", false))?
-        .arg(option(alloc, "to", "TIME", "The last moment", false))?
-        .arg(option(alloc, "filters", "MASK", filters, false))?
-        .arg(around_option(alloc))?
-        .arg(flag(alloc, "ledger-only", LINES_HELP))?
-        .arg(flag(alloc, "pcapng", COMMENTED_HELP))?
-        .arg(output_option(alloc, output))
-}
-
-/// The command `links`.
-fn links_command<'a>(alloc: Global) -> Result<Command<'a>, AllocError>
-    ensures { IfOk result IsLinks }
-{
-    let constant = "The constant field of the links' frames, as 0x03000000";
-    let icd = "The links that are specified, comma-separated values";
-    Command::new(alloc, "links")
-        .about("Prints a draft of the table of virtual links that recordings have")
-        .override_usage(LINKS_USAGE)
-        .after_help(LINKS_EXAMPLE)
-        .arg(option(alloc, "a", "FILE", A_HELP, false))?
-        .arg(option(alloc, "b", "FILE", B_HELP, false))?
-        .arg(option(alloc, "constant", "NUMBER", constant, false))?
-        .arg(option(alloc, "icd", "FILE", icd, false))
-}
-
-/// The command `report`.
-fn report_command<'a>(alloc: Global) -> Result<Command<'a>, AllocError>
-    ensures { IfOk result IsReport }
-{
-    let json = "Write the page's numbers as JSON in place of the page";
-    Command::new(alloc, "report")
-        .about("Writes an HTML page on what a ledger says, or its numbers")
-        .override_usage(REPORT_USAGE)
-        .after_help(REPORT_EXAMPLE)
-        .arg(option(alloc, "config", "FILE", TABLE_HELP, true))?
-        .arg(option(
-            alloc,
-            "ledger",
-            "FILE",
-            "The ledger of verdicts, as `afdxmon watch` writes it",
-            true,
-        ))?
-        .arg(flag(alloc, "json", json))?
-        .arg(output_option(alloc, "The page to write, or the JSON text"))
-}
-
-/// The command `check`.
-fn check_command<'a>(alloc: Global) -> Result<Command<'a>, AllocError>
-    ensures { IfOk result IsCheck }
-{
-    Command::new(alloc, "check")
-        .about("Tells whether a run of watch with these inputs would be sound")
-        .override_usage(CHECK_USAGE)
-        .after_help(CHECK_EXAMPLE)
-        .arg(option(alloc, "config", "FILE", TABLE_HELP, true))?
-        .arg(option(alloc, "filter", "FILE", NUMERIC_HELP, false))?
-        .arg(option(alloc, "a", "FILE", A_HELP, false))?
-        .arg(option(alloc, "b", "FILE", B_HELP, false))?
-        .arg(flag(alloc, "json", "Write the answer as JSON in place of text"))
-}
-
-/// The program's own command, before its subcommands.
-fn program_command<'a>(alloc: Global) -> Command<'a>
-    ensures { app_of result ≡ program_app }
-{
-    Command::new(alloc, "afdxmon")
-        .about("Analyses recordings of AFDX networks (ARINC 664 Part 7)")
-        .version(VERSION)
-        .subcommand_required(true)
-}
-
-/// The program's command with its subcommands.
-fn whole_command<'a>(alloc: Global) -> Result<Command<'a>, AllocError>
-    ensures { IfOk result (λ command. app_of command ≡ afdxmon_app) }
-{
-    program_command(alloc)
-        .subcommand(capture_command(alloc)?)?
-        .subcommand(asm_command(alloc))?
-        .subcommand(watch_command(alloc)?)?
-        .subcommand(debug_command(alloc)?)?
-        .subcommand(cut_command(alloc)?)?
-        .subcommand(links_command(alloc)?)?
-        .subcommand(report_command(alloc)?)?
-        .subcommand(check_command(alloc)?)
+    given.get_one(name)
 }
 
 /// The one filter that is given by its text, as a file in the numeric form or as a source.
@@ -464,53 +279,71 @@ fn filter_argument<'a>(given: &ArgMatches<'a>) -> Result<FilterArgument<'a>, Mis
     ensures { mapped filter_words result ≡ filter_in (rows_of (found_of given.now)) }
 {
     one_filter(
-        given.get_str("code"),
-        given.get_str("filter"),
-        given.get_str("source"),
+        text(given, "code"),
+        text(given, "filter"),
+        text(given, "source"),
     )
 }
 
+/// How late a timestamp may be, if it is given.
+fn lateness(given: &ArgMatches<'_>) -> Result<Option<Lateness>, Misuse>
+    ensures { result ≡ late_in (rows_of (found_of given.now)) }
+{
+    match text(given, "late-us") {
+        Some(text) => match read_lateness(text) {
+            Some(late) => Ok(Some(late)),
+            None => Err(Misuse::NoLateness),
+        },
+        None => Ok(None),
+    }
+}
+
 /// What the arguments of `capture` give.
-fn capture_arguments<'a>(given: &ArgMatches<'a>) -> Result<CaptureArguments<'a>, Misuse>
-    ensures { mapped capture_words result ≡ capture_in (rows_of (found_of given.now)) }
+fn capture_arguments<'a>(
+    given: &ArgMatches<'a>,
+    late: Option<Lateness>,
+) -> Result<CaptureArguments<'a>, Misuse>
+    ensures { mapped capture_words result ≡ capture_in (rows_of (found_of given.now)) late }
 {
     let filter = filter_argument(given)?;
-    let Some(recording) = given.get_str("recording") else {
-        return Err(Misuse::Incomplete);
-    };
-    let Some(output) = given.get_str("output") else {
-        return Err(Misuse::Incomplete);
-    };
-    let Some(pcapng) = given.get_one::<bool>("pcapng") else {
-        return Err(Misuse::Incomplete);
-    };
-    Ok(CaptureArguments {
-        filter,
-        recording,
-        output,
-        pcapng,
-    })
+    match (
+        text(given, "recording"),
+        text(given, "output"),
+        flag(given, "pcapng"),
+    ) {
+        (Some(recording), Some(output), Some(pcapng)) => Ok(CaptureArguments {
+            filter,
+            recording,
+            output,
+            pcapng,
+            late,
+        }),
+        _ => Err(Misuse::Incomplete),
+    }
 }
 
 /// What the options of `watch` give.
-fn watch_arguments<'a>(given: &ArgMatches<'a>) -> Option<WatchArguments<'a>>
-    ensures { option_map watch_words result ≡ watch_in (rows_of (found_of given.now)) }
+fn watch_arguments<'a>(given: &ArgMatches<'a>, late: Option<Lateness>) -> Option<WatchArguments<'a>>
+    ensures { option_map watch_words result ≡ watch_in (rows_of (found_of given.now)) late }
 {
     Some(WatchArguments {
-        config: given.get_str("config")?,
-        filter: given.get_str("filter"),
-        a: given.get_str("a"),
-        b: given.get_str("b"),
-        capture: given.get_str("capture"),
-        ledger: given.get_str("ledger")?,
-        workers: given.get_one::<u8>("workers")?,
-        quiet: given.get_one::<bool>("quiet")?,
-        pcapng: given.get_one::<bool>("pcapng")?,
+        config: text(given, "config")?,
+        filter: text(given, "filter"),
+        a: text(given, "a"),
+        b: text(given, "b"),
+        capture: text(given, "capture"),
+        ledger: text(given, "ledger")?,
+        manifest: text(given, "manifest"),
+        digest: flag(given, "digest")?,
+        workers: number8(given, "workers")?,
+        quiet: flag(given, "quiet")?,
+        pcapng: flag(given, "pcapng")?,
+        late,
     })
 }
 
-/// Refuses a run without a recording, one that writes a capture without a filter, and a format of a capture
-/// that isn't written.
+/// Refuses a run without a recording, one that writes a capture without a filter, a format of a capture that
+/// isn't written, digests for a manifest that isn't, and timestamps in any order.
 fn checked(given: WatchArguments<'_>) -> Result<WatchArguments<'_>, Misuse>
     ensures { mapped watch_words result ≡ checked (watch_words given.entry) }
 {
@@ -523,18 +356,27 @@ fn checked(given: WatchArguments<'_>) -> Result<WatchArguments<'_>, Misuse>
     if given.pcapng && given.capture.is_none() {
         return Err(Misuse::Uncaptured);
     }
+    if given.digest && given.manifest.is_none() {
+        return Err(Misuse::NoManifest);
+    }
+    if matches!(given.late, Some(Lateness::Any)) {
+        return Err(Misuse::Unordered);
+    }
     Ok(given)
 }
 
 /// What the options of `debug` give.
-fn debug_arguments<'a>(given: &ArgMatches<'a>) -> Result<DebugArguments<'a>, Misuse>
-    ensures { mapped debug_words result ≡ debug_in (rows_of (found_of given.now)) }
+fn debug_arguments<'a>(
+    given: &ArgMatches<'a>,
+    late: Option<Lateness>,
+) -> Result<DebugArguments<'a>, Misuse>
+    ensures { mapped debug_words result ≡ debug_in (rows_of (found_of given.now)) late }
 {
     let filter = filter_argument(given)?;
-    let Some(tap) = given.get_str("tap") else {
-        return Err(Misuse::Incomplete);
-    };
-    Ok(DebugArguments { filter, tap })
+    match text(given, "tap") {
+        Some(tap) => Ok(DebugArguments { filter, tap, late }),
+        None => Err(Misuse::Incomplete),
+    }
 }
 
 /// What the options of `cut` give.
@@ -542,20 +384,21 @@ fn cut_arguments<'a>(options: &ArgMatches<'a>) -> Option<CutArguments<'a>>
     ensures { option_map cut_words result ≡ cut_in (rows_of (found_of options.now)) }
 {
     Some(CutArguments {
-        ledger: options.get_str("ledger")?,
-        a: options.get_str("a"),
-        b: options.get_str("b"),
-        config: options.get_str("config"),
-        link: options.get_str("link"),
-        network: options.get_str("network"),
-        verdict: options.get_str("verdict"),
-        from: options.get_str("from"),
-        to: options.get_str("to"),
-        filters: options.get_str("filters"),
-        around: options.get_one::<u16>("around")?,
-        ledger_only: options.get_one::<bool>("ledger-only")?,
-        pcapng: options.get_one::<bool>("pcapng")?,
-        output: options.get_str("output")?,
+        ledger: text(options, "ledger")?,
+        a: text(options, "a"),
+        b: text(options, "b"),
+        config: text(options, "config"),
+        link: text(options, "link"),
+        network: text(options, "network"),
+        verdict: text(options, "verdict"),
+        from: text(options, "from"),
+        to: text(options, "to"),
+        span: text(options, "span"),
+        filters: text(options, "filters"),
+        around: number16(options, "around")?,
+        ledger_only: flag(options, "ledger-only")?,
+        pcapng: flag(options, "pcapng")?,
+        output: text(options, "output")?,
     })
 }
 
@@ -566,8 +409,8 @@ fn is_network(text: &str) -> bool
     text == "A" || text == "B"
 }
 
-/// Refuses packets without a recording, a format of packets where none are written, and a network that is
-/// neither A nor B.
+/// Refuses packets without a recording, a format of packets where none are written, two ends of a span, and a
+/// network that is neither A nor B.
 fn checked_cut(given: CutArguments<'_>) -> Result<CutArguments<'_>, Misuse>
     ensures { mapped cut_words result ≡ checked_cut (cut_words given.entry) }
 {
@@ -576,6 +419,9 @@ fn checked_cut(given: CutArguments<'_>) -> Result<CutArguments<'_>, Misuse>
     }
     if given.ledger_only && given.pcapng {
         return Err(Misuse::NoPackets);
+    }
+    if given.to.is_some() && given.span.is_some() {
+        return Err(Misuse::TwoEnds);
     }
     match given.network {
         Some(network) if !is_network(network) => Err(Misuse::NoNetwork),
@@ -588,10 +434,10 @@ fn links_arguments<'a>(given: &ArgMatches<'a>) -> LinksArguments<'a>
     ensures { links_words result ≡ links_in (rows_of (found_of given.now)) }
 {
     LinksArguments {
-        a: given.get_str("a"),
-        b: given.get_str("b"),
-        constant: given.get_str("constant"),
-        icd: given.get_str("icd"),
+        a: text(given, "a"),
+        b: text(given, "b"),
+        constant: text(given, "constant"),
+        icd: text(given, "icd"),
     }
 }
 
@@ -610,10 +456,11 @@ fn report_arguments<'a>(given: &ArgMatches<'a>) -> Option<ReportArguments<'a>>
     ensures { option_map report_words result ≡ report_in (rows_of (found_of given.now)) }
 {
     Some(ReportArguments {
-        config: given.get_str("config")?,
-        ledger: given.get_str("ledger")?,
-        json: given.get_one::<bool>("json")?,
-        output: given.get_str("output")?,
+        config: text(given, "config")?,
+        ledger: text(given, "ledger")?,
+        manifest: text(given, "manifest"),
+        json: flag(given, "json")?,
+        output: text(given, "output")?,
     })
 }
 
@@ -622,73 +469,66 @@ fn check_arguments<'a>(given: &ArgMatches<'a>) -> Option<CheckArguments<'a>>
     ensures { option_map check_words result ≡ check_in (rows_of (found_of given.now)) }
 {
     Some(CheckArguments {
-        config: given.get_str("config")?,
-        filter: given.get_str("filter"),
-        a: given.get_str("a"),
-        b: given.get_str("b"),
-        json: given.get_one::<bool>("json")?,
+        config: text(given, "config")?,
+        filter: text(given, "filter"),
+        a: text(given, "a"),
+        b: text(given, "b"),
+        whole: flag(given, "whole")?,
+        json: flag(given, "json")?,
     })
 }
 
-/// What the matches of a command line ask for.
-fn arguments_of<'a>(matches: &ArgMatches<'a>) -> Result<Invocation<'a>, Misuse>
-    ensures { mapped meant_by result ≡ meant_in (subcommand_rows_of matches.now) }
+/// What the arguments of a command ask for.
+fn invocation_of<'a>(verb: Verb, given: &ArgMatches<'a>) -> Result<Invocation<'a>, Misuse>
+    ensures { mapped meant_by result ≡ meant_for verb (rows_of (found_of given.now)) }
 {
-    let Some((name, given)) = matches.subcommand() else {
+    match verb {
+        Verb::Capture => Ok(Invocation::Capture(capture_arguments(given, lateness(given)?)?)),
+        Verb::Asm => Ok(Invocation::Asm),
+        Verb::Watch => Ok(Invocation::Watch(checked(watch_arguments(given, lateness(given)?).ok_or(
+            Misuse::Incomplete,
+        )?)?)),
+        Verb::Debug => Ok(Invocation::Debug(debug_arguments(given, lateness(given)?)?)),
+        Verb::Cut => Ok(Invocation::Cut(checked_cut(cut_arguments(given).ok_or(
+            Misuse::Incomplete,
+        )?)?)),
+        Verb::Links => Ok(Invocation::Links(checked_links(links_arguments(given))?)),
+        Verb::Report => Ok(Invocation::Report(report_arguments(given).ok_or(Misuse::Incomplete)?)),
+        Verb::Check => Ok(Invocation::Check(check_arguments(given).ok_or(Misuse::Incomplete)?)),
+    }
+}
+
+/// What a command of a name and its arguments ask for.
+fn named_line<'a>(name: &str, given: &ArgMatches<'a>) -> Result<CommandLine<'a>, Misuse>
+    ensures { mapped meant_line result ≡ line_with
+        (meant_if (command_named name.now) (rows_of (found_of given.now)))
+        (flag_at (codes "verbose") (rows_of (found_of given.now))) }
+{
+    let Some(verb) = command_named(name) else {
         return Err(Misuse::Incomplete);
     };
-    if name == "capture" {
-        return Ok(Invocation::Capture(capture_arguments(given)?));
+    let command = invocation_of(verb, given)?;
+    match flag(given, "verbose") {
+        Some(verbose) => Ok(CommandLine { command, verbose }),
+        None => Err(Misuse::Incomplete),
     }
-    if name == "asm" {
-        return Ok(Invocation::Asm);
+}
+
+/// What the matches of a command line ask for.
+fn arguments_of<'a>(matches: &ArgMatches<'a>) -> Result<CommandLine<'a>, Misuse>
+    ensures { mapped meant_line result ≡ meant_in (subcommand_rows_of matches.now) }
+{
+    match matches.subcommand() {
+        Some((name, given)) => named_line(name, given),
+        None => Err(Misuse::Incomplete),
     }
-    if name == "watch" {
-        let Some(given) = watch_arguments(given) else {
-            return Err(Misuse::Incomplete);
-        };
-        return Ok(Invocation::Watch(checked(given)?));
-    }
-    if name == "debug" {
-        return Ok(Invocation::Debug(debug_arguments(given)?));
-    }
-    if name == "cut" {
-        let Some(given) = cut_arguments(given) else {
-            return Err(Misuse::Incomplete);
-        };
-        return Ok(Invocation::Cut(checked_cut(given)?));
-    }
-    if name == "links" {
-        return Ok(Invocation::Links(checked_links(links_arguments(given))?));
-    }
-    if name == "report" {
-        let Some(given) = report_arguments(given) else {
-            return Err(Misuse::Incomplete);
-        };
-        return Ok(Invocation::Report(given));
-    }
-    if name == "check" {
-        let Some(given) = check_arguments(given) else {
-            return Err(Misuse::Incomplete);
-        };
-        return Ok(Invocation::Check(given));
-    }
-    Err(Misuse::Incomplete)
 }
 
 /// The error of a command that refuses its arguments, with its usage.
 fn refusal(alloc: Global, command: Option<&str>, misuse: Misuse) -> Result<Error, AllocError>
     ensures { IfOk result (λ e. kind_of e ≡ misuse_kind misuse) }
 {
-    let mut command = match command {
-        Some("capture") => capture_command(alloc)?,
-        Some("watch") => watch_command(alloc)?,
-        Some("debug") => debug_command(alloc)?,
-        Some("cut") => cut_command(alloc)?,
-        Some("links") => links_command(alloc)?,
-        _ => whole_command(alloc)?,
-    };
-    command.error(misuse.kind(), misuse.message())
+    named_command(alloc, command)?.error(misuse.kind(), misuse.message())
 }
 
 /// Reads the command-line arguments, the program's own name first.
@@ -697,9 +537,9 @@ fn refusal(alloc: Global, command: Option<&str>, misuse: Misuse) -> Result<Error
 ///
 /// clap's error if clap's rules or the command's own refuse the arguments, or out of memory. It prints as
 /// the text for the user. A request for help or for the version is one too.
-pub fn read_arguments<'a>(alloc: Global, arguments: &'a [String]) -> Result<Invocation<'a>, Error>
+pub fn read_arguments<'a>(alloc: Global, arguments: &'a [String]) -> Result<CommandLine<'a>, Error>
     ensures meant { IfOk result (λ found.
-        meant_asked (map string_bytes arguments.now) ≡ Ok (meant_by found)) }
+        meant_asked (map string_bytes arguments.now) ≡ Ok (meant_line found)) }
     // Ok where neither clap's rules nor the command's own find a fault; else an error of the kind that the
     // first of them finds, or out of memory.
     ensures kinds { FailsBy (kinds_asked (map string_bytes arguments.now)) result }
@@ -710,7 +550,7 @@ pub fn read_arguments<'a>(alloc: Global, arguments: &'a [String]) -> Result<Invo
     let command = whole_command(alloc)?;
     let matches = command.try_get_matches_from(arguments)?;
     match arguments_of(&matches) {
-        Ok(invocation) => Ok(invocation),
+        Ok(asked) => Ok(asked),
         Err(misuse) => Err(refusal(alloc, matches.subcommand_name(), misuse)?),
     }
 }

@@ -28,7 +28,7 @@ impl Display for Place {
 }
 
 /// A line of a text, and under it a caret.
-#[derive(Debug, Drop)]
+#[derive(Drop)]
 pub struct Caret<'a> {
     line: &'a str,
     /// Blanks as wide as what stands before the caret.

@@ -19,7 +19,7 @@ afdxmon: packets aren't written to a terminal: name a file by -o (of watch by --
 pub const WITHOUT_TOTAL: &str = "afdxmon: note: ledger ends without its total";
 
 /// How a command ended.
-#[derive(Clone, Copy, Debug)]
+#[derive(Clone, Copy)]
 pub enum Exit {
     /// Status 0: all was read and done.
     Success,

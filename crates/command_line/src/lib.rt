@@ -6,30 +6,37 @@ mod arguments;
 mod caret;
 mod exit;
 mod fault;
+mod files;
+mod lateness;
+mod line;
 mod meaning;
 mod message;
 mod misuse;
 mod moment;
+mod options;
 mod place;
 mod refused;
-mod shared;
-mod standard;
 mod summary;
 mod usage;
 
 pub use arguments::{
-    CaptureArguments, CheckArguments, CutArguments, DebugArguments, FilterArgument, Invocation,
-    LinksArguments, ReportArguments, WatchArguments, read_arguments,
+    CaptureArguments, CheckArguments, CommandLine, CutArguments, DebugArguments, FilterArgument,
+    Invocation, LinksArguments, ReportArguments, WatchArguments, read_arguments,
 };
 pub use caret::{Caret, Place, caret_at, place_at};
 pub use exit::{Exit, TO_A_TERMINAL, USAGE, WITHOUT_TOTAL};
-pub use fault::{Contradiction, Fault, FileOption, ReportFault, SelectionOption, fault_line};
-pub use meaning::{EndingAdvice, HEAD_LEN, advice, header_advice, numeric_advice};
+pub use fault::{Contradiction, Fault, FileOption, ManifestFault, ReportFault, SelectionOption};
+pub use files::{GivenFile, Inode, MAX_FILES, Named, NamedFile, is_standard, refuse_shared};
+pub use lateness::{Lateness, MAX_LATE_MICROS};
+pub use line::fault_line;
+pub use meaning::{
+    Advice, CompressedAdvice, EndingAdvice, HEAD_LEN, compressed_advice, header_advice,
+    numeric_advice,
+};
 pub use message::{Note, SkippedNote, TapNote, reason_words};
 pub use misuse::Misuse;
-pub use moment::{MomentText, read_moment};
+pub use moment::{MomentText, read_moment, read_span};
+pub use options::version;
 pub use place::file_of;
 pub use refused::{Written, load_offset, numeric_offset, source_offset, written_as};
-pub use shared::{CaptureFiles, CutFiles, Inode, Named, ReportFiles, WatchFiles};
-pub use standard::is_standard;
 pub use summary::{Hint, Summary, hint_of};

@@ -1,7 +1,9 @@
 //! What a fault line or a note means and what to do, in plain words, for a person at a terminal. The texts
 //! stand alone: an installed program has no documents beside it.
 
-use crate::fault::{Contradiction, Fault, FileOption, ReportFault, SelectionOption};
+use crate::fault::{Contradiction, Fault, FileOption, ManifestFault, ReportFault, SelectionOption};
+use crate::files::GivenFile;
+use crate::line::file_name;
 use crate::refused::Written;
 use bpf_asm::AsmFault;
 use bpf_debugger::DebugFault;
@@ -59,13 +61,47 @@ fn load_advice(fault: LoadFault) -> &'static str {
 /// How many bytes of a file say what it is, if it is no recording: those of a pcap file's header.
 pub const HEAD_LEN: usize = 24;
 
-/// What to do with a file that has the magic number of no pcap file, by its first bytes.
-fn magic_advice(head: &[u8]) -> &'static str {
-    match head {
-        [0x1f, 0x8b, ..] => "compressed by gzip: gunzip in.pcap.gz",
-        [0x28, 0xb5, 0x2f, 0xfd, ..] => "compressed by zstd: unzstd in.pcap.zst",
-        _ => { "neither a pcap nor a pcapng file; if compressed: gunzip" }
+/// What to do with a compressed recording: what its command line has in place of its path.
+#[derive(Clone, Copy)]
+pub struct CompressedAdvice<'a> {
+    /// What it is compressed by, and what unpacks it.
+    packer: &'static str,
+    unpacker: &'static str,
+    option: FileOption,
+    path: &'a str,
+}
+
+impl Display for CompressedAdvice<'_> {
+    fn fmt<W: fmt::Write>(&self, f: &mut Formatter<W>) -> fmt::Result {
+        let CompressedAdvice {
+            packer,
+            unpacker,
+            option,
+            path,
+        } = *self;
+        write!(f, "compressed by {packer}: ")?;
+        if option != FileOption::Recording {
+            f.write_str(file_name(option))?;
+            f.write_str(" ")?;
+        }
+        write!(f, "<({unpacker} {path})")
     }
+}
+
+/// What to do with a file that is a compressed one, by its first bytes.
+pub fn compressed_advice<'a>(head: &[u8], file: GivenFile<'a>) -> Option<CompressedAdvice<'a>> {
+    let (packer, unpacker) = match head {
+        [0x1f, 0x8b, ..] => ("gzip", "zcat"),
+        [0x28, 0xb5, 0x2f, 0xfd, ..] => ("zstd", "zstdcat"),
+        [0xfd, 0x37, 0x7a, 0x58, 0x5a, 0, ..] => ("xz", "xzcat"),
+        _ => return None,
+    };
+    Some(CompressedAdvice {
+        packer,
+        unpacker,
+        option: file.option,
+        path: file.path?,
+    })
 }
 
 /// Does a file header name Ethernet, with bits that say how long the check sequences are?
@@ -89,7 +125,7 @@ fn link_type_advice(head: &[u8]) -> &'static str {
 pub fn header_advice(fault: HeaderFault, head: &[u8]) -> &'static str {
     match fault {
         HeaderFault::Short => "not a recording: it ends within its file header",
-        HeaderFault::Magic => magic_advice(head),
+        HeaderFault::Magic => "neither a pcap nor a pcapng file; if compressed: gunzip",
         HeaderFault::Version => {
             "a pcap file of another version than 2.4: editcap -F nsecpcap in.pcap out.pcap writes 2.4"
         }
@@ -107,7 +143,7 @@ pub fn header_advice(fault: HeaderFault, head: &[u8]) -> &'static str {
 }
 
 /// What to do with a recording that ends early.
-#[derive(Clone, Copy, Debug)]
+#[derive(Clone, Copy)]
 pub struct EndingAdvice(pub Ending);
 
 impl Display for EndingAdvice {
@@ -172,69 +208,24 @@ fn watch_advice(fault: WatchFault) -> &'static str {
     }
 }
 
-fn file_advice(file: FileOption) -> &'static str {
+/// What a file needs, after the option that names it.
+fn needs(file: FileOption) -> &'static str {
     match file {
         FileOption::Standard => {
             "standard input or output fails, or the text is longer than 16 MiB or not UTF-8"
         }
         FileOption::Config => {
-            "--config needs a table of virtual links: a TOML document, at most 16 MiB of UTF-8"
+            "needs a table of virtual links: a TOML document, at most 16 MiB of UTF-8"
         }
-        FileOption::Filter => {
-            "--filter needs a filter in the numeric form, at most 16 MiB of UTF-8"
+        FileOption::Filter => "needs a filter in the numeric form, at most 16 MiB of UTF-8",
+        FileOption::Icd => "needs comma-separated values, at most 16 MiB of UTF-8",
+        FileOption::Source => "needs a filter's source, at most 16 MiB of UTF-8",
+        FileOption::Recording | FileOption::Tap | FileOption::A | FileOption::B => {
+            "needs a recording that can be read: a pcap or pcapng file, or a pipe"
         }
-        FileOption::Icd => "--icd needs comma-separated values, at most 16 MiB of UTF-8",
-        FileOption::Source => "--source needs a filter's source, at most 16 MiB of UTF-8",
-        FileOption::Recording =>
-            "RECORDING needs a recording that can be read: a pcap or pcapng file, or a pipe",
-        FileOption::Tap =>
-            "--tap needs a recording that can be read: a pcap or pcapng file, or a pipe",
-        FileOption::A => "--a needs a recording that can be read: a pcap or pcapng file, or a pipe",
-        FileOption::B => "--b needs a recording that can be read: a pcap or pcapng file, or a pipe",
-        FileOption::Capture => {
-            "--capture needs a file that can be written, in a directory that is there"
+        FileOption::Capture | FileOption::Ledger | FileOption::Output | FileOption::Manifest => {
+            "needs a file that can be written, in a directory that is there"
         }
-        FileOption::Ledger => {
-            "--ledger needs a file that can be written, in a directory that is there"
-        }
-        FileOption::Output => {
-            "--output needs a file that can be written, in a directory that is there"
-        }
-    }
-}
-
-/// Which file an output also is.
-fn shared_advice(other: FileOption) -> &'static str {
-    match other {
-        FileOption::Config => "it is the file of --config too: name another file to write",
-        FileOption::Filter => "it is the file of --filter too: name another file to write",
-        FileOption::A => "it is the file of --a too: name another file to write",
-        FileOption::B => "it is the file of --b too: name another file to write",
-        FileOption::Capture => "it is the file of --capture too: name another file to write",
-        FileOption::Ledger => "it is the file of --ledger too: name another file to write",
-        FileOption::Source => "it is the file of --source too: name another file to write",
-        FileOption::Recording => "it is the recording too: name another file to write",
-        FileOption::Standard | FileOption::Tap | FileOption::Output | FileOption::Icd => {
-            "it is another file too: name another to write"
-        }
-    }
-}
-
-/// What is standard input or output already.
-fn taken_advice(by: FileOption) -> &'static str {
-    match by {
-        FileOption::Standard => "the commands are read from standard input: name a file",
-        FileOption::Config => "'-' stands for --config already: name a file",
-        FileOption::Filter => "'-' stands for --filter already: name a file",
-        FileOption::Source => "'-' stands for --source already: name a file",
-        FileOption::A => "'-' stands for --a already: name a file",
-        FileOption::Capture => "'-' stands for --capture already: name a file",
-        FileOption::Icd => "'-' stands for --icd already: name a file",
-        FileOption::Tap
-        | FileOption::B
-        | FileOption::Ledger
-        | FileOption::Recording
-        | FileOption::Output => "'-' stands for another file already: name a file",
     }
 }
 
@@ -324,15 +315,16 @@ fn selection_advice(option: SelectionOption) -> &'static str {
             "--link needs identifiers 0 to 65535, as 301-305,42, or with --config names, as engine_*"
         }
         SelectionOption::Verdict => {
-            "--verdict needs words of a ledger's fields 6 to 9, 'discarded' or 'delivered'"
+            "--verdict needs words of a ledger's fields 6 to 9, 'discarded', 'faults' or 'delivered'"
         }
         SelectionOption::From => {
-            "a time is 2027-01-15T08:00:12.119534506Z, 08:00:12.1195, or nanoseconds since 1970"
+            "a time is 2027-01-15T08:00:12.119534506Z, 08:00:12.1195, +12.1195, or nanoseconds since 1970"
         }
         SelectionOption::To => {
-            "a time is as 08:00:12.1195, with a date before it as 2027-01-15T08:00:12Z, or nanoseconds \
-             since 1970, and no earlier than --from"
+            "a time is as 08:00:12.1195, with a date before it as 2027-01-15T08:00:12Z, +12.1195, or \
+             nanoseconds since 1970, and no earlier than --from"
         }
+        SelectionOption::Span => "--span needs a length of time, as 2s, 0.5s, 250ms or 80us",
         SelectionOption::Filters => "--filters needs a mask: 01 to ff",
         SelectionOption::Around => "--around reads the ledger twice: name a file of it, no pipe",
     }
@@ -347,12 +339,24 @@ fn contradiction_advice(found: Contradiction) -> &'static str {
     }
 }
 
+fn manifest_advice(fault: ManifestFault) -> &'static str {
+    match fault {
+        ManifestFault::Form { .. } => "no manifest: afdxmon watch writes one by --manifest",
+        ManifestFault::Version => "a manifest of another version than 1",
+        ManifestFault::Table =>
+            "another SHA-256 than the manifest has: is it the table of the run?",
+        ManifestFault::Ledger =>
+            "another length or SHA-256 than the manifest has: is it the ledger of the run?",
+    }
+}
+
 fn report_advice(fault: ReportFault) -> &'static str {
     match fault {
         ReportFault::Ledger { fault, .. } => line_advice(fault),
         ReportFault::Contradiction { found, .. } => contradiction_advice(found),
         ReportFault::Read => "the ledger can't be read: is it a file or a pipe?",
         ReportFault::Memory => OUT_OF_MEMORY,
+        ReportFault::Manifest(fault) => manifest_advice(fault),
     }
 }
 
@@ -387,17 +391,18 @@ fn icd_advice(fault: IcdFault) -> &'static str {
     }
 }
 
-/// What a fault line means and what to do, in plain words, for a person at a terminal.
-pub fn advice(fault: &Fault) -> &'static str {
+/// What a fault that is of no file's option means.
+fn fixed_advice(fault: &Fault) -> &'static str {
     match *fault {
-        Fault::File(file) => file_advice(file),
-        Fault::Shared { other, .. } => shared_advice(other),
-        Fault::Taken { by, .. } => taken_advice(by),
+        Fault::File(file) | Fault::Shared { output: file, .. } | Fault::Taken { file, .. } => {
+            needs(file)
+        }
         Fault::Config(fault) => config_advice(fault),
         Fault::Asm(fault) => asm_advice(fault),
         Fault::Numeric { fault, .. } => numeric_advice(fault, Written::Numeric),
         Fault::Load { fault, .. } => load_advice(fault),
         Fault::Watch(fault) => watch_advice(fault),
+        Fault::Manifest => "the manifest can't be written: is the disk full, or the pipe closed?",
         Fault::Debug(fault) => debug_advice(fault),
         Fault::Cut(fault) => cut_advice(fault),
         Fault::Selection { option, .. } => selection_advice(option),
@@ -407,5 +412,41 @@ pub fn advice(fault: &Fault) -> &'static str {
         Fault::Draft(fault) => draft_advice(fault),
         Fault::Constant => "--constant is a number of 32 bits, as 0x03000000 or 50331648",
         Fault::Unsound => "a run with these inputs would not be sound: the answer says why",
+    }
+}
+
+/// What a fault line means and what to do, in plain words, for a person at a terminal.
+#[derive(Clone, Copy)]
+pub struct Advice<'a>(pub &'a Fault);
+
+impl Display for Advice<'_> {
+    fn fmt<W: fmt::Write>(&self, f: &mut Formatter<W>) -> fmt::Result {
+        let fixed = fixed_advice(self.0);
+        match *self.0 {
+            Fault::Shared {
+                other: FileOption::Recording,
+                ..
+            } => f.write_str("it is the recording too: name another file to write"),
+            Fault::Shared { other, .. } => {
+                let option = file_name(other);
+                write!(
+                    f,
+                    "it is the file of {option} too: name another file to write"
+                )
+            }
+            Fault::Taken {
+                by: FileOption::Standard,
+                ..
+            } => f.write_str("the commands are read from standard input: name a file"),
+            Fault::Taken { by, .. } => {
+                let option = file_name(by);
+                write!(f, "'-' stands for {option} already: name a file")
+            }
+            Fault::File(file) if file != FileOption::Standard => {
+                let option = file_name(file);
+                write!(f, "{option} {fixed}")
+            }
+            _ => f.write_str(fixed),
+        }
     }
 }

@@ -2,7 +2,7 @@
 ghost use Rattle.std.specs.Prelude.{◌≡◌};
 ghost use Rattle.command_line.specs.Exit.{reason_text};
 
-use crate::fault::network_name;
+use crate::line::network_name;
 use afdx_frame::Network;
 use pcap_io::{BadReason, Ending};
 use std::fmt;
@@ -79,7 +79,7 @@ impl Display for EndingPart {
 }
 
 /// The note on the ending of a command's one recording, without its newline.
-#[derive(Clone, Copy, Debug)]
+#[derive(Clone, Copy)]
 pub struct Note(pub Ending);
 
 impl Display for Note {
@@ -116,7 +116,7 @@ impl Display for Packets {
 
 /// The note on packets of a pcapng file that are not of Ethernet and were left out, without its newline. Of
 /// a command's one recording there is no network.
-#[derive(Clone, Copy, Debug)]
+#[derive(Clone, Copy)]
 pub struct SkippedNote(pub Option<Network>, pub u64);
 
 impl Display for SkippedNote {
@@ -141,7 +141,7 @@ impl Display for SkippedNote {
 }
 
 /// The note on the ending of one of two recordings, without its newline.
-#[derive(Clone, Copy, Debug)]
+#[derive(Clone, Copy)]
 pub struct TapNote(pub Network, pub Ending);
 
 impl Display for TapNote {

@@ -5,7 +5,7 @@ ghost use Rattle.command_line.specs.Arguments.{misuse_kind};
 use clap::error::ErrorKind;
 
 /// Why a command refuses arguments that clap takes each by itself.
-#[derive(Clone, Copy, Debug, PartialEq, Eq)]
+#[derive(Clone, Copy, PartialEq, Eq)]
 pub enum Misuse {
     /// No filter is given to a command that needs one.
     NoFilter,
@@ -21,8 +21,16 @@ pub enum Misuse {
     NoNetwork,
     /// A capture's format is given, and no capture is written.
     Uncaptured,
+    /// Digests are asked for, and no manifest is written.
+    NoManifest,
     /// A format of packets is given, and lines are printed in their place.
     NoPackets,
+    /// A window for late timestamps is given that is none.
+    NoLateness,
+    /// A run over two recordings, whose frames it puts in order, is to take timestamps in any order.
+    Unordered,
+    /// A span of time has both a last moment and a length.
+    TwoEnds,
     /// An argument isn't there that clap requires or has a default for. This is not met.
     Incomplete,
 }
@@ -33,13 +41,16 @@ impl Misuse {
         ensures { result ≡ misuse_kind self }
     {
         match self {
-            Misuse::TwoFilters | Misuse::NoPackets => ErrorKind::ArgumentConflict,
-            Misuse::NoNetwork => ErrorKind::InvalidValue,
+            Misuse::TwoFilters | Misuse::NoPackets | Misuse::TwoEnds => {
+                ErrorKind::ArgumentConflict
+            }
+            Misuse::NoNetwork | Misuse::NoLateness | Misuse::Unordered => ErrorKind::InvalidValue,
             Misuse::NoFilter
             | Misuse::NoRecording
             | Misuse::NoLinks
             | Misuse::Unfiltered
             | Misuse::Uncaptured
+            | Misuse::NoManifest
             | Misuse::Incomplete => ErrorKind::MissingRequiredArgument,
         }
     }
@@ -54,8 +65,14 @@ impl Misuse {
             Misuse::Unfiltered => "--capture needs --filter, which says what frames it is to have",
             Misuse::NoNetwork => "--network is A or B",
             Misuse::Uncaptured => "--pcapng needs --capture: it says how the capture is written",
+            Misuse::NoManifest => "--digest needs --manifest, which has the digests",
             Misuse::NoPackets =>
                 "--pcapng says how packets are written, and --ledger-only leaves them out",
+            Misuse::NoLateness =>
+                "--late-us is a number of microseconds, 0 to 1000000, and of capture and debug also any",
+            Misuse::Unordered =>
+                "--late-us any is for capture and debug: watch puts the frames of both networks in order",
+            Misuse::TwoEnds => "--to and --span both end the span of time: give one of them",
             Misuse::Incomplete => "a required argument is missing",
         }
     }

@@ -1,8 +1,8 @@
 //! Which file a fault is of, for a person who is told its path.
 ghost use Rattle.std.specs.Prelude.{◌≡◌};
-ghost use Rattle.command_line.specs.Place.{file_of, file_of_cut, file_of_icd, file_of_report, file_of_source, input_of, output_of, refused_filter};
+ghost use Rattle.command_line.specs.Place.{file_of, file_of_cut, file_of_icd, file_of_manifest, file_of_report, file_of_source, input_of, output_of, refused_filter};
 
-use crate::fault::{Fault, FileOption, ReportFault};
+use crate::fault::{Fault, FileOption, ManifestFault, ReportFault};
 use afdx_frame::Network;
 use cut_run::{CutFault, CutSource};
 use icd_links::IcdFault;
@@ -60,7 +60,18 @@ fn cut_file(fault: CutFault) -> Option<FileOption>
     }
 }
 
-/// The file of a report's fault, which is the ledger.
+/// The file that isn't as it has to be.
+fn manifest_file(fault: ManifestFault) -> FileOption
+    ensures { result ≡ file_of_manifest fault }
+{
+    match fault {
+        ManifestFault::Form { .. } | ManifestFault::Version => FileOption::Manifest,
+        ManifestFault::Table => FileOption::Config,
+        ManifestFault::Ledger => FileOption::Ledger,
+    }
+}
+
+/// The file of a report's fault: the ledger, unless the fault is of its manifest or its table.
 fn report_file(fault: ReportFault) -> Option<FileOption>
     ensures { result ≡ file_of_report fault }
 {
@@ -69,6 +80,7 @@ fn report_file(fault: ReportFault) -> Option<FileOption>
             Some(FileOption::Ledger)
         }
         ReportFault::Memory => None,
+        ReportFault::Manifest(fault) => Some(manifest_file(fault)),
     }
 }
 
@@ -100,6 +112,7 @@ pub fn file_of(fault: &Fault) -> Option<FileOption>
             Some(input_of(network))
         }
         Fault::Watch(WatchFault::Write { output }) => Some(output_of(output)),
+        Fault::Manifest => Some(FileOption::Manifest),
         Fault::Watch(
             WatchFault::Workers
             | WatchFault::Spawn

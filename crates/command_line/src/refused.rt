@@ -130,7 +130,7 @@ pub fn load_offset(fault: LoadFault, text: &str) -> Option<usize>
 }
 
 /// What a text is that isn't the numeric form of a filter.
-#[derive(Clone, Copy, Debug, PartialEq, Eq)]
+#[derive(Clone, Copy, PartialEq, Eq)]
 pub enum Written {
     /// A filter's source: `afdxmon asm` assembles it.
     Source,

@@ -8,12 +8,16 @@ use std::fmt::{Display, Formatter};
 use verdict_ledger::Totals;
 
 /// Which input of a run its counts speak against.
-#[derive(Clone, Copy, Debug, PartialEq, Eq)]
+#[derive(Clone, Copy, PartialEq, Eq)]
 pub enum Hint {
     /// The table's constant: nearly all frames are foreign.
     Constant,
     /// Smax, or the recordings: nearly all frames are longer than their link's Smax.
     FrameLength,
+    /// The table: more than half of the frames are of links that it lacks.
+    OtherTable,
+    /// The recorders: more than one frame in a hundred is cut short.
+    CutFrames,
     /// The clocks of the taps: both networks have frames, and none is the copy of another.
     Clocks,
     /// The recordings: one of them may be given as both.
@@ -46,6 +50,10 @@ pub fn hint_of(a: Ending, b: Ending, totals: &Totals) -> Option<Hint>
         Some(Hint::Constant)
     } else if is_nearly_all(totals.toolong, totals.frames) {
         Some(Hint::FrameLength)
+    } else if totals.frames / 2 < totals.unconfigured {
+        Some(Hint::OtherTable)
+    } else if totals.frames / 100 < totals.cut {
+        Some(Hint::CutFrames)
     } else if 0 < a && 0 < b && 0 < totals.delivered && totals.copy == 0 {
         Some(Hint::Clocks)
     } else if a == b && 0 < totals.copy && totals.copy == totals.delivered {
@@ -64,6 +72,12 @@ fn hint_words(hint: Hint) -> &'static str
         }
         Hint::FrameLength => {
             "nearly all frames are too long: does 'smax' count a frame without its check sequence?"
+        }
+        Hint::OtherTable => {
+            "more than half of the frames are unconfigured: is the table that of another aircraft?"
+        }
+        Hint::CutFrames => {
+            "more than one frame in a hundred is cut short: record frames whole, tcpdump -s 0"
         }
         Hint::Clocks => "no frame is a copy of another: are the clocks of the taps apart?",
         Hint::OneRecording => {
@@ -157,7 +171,7 @@ impl Display for DiscardsPart {
 }
 
 /// What a run over two recordings read and counted. Its text is the summary, without the last newline.
-#[derive(Clone, Copy, Debug)]
+#[derive(Clone, Copy)]
 pub struct Summary {
     /// How the recording of network A ended.
     pub a: Ending,

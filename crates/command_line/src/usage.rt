@@ -1,25 +1,4 @@
-//! What the help of the commands says of their arguments. The texts stand in the man page too.
-
-/// What `--filter` takes.
-pub const NUMERIC_HELP: &str = "The filter in the numeric form, as `afdxmon asm` prints it";
-
-/// What `--source` takes.
-pub const SOURCE_HELP: &str = "The filter's source, as `afdxmon asm` reads it";
-
-/// What `--a` takes.
-pub const A_HELP: &str = "The recording of network A, a pcap or pcapng file";
-
-/// What `--b` takes.
-pub const B_HELP: &str = "The recording of network B, a pcap or pcapng file";
-
-/// What `--output` of `capture` takes.
-pub const OUTPUT_HELP: &str = "The capture to write, a nanosecond pcap file";
-
-/// What `--config` takes.
-pub const TABLE_HELP: &str = "The table of virtual links, a TOML document";
-
-/// What `--pcapng` does where a ledger stands beside.
-pub const COMMENTED_HELP: &str = "Write the capture as pcapng, with verdicts as packet comments";
+//! How the commands are called, and what the help says after their arguments.
 
 /// How `capture` is called.
 pub const CAPTURE_USAGE: &str = "\
@@ -50,12 +29,9 @@ Example: keep the frames that examples/flight.filter accepts, and judge them all
   afdxmon watch --config flight.toml --filter flight.filter --a a.pcap --b b.pcap \\
     --capture kept.pcap --ledger verdicts.ledger";
 
-/// What `--quiet` does.
-pub const QUIET_HELP: &str = "Leave out progress and summary at a terminal";
-
 /// How `debug` is called.
 pub const DEBUG_USAGE: &str = "\
-afdxmon debug --tap <FILE> <--filter <FILE>|--source <FILE>>";
+afdxmon debug [OPTIONS] --tap <FILE> <--filter <FILE>|--source <FILE>>";
 
 /// What stands after the options in the help of `debug`.
 pub const DEBUG_EXAMPLE: &str = "\
@@ -72,14 +48,13 @@ afdxmon cut [OPTIONS] --ledger <FILE> <--a <FILE>|--b <FILE>|--ledger-only>";
 pub const CUT_EXAMPLE: &str = "\
 Frames are written whole, as recorded, in the ledger's order. A frame is selected if it meets every
 option from --link to --filters that is given. With --around the ledger is read twice: it has to be
-a file. A TIME is '2027-01-15T08:00:12.119534506Z', the '08:00:12.1195' of the recording's day in
-UTC, or nanoseconds since 1970. '-' is standard input, or standard output.
+a file. Lines of a network whose recording isn't given are passed over. A TIME is
+'2027-01-15T08:00:12.119534506Z', the '08:00:12.1195' of the recording's day in UTC, '+12.1195'
+seconds after the ledger's first frame, or nanoseconds since 1970. A --to earlier in the day than
+--from is one of the next day. '-' is standard input, or standard output.
 
 Example: keep the frames that policing discarded
   afdxmon cut --ledger flight.ledger --a a.pcap --b b.pcap --verdict excess -o excess.pcap";
-
-/// What `--ledger-only` does.
-pub const LINES_HELP: &str = "Print the ledger's lines of the selected frames in place of packets";
 
 /// How `links` is called.
 pub const LINKS_USAGE: &str = "\
@@ -115,7 +90,8 @@ pub const CHECK_USAGE: &str = "afdxmon check [OPTIONS] --config <FILE>";
 /// What stands after the options in the help of `check`.
 pub const CHECK_EXAMPLE: &str = "\
 The answer goes to standard output; nothing else is written. Of each recording the first 1000000
-frames are read. The exit status is 0 where a run would be sound, else 1. '-' is standard input.
+frames are read, by --whole all. The exit status is 0 where a run would be sound, else 1. '-' is
+standard input.
 
 Example: whether a table, a filter and two recordings belong together
   afdxmon check --config flight.toml --filter flight.filter --a a.pcap --b b.pcap";

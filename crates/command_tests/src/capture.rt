@@ -5,4 +5,4 @@ mod arguments;
 mod asm;
 mod devices;
 mod lines;
-mod real_size;
+// further: mod real_size;

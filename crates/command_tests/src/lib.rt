@@ -7,3 +7,5 @@
 mod capture;
 #[cfg(test)]
 mod debug;
+#[cfg(test)]
+mod ending;

@@ -24,10 +24,10 @@ gives_more old frames all q q' left after f gives taken moved same =
       same_most = gives.same_most;
     }))
 
-has_read : (before : SourceView) (old : Reading) (frames : List Frame) (q : Position) (left : Option (List ℕ)) →
-    old.position ≡ start_at networks.A old.position.layout most_frames 0 → Opens before.remaining old.remaining old.position.layout → Gives old frames q left →
-    HasReadTap networks.A 0 before.remaining frames q left
-has_read before old frames q left start opens gives = record {
+has_read : (late : ℕ) (before : SourceView) (old : Reading) (frames : List Frame) (q : Position) (left : Option (List ℕ)) →
+    old.position ≡ start_at networks.A old.position.layout most_frames late → Opens before.remaining old.remaining old.position.layout → Gives old frames q left →
+    HasReadTap networks.A late before.remaining frames q left
+has_read late before old frames q left start opens gives = record {
   layout = old.position.layout;
   opened = old.remaining;
   opens = opens;
@@ -38,12 +38,12 @@ has_read before old frames q left start opens gives = record {
     within : (n most first : ℕ) → n ≤ most → most ≡ first → first ≡ most_frames → n ≤ most_frames
     within n most first less same e = subst (λ k. n ≤ k) (same ∙ e) less
 
-pub whole_tap : (before after : SourceView) (old new : Reading) (frames : List Frame) (ending : Ending) (unread : List ℕ) →
-    old.position ≡ start_at networks.A old.position.layout most_frames 0 → Opens before.remaining old.remaining old.position.layout → old.failures ≡ before.failures →
-    LeavesUnread unread new.remaining after.remaining → after.failures ≡ new.failures → GivesAll old new frames ending → IsTap before after frames ending
+pub whole_tap : (late : ℕ) (before after : SourceView) (old new : Reading) (frames : List Frame) (ending : Ending) (unread : List ℕ) →
+    old.position ≡ start_at networks.A old.position.layout most_frames late → Opens before.remaining old.remaining old.position.layout → old.failures ≡ before.failures →
+    LeavesUnread unread new.remaining after.remaining → after.failures ≡ new.failures → GivesAll old new frames ending → IsTap late before after frames ending
 unfolding has_read
-whole_tap before after old new frames ending unread start opens same leaves same' all =
-    let read = has_read before old frames all.position all.left start opens all.gives in
+whole_tap late before after old new frames ending unread start opens same leaves same' all =
+    let read = has_read late before old frames all.position all.left start opens all.gives in
     record {
       part = record {
         position = all.position;
@@ -54,15 +54,15 @@ whole_tap before after old new frames ending unread start opens same leaves same
         gone = all.ends.gone;
         unread = leaves;
       };
-      complete = complete networks.A 0 before.remaining old.remaining all.left old.position.layout frames all.position ending opens read.reads all.ends.here;
+      complete = complete networks.A late before.remaining old.remaining all.left old.position.layout frames all.position ending opens read.reads all.ends.here;
       taken = all.ends.left;
       no_failure = same' ∙ all.no_failure ∙ same;
     }
 
-pub whole_told : {F E : Type 0} (frames_of : F → List Frame) (ending_of : F → Ending) (r : Result F E) (before after : SourceView) (old new : Reading) (unread : List ℕ) →
-    old.position ≡ start_at networks.A old.position.layout most_frames 0 → Opens before.remaining old.remaining old.position.layout → old.failures ≡ before.failures →
+pub whole_told : {F E : Type 0} (late : ℕ) (frames_of : F → List Frame) (ending_of : F → Ending) (r : Result F E) (before after : SourceView) (old new : Reading) (unread : List ℕ) →
+    old.position ≡ start_at networks.A old.position.layout most_frames late → Opens before.remaining old.remaining old.position.layout → old.failures ≡ before.failures →
     LeavesUnread unread new.remaining after.remaining → after.failures ≡ new.failures → IfOk r (λ tap. GivesAll old new (frames_of tap) (ending_of tap)) →
-    IfOk r (λ tap. IsTap before after (frames_of tap) (ending_of tap))
-whole_told frames_of ending_of (Ok tap) before after old new unread start opens same leaves same' all =
-    whole_tap before after old new (frames_of tap) (ending_of tap) unread start opens same leaves same' all
-whole_told frames_of ending_of (Err e) before after old new unread start opens same leaves same' all = tt
+    IfOk r (λ tap. IsTap late before after (frames_of tap) (ending_of tap))
+whole_told late frames_of ending_of (Ok tap) before after old new unread start opens same leaves same' all =
+    whole_tap late before after old new (frames_of tap) (ending_of tap) unread start opens same leaves same' all
+whole_told late frames_of ending_of (Err e) before after old new unread start opens same leaves same' all = tt

@@ -2,18 +2,18 @@
 use Rattle.std.specs.Prelude.{◌≡◌, ℕ, List, Option, None, Result, Ok, Err, IfSome}
 use Rattle.bpf_isa.specs.declared.packed.Packed.{Packed}
 use Rattle.pcap_io.specs.declared.recording.Ending.{Ending}
-use Rattle.capture_run.specs.Capture.{IsAborted, IsCaptured}
+use Rattle.capture_run.specs.Capture.{IsAborted, IsAbortedWithin, IsCaptured, IsCapturedWithin}
 use Rattle.run_outcome.specs.Device.{Devices}
 use Rattle.commands.specs.Inputs.{IsFilter, IsFilterFault}
 use Rattle.command_line.specs.Line.{line_of}
 use Rattle.command_line.specs.declared.fault.Fault.{Fault}
 use Rattle.command_line.specs.declared.fault.Fault.TheVariants as fault
 
--- what a capture by a filter came to, and what it leaves
-abbrev pub IsCaptureBy : List Packed → Result Ending Fault → Devices → Devices → Type 0
-IsCaptureBy p (Ok ending) before after = IsCaptured p ending before after
-IsCaptureBy p (Err (fault.Watch w)) before after = IsAborted p w before after
-IsCaptureBy p (Err f) before after = ⊥
+-- what a capture by a filter came to, and what it leaves; a timestamp may lie `late` nanoseconds below the greatest before it
+abbrev pub IsCaptureBy : ℕ → List Packed → Result Ending Fault → Devices → Devices → Type 0
+IsCaptureBy late p (Ok ending) before after = IsCapturedWithin late p ending before after
+IsCaptureBy late p (Err (fault.Watch w)) before after = IsAbortedWithin late p w before after
+IsCaptureBy late p (Err f) before after = ⊥
 
 -- a fault, and what it leaves: of a filter nothing, of a capture what stands when it is aborted
 abbrev pub Leaves : List ℕ → Fault → Devices → Devices → Type 0

@@ -1,5 +1,5 @@
 -- What the options of `cut` select, by their texts (this project's profile).
-use Rattle.std.specs.Prelude.{◌≡◌, ◌⊎◌, ◌↔◌, ℕ, Bool, true, false, nat_lt, List, Option, None, Some, Result, Ok, Err, flat_map, option_map, if◌then◌else◌, ⊤}
+use Rattle.std.specs.Prelude.{◌≡◌, ◌⊎◌, ◌↔◌, ℕ, ◌+◌, ◌-◌, Bool, true, false, nat_lt, nat_le, min, List, Option, None, Some, Result, Ok, Err, flat_map, option_map, if◌then◌else◌, ⊤}
 use Rattle.std.specs.List.{All}
 use Rattle.std.specs.Str.{bytes_eq}
 use Rattle.std.specs.Prelude.{codes}
@@ -9,6 +9,7 @@ use Rattle.vl_config.specs.Document.{VlTable}
 use Rattle.line_selection.specs.LinkList.{IsLinkSetFault, IsRight, IsTakenByOne}
 use Rattle.line_selection.specs.Links.{has_link}
 use Rattle.line_selection.specs.Mask.{IsMaskText}
+use Rattle.line_selection.specs.Selection.{day, until_of_day}
 use Rattle.line_selection.specs.Words.{IsWordFault, items_of, words_named}
 use Rattle.line_selection.specs.declared.link_list.ItemFault.{ItemFault}
 use Rattle.line_selection.specs.declared.link_list.LinkSetFault.TheVariants as links
@@ -18,13 +19,15 @@ use Rattle.line_selection.specs.declared.moment.Moment.TheVariants as moments
 use Rattle.line_selection.specs.declared.word.Word.{Word}
 use Rattle.line_selection.specs.declared.words.WordFault.TheVariants as words
 use Rattle.command_line.specs.Arguments.{CutWords}
-use Rattle.command_line.specs.Moment.{moment_in}
+use Rattle.command_line.specs.Moment.{moment_in, span_in}
 use Rattle.command_line.specs.declared.fault.Fault.{Fault}
 use Rattle.command_line.specs.declared.fault.Fault.TheVariants as fault
 use Rattle.command_line.specs.declared.fault.SelectionOption.{SelectionOption}
 use Rattle.command_line.specs.declared.fault.SelectionOption.TheVariants as options
 use Rattle.command_line.specs.declared.moment.MomentText.{MomentText}
 use Rattle.command_line.specs.declared.moment.MomentText.TheVariants as texts
+use Rattle.commands.specs.declared.selection.Last.{Last}
+use Rattle.commands.specs.declared.selection.Last.TheVariants as last
 use Rattle.cut_run.specs.declared.fault.CutFault.TheVariants as cut
 
 -- the links that one of the text's items takes, each of which is right; without a text no set
@@ -54,32 +57,97 @@ IsWordsFault (Some text) (fault.Selection options.Verdict item) = IsWordFault (i
 IsWordsFault (Some text) (fault.Cut cut.Memory) = ⊤
 IsWordsFault _ _ = ⊥
 
-abbrev pub moment_said : MomentText → Moment
-moment_said (texts.At n) = moments.At (record { 0 = n })
-moment_said (texts.OfDay n) = moments.OfDay n
+-- ---- spans of time
 
-abbrev pub moment_or_fault : SelectionOption → Option Moment → Result (Option Moment) Fault
-moment_or_fault option (Some moment) = Ok (Some moment)
-moment_or_fault option None = Err (fault.Selection option 0)
+abbrev pub first_or_fault : Option MomentText → Result (Option MomentText) Fault
+first_or_fault (Some moment) = Ok (Some moment)
+first_or_fault None = Err (fault.Selection options.From 0)
 
--- the moment of an option's text, if it is given
-abbrev pub moment_of : SelectionOption → Option (List ℕ) → Result (Option Moment) Fault
-moment_of option None = Ok None
-moment_of option (Some text) = moment_or_fault option (option_map moment_said (moment_in text))
+-- what the text of `--from` says, if it is given
+abbrev pub first_in : Option (List ℕ) → Result (Option MomentText) Fault
+first_in None = Ok None
+first_in (Some text) = first_or_fault (moment_in text)
 
--- the end of a span lies before its start: of two moments of one kind the later one stands first
-abbrev pub ends_before : Option Moment → Option Moment → Bool
-ends_before (Some (moments.At from)) (Some (moments.At to)) = nat_lt to.0 from.0
-ends_before (Some (moments.OfDay from)) (Some (moments.OfDay to)) = nat_lt to from
+abbrev pub to_or_fault : Option MomentText → Result Last Fault
+to_or_fault (Some moment) = Ok (last.At moment)
+to_or_fault None = Err (fault.Selection options.To 0)
+
+abbrev pub span_or_fault : Option ℕ → Result Last Fault
+span_or_fault (Some length) = Ok (last.After length)
+span_or_fault None = Err (fault.Selection options.Span 0)
+
+-- what the text of `--to` says, or where there is none that of `--span`
+abbrev pub last_in : Option (List ℕ) → Option (List ℕ) → Result Last Fault
+last_in (Some text) span = to_or_fault (moment_in text)
+last_in None (Some text) = span_or_fault (span_in text)
+last_in None None = Ok last.Open
+
+-- the end of a span lies before its start: of two timestamps, or two times after the ledger's first frame, the later one stands first
+abbrev pub ends_before : Option MomentText → Last → Bool
+ends_before (Some (texts.At from)) (last.At (texts.At to)) = nat_lt to from
+ends_before (Some (texts.Since from)) (last.At (texts.Since to)) = nat_lt to from
 ends_before _ _ = false
 
--- the first of both texts that is no moment, or the second one, whose moment lies before that of the first
-abbrev pub IsSpanFault : Option (List ℕ) → Option (List ℕ) → Fault → Type 0
-IsSpanFault from_text to_text f =
-    (moment_of options.From from_text ≡ Err f)
-    ⊎ ((moment_of options.To to_text ≡ Err f)
-    ⊎ ((f ≡ fault.Selection options.To 0) × ((from to : Option Moment) × (Ok from ≡ moment_of options.From from_text)
-    × (Ok to ≡ moment_of options.To to_text) × (ends_before from to ≡ true))))
+-- no timestamp is higher
+abbrev pub capped : ℕ → ℕ
+capped n = min n 18446744073709551615
+
+-- a time of day is so much later on the same day
+abbrev pub is_within_day : ℕ → ℕ → Bool
+is_within_day from length = nat_lt (capped (from + length)) day
+
+-- The first moment of a span from a time of day on: it is one of the day of the ledger's first frame, or where a span within a day is over before that
+-- frame, of the next day. `Next` with the span's end and its length says so.
+abbrev pub first_of_day : ℕ → Last → Moment
+first_of_day from (last.At (texts.OfDay to)) = if nat_le from to then moments.Next to 0 (to - from) else moments.OfDay from
+first_of_day from (last.After length) = if is_within_day from length then moments.Next (capped (from + length)) 0 length else moments.OfDay from
+first_of_day from _ = moments.OfDay from
+
+abbrev pub first_of : Option MomentText → Last → Option Moment
+first_of None end = None
+first_of (Some (texts.At n)) end = Some (moments.At (record { 0 = n }))
+first_of (Some (texts.Since n)) end = Some (moments.Since n)
+first_of (Some (texts.OfDay n)) end = Some (first_of_day n end)
+
+-- the first moment of this time of day that isn't earlier than the span's first one, or where there is none than the ledger's first frame
+abbrev pub last_of_day : Option MomentText → ℕ → Moment
+last_of_day (Some (texts.At from)) to = moments.At (record { 0 = capped (from + until_of_day from to) })
+last_of_day (Some (texts.Since after)) to = moments.Next to after 0
+last_of_day (Some (texts.OfDay from)) to = if nat_lt to from then moments.OfDay (capped (to + day)) else moments.Next to 0 0
+last_of_day None to = moments.Next to 0 0
+
+-- so long after the span's first moment; where there is none, after the ledger's first frame
+abbrev pub last_after : Option MomentText → ℕ → Moment
+last_after None length = moments.Since length
+last_after (Some (texts.At from)) length = moments.At (record { 0 = capped (from + length) })
+last_after (Some (texts.Since after)) length = moments.Since (capped (after + length))
+last_after (Some (texts.OfDay from)) length =
+    if is_within_day from length then moments.Next (capped (from + length)) 0 0 else moments.OfDay (capped (from + length))
+
+abbrev pub last_of : Option MomentText → Last → Option Moment
+last_of from last.Open = None
+last_of from (last.At (texts.At n)) = Some (moments.At (record { 0 = n }))
+last_of from (last.At (texts.Since n)) = Some (moments.Since n)
+last_of from (last.At (texts.OfDay n)) = Some (last_of_day from n)
+last_of from (last.After length) = Some (last_after from length)
+
+-- the moments of a span, by the texts of `--from`, `--to` and `--span`
+pub record IsSpan (from_text to_text span_text : Option (List ℕ)) (from to : Option Moment) : Type 0 where
+  pub first : Option MomentText
+  pub end : Last
+  pub first_is : Ok first ≡ first_in from_text
+  pub end_is : Ok end ≡ last_in to_text span_text
+  pub order : ends_before first end ≡ false
+  pub from_is : from ≡ first_of first end
+  pub to_is : to ≡ last_of first end
+
+-- the first of the texts that says nothing, or that of `--to`, whose moment lies before that of `--from`
+abbrev pub IsSpanFault : Option (List ℕ) → Option (List ℕ) → Option (List ℕ) → Fault → Type 0
+IsSpanFault from_text to_text span_text f =
+    (first_in from_text ≡ Err f)
+    ⊎ ((last_in to_text span_text ≡ Err f)
+    ⊎ ((f ≡ fault.Selection options.To 0) × ((first : Option MomentText) × (end : Last) × (Ok first ≡ first_in from_text)
+    × (Ok end ≡ last_in to_text span_text) × (ends_before first end ≡ true))))
 
 -- the mask that the text writes, if it is given
 abbrev pub IsMask : Option (List ℕ) → Option ℕ → Type 0
@@ -99,4 +167,4 @@ IsSelectionFault vl_table given f =
     IsLinksFault vl_table given.link f
     ⊎ (((set : Option LinkSet) × AreLinks vl_table given.link set)
     × (IsWordsFault given.verdict f
-    ⊎ (IsSpanFault given.from given.to f ⊎ IsMaskFault given.filters f)))
+    ⊎ (IsSpanFault given.from given.to given.span f ⊎ IsMaskFault given.filters f)))

@@ -194,13 +194,13 @@ debug_devices tap commands sink = record { tap = tap; commands = commands; sink 
 -- the tap was read, and this became of the session
 abbrev pub RunsSession : List Packed → Result (Unit {0}) Fault → DebugDevices → DebugDevices → Type 0
 RunsSession p outcome before after =
-    (frames : List Frame) × (ending : Ending) × IsTap before.tap after.tap frames ending
+    (frames : List Frame) × (ending : Ending) × IsTap 0 before.tap after.tap frames ending
     × IsSessionRun p frames outcome before.commands after.commands before.sink after.sink
 
 -- the tap wasn't read, and nothing else was touched
 abbrev pub StopsAtTap : WatchFault → DebugDevices → DebugDevices → Type 0
 StopsAtTap w before after =
-    IsTapRefusal w before.tap after.tap × (after.commands ≡ before.commands) × (after.sink ≡ before.sink)
+    IsTapRefusal 0 w before.tap after.tap × (after.commands ≡ before.commands) × (after.sink ≡ before.sink)
 
 -- what the command came to, by the text of its filter, and what it leaves
 abbrev pub IsDebugRun : List ℕ → Result (Unit {0}) Fault → DebugDevices → DebugDevices → Type 0

@@ -15,39 +15,40 @@ use Rattle.run_outcome.specs.declared.fault.WatchFault.TheVariants as watch
 
 -- ---- the recording
 
--- the tap was read to this ending, as network A, and these are all its frames
-abbrev pub IsTap : SourceView → SourceView → List Frame → Ending → Type 0
-IsTap before after frames ending = IsReadWhole networks.A 0 before after frames ending
+-- the tap was read to this ending, as network A, and these are all its frames; a timestamp may lie `late` nanoseconds below the greatest
+-- before it
+abbrev pub IsTap : ℕ → SourceView → SourceView → List Frame → Ending → Type 0
+IsTap late before after frames ending = IsReadWhole networks.A late before after frames ending
 
 -- The source failed after these frames, and before it gave the next packet whole.
-pub record FailsInTap (before after : SourceView) : Type 0 where
+pub record FailsInTap (late : ℕ) (before after : SourceView) : Type 0 where
   pub frames : List Frame
   pub position : Position
   pub left : Option (List ℕ)
   pub rest : Option (List ℕ)
   pub ahead : List ℕ
-  pub read : HasReadTap networks.A 0 before.remaining frames position left
+  pub read : HasReadTap networks.A late before.remaining frames position left
   pub lacks : LacksBytes position left rest ahead
   pub unread : LeavesUnread ahead rest after.remaining
 
 -- There was no memory for the packet after these frames, whose header is gone, or for one more frame, which is gone.
-pub record LacksTapMemory (before after : SourceView) : Type 0 where
+pub record LacksTapMemory (late : ℕ) (before after : SourceView) : Type 0 where
   pub frames : List Frame
   pub position : Position
   pub left : Option (List ℕ)
   pub rest : Option (List ℕ)
   pub ahead : List ℕ
-  pub read : HasReadTap networks.A 0 before.remaining frames position left
+  pub read : HasReadTap networks.A late before.remaining frames position left
   pub lacks : LacksMemory position left rest ⊎ ((f : Frame) × TakesFrame position left rest f)
   pub unread : LeavesUnread ahead rest after.remaining
 
 -- why a tap wasn't read, and what that leaves of its source
-abbrev pub IsTapRefusal : WatchFault → SourceView → SourceView → Type 0
-IsTapRefusal (watch.Header networks.A f) before after = HasHeaderFault f before after × (after.failures ≡ before.failures)
-IsTapRefusal (watch.Read networks.A) before after =
-    (FailsAtHeader before after ⊎ FailsInTap before after) × CountsFailure before.failures after.failures
-IsTapRefusal watch.Memory before after = LacksTapMemory before after × (after.failures ≡ before.failures)
-IsTapRefusal fault before after = ⊥
+abbrev pub IsTapRefusal : ℕ → WatchFault → SourceView → SourceView → Type 0
+IsTapRefusal late (watch.Header networks.A f) before after = HasHeaderFault f before after × (after.failures ≡ before.failures)
+IsTapRefusal late (watch.Read networks.A) before after =
+    (FailsAtHeader before after ⊎ FailsInTap late before after) × CountsFailure before.failures after.failures
+IsTapRefusal late watch.Memory before after = LacksTapMemory late before after × (after.failures ≡ before.failures)
+IsTapRefusal late fault before after = ⊥
 
 -- ---- its reader
 

@@ -14,7 +14,7 @@ use pcap_io::{OutSink, TapSource, write_all};
 use std::alloc::Global;
 
 /// An assembly that has ended, with the devices that it was given.
-#[derive(Debug, Drop)]
+#[derive(Drop)]
 pub struct AsmRun<S, W> {
     /// Whether the program was printed, or why it wasn't.
     pub outcome: Result<(), Fault>,

@@ -7,14 +7,14 @@ ghost use Rattle.commands.specs.Capture.{IsCaptureBy, IsCaptureRun, IsRan};
 
 use crate::inputs::filter_of;
 use bpf_loader::Program;
-use capture_run::capture_one;
+use capture_run::capture_within;
 use command_line::{Exit, Fault, fault_line};
 use pcap_io::{Ending, OutSink, TapSource};
 use run_outcome::WatchRefused;
 use std::alloc::Global;
 
 /// A capture that has ended, with the devices that it was given.
-#[derive(Debug, Drop)]
+#[derive(Drop)]
 pub struct CaptureRun<S, W> {
     /// How the recording ended, or why the capture was aborted.
     pub outcome: Result<Ending, Fault>,
@@ -27,25 +27,27 @@ pub struct CaptureRun<S, W> {
 /// What a command leaves: the program's exit status, the line for standard error, without its
 /// newline, and the sink. There is no line at status 0, and a line may be missing after a fault: it
 /// takes memory.
-#[derive(Debug, Drop)]
+#[derive(Drop)]
 pub struct Ran<W> {
     pub status: u8,
     pub line: Option<String>,
     pub sink: W,
 }
 
-/// Copies the frames of the recording that a filter accepts.
+/// Copies the frames of the recording that a filter accepts. A timestamp may lie by `late` nanoseconds below
+/// the greatest one before it.
 pub fn capture_by<S: TapSource, W: OutSink>(
     alloc: Global,
     program: &Program,
+    late: u64,
     source: S,
     sink: W,
 ) -> CaptureRun<S, W>
-    ensures { IsCaptureBy program.now result.outcome
+    ensures { IsCaptureBy late program.now result.outcome
         (devices_of S.TapSource W.OutSink source sink)
         (devices_of S.TapSource W.OutSink result.source result.sink) }
 {
-    match capture_one(alloc, program, source, sink) {
+    match capture_within(alloc, program, late, source, sink) {
         Ok((ending, source, sink)) => CaptureRun {
             outcome: Ok(ending),
             source,
@@ -82,7 +84,7 @@ pub fn run_capture<S: TapSource, W: OutSink>(
         (devices_of S.TapSource W.OutSink result.source result.sink) }
 {
     match filter_of(alloc, code, None) {
-        Ok(program) => capture_by(alloc, &program, source, sink),
+        Ok(program) => capture_by(alloc, &program, 0, source, sink),
         Err(fault) => CaptureRun {
             outcome: Err(fault),
             source,

@@ -18,7 +18,7 @@ use pcap_io::{OutSink, TapSource, write_all};
 use std::alloc::{AllocError, Global};
 
 /// A session that has ended, with the devices that it was given.
-#[derive(Debug, Drop)]
+#[derive(Drop)]
 pub struct DebugRun<S, C, W> {
     /// Whether all commands were answered, or why they weren't.
     pub outcome: Result<(), Fault>,
@@ -31,7 +31,7 @@ pub struct DebugRun<S, C, W> {
 }
 
 /// What answers a line: a text that needs no memory, or one that was rendered.
-#[derive(Debug, Drop)]
+#[derive(Drop)]
 enum Answer {
     Fixed(&'static str),
     Rendered(String),
@@ -244,7 +244,7 @@ pub fn run_debug<S: TapSource, C: TapSource, W: OutSink>(
     let TapRead {
         outcome,
         source: tap,
-    } = read_tap(alloc, tap);
+    } = read_tap(alloc, 0, tap);
     let HeldTap { frames, ending: _ } = match outcome {
         Ok(tap) => tap,
         Err(fault) => {

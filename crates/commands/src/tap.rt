@@ -11,7 +11,7 @@ use run_outcome::{MAX_FRAMES, WatchFault, fault_of_open};
 use std::alloc::Global;
 
 /// A recording in memory.
-#[derive(Debug, Drop)]
+#[derive(Drop)]
 pub struct HeldTap {
     /// All its frames, in their order.
     pub frames: Vec<TapFrame>,
@@ -20,7 +20,7 @@ pub struct HeldTap {
 }
 
 /// A recording that was read, with its source.
-#[derive(Debug, Drop)]
+#[derive(Drop)]
 pub struct TapRead<S> {
     /// Its frames and its ending, or why it wasn't read.
     pub outcome: Result<HeldTap, WatchFault>,
@@ -62,19 +62,20 @@ fn read_frames<S: TapSource>(
     }
 }
 
-/// Reads a recording whole, as network A, at most 2^32 frames. How it ends is no fault: its frames are
-/// those before its ending, which is told beside them.
+/// Reads a recording whole, as network A, at most 2^32 frames, in which a timestamp may lie by `late`
+/// nanoseconds below the greatest one before it. How it ends is no fault: its frames are those before its
+/// ending, which is told beside them.
 ///
 /// The fault is `Header`, `Read` or `Memory`.
-pub fn read_tap<S: TapSource>(alloc: Global, source: S) -> TapRead<S>
-    ensures frames { IfOk result.outcome (λ tap. IsTap
+pub fn read_tap<S: TapSource>(alloc: Global, late: u64, source: S) -> TapRead<S>
+    ensures frames { IfOk result.outcome (λ tap. IsTap late
         (source_at S.TapSource source)
         (source_at S.TapSource result.source) tap.frames.items tap.ending) }
-    ensures refused { IfErr result.outcome (λ fault. IsTapRefusal fault
+    ensures refused { IfErr result.outcome (λ fault. IsTapRefusal late fault
         (source_at S.TapSource source)
         (source_at S.TapSource result.source)) }
 {
-    let mut reader = match TapReader::open(source, Network::A, MAX_FRAMES, 0) {
+    let mut reader = match TapReader::open(source, Network::A, MAX_FRAMES, late) {
         Ok(reader) => reader,
         Err(OpenRefused { source, fault }) => {
             return TapRead {

@@ -13,7 +13,7 @@ pub const MAX_TEXT: usize = 16_777_216;
 const FIRST: usize = 65_536;
 
 /// Why a text wasn't read.
-#[derive(Clone, Copy, Debug, PartialEq, Eq)]
+#[derive(Clone, Copy, PartialEq, Eq)]
 pub enum TextRefusal {
     /// The source failed.
     Device,

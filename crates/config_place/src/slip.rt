@@ -8,7 +8,7 @@ use toml::{Table, Value};
 use vl_config::{ConfigFault, FaultyKey, Key, MAX_LINKS, MAX_TABLE_FILTERS, faulty_key};
 
 /// What a person is told of a fault of a table.
-#[derive(Debug, Drop)]
+#[derive(Drop)]
 pub struct Slip {
     /// The byte offset of the key, or of the link's header where the key is missing. None: it isn't found.
     pub at: Option<usize>,

@@ -1,5 +1,5 @@
 -- One more line of a cut: it is written or passed over, or stops the cut.
-use Rattle.std.proofs.Common.{◌≡◌, ◌∙◌, ℕ, false, List, [], ◌∷◌, ◌++◌, take, Option, Result, Ok, Err, sym, subst, inl, inr}
+use Rattle.std.proofs.Common.{◌≡◌, ◌∙◌, ℕ, true, false, List, [], ◌∷◌, ◌++◌, take, Option, Result, Ok, Err, sym, subst, inl, inr}
 use Rattle.std.proofs.KnownBytes.{Appends-trans}
 use Rattle.std.specs.Prelude.{IfErr, MatchResult, OnOk}
 use Rattle.std.specs.Io.KnownBytes.{Appends}
@@ -13,49 +13,54 @@ use Rattle.run_outcome.specs.Device.{SinkMembers, SinkView, SourceMembers, Sourc
 use Rattle.run_outcome.specs.Fault.{FailsWhere}
 use Rattle.cut_run.specs.Cutting.{HasTaken, IsTakeFault, StopsTaking, TakesMore, WritesTaken, WritesUpTo}
 use Rattle.cut_run.specs.Faults.{OutputSink, names}
-use Rattle.cut_run.specs.Lines.{Choice, whole_capture, whole_packet}
-use Rattle.cut_run.specs.Naming.{IsNameFault, Names, StopsNaming, opening_at}
+use Rattle.cut_run.specs.Lines.{Choice, is_read, read_lines, whole_capture, whole_packet}
+use Rattle.cut_run.specs.Naming.{HasNamed, IsNameFault, Names, StopsNaming, opening_at}
 use Rattle.cut_run.specs.declared.cut.Taking.{Taking}
 use Rattle.cut_run.specs.declared.fault.CutFault.{CutFault}
 use Rattle.cut_run.specs.declared.fault.CutFault.TheVariants as faults
 use Rattle.cut_run.specs.declared.fault.CutSource.TheVariants as source
-use Rattle.cut_run.proofs.Lines.{capture_more, named_before, named_last, passes_more, takes_more}
+use Rattle.cut_run.specs.declared.recordings.Recordings.{Recordings}
+use Rattle.cut_run.proofs.Lines.{capture_more, named_before, named_last, passes_more, read_more, read_same, spread_more, spread_over, takes_more}
 use Rattle.cut_run.proofs.Naming.{part_read}
 
 -- ---- a line whose frame wasn't found
 
-record Parts (choice : Choice) (fault : CutFault) (n : ℕ) (a b : SourceView) (vs : List FrameLine) (v : FrameLine) (fa fb taken : List Frame) (before now : Option (List ℕ)) (x y : ℕ) : Type 0 where
-  why : IsTakeFault fault n a b vs v fa fb
+record Parts (choice : Choice) (fault : CutFault) (n : ℕ) (a b : SourceView) (vs ws : List FrameLine) (v : FrameLine) (fa fb taken : List Frame) (before now : Option (List ℕ)) (x y : ℕ) : Type 0 where
+  why : IsTakeFault fault n a b ws v fa fb
   written : WritesUpTo choice fault fa fb vs v taken before now
   failures : FailsWhere (names fault OutputSink) x y
 
-parts : (choice : Choice) (fault : CutFault) (n : ℕ) (a b : SourceView) (vs : List FrameLine) (v : FrameLine) (fa fb taken : List Frame) (before now : Option (List ℕ)) (x y : ℕ)
-    → IsNameFault fault n a b vs v fa fb → Appends before now (whole_capture taken) → y ≡ x → Parts choice fault n a b vs v fa fb taken before now x y
-parts choice (faults.Ledger k f) n a b vs v fa fb taken before now x y h w e = absurd h
-parts choice (faults.Order k) n a b vs v fa fb taken before now x y h w e = record { why = h; written = w; failures = e }
-parts choice (faults.Absent k) n a b vs v fa fb taken before now x y h w e = record { why = h; written = w; failures = e }
-parts choice (faults.Header network f) n a b vs v fa fb taken before now x y h w e = absurd h
-parts choice (faults.Read source.Ledger) n a b vs v fa fb taken before now x y h w e = absurd h
-parts choice (faults.Read (source.Recording A)) n a b vs v fa fb taken before now x y h w e = record { why = h; written = w; failures = e }
-parts choice (faults.Read (source.Recording B)) n a b vs v fa fb taken before now x y h w e = record { why = h; written = w; failures = e }
-parts choice faults.Write n a b vs v fa fb taken before now x y h w e = absurd h
-parts choice faults.Memory n a b vs v fa fb taken before now x y h w e = record { why = h; written = w; failures = e }
+parts : (choice : Choice) (fault : CutFault) (n : ℕ) (a b : SourceView) (vs ws : List FrameLine) (v : FrameLine) (fa fb taken : List Frame) (before now : Option (List ℕ)) (x y : ℕ)
+    → IsNameFault fault n a b ws v fa fb → Appends before now (whole_capture taken) → y ≡ x → Parts choice fault n a b vs ws v fa fb taken before now x y
+parts choice (faults.Ledger k f) n a b vs ws v fa fb taken before now x y h w e = absurd h
+parts choice (faults.Order k) n a b vs ws v fa fb taken before now x y h w e = record { why = h; written = w; failures = e }
+parts choice (faults.Absent k) n a b vs ws v fa fb taken before now x y h w e = record { why = h; written = w; failures = e }
+parts choice (faults.Header network f) n a b vs ws v fa fb taken before now x y h w e = absurd h
+parts choice (faults.Read source.Ledger) n a b vs ws v fa fb taken before now x y h w e = absurd h
+parts choice (faults.Read (source.Recording A)) n a b vs ws v fa fb taken before now x y h w e = record { why = h; written = w; failures = e }
+parts choice (faults.Read (source.Recording B)) n a b vs ws v fa fb taken before now x y h w e = record { why = h; written = w; failures = e }
+parts choice faults.Write n a b vs ws v fa fb taken before now x y h w e = absurd h
+parts choice faults.Memory n a b vs ws v fa fb taken before now x y h w e = record { why = h; written = w; failures = e }
 
 pub stops_naming : {S T W : Type 0} (s : SourceMembers S) (t : SourceMembers T) (w : SinkMembers W) (choice : Choice) (a b : SourceView) (output : SinkView)
     (vs : List FrameLine) (fs taken fa fb : List Frame) (v : FrameLine) (n : ℕ) (fault : CutFault) (old new : Taking S T W)
-    → HasTaken s t w choice a b output vs fs taken fa fb old → StopsNaming s t a b vs fs v n fault new.recordings → new.output ≡ old.output
+    → (h : HasTaken s t w choice a b output vs fs taken fa fb old) → is_read choice.skips v.network ≡ true
+    → StopsNaming s t a b (read_lines choice.skips vs) h.found v n fault new.recordings → new.output ≡ old.output
     → StopsTaking s t w choice a b output vs fs taken v n fault new
-stops_naming s t w choice a b output vs fs taken fa fb v n fault old new h stops same =
-    let p = parts choice fault n a b vs v stops.frames_a stops.frames_b taken output.contents (w.contents (sink_of new.output)) output.failures (w.failures (sink_of new.output)) stops.why
+stops_naming s t w choice a b output vs fs taken fa fb v n fault old new h read stops same =
+    let p = parts choice fault n a b vs (read_lines choice.skips vs) v stops.frames_a stops.frames_b taken output.contents (w.contents (sink_of new.output)) output.failures (w.failures (sink_of new.output)) stops.why
     (rw same h.written) (rw same h.no_failure) in
     record {
       frames_a = stops.frames_a;
       frames_b = stops.frames_b;
       read_a = stops.read_a;
       read_b = stops.read_b;
+      found = h.found;
       rise = stops.rise;
       named = stops.named;
+      spread = h.spread;
       takes = h.takes;
+      read = read;
       why = p.why;
       written = p.written;
       a_failures = stops.a_failures;
@@ -67,19 +72,21 @@ stops_naming s t w choice a b output vs fs taken fa fb v n fault old new h stops
 
 pub written_line : {S T W : Type 0} (s : SourceMembers S) (t : SourceMembers T) (w : SinkMembers W) (choice : Choice) (a b : SourceView) (output : SinkView)
     (vs : List FrameLine) (fs taken fa fb : List Frame) (v : FrameLine) (n : ℕ) (f : Frame) (r : Result (Unit {0}) CutFault) (old new : Taking S T W)
-    → HasTaken s t w choice a b output vs fs taken fa fb old → Names s t a b vs fs v f new.recordings
-    → HasAsked choice.selection choice.around (vs ++ v ∷ []) new.chooser → WritesTaken w choice vs v f r old new
+    → (h : HasTaken s t w choice a b output vs fs taken fa fb old) → is_read choice.skips v.network ≡ true
+    → Names s t a b (read_lines choice.skips vs) h.found v f new.recordings → HasAsked choice.selection choice.around (vs ++ v ∷ []) new.chooser → WritesTaken w choice vs v f r old new
     → OnOk r (has_failed new.output ≡ false) → IfErr r (λ fault. fault ≡ faults.Write)
     → MatchResult r (λ _. TakesMore s t w choice a b output vs fs v new)
     (λ fault. StopsTaking s t w choice a b output vs fs taken v n fault new)
-written_line s t w choice a b output vs fs taken fa fb v n f (Ok tt) old new h names asked (inl (is, wrote)) going fault = (
+written_line s t w choice a b output vs fs taken fa fb v n f (Ok tt) old new h read names asked (inl (is, wrote)) going fault = (
   f,
   taken ++ f ∷ [],
   names.0,
   names.1,
   record {
-    named = names.2;
-    takes = takes_more choice vs fs taken v f h.takes is;
+    found = h.found ++ f ∷ [];
+    named = subst (λ (ws : List FrameLine). HasNamed s t a b ws (h.found ++ f ∷ []) names.0 names.1 new.recordings) (sym (read_more choice.skips vs v read)) names.2;
+    spread = spread_more choice.skips vs h.found fs v f read h.spread;
+    takes = takes_more choice vs fs taken v f h.takes (read, is);
     asked = asked;
     written = subst (λ (x : List ℕ). Appends output.contents (w.contents (sink_of new.output)) x) (sym (capture_more taken f))
         (Appends-trans output.contents (w.contents (sink_of old.output)) (w.contents (sink_of new.output)) (whole_capture taken) (whole_packet f) h.written wrote.complete);
@@ -87,21 +94,23 @@ written_line s t w choice a b output vs fs taken fa fb v n f (Ok tt) old new h n
     no_failure = wrote.no_failure ∙ h.no_failure;
   },
 )
-written_line s t w choice a b output vs fs taken fa fb v n f (Ok tt) old new h names asked (inr (not, ok, same)) going fault = (
+written_line s t w choice a b output vs fs taken fa fb v n f (Ok tt) old new h read names asked (inr (not, ok, same)) going fault = (
   f,
   taken,
   names.0,
   names.1,
   record {
-    named = names.2;
-    takes = passes_more choice vs fs taken v f h.takes not;
+    found = h.found ++ f ∷ [];
+    named = subst (λ (ws : List FrameLine). HasNamed s t a b ws (h.found ++ f ∷ []) names.0 names.1 new.recordings) (sym (read_more choice.skips vs v read)) names.2;
+    spread = spread_more choice.skips vs h.found fs v f read h.spread;
+    takes = passes_more choice vs fs taken v f h.takes (λ chosen. not chosen.1);
     asked = asked;
     written = rw same h.written;
     going = rw same h.going;
     no_failure = rw same h.no_failure;
   },
 )
-written_line s t w choice a b output vs fs taken fa fb v n f (Err e) old new h names asked (inl (is, wrote)) going fault =
+written_line s t w choice a b output vs fs taken fa fb v n f (Err e) old new h read names asked (inl (is, wrote)) going fault =
     subst (λ (x : CutFault). StopsTaking s t w choice a b output vs fs taken v n x new) (sym fault)
     (let named = names.2 in
     record {
@@ -109,14 +118,17 @@ written_line s t w choice a b output vs fs taken fa fb v n f (Err e) old new h n
       frames_b = names.1;
       read_a = part_read (opening_at A a) names.0 named.floor_a (finding_of s.remaining s.failures new.recordings.a) named.read_a;
       read_b = part_read (opening_at B b) names.1 named.floor_b (finding_of t.remaining t.failures new.recordings.b) named.read_b;
+      found = h.found;
       rise = h.named.rise;
-      named = named_before names.0 names.1 vs fs v f named.named;
+      named = named_before names.0 names.1 (read_lines choice.skips vs) h.found v f named.named;
+      spread = h.spread;
       takes = h.takes;
+      read = read;
       why = tt;
       written = (
         f,
         wrote.prefix.0,
-        record { frame = named_last names.0 names.1 fa fb vs fs v f h.named.named named.named; chosen = is },
+        record { frame = named_last names.0 names.1 fa fb (read_lines choice.skips vs) h.found v f h.named.named named.named; chosen = (read, is) },
         wrote.prefix.1,
         Appends-trans output.contents (w.contents (sink_of old.output)) (w.contents (sink_of new.output)) (whole_capture taken) (take wrote.prefix.0 (whole_packet f)) h.written wrote.prefix.2,
       );
@@ -124,4 +136,33 @@ written_line s t w choice a b output vs fs taken fa fb v n f (Err e) old new h n
       b_failures = named.read_b.no_failure;
       output_failures = rw (sym h.no_failure) wrote.fault;
     })
-written_line s t w choice a b output vs fs taken fa fb v n f (Err e) old new h names asked (inr (not, ok, same)) going fault = cc
+written_line s t w choice a b output vs fs taken fa fb v n f (Err e) old new h read names asked (inr (not, ok, same)) going fault = cc
+
+-- ---- a line that is passed over
+
+-- stands where a line has no frame that is looked up
+no_frame : Frame
+no_frame = record { network = A; number = 0; stamp = 0; whole = 0; bytes = [] }
+
+pub passed_line : {S T W : Type 0} (s : SourceMembers S) (t : SourceMembers T) (w : SinkMembers W) (choice : Choice) (a b : SourceView) (output : SinkView)
+    (vs : List FrameLine) (fs taken fa fb : List Frame) (v : FrameLine) (old new : Taking S T W)
+    → HasTaken s t w choice a b output vs fs taken fa fb old → is_read choice.skips v.network ≡ false
+    → new.recordings ≡ old.recordings → new.output ≡ old.output → HasAsked choice.selection choice.around (vs ++ v ∷ []) new.chooser
+    → TakesMore s t w choice a b output vs fs v new
+passed_line {S = S} {T = T} s t w choice a b output vs fs taken fa fb v old new h skip recordings same asked = (
+  no_frame,
+  taken,
+  fa,
+  fb,
+  record {
+    found = h.found;
+    named = subst (λ (ws : List FrameLine). HasNamed s t a b ws h.found fa fb new.recordings) (sym (read_same choice.skips vs v skip))
+        (subst (λ (rs : Recordings S T). HasNamed s t a b (read_lines choice.skips vs) h.found fa fb rs) (sym recordings) h.named);
+    spread = spread_over choice.skips vs h.found fs v no_frame skip h.spread;
+    takes = passes_more choice vs fs taken v no_frame h.takes (λ chosen. (let read = chosen.0 in cc));
+    asked = asked;
+    written = rw same h.written;
+    going = rw same h.going;
+    no_failure = rw same h.no_failure;
+  },
+)

@@ -1,12 +1,14 @@
 -- One more line of the ledger beside what is cut of it.
-use Rattle.std.proofs.Common.{◌≡◌, ◌∙◌, ℕ, ◌+◌, ◌<◌, ◌≤◌, false, List, [], ◌∷◌, ◌++◌, length, Option, refl, sym, ap, subst, arith, length-append}
+use Rattle.std.proofs.Common.{◌≡◌, ◌∙◌, ℕ, ◌+◌, ◌<◌, ◌≤◌, false, List, [], ◌∷◌, ◌++◌, length, Option, Some, None, refl, sym, ap, subst, arith, length-append}
 use Rattle.std.proofs.lemmas.List.{append-nil}
-use Rattle.std.specs.Io.KnownBytes.{IsAtEnd}
+use Rattle.std.specs.Io.KnownBytes.{Consumes, IsAtEnd, Keeps, prepend_known}
 use Rattle.afdx_frame.specs.Frame.{Frame}
+use Rattle.afdx_frame.specs.declared.key.Network.{Network}
 use Rattle.afdx_frame.specs.declared.key.Network.TheVariants.{A, B}
 use Rattle.frame_finder.specs.Finder.{finding_of}
 use Rattle.ledger_text.specs.Ledger.{HasReadLines, ReadLine, frame_lines, frames_in, has_failed as ledger_failed, left_of, lent_of, number_of, stage_of}
 use Rattle.ledger_text.specs.Places.{end_at}
+use Rattle.ledger_text.specs.Lines.{unread_of}
 use Rattle.ledger_text.specs.Reader.{IsBadLine, IsFound, IsReadFault, reading_of, source_of}
 use Rattle.ledger_text.specs.declared.bounds.TheConstants.{MOST_LINES}
 use Rattle.ledger_text.specs.declared.fault.LineFault.{LineFault}
@@ -25,10 +27,10 @@ use Rattle.ledger_text.proofs.Ledgers.{found_line, found_one_more, frame_lines_o
 use Rattle.pcap_io.specs.Writer.{sink_of}
 use Rattle.run_outcome.specs.Device.{SinkMembers, SourceMembers, SourceView}
 use Rattle.run_outcome.specs.Fault.{FailsWhere}
-use Rattle.cut_run.specs.Cut.{CutDevices, HasWritten, IsBadNext, IsLineFault, NextSays, ending_at, ledger_fault, place_at}
+use Rattle.cut_run.specs.Cut.{CutDevices, HasWritten, IsBadNext, IsLineFault, NextSays, ReadsNext, ending_at, ledger_fault, place_at}
 use Rattle.cut_run.specs.Cutting.{EndsCut, HasCut, HasTaken, IsTakeFault, StopsCut, StopsTaking, TakesMore, WritesUpTo}
 use Rattle.cut_run.specs.Faults.{LedgerSource, names}
-use Rattle.cut_run.specs.Lines.{Choice}
+use Rattle.cut_run.specs.Lines.{Choice, read_lines}
 use Rattle.cut_run.specs.Naming.{opening_at}
 use Rattle.cut_run.specs.declared.cut.CutEnding.{CutEnding}
 use Rattle.cut_run.specs.declared.cut.CutEnding.TheVariants as ending
@@ -159,17 +161,18 @@ ends_incomplete l s t w choice before rs fs taken fa fb old new taking is h =
 -- ---- a line that stops the cut
 
 -- what a line's fault says of the ledger
-pub line_fault : (fault : CutFault) (before : CutDevices) (rs : List ReadLine) (stage : Stage) (left : Option (List ℕ)) (fa fb : List Frame) (n : ℕ) (v : FrameLine)
-    → n ≡ length rs + 1 → NextSays stage left v → IsTakeFault fault n before.a before.b (frame_lines rs) v fa fb → IsLineFault fault before rs stage left fa fb
-line_fault (faults.Ledger k f) before rs stage left fa fb n v count says why = absurd why
-line_fault (faults.Order k) before rs stage left fa fb n v count says why = (why.0 ∙ count, (v, says, why.1))
-line_fault (faults.Absent k) before rs stage left fa fb n v count says why = (why.0 ∙ count, (v, says, why.1))
-line_fault (faults.Header network f) before rs stage left fa fb n v count says why = absurd why
-line_fault (faults.Read source.Ledger) before rs stage left fa fb n v count says why = absurd why
-line_fault (faults.Read (source.Recording A)) before rs stage left fa fb n v count says why = (v, says, sym why)
-line_fault (faults.Read (source.Recording B)) before rs stage left fa fb n v count says why = (v, says, sym why)
-line_fault faults.Write before rs stage left fa fb n v count says why = (v, says)
-line_fault faults.Memory before rs stage left fa fb n v count says why = (v, says)
+pub line_fault : (skips : Option Network) (fault : CutFault) (before : CutDevices) (rs : List ReadLine) (stage : Stage) (left rest : Option (List ℕ)) (fa fb : List Frame) (n : ℕ)
+    (v : FrameLine) → n ≡ length rs + 1 → ReadsNext skips stage left v → IsTakeFault fault n before.a before.b (read_lines skips (frame_lines rs)) v fa fb
+    → IsLineFault skips fault before rs stage left rest fa fb
+line_fault skips (faults.Ledger k f) before rs stage left rest fa fb n v count says why = absurd why
+line_fault skips (faults.Order k) before rs stage left rest fa fb n v count says why = (why.0 ∙ count, (v, says, why.1))
+line_fault skips (faults.Absent k) before rs stage left rest fa fb n v count says why = (why.0 ∙ count, (v, says, why.1))
+line_fault skips (faults.Header network f) before rs stage left rest fa fb n v count says why = absurd why
+line_fault skips (faults.Read source.Ledger) before rs stage left rest fa fb n v count says why = absurd why
+line_fault skips (faults.Read (source.Recording A)) before rs stage left rest fa fb n v count says why = (v, says, sym why)
+line_fault skips (faults.Read (source.Recording B)) before rs stage left rest fa fb n v count says why = (v, says, sym why)
+line_fault skips faults.Write before rs stage left rest fa fb n v count says why = (v, says)
+line_fault skips faults.Memory before rs stage left rest fa fb n v count says why = (v, says)
 
 -- and the ledger didn't fail
 pub ledger_well : (fault : CutFault) (n : ℕ) (a b : SourceView) (vs : List FrameLine) (v : FrameLine) (fa fb : List Frame) (x y : ℕ) → IsTakeFault fault n a b vs v fa fb → y ≡ x
@@ -215,12 +218,15 @@ frame_stops l s t w choice before rs fs taken fa fb old new was now v fault h is
       lines = h.read.lines;
       read_a = stops.read_a;
       read_b = stops.read_b;
+      found = stops.found;
       rise = stops.rise;
       named = stops.named;
+      spread = stops.spread;
       takes = stops.takes;
-      why = line_fault fault before rs (stage_of old) (left_of l old) stops.frames_a stops.frames_b (number_of new) v count says stops.why;
+      why = line_fault choice.skips fault before rs (stage_of old) (left_of l old) (l.remaining (source_of new)) stops.frames_a stops.frames_b (number_of new) v count
+          (says, stops.read) stops.why;
       written = written_at choice fault rs (stage_of old) (left_of l old) stops.frames_a stops.frames_b taken v before.output.contents (w.contents (sink_of now.output)) says stops.written;
-      ledger_failures = ledger_well fault (number_of new) before.a before.b (frame_lines rs) v stops.frames_a stops.frames_b before.ledger.failures (l.failures (source_of new)) stops.why (is.2 ∙ h.read.no_failure);
+      ledger_failures = ledger_well fault (number_of new) before.a before.b (read_lines choice.skips (frame_lines rs)) v stops.frames_a stops.frames_b before.ledger.failures (l.failures (source_of new)) stops.why (is.2 ∙ h.read.no_failure);
       a_failures = stops.a_failures;
       b_failures = stops.b_failures;
       output_failures = stops.output_failures;
@@ -250,12 +256,18 @@ bad_next l bytes failures rs old new text n fault h count is = (
   ),
 )
 
+-- what was read ahead is a part of a line, before what the source still gives
+pub part_ahead : (left rest : Option (List ℕ)) (unread : List ℕ) → Keeps left (prepend_known unread rest) → Consumes left rest unread
+part_ahead None rest unread is = tt
+part_ahead (Some xs) None unread is = is
+part_ahead (Some xs) (Some ys) unread is = sym is
+
 pub ledger_stops : {L S T W : Type 0} (l : SourceMembers L) (s : SourceMembers S) (t : SourceMembers T) (w : SinkMembers W) (choice : Choice)
-    (before : CutDevices) (rs : List ReadLine) (fs taken fa fb : List Frame) (old new : LedgerReader L) (taking : Taking S T W) (text unread : List ℕ) (fault : ReadFault)
+    (before : CutDevices) (rs : List ReadLine) (fs taken fa fb : List Frame) (old new : LedgerReader L) (taking : Taking S T W) (text : List ℕ) (fault : ReadFault)
     → HasCut l s t w choice before rs fs taken fa fb old taking
-    → IsReadFault (reading_of l.remaining l.failures old) (reading_of l.remaining l.failures new) text unread fault
+    → IsReadFault (reading_of l.remaining l.failures old) (reading_of l.remaining l.failures new) text (unread_of new.lines) fault
     → StopsCut l s t w choice (ledger_fault fault) before new taking
-ledger_stops l s t w choice before rs fs taken fa fb old new taking text unread (read.Line n f) h is = record {
+ledger_stops l s t w choice before rs fs taken fa fb old new taking text (read.Line n f) h is = record {
   rs = rs;
   stage = stage_of old;
   left = left_of l old;
@@ -266,8 +278,10 @@ ledger_stops l s t w choice before rs fs taken fa fb old new taking text unread 
   lines = h.read.lines;
   read_a = part_read (opening_at A before.a) fa h.took.named.floor_a (finding_of s.remaining s.failures taking.recordings.a) h.took.named.read_a;
   read_b = part_read (opening_at B before.b) fb h.took.named.floor_b (finding_of t.remaining t.failures taking.recordings.b) h.took.named.read_b;
+  found = h.took.found;
   rise = h.took.named.rise;
   named = h.took.named.named;
+  spread = h.took.spread;
   takes = h.took.takes;
   why = bad_next l before.ledger.remaining before.ledger.failures rs old new text n f h.read is.0 is.1;
   written = h.took.written;
@@ -276,7 +290,7 @@ ledger_stops l s t w choice before rs fs taken fa fb old new taking text unread 
   b_failures = h.took.named.read_b.no_failure;
   output_failures = h.took.no_failure;
 }
-ledger_stops l s t w choice before rs fs taken fa fb old new taking text unread read.Device h is = record {
+ledger_stops l s t w choice before rs fs taken fa fb old new taking text read.Device h is = record {
   rs = rs;
   stage = stage_of old;
   left = left_of l old;
@@ -287,14 +301,16 @@ ledger_stops l s t w choice before rs fs taken fa fb old new taking text unread 
   lines = h.read.lines;
   read_a = part_read (opening_at A before.a) fa h.took.named.floor_a (finding_of s.remaining s.failures taking.recordings.a) h.took.named.read_a;
   read_b = part_read (opening_at B before.b) fb h.took.named.floor_b (finding_of t.remaining t.failures taking.recordings.b) h.took.named.read_b;
+  found = h.took.found;
   rise = h.took.named.rise;
   named = h.took.named.named;
+  spread = h.took.spread;
   takes = h.took.takes;
-  why = tt;
+  why = (unread_of new.lines, is.2, part_ahead (left_of l old) (l.remaining (source_of new)) (unread_of new.lines) is.1);
   written = h.took.written;
   ledger_failures = rw (sym h.read.no_failure) is.0;
   a_failures = h.took.named.read_a.no_failure;
   b_failures = h.took.named.read_b.no_failure;
   output_failures = h.took.no_failure;
 }
-ledger_stops l s t w choice before rs fs taken fa fb old new taking text unread read.Failed h is = absurd is
+ledger_stops l s t w choice before rs fs taken fa fb old new taking text read.Failed h is = absurd is

@@ -1,14 +1,15 @@
 -- One more line after those whose frames were found.
-use Rattle.std.proofs.Common.{◌≡◌, ◌∙◌, ℕ, zero, suc, List, [], ◌∷◌, ◌++◌, slice_get, Option, None, Some, refl, sym, ap, subst, inl, inr, append_assoc}
+use Rattle.std.proofs.Common.{◌≡◌, ◌∙◌, ℕ, zero, suc, true, false, List, [], ◌∷◌, ◌++◌, slice_get, Option, None, Some, refl, sym, ap, subst, inl, inr, append_assoc}
 use Rattle.std.proofs.lemmas.Grind.{flat_map-append}
 use Rattle.std.proofs.lemmas.List.{append-nil}
+use Rattle.std.proofs.lemmas.List.Elements.{filter-append}
 use Rattle.afdx_frame.specs.Frame.{Frame}
 use Rattle.afdx_frame.specs.declared.key.Key.{Key}
 use Rattle.afdx_frame.specs.declared.key.Network.{Network}
 use Rattle.afdx_frame.specs.declared.key.Network.TheVariants.{A, B}
 use Rattle.ledger_text.specs.declared.frame.FrameLine.{FrameLine}
 use Rattle.pcap_io.specs.Capture.{capture_header}
-use Rattle.cut_run.specs.Lines.{AreFramesOf, Choice, Chooses, ComesLater, IsFrameOf, Rise, Takes, TakesOf, key_of_line, last_from, last_key, side, whole_capture, whole_packet, whole_packets}
+use Rattle.cut_run.specs.Lines.{AreFramesOf, AreSpread, Choice, Chooses, ComesLater, IsFrameOf, Rise, Takes, TakesOf, is_read, key_of_line, last_from, last_key, read_lines, side, whole_capture, whole_packet, whole_packets}
 
 -- ---- the order of lines
 
@@ -61,6 +62,38 @@ named_more fa fb [] [] v f h one = (one, tt)
 named_more fa fb [] (g ∷ fs) v f h one = absurd h
 named_more fa fb (w ∷ vs) [] v f h one = absurd h
 named_more fa fb (w ∷ vs) (g ∷ fs) v f (first, rest) one = (first, named_more fa fb vs fs v f rest one)
+
+-- ---- the lines that are looked up
+
+pub read_more : (skips : Option Network) (vs : List FrameLine) (v : FrameLine) → is_read skips v.network ≡ true
+    → read_lines skips (vs ++ v ∷ []) ≡ read_lines skips vs ++ v ∷ []
+read_more skips vs v is =
+    let one : read_lines skips (v ∷ []) ≡ v ∷ [] = rw is refl in
+    filter-append (λ (w : FrameLine). is_read skips w.network) vs (v ∷ []) ∙ ap (λ (ws : List FrameLine). read_lines skips vs ++ ws) one
+
+pub read_same : (skips : Option Network) (vs : List FrameLine) (v : FrameLine) → is_read skips v.network ≡ false
+    → read_lines skips (vs ++ v ∷ []) ≡ read_lines skips vs
+read_same skips vs v is =
+    let none : read_lines skips (v ∷ []) ≡ [] = rw is refl in
+    filter-append (λ (w : FrameLine). is_read skips w.network) vs (v ∷ []) ∙ ap (λ (ws : List FrameLine). read_lines skips vs ++ ws) none
+    ∙ append-nil (read_lines skips vs)
+
+pub spread_more : (skips : Option Network) (vs : List FrameLine) (found fs : List Frame) (v : FrameLine) (f : Frame) → is_read skips v.network ≡ true
+    → AreSpread skips vs found fs → AreSpread skips (vs ++ v ∷ []) (found ++ f ∷ []) (fs ++ f ∷ [])
+spread_more skips [] found [] v f is none = inl (is, [], ap (λ (xs : List Frame). xs ++ f ∷ []) none, refl)
+spread_more skips [] found (g ∷ fs) v f is h = absurd h
+spread_more skips (w ∷ vs) found [] v f is h = absurd h
+spread_more skips (w ∷ vs) found (g ∷ fs) v f is (inl (one, more, same, rest)) =
+    inl (one, more ++ f ∷ [], ap (λ (xs : List Frame). xs ++ f ∷ []) same, spread_more skips vs more fs v f is rest)
+spread_more skips (w ∷ vs) found (g ∷ fs) v f is (inr (one, rest)) = inr (one, spread_more skips vs found fs v f is rest)
+
+pub spread_over : (skips : Option Network) (vs : List FrameLine) (found fs : List Frame) (v : FrameLine) (f : Frame) → is_read skips v.network ≡ false
+    → AreSpread skips vs found fs → AreSpread skips (vs ++ v ∷ []) found (fs ++ f ∷ [])
+spread_over skips [] found [] v f is none = inr (is, none)
+spread_over skips [] found (g ∷ fs) v f is h = absurd h
+spread_over skips (w ∷ vs) found [] v f is h = absurd h
+spread_over skips (w ∷ vs) found (g ∷ fs) v f is (inl (one, more, same, rest)) = inl (one, more, same, spread_over skips vs more fs v f is rest)
+spread_over skips (w ∷ vs) found (g ∷ fs) v f is (inr (one, rest)) = inr (one, spread_over skips vs found fs v f is rest)
 
 -- ---- the frames that are taken
 

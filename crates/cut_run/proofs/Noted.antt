@@ -3,6 +3,7 @@ use Rattle.std.proofs.Common.{◌≡◌, ◌∙◌, ℕ, false, List, [], ◌∷
 use Rattle.std.proofs.lemmas.List.{append-nil}
 use Rattle.std.specs.Io.KnownBytes.{IsAtEnd}
 use Rattle.ledger_text.specs.Ledger.{ReadLine, frame_lines, frames_in, has_failed as ledger_failed, left_of, lent_of, stage_of}
+use Rattle.ledger_text.specs.Lines.{unread_of}
 use Rattle.ledger_text.specs.Reader.{IsFound, IsReadFault, reading_of, source_of}
 use Rattle.ledger_text.specs.declared.fault.ReadFault.{ReadFault}
 use Rattle.ledger_text.specs.declared.fault.ReadFault.TheVariants as read
@@ -20,7 +21,7 @@ use Rattle.run_outcome.specs.Device.{SourceMembers, SourceView}
 use Rattle.cut_run.specs.Cut.{ledger_fault}
 use Rattle.cut_run.specs.Noting.{EndsNoting, HasNotedLines, StopsNoting}
 use Rattle.cut_run.specs.declared.fault.CutFault.TheVariants as faults
-use Rattle.cut_run.proofs.Ledgers.{bad_next, line_of}
+use Rattle.cut_run.proofs.Ledgers.{bad_next, line_of, part_ahead}
 
 -- so many lines, and what was noted of them
 abbrev pub IsNoting : {L : Type 0} → SourceMembers L → Selection → ℕ → SourceView → LedgerReader L → Chooser → Neighbours → Type 0
@@ -89,10 +90,10 @@ no_memory l selection count before rs old new chooser neighbours v h is = record
 }
 
 pub ledger_stops_noting : {L : Type 0} (l : SourceMembers L) (selection : Selection) (count : ℕ) (before : SourceView) (rs : List ReadLine) (old new : LedgerReader L)
-    (chooser : Chooser) (neighbours : Neighbours) (text unread : List ℕ) (fault : ReadFault) → HasNotedLines l selection count before rs old chooser neighbours
-    → IsReadFault (reading_of l.remaining l.failures old) (reading_of l.remaining l.failures new) text unread fault
+    (chooser : Chooser) (neighbours : Neighbours) (text : List ℕ) (fault : ReadFault) → HasNotedLines l selection count before rs old chooser neighbours
+    → IsReadFault (reading_of l.remaining l.failures old) (reading_of l.remaining l.failures new) text (unread_of new.lines) fault
     → StopsNoting l (ledger_fault fault) before new
-ledger_stops_noting l selection count before rs old new chooser neighbours text unread (read.Line n f) h is = record {
+ledger_stops_noting l selection count before rs old new chooser neighbours text (read.Line n f) h is = record {
   rs = rs;
   stage = stage_of old;
   left = left_of l old;
@@ -100,12 +101,12 @@ ledger_stops_noting l selection count before rs old new chooser neighbours text 
   why = bad_next l before.remaining before.failures rs old new text n f h.read is.0 is.1;
   failures = is.2 ∙ h.read.no_failure;
 }
-ledger_stops_noting l selection count before rs old new chooser neighbours text unread read.Device h is = record {
+ledger_stops_noting l selection count before rs old new chooser neighbours text read.Device h is = record {
   rs = rs;
   stage = stage_of old;
   left = left_of l old;
   lines = h.read.lines;
-  why = tt;
+  why = (unread_of new.lines, is.2, part_ahead (left_of l old) (l.remaining (source_of new)) (unread_of new.lines) is.1);
   failures = rw (sym h.read.no_failure) is.0;
 }
-ledger_stops_noting l selection count before rs old new chooser neighbours text unread read.Failed h is = absurd is
+ledger_stops_noting l selection count before rs old new chooser neighbours text read.Failed h is = absurd is

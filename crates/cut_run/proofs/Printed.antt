@@ -1,5 +1,5 @@
 -- One more line of a ledger: it is printed or passed over, or stops the run.
-use Rattle.std.proofs.Common.{◌≡◌, ◌∙◌, ◌≢◌, ℕ, ◌+◌, true, List, [], ◌∷◌, ◌++◌, length, take, Option, None, Some, Result, Ok, Err, refl, sym, ap, subst, inl, inr, arith, length-append}
+use Rattle.std.proofs.Common.{◌≡◌, ◌∙◌, ◌≢◌, ℕ, ◌+◌, true, false, List, [], ◌∷◌, ◌++◌, length, take, Option, None, Some, Result, Ok, Err, refl, sym, ap, subst, inl, inr, arith, length-append}
 use Rattle.std.proofs.KnownBytes.{Appends-trans}
 use Rattle.std.proofs.Math.Seq.{take-append-add}
 use Rattle.std.proofs.lemmas.Grind.{flat_map-append}
@@ -16,7 +16,7 @@ use Rattle.run_outcome.specs.Device.{SinkMembers, SourceMembers, SourceView}
 use Rattle.run_outcome.specs.Fault.{FailsWhere}
 use Rattle.cut_run.specs.Cutting.{IsTakeFault}
 use Rattle.cut_run.specs.Faults.{OutputSink, names}
-use Rattle.cut_run.specs.Lines.{Choice}
+use Rattle.cut_run.specs.Lines.{Choice, is_read, read_lines}
 use Rattle.cut_run.specs.Naming.{HasNamed, IsNameFault, Names, StopsNaming, opening_at}
 use Rattle.cut_run.specs.Printed.{HasChecked, HasPrintedLines, LineDevices, PrintsMore, PrintsTaken, PrintsUpTo, Sources, StopsAtText, StopsChecking, whole_line, whole_lines}
 use Rattle.cut_run.specs.declared.fault.CutFault.{CutFault}
@@ -24,7 +24,7 @@ use Rattle.cut_run.specs.declared.fault.CutFault.TheVariants as faults
 use Rattle.cut_run.specs.declared.fault.CutSource.TheVariants as source
 use Rattle.cut_run.specs.declared.print.Printing.{Printing}
 use Rattle.cut_run.specs.declared.recordings.Recordings.{Recordings}
-use Rattle.cut_run.proofs.Lines.{named_some, passes_more, takes_more}
+use Rattle.cut_run.proofs.Lines.{named_some, passes_more, read_more, read_same, takes_more}
 use Rattle.cut_run.proofs.Naming.{part_read}
 
 -- ---- a line and its newline
@@ -154,50 +154,70 @@ unwritten choice faults.Memory vs v text printed before now x y not h same = rec
 
 pub stops_checking : {S T W : Type 0} (s : SourceMembers S) (t : SourceMembers T) (w : SinkMembers W) (choice : Choice) (before : LineDevices) (vs : List FrameLine)
     (texts printed : List (List ℕ)) (v : FrameLine) (text : List ℕ) (n : ℕ) (fault : CutFault) (old new : Printing S T W)
-    → HasPrintedLines s t w choice before vs texts printed old → StopsChecking s t before.recordings vs v n fault new.recordings × (fault ≢ faults.Write)
-    → new.output ≡ old.output → StopsAtText s t w choice before vs texts printed v text n fault new
-stops_checking s t w choice before vs texts printed v text n fault old new h stops same =
+    → HasPrintedLines s t w choice before vs texts printed old → is_read choice.skips v.network ≡ true
+    → StopsChecking s t before.recordings (read_lines choice.skips vs) v n fault new.recordings × (fault ≢ faults.Write) → new.output ≡ old.output → StopsAtText s t w choice before vs texts printed v text n fault new
+stops_checking s t w choice before vs texts printed v text n fault old new h read stops same =
     let u = unwritten choice fault vs v text printed before.output.contents (w.contents new.output) before.output.failures (w.failures new.output) stops.1
     (rw same h.written) (rw same h.no_failure) in
-    record { checked = stops.0; takes = h.takes; written = u.written; output_failures = u.failures }
+    record { checked = stops.0; read = read; takes = h.takes; written = u.written; output_failures = u.failures }
 
 pub printed_line : {S T W : Type 0} (s : SourceMembers S) (t : SourceMembers T) (w : SinkMembers W) (choice : Choice) (before : LineDevices) (vs : List FrameLine)
     (texts printed : List (List ℕ)) (v : FrameLine) (text : List ℕ) (n : ℕ) (r : Result (Unit {0}) CutFault) (old mid new : Printing S T W)
-    → HasPrintedLines s t w choice before vs texts printed old → mid.output ≡ old.output → HasChecked s t before.recordings (vs ++ v ∷ []) new.recordings
+    → HasPrintedLines s t w choice before vs texts printed old → is_read choice.skips v.network ≡ true → mid.output ≡ old.output
+    → HasChecked s t before.recordings (read_lines choice.skips vs ++ v ∷ []) new.recordings
     → HasAsked choice.selection choice.around (vs ++ v ∷ []) new.chooser → PrintsTaken w choice vs v text r mid new → IfErr r (λ fault. fault ≡ faults.Write)
     → MatchResult r (λ _. PrintsMore s t w choice before vs texts v text new) (λ fault. StopsAtText s t w choice before vs texts printed v text n fault new)
-printed_line s t w choice before vs texts printed v text n (Ok tt) old mid new h same checked asked (inl (is, wrote)) fault = (
+printed_line s t w choice before vs texts printed v text n (Ok tt) old mid new h read same checked asked (inl (is, wrote)) fault = (
   printed ++ text ∷ [],
   record {
-    checked = checked;
-    takes = takes_more choice vs texts printed v text h.takes is;
+    checked = subst (λ (ws : List FrameLine). HasChecked s t before.recordings ws new.recordings) (sym (read_more choice.skips vs v read)) checked;
+    takes = takes_more choice vs texts printed v text h.takes (read, is);
     asked = asked;
     written = subst (λ (x : List ℕ). Appends before.output.contents (w.contents new.output) x) (sym (lines_more printed text))
         (Appends-trans before.output.contents (w.contents mid.output) (w.contents new.output) (whole_lines printed) (whole_line text) (rw same h.written) wrote.complete);
     no_failure = wrote.no_failure ∙ rw same h.no_failure;
   },
 )
-printed_line s t w choice before vs texts printed v text n (Ok tt) old mid new h same checked asked (inr (not, ok, stays)) fault = (
+printed_line s t w choice before vs texts printed v text n (Ok tt) old mid new h read same checked asked (inr (not, ok, stays)) fault = (
   printed,
   record {
-    checked = checked;
-    takes = passes_more choice vs texts printed v text h.takes not;
+    checked = subst (λ (ws : List FrameLine). HasChecked s t before.recordings ws new.recordings) (sym (read_more choice.skips vs v read)) checked;
+    takes = passes_more choice vs texts printed v text h.takes (λ chosen. not chosen.1);
     asked = asked;
     written = rw (stays, same) h.written;
     no_failure = rw (stays, same) h.no_failure;
   },
 )
-printed_line {W = W} s t w choice before vs texts printed v text n (Err e) old mid new h same checked asked (inl (is, wrote)) fault =
+printed_line {W = W} s t w choice before vs texts printed v text n (Err e) old mid new h read same checked asked (inl (is, wrote)) fault =
     subst (λ (x : CutFault). StopsAtText s t w choice before vs texts printed v text n x new) (sym fault)
     (record {
-      checked = unwritten_line s t before.recordings vs v n old.recordings new.recordings h.checked checked;
+      checked = unwritten_line s t before.recordings (read_lines choice.skips vs) v n old.recordings new.recordings h.checked checked;
+      read = read;
       takes = h.takes;
       written = (
         wrote.prefix.0,
-        is,
+        (read, is),
         wrote.prefix.1,
         Appends-trans before.output.contents (w.contents mid.output) (w.contents new.output) (whole_lines printed) (take wrote.prefix.0 (whole_line text)) (rw same h.written) wrote.prefix.2,
       );
       output_failures = subst (λ (x : ℕ). FailsWhere true x (w.failures new.output)) (ap (λ (o : W). w.failures o) same ∙ h.no_failure) wrote.fault;
     })
-printed_line s t w choice before vs texts printed v text n (Err e) old mid new h same checked asked (inr (not, ok, stays)) fault = cc
+printed_line s t w choice before vs texts printed v text n (Err e) old mid new h read same checked asked (inr (not, ok, stays)) fault = cc
+
+-- ---- a line is passed over
+
+pub passed_text : {S T W : Type 0} (s : SourceMembers S) (t : SourceMembers T) (w : SinkMembers W) (choice : Choice) (before : LineDevices) (vs : List FrameLine)
+    (texts printed : List (List ℕ)) (v : FrameLine) (text : List ℕ) (old new : Printing S T W) → HasPrintedLines s t w choice before vs texts printed old
+    → is_read choice.skips v.network ≡ false → new.recordings ≡ old.recordings → new.output ≡ old.output
+    → HasAsked choice.selection choice.around (vs ++ v ∷ []) new.chooser → PrintsMore s t w choice before vs texts v text new
+passed_text {S = S} {T = T} s t w choice before vs texts printed v text old new h skip recordings same asked = (
+  printed,
+  record {
+    checked = subst (λ (ws : List FrameLine). HasChecked s t before.recordings ws new.recordings) (sym (read_same choice.skips vs v skip))
+        (subst (λ (rs : Option (Recordings S T)). HasChecked s t before.recordings (read_lines choice.skips vs) rs) (sym recordings) h.checked);
+    takes = passes_more choice vs texts printed v text h.takes (λ chosen. (let read = chosen.0 in cc));
+    asked = asked;
+    written = rw same h.written;
+    no_failure = rw same h.no_failure;
+  },
+)

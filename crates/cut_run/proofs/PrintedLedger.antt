@@ -3,9 +3,11 @@ use Rattle.std.proofs.Common.{◌≡◌, ◌∙◌, ◌≢◌, ℕ, ◌+◌, fal
 use Rattle.std.proofs.lemmas.List.{append-nil}
 use Rattle.std.specs.Io.KnownBytes.{Appends, IsAtEnd}
 use Rattle.afdx_frame.specs.Frame.{Frame}
+use Rattle.afdx_frame.specs.declared.key.Network.{Network}
 use Rattle.afdx_frame.specs.declared.key.Network.TheVariants.{A, B}
 use Rattle.frame_finder.specs.Finder.{finding_of}
 use Rattle.ledger_text.specs.Ledger.{ReadLine, frame_lines, frames_in, has_failed as ledger_failed, left_of, lent_of, number_of, stage_of}
+use Rattle.ledger_text.specs.Lines.{unread_of}
 use Rattle.ledger_text.specs.Reader.{IsFound, IsReadFault, reading_of, source_of}
 use Rattle.ledger_text.specs.declared.fault.LineFault.{LineFault}
 use Rattle.ledger_text.specs.declared.fault.ReadFault.{ReadFault}
@@ -19,9 +21,9 @@ use Rattle.ledger_text.specs.declared.reader.LedgerReader.{LedgerReader}
 use Rattle.ledger_text.proofs.Ledgers.{found_line, found_one_more, frame_lines_one_more}
 use Rattle.run_outcome.specs.Device.{SinkMembers, SinkView, SourceMembers, sink_at, source_at}
 use Rattle.run_outcome.specs.Fault.{FailsWhere}
-use Rattle.cut_run.specs.Cut.{AreRefused, CutDevices, FailsOnly, IsLineFault, NextSays, ending_at, ledger_fault}
+use Rattle.cut_run.specs.Cut.{AreRefused, CutDevices, FailsInLine, FailsOnly, IsLineFault, ReadsNext, ending_at, ledger_fault}
 use Rattle.cut_run.specs.Faults.{LedgerSource, OutputSink, names}
-use Rattle.cut_run.specs.Lines.{Choice}
+use Rattle.cut_run.specs.Lines.{Choice, read_lines}
 use Rattle.cut_run.specs.Naming.{HasNamed, opening_at}
 use Rattle.cut_run.specs.Printed.{AreChecked, AreCheckedUpTo, GivesBack, HasChecked, HasPrinted, HasPrintedLedger, HasPrintedLines, IsLinesRun, IsLoneFault, LeavesLines, LineDevices, NextIs, PrintsMore, PrintsUpTo, Sources, SourcesFailOnly, StopsAtText, StopsChecking, cut_devices, frame_texts, line_devices_at, sources_at, text_in}
 use Rattle.cut_run.specs.declared.cut.CutEnding.{CutEnding}
@@ -30,7 +32,7 @@ use Rattle.cut_run.specs.declared.fault.CutFault.TheVariants as faults
 use Rattle.cut_run.specs.declared.fault.CutSource.TheVariants as source
 use Rattle.cut_run.specs.declared.print.Printing.{Printing}
 use Rattle.cut_run.specs.declared.recordings.Recordings.{Recordings}
-use Rattle.cut_run.proofs.Ledgers.{bad_next, ledger_well, line_fault, line_of}
+use Rattle.cut_run.proofs.Ledgers.{bad_next, ledger_well, line_fault, line_of, part_ahead}
 use Rattle.cut_run.proofs.Naming.{part_read}
 use Rattle.cut_run.proofs.Whole.{part_of}
 
@@ -116,7 +118,7 @@ ends_printing l s t w choice before rs printed old new printing e is at same h =
   left = left_of l old;
   printed = printed;
   lines = h.read.lines;
-  checked = checked_back s t before.recordings (frame_lines rs) printing.recordings sources h.print.checked back;
+  checked = checked_back s t before.recordings (read_lines choice.skips (frame_lines rs)) printing.recordings sources h.print.checked back;
   takes = h.print.takes;
   ends = at;
   ending_is = is;
@@ -128,22 +130,22 @@ ends_printing l s t w choice before rs printed old new printing e is at same h =
 -- ---- a line that stops the run
 
 -- what a fault at a line says of the recordings and the ledger
-record Stopped (fault : CutFault) (before : LineDevices) (was now : Option Sources) (rs : List ReadLine) (stage : Stage) (left : Option (List ℕ)) (x y : ℕ) : Type 0 where
-  checked : AreCheckedUpTo fault before was now rs stage left
+record Stopped (skips : Option Network) (fault : CutFault) (before : LineDevices) (was now : Option Sources) (rs : List ReadLine) (stage : Stage) (left rest : Option (List ℕ)) (x y : ℕ) : Type 0 where
+  checked : AreCheckedUpTo skips fault before was now rs stage left rest
   recordings : SourcesFailOnly fault was now
   ledger : FailsWhere (names fault LedgerSource) x y
 
-stopped : {S T : Type 0} (s : SourceMembers S) (t : SourceMembers T) (before : LineDevices) (was : Option Sources) (rs : List ReadLine) (stage : Stage) (left : Option (List ℕ))
-    (v : FrameLine) (n : ℕ) (fault : CutFault) (recordings : Option (Recordings S T)) (sources : Option (S × T)) (x y : ℕ) → n ≡ length rs + 1 → NextSays stage left v
-    → StopsChecking s t was (frame_lines rs) v n fault recordings → GivesBack s t recordings sources → y ≡ x
-    → Stopped fault before was (sources_at s t sources) rs stage left x y
-stopped s t before None rs stage left v n fault None None x y count says stops back same =
-    subst (λ (f : CutFault). Stopped f before None None rs stage left x y) (sym stops) (record { checked = tt; recordings = tt; ledger = same })
-stopped s t before None rs stage left v n fault None (Some z) x y count says stops back same = absurd back
-stopped s t before None rs stage left v n fault (Some r) sources x y count says stops back same = absurd stops
-stopped s t before (Some b) rs stage left v n fault None sources x y count says stops back same = absurd stops
-stopped s t before (Some b) rs stage left v n fault (Some r) None x y count says stops back same = absurd back
-stopped s t before (Some b) rs stage left v n fault (Some r) (Some z) x y count says stops back same = record {
+stopped : {S T : Type 0} (s : SourceMembers S) (t : SourceMembers T) (skips : Option Network) (before : LineDevices) (was : Option Sources) (rs : List ReadLine) (stage : Stage) (left rest : Option (List ℕ))
+    (v : FrameLine) (n : ℕ) (fault : CutFault) (recordings : Option (Recordings S T)) (sources : Option (S × T)) (x y : ℕ) → n ≡ length rs + 1 → ReadsNext skips stage left v
+    → StopsChecking s t was (read_lines skips (frame_lines rs)) v n fault recordings → GivesBack s t recordings sources → y ≡ x
+    → Stopped skips fault before was (sources_at s t sources) rs stage left rest x y
+stopped s t skips before None rs stage left rest v n fault None None x y count says stops back same =
+    subst (λ (f : CutFault). Stopped skips f before None None rs stage left rest x y) (sym stops) (record { checked = tt; recordings = tt; ledger = same })
+stopped s t skips before None rs stage left rest v n fault None (Some z) x y count says stops back same = absurd back
+stopped s t skips before None rs stage left rest v n fault (Some r) sources x y count says stops back same = absurd stops
+stopped s t skips before (Some b) rs stage left rest v n fault None sources x y count says stops back same = absurd stops
+stopped s t skips before (Some b) rs stage left rest v n fault (Some r) None x y count says stops back same = absurd back
+stopped s t skips before (Some b) rs stage left rest v n fault (Some r) (Some z) x y count says stops back same = record {
   checked = (
     stops.frames_a,
     stops.frames_b,
@@ -154,10 +156,10 @@ stopped s t before (Some b) rs stage left v n fault (Some r) (Some z) x y count 
       rise = stops.rise;
       named = stops.named;
     },
-    line_fault fault (cut_devices before b) rs stage left stops.frames_a stops.frames_b n v count says stops.why,
+    line_fault skips fault (cut_devices before b) rs stage left rest stops.frames_a stops.frames_b n v count says stops.why,
   );
   recordings = (rw back.0 stops.a_failures, rw back.1 stops.b_failures);
-  ledger = ledger_well fault n b.a b.b (frame_lines rs) v stops.frames_a stops.frames_b x y stops.why same;
+  ledger = ledger_well fault n b.a b.b (read_lines skips (frame_lines rs)) v stops.frames_a stops.frames_b x y stops.why same;
 }
 
 printed_at : (choice : Choice) (fault : CutFault) (rs : List ReadLine) (stage : Stage) (left : Option (List ℕ)) (v : FrameLine) (text : List ℕ)
@@ -180,8 +182,8 @@ pub stops_printing : {L S T W : Type 0} (l : SourceMembers L) (s : SourceMembers
 stops_printing l s t w choice before rs printed old new was now v fault h is stops = λ sources back.
     (let count : number_of new ≡ length rs + 1 = is.1.2 ∙ ap (λ (n : ℕ). n + 1) h.read.number in
     let line = found_line l old new (lines.Frame v) is in
-    let stop = stopped s t before before.recordings rs (stage_of old) (left_of l old) v (number_of new) fault now.recordings sources before.ledger.failures
-    (l.failures (source_of new)) count (lent_of new, left_of l new, line) stops.checked back (is.2 ∙ h.read.no_failure) in (
+    let stop = stopped s t choice.skips before before.recordings rs (stage_of old) (left_of l old) (l.remaining (source_of new)) v (number_of new) fault now.recordings sources before.ledger.failures
+    (l.failures (source_of new)) count ((lent_of new, left_of l new, line), stops.read) stops.checked back (is.2 ∙ h.read.no_failure) in (
       record { ledger = stop.ledger; recordings = stop.recordings; output = stops.output_failures },
       inr (record {
         rs = rs;
@@ -209,25 +211,25 @@ well_bad k f None (Some n) vs h = absurd h
 well_bad k f (Some b) None vs h = absurd h
 well_bad k f (Some b) (Some n) vs h = (h.4, h.5)
 
-checked_to : (fault : CutFault) (before : LineDevices) (was now : Option Sources) (rs : List ReadLine) (stage : Stage) (left : Option (List ℕ))
-    → AreChecked was now (frame_lines rs) → IsLoneFault fault rs stage left
-    → ((b : Sources) (fa fb : List Frame) → IsLineFault fault (cut_devices before b) rs stage left fa fb) → AreCheckedUpTo fault before was now rs stage left
-checked_to fault before None None rs stage left h lone why = lone
-checked_to fault before None (Some n) rs stage left h lone why = absurd h
-checked_to fault before (Some b) None rs stage left h lone why = absurd h
-checked_to fault before (Some b) (Some n) rs stage left h lone why = (h.0, h.1, h.2, h.3, why b h.0 h.1)
+checked_to : (skips : Option Network) (fault : CutFault) (before : LineDevices) (was now : Option Sources) (rs : List ReadLine) (stage : Stage) (left rest : Option (List ℕ))
+    → AreChecked was now (read_lines skips (frame_lines rs)) → IsLoneFault fault rs stage left rest
+    → ((b : Sources) (fa fb : List Frame) → IsLineFault skips fault (cut_devices before b) rs stage left rest fa fb) → AreCheckedUpTo skips fault before was now rs stage left rest
+checked_to skips fault before None None rs stage left rest h lone why = lone
+checked_to skips fault before None (Some n) rs stage left rest h lone why = absurd h
+checked_to skips fault before (Some b) None rs stage left rest h lone why = absurd h
+checked_to skips fault before (Some b) (Some n) rs stage left rest h lone why = (h.0, h.1, h.2, h.3, why b h.0 h.1)
 
 pub ledger_stops_printing : {L S T W : Type 0} (l : SourceMembers L) (s : SourceMembers S) (t : SourceMembers T) (w : SinkMembers W) (choice : Choice) (before : LineDevices)
-    (rs : List ReadLine) (printed : List (List ℕ)) (old new : LedgerReader L) (printing : Printing S T W) (text unread : List ℕ) (fault : ReadFault)
+    (rs : List ReadLine) (printed : List (List ℕ)) (old new : LedgerReader L) (printing : Printing S T W) (text : List ℕ) (fault : ReadFault)
     → HasPrintedLedger l s t w choice before rs printed old printing
-    → IsReadFault (reading_of l.remaining l.failures old) (reading_of l.remaining l.failures new) text unread fault
+    → IsReadFault (reading_of l.remaining l.failures old) (reading_of l.remaining l.failures new) text (unread_of new.lines) fault
     → LeavesLines l s t w choice (Err (ledger_fault fault)) before new printing
-ledger_stops_printing l s t w choice before rs printed old new printing text unread (read.Line n f) h is = λ sources back.
-    (let checked = checked_back s t before.recordings (frame_lines rs) printing.recordings sources h.print.checked back in
+ledger_stops_printing l s t w choice before rs printed old new printing text (read.Line n f) h is = λ sources back.
+    (let checked = checked_back s t before.recordings (read_lines choice.skips (frame_lines rs)) printing.recordings sources h.print.checked back in
     let bad = bad_next l before.ledger.remaining before.ledger.failures rs old new text n f h.read is.0 is.1 in (
       record {
         ledger = is.2 ∙ h.read.no_failure;
-        recordings = well_bad n f before.recordings (sources_at s t sources) (frame_lines rs) checked;
+        recordings = well_bad n f before.recordings (sources_at s t sources) (read_lines choice.skips (frame_lines rs)) checked;
         output = h.print.no_failure;
       },
       inr (record {
@@ -236,16 +238,17 @@ ledger_stops_printing l s t w choice before rs printed old new printing text unr
         left = left_of l old;
         printed = printed;
         lines = h.read.lines;
-        checked = checked_to (faults.Ledger n f) before before.recordings (sources_at s t sources) rs (stage_of old) (left_of l old) checked bad (λ b fa fb. bad);
+        checked = checked_to choice.skips (faults.Ledger n f) before before.recordings (sources_at s t sources) rs (stage_of old) (left_of l old) (l.remaining (source_of new)) checked bad (λ b fa fb. bad);
         takes = h.print.takes;
         written = h.print.written;
       }),
     ))
-ledger_stops_printing l s t w choice before rs printed old new printing text unread read.Device h is = λ sources back.
-    (let checked = checked_back s t before.recordings (frame_lines rs) printing.recordings sources h.print.checked back in (
+ledger_stops_printing l s t w choice before rs printed old new printing text read.Device h is = λ sources back.
+    (let checked = checked_back s t before.recordings (read_lines choice.skips (frame_lines rs)) printing.recordings sources h.print.checked back in
+    let part : FailsInLine (left_of l old) (l.remaining (source_of new)) = (unread_of new.lines, is.2, part_ahead (left_of l old) (l.remaining (source_of new)) (unread_of new.lines) is.1) in (
       record {
         ledger = rw (sym h.read.no_failure) is.0;
-        recordings = well_up_to before.recordings (sources_at s t sources) (frame_lines rs) checked;
+        recordings = well_up_to before.recordings (sources_at s t sources) (read_lines choice.skips (frame_lines rs)) checked;
         output = h.print.no_failure;
       },
       inr (record {
@@ -254,12 +257,12 @@ ledger_stops_printing l s t w choice before rs printed old new printing text unr
         left = left_of l old;
         printed = printed;
         lines = h.read.lines;
-        checked = checked_to (faults.Read source.Ledger) before before.recordings (sources_at s t sources) rs (stage_of old) (left_of l old) checked tt (λ b fa fb. tt);
+        checked = checked_to choice.skips (faults.Read source.Ledger) before before.recordings (sources_at s t sources) rs (stage_of old) (left_of l old) (l.remaining (source_of new)) checked part (λ b fa fb. part);
         takes = h.print.takes;
         written = h.print.written;
       }),
     ))
-ledger_stops_printing l s t w choice before rs printed old new printing text unread read.Failed h is = absurd is
+ledger_stops_printing l s t w choice before rs printed old new printing text read.Failed h is = absurd is
 
 -- ---- the beginning
 

@@ -85,8 +85,10 @@ run_of l s t w choice (Ok e) before ledger taking few_a few_b ends =
             (part_read (opening_at A before.a) ends.frames_a named.floor_a (finding_of s.remaining s.failures taking.recordings.a) named.read_a);
         read_b = part_of t B before.b ends.frames_b taking.recordings.b few_b
             (part_read (opening_at B before.b) ends.frames_b named.floor_b (finding_of t.remaining t.failures taking.recordings.b) named.read_b);
+        found = ends.took.found;
         rise = named.rise;
         named = named.named;
+        spread = ends.took.spread;
       };
       takes = ends.took.takes;
       ends = ends.ends;
@@ -108,8 +110,10 @@ run_of l s t w choice (Err fault) before ledger taking few_a few_b stops = (
       lines = stops.lines;
       read_a = part_of s A before.a stops.frames_a taking.recordings.a few_a stops.read_a;
       read_b = part_of t B before.b stops.frames_b taking.recordings.b few_b stops.read_b;
+      found = stops.found;
       rise = stops.rise;
       named = stops.named;
+      spread = stops.spread;
     };
     takes = stops.takes;
     why = stops.why;

@@ -1,9 +1,11 @@
 -- What a cut leaves, and why it was aborted (this project's profile; the output is pcap savefile 2.4).
-use Rattle.std.specs.Prelude.{◌≡◌, ◌⊎◌, ℕ, ◌+◌, ◌-◌, ◌^◌, ◌<◌, List, ◌++◌, length, take, Option, None, Result, Ok, Err, ⊤}
-use Rattle.std.specs.Io.KnownBytes.{Appends, IsAtEnd}
+use Rattle.std.specs.Prelude.{◌≡◌, ◌⊎◌, ℕ, true, ◌+◌, ◌-◌, ◌^◌, ◌<◌, List, ◌++◌, length, take, Option, None, Result, Ok, Err}
+use Rattle.std.specs.Io.KnownBytes.{Appends, Consumes, IsAtEnd}
 use Rattle.afdx_frame.specs.Frame.{Frame}
+use Rattle.afdx_frame.specs.declared.key.Network.{Network}
 use Rattle.afdx_frame.specs.declared.key.Network.TheVariants.{A, B}
 use Rattle.ledger_text.specs.Ledger.{ReadLine, ReadsLines, TakesLine, frame_lines}
+use Rattle.ledger_text.specs.Newlines.{NoNewline}
 use Rattle.ledger_text.specs.Reader.{IsBadLine, Reading}
 use Rattle.ledger_text.specs.declared.fault.LineFault.{LineFault}
 use Rattle.ledger_text.specs.declared.fault.ReadFault.{ReadFault}
@@ -19,7 +21,7 @@ use Rattle.run_outcome.specs.Device.{SinkMembers, SinkView, SourceMembers, Sourc
 use Rattle.run_outcome.specs.Fault.{FailsWhere}
 use Rattle.run_outcome.specs.Recording.{FailsAtHeader, HasHeaderFault, IsReadPart, WasOpened}
 use Rattle.cut_run.specs.Faults.{LedgerSource, OutputSink, RecordingSource, names}
-use Rattle.cut_run.specs.Lines.{AreFramesOf, Choice, ComesLater, IsTakenNext, Rise, TakesOf, last_key, side, whole_capture, whole_packet}
+use Rattle.cut_run.specs.Lines.{AreFramesOf, AreSpread, Choice, ComesLater, IsTakenNext, Rise, TakesOf, is_read, last_key, read_lines, side, whole_capture, whole_packet}
 use Rattle.cut_run.specs.Naming.{LacksFrame, view_of}
 use Rattle.cut_run.specs.declared.cut.CutEnding.{CutEnding}
 use Rattle.cut_run.specs.declared.cut.CutEnding.TheVariants as ending
@@ -52,14 +54,16 @@ ending_at stage = ending.Incomplete
 
 -- ---- what was cut
 
--- These lines of the ledger were read, and of both recordings these frames, among which each line of a frame finds its own: they come later
--- one by one, and the frames stand as they were recorded.
-pub record HasFound (before after : CutDevices) (rs : List ReadLine) (stage : Stage) (left : Option (List ℕ)) (frames_a frames_b frames : List Frame) : Type 0 where
+-- These lines of the ledger were read, and of both recordings these frames, among which each line of a frame finds its own, unless it is passed
+-- over: they come later one by one, and the frames stand as they were recorded.
+pub record HasFound (skips : Option Network) (before after : CutDevices) (rs : List ReadLine) (stage : Stage) (left : Option (List ℕ)) (frames_a frames_b frames : List Frame) : Type 0 where
   pub lines : ReadsLines stages.Head before.ledger.remaining rs stage left
   pub read_a : IsReadPart A any_lateness before.a after.a frames_a
   pub read_b : IsReadPart B any_lateness before.b after.b frames_b
-  pub rise : Rise None (frame_lines rs)
-  pub named : AreFramesOf frames_a frames_b (frame_lines rs) frames
+  pub found : List Frame
+  pub rise : Rise None (read_lines skips (frame_lines rs))
+  pub named : AreFramesOf frames_a frames_b (read_lines skips (frame_lines rs)) found
+  pub spread : AreSpread skips (frame_lines rs) found frames
 
 -- Only the device that the fault names failed, if it names one, and just once.
 pub record FailsOnly (fault : CutFault) (before after : CutDevices) : Type 0 where
@@ -83,7 +87,7 @@ pub record IsCut (choice : Choice) (e : CutEnding) (before after : CutDevices) :
   pub frames_b : List Frame
   pub frames : List Frame
   pub taken : List Frame
-  pub found : HasFound before after rs stage left frames_a frames_b frames
+  pub found : HasFound choice.skips before after rs stage left frames_a frames_b frames
   pub takes : TakesOf choice (frame_lines rs) frames taken
   pub ends : IsAtEnd left
   pub ending_is : e ≡ ending_at stage
@@ -128,19 +132,30 @@ IsBadNext n fault rs stage left =
     (n ≡ length rs + 1) × ((text : List ℕ) × (rest : Option (List ℕ))
     × IsBadLine (place_at stage (length rs) left) (place_at stage (length rs) rest) text fault)
 
--- What the fault says of the line after these, of which each frame was found.
-abbrev pub IsLineFault : CutFault → CutDevices → List ReadLine → Stage → Option (List ℕ) → List Frame → List Frame → Type 0
-IsLineFault (faults.Ledger n fault) before rs stage left frames_a frames_b = IsBadNext n fault rs stage left
-IsLineFault (faults.Order n) before rs stage left frames_a frames_b =
-    (n ≡ length rs + 1) × ((v : FrameLine) × NextSays stage left v × (ComesLater (last_key (frame_lines rs)) v → ⊥))
-IsLineFault (faults.Absent n) before rs stage left frames_a frames_b =
-    (n ≡ length rs + 1) × ((v : FrameLine) × NextSays stage left v × LacksFrame (view_of v.network before.a before.b) (side v.network frames_a frames_b) v)
-IsLineFault (faults.Read source.Ledger) before rs stage left frames_a frames_b = ⊤
-IsLineFault (faults.Read (source.Recording network)) before rs stage left frames_a frames_b =
-    (v : FrameLine) × NextSays stage left v × (v.network ≡ network)
-IsLineFault faults.Memory before rs stage left frames_a frames_b = (v : FrameLine) × NextSays stage left v
-IsLineFault faults.Write before rs stage left frames_a frames_b = (v : FrameLine) × NextSays stage left v
-IsLineFault (faults.Header network fault) before rs stage left frames_a frames_b = ⊥
+-- The ledger's source failed after the last whole line that it gave: what was read ahead of it ends no line, and what it still gives stands
+-- after that.
+abbrev pub FailsInLine : Option (List ℕ) → Option (List ℕ) → Type 0
+FailsInLine left rest = (unread : List ℕ) × NoNewline unread × Consumes left rest unread
+
+-- the next line of the ledger is that of a frame that is looked up, and says this
+abbrev pub ReadsNext : Option Network → Stage → Option (List ℕ) → FrameLine → Type 0
+ReadsNext skips stage left v = NextSays stage left v × (is_read skips v.network ≡ true)
+
+-- What the fault says of the line after these, of which each frame was found; `rest` is what the ledger's source still gives.
+abbrev pub IsLineFault : Option Network → CutFault → CutDevices → List ReadLine → Stage → Option (List ℕ) → Option (List ℕ) → List Frame → List Frame → Type 0
+IsLineFault skips (faults.Ledger n fault) before rs stage left rest frames_a frames_b = IsBadNext n fault rs stage left
+IsLineFault skips (faults.Order n) before rs stage left rest frames_a frames_b =
+    (n ≡ length rs + 1)
+    × ((v : FrameLine) × ReadsNext skips stage left v × (ComesLater (last_key (read_lines skips (frame_lines rs))) v → ⊥))
+IsLineFault skips (faults.Absent n) before rs stage left rest frames_a frames_b =
+    (n ≡ length rs + 1)
+    × ((v : FrameLine) × ReadsNext skips stage left v × LacksFrame (view_of v.network before.a before.b) (side v.network frames_a frames_b) v)
+IsLineFault skips (faults.Read source.Ledger) before rs stage left rest frames_a frames_b = FailsInLine left rest
+IsLineFault skips (faults.Read (source.Recording network)) before rs stage left rest frames_a frames_b =
+    (v : FrameLine) × ReadsNext skips stage left v × (v.network ≡ network)
+IsLineFault skips faults.Memory before rs stage left rest frames_a frames_b = (v : FrameLine) × ReadsNext skips stage left v
+IsLineFault skips faults.Write before rs stage left rest frames_a frames_b = (v : FrameLine) × ReadsNext skips stage left v
+IsLineFault skips (faults.Header network fault) before rs stage left rest frames_a frames_b = ⊥
 
 -- The output has the whole capture of the frames taken. Where the sink failed, the next line is taken too, and a prefix of its frame's packet
 -- follows.
@@ -161,9 +176,9 @@ pub record StopsAtLine (choice : Choice) (fault : CutFault) (before after : CutD
   pub frames_b : List Frame
   pub frames : List Frame
   pub taken : List Frame
-  pub found : HasFound before after rs stage left frames_a frames_b frames
+  pub found : HasFound choice.skips before after rs stage left frames_a frames_b frames
   pub takes : TakesOf choice (frame_lines rs) frames taken
-  pub why : IsLineFault fault before rs stage left frames_a frames_b
+  pub why : IsLineFault choice.skips fault before rs stage left after.ledger.remaining frames_a frames_b
   pub written : HasWritten choice fault rs stage left frames_a frames_b taken before.output.contents after.output.contents
 
 -- why a cut was aborted, and what it leaves

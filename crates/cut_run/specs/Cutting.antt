@@ -1,5 +1,5 @@
 -- A cut between its first line and its last.
-use Rattle.std.specs.Prelude.{◌≡◌, ◌<◌, ℕ, false, List, [], ◌∷◌, ◌++◌, length, take, Option, None, Result, Ok, ◌⊎◌, ⊤}
+use Rattle.std.specs.Prelude.{◌≡◌, ◌<◌, ℕ, true, false, List, [], ◌∷◌, ◌++◌, length, take, Option, None, Result, Ok, ◌⊎◌, ⊤}
 use Rattle.std.specs.Io.KnownBytes.{Appends, IsAtEnd}
 use Rattle.afdx_frame.specs.Frame.{Frame}
 use Rattle.afdx_frame.specs.declared.key.Network.TheVariants.{A, B}
@@ -10,24 +10,26 @@ use Rattle.ledger_text.specs.declared.frame.FrameLine.{FrameLine}
 use Rattle.ledger_text.specs.declared.order.Stage.{Stage}
 use Rattle.ledger_text.specs.declared.order.Stage.TheVariants as stages
 use Rattle.ledger_text.specs.declared.reader.LedgerReader.{LedgerReader}
-use Rattle.line_selection.specs.Neighbours.{HasAsked}
+use Rattle.line_selection.specs.Neighbours.{HasAsked, IsChosen}
 use Rattle.pcap_io.specs.Device.{Writes}
 use Rattle.pcap_io.specs.Writer.{has_failed, sink_of}
 use Rattle.run_outcome.specs.Device.{SinkMembers, SinkView, SourceMembers, SourceView}
 use Rattle.run_outcome.specs.Fault.{FailsWhere}
 use Rattle.cut_run.specs.Cut.{CutDevices, HasWritten, IsLineFault, ending_at}
 use Rattle.cut_run.specs.Faults.{LedgerSource, OutputSink, RecordingSource, names}
-use Rattle.cut_run.specs.Lines.{AreFramesOf, Choice, Chooses, IsTakenNext, Rise, TakesOf, whole_capture, whole_packet}
+use Rattle.cut_run.specs.Lines.{AreFramesOf, AreSpread, Choice, IsTakenNext, Rise, TakesOf, is_read, read_lines, whole_capture, whole_packet}
 use Rattle.cut_run.specs.Naming.{HasNamed, IsNameFault, ReadsPart, opening_at}
 use Rattle.cut_run.specs.declared.cut.CutEnding.{CutEnding}
 use Rattle.cut_run.specs.declared.cut.Taking.{Taking}
 use Rattle.cut_run.specs.declared.fault.CutFault.{CutFault}
 use Rattle.cut_run.specs.declared.fault.CutFault.TheVariants as faults
 
--- These lines named these frames, and the output has the capture of those that are taken.
+-- These lines, but those that are passed over, named these frames, and the output has the capture of those that are taken.
 pub record HasTaken {S T W : Type 0} (s : SourceMembers S) (t : SourceMembers T) (w : SinkMembers W) (choice : Choice) (a b : SourceView)
     (output : SinkView) (vs : List FrameLine) (fs taken frames_a frames_b : List Frame) (taking : Taking S T W) : Type 0 where
-  pub named : HasNamed s t a b vs fs frames_a frames_b taking.recordings
+  pub found : List Frame
+  pub named : HasNamed s t a b (read_lines choice.skips vs) found frames_a frames_b taking.recordings
+  pub spread : AreSpread choice.skips vs found fs
   pub takes : TakesOf choice vs fs taken
   pub asked : HasAsked choice.selection choice.around vs taking.chooser
   pub written : Appends output.contents (w.contents (sink_of taking.output)) (whole_capture taken)
@@ -61,23 +63,26 @@ pub record StopsTaking {S T W : Type 0} (s : SourceMembers S) (t : SourceMembers
   pub frames_b : List Frame
   pub read_a : ReadsPart (opening_at A a) frames_a (finding_of s.remaining s.failures taking.recordings.a)
   pub read_b : ReadsPart (opening_at B b) frames_b (finding_of t.remaining t.failures taking.recordings.b)
-  pub rise : Rise None vs
-  pub named : AreFramesOf frames_a frames_b vs fs
+  pub found : List Frame
+  pub rise : Rise None (read_lines choice.skips vs)
+  pub named : AreFramesOf frames_a frames_b (read_lines choice.skips vs) found
+  pub spread : AreSpread choice.skips vs found fs
   pub takes : TakesOf choice vs fs taken
-  pub why : IsTakeFault fault n a b vs v frames_a frames_b
+  pub read : is_read choice.skips v.network ≡ true
+  pub why : IsTakeFault fault n a b (read_lines choice.skips vs) v frames_a frames_b
   pub written : WritesUpTo choice fault frames_a frames_b vs v taken output.contents (w.contents (sink_of taking.output))
   pub a_failures : FailsWhere (names fault (RecordingSource A)) a.failures (finding_of s.remaining s.failures taking.recordings.a).reading.failures
   pub b_failures : FailsWhere (names fault (RecordingSource B)) b.failures (finding_of t.remaining t.failures taking.recordings.b).reading.failures
   pub output_failures : FailsWhere (names fault OutputSink) output.failures (w.failures (sink_of taking.output))
 
--- a line whose frame was found is written if it is taken, and else passed over
+-- A line whose frame was found is written if it is chosen, and else left out.
 abbrev pub WritesTaken : {S T W : Type 0} → SinkMembers W → Choice → List FrameLine → FrameLine → Frame → Result (Unit {0}) CutFault → Taking S T W → Taking S T W
     → Type 0
 WritesTaken w choice before v f result old new =
-    (Chooses choice before v
+    (IsChosen choice.selection choice.around before v
     × Writes result (w.contents (sink_of old.output)) (w.contents (sink_of new.output)) (w.failures (sink_of old.output)) (w.failures (sink_of new.output))
     (whole_packet f))
-    ⊎ ((Chooses choice before v → ⊥) × (result ≡ Ok tt) × (new.output ≡ old.output))
+    ⊎ ((IsChosen choice.selection choice.around before v → ⊥) × (result ≡ Ok tt) × (new.output ≡ old.output))
 
 -- ---- the ledger beside it
 
@@ -116,10 +121,12 @@ pub record StopsCut {L S T W : Type 0} (l : SourceMembers L) (s : SourceMembers 
   pub lines : ReadsLines stages.Head before.ledger.remaining rs stage left
   pub read_a : ReadsPart (opening_at A before.a) frames_a (finding_of s.remaining s.failures taking.recordings.a)
   pub read_b : ReadsPart (opening_at B before.b) frames_b (finding_of t.remaining t.failures taking.recordings.b)
-  pub rise : Rise None (frame_lines rs)
-  pub named : AreFramesOf frames_a frames_b (frame_lines rs) fs
+  pub found : List Frame
+  pub rise : Rise None (read_lines choice.skips (frame_lines rs))
+  pub named : AreFramesOf frames_a frames_b (read_lines choice.skips (frame_lines rs)) found
+  pub spread : AreSpread choice.skips (frame_lines rs) found fs
   pub takes : TakesOf choice (frame_lines rs) fs taken
-  pub why : IsLineFault fault before rs stage left frames_a frames_b
+  pub why : IsLineFault choice.skips fault before rs stage left (l.remaining (source_of ledger)) frames_a frames_b
   pub written : HasWritten choice fault rs stage left frames_a frames_b taken before.output.contents (w.contents (sink_of taking.output))
   pub ledger_failures : FailsWhere (names fault LedgerSource) before.ledger.failures (l.failures (source_of ledger))
   pub a_failures : FailsWhere (names fault (RecordingSource A)) before.a.failures (finding_of s.remaining s.failures taking.recordings.a).reading.failures

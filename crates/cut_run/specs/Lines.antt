@@ -1,5 +1,5 @@
 -- The lines of frames of a ledger, the frames that they name, and what is written of them (this project's format).
-use Rattle.std.specs.Prelude.{◌≡◌, ◌⊎◌, ℕ, List, [], ◌∷◌, ◌++◌, length, flat_map, slice_get, Option, Some, None, ⊤}
+use Rattle.std.specs.Prelude.{◌≡◌, ◌⊎◌, ℕ, Bool, true, false, List, [], ◌∷◌, ◌++◌, length, filter, flat_map, slice_get, Option, Some, None, ⊤}
 use Rattle.std.specs.declared.cmp.Ordering.TheVariants.{Less}
 use Rattle.afdx_frame.specs.Frame.{Frame, key_cmp}
 use Rattle.afdx_frame.specs.declared.key.Key.{Key}
@@ -49,14 +49,36 @@ AreFramesOf frames_a frames_b [] [] = ⊤
 AreFramesOf frames_a frames_b (v ∷ vs) (f ∷ fs) = IsFrameOf frames_a frames_b v f × AreFramesOf frames_a frames_b vs fs
 AreFramesOf frames_a frames_b vs fs = ⊥
 
--- which lines are taken: those of a selection, or where neighbours are taken too, those near the selected ones of these lines
+-- the frames of a network are looked up, unless its lines are passed over
+abbrev pub is_read : Option Network → Network → Bool
+is_read None network = true
+is_read (Some A) A = false
+is_read (Some A) B = true
+is_read (Some B) A = true
+is_read (Some B) B = false
+
+-- of these lines those whose frames are looked up
+abbrev pub read_lines : Option Network → List FrameLine → List FrameLine
+read_lines skips vs = filter (λ v. is_read skips v.network) vs
+
+-- of these lines those that are looked up have these frames in their places; in the places of the others stands any frame
+abbrev pub AreSpread : Option Network → List FrameLine → List Frame → List Frame → Type 0
+AreSpread skips [] found [] = found ≡ []
+AreSpread skips (v ∷ vs) found (f ∷ fs) =
+    ((is_read skips v.network ≡ true) × (more : List Frame) × (found ≡ f ∷ more) × AreSpread skips vs more fs)
+    ⊎ ((is_read skips v.network ≡ false) × AreSpread skips vs found fs)
+AreSpread skips vs found fs = ⊥
+
+-- Which lines are taken: those of a selection, or where neighbours are taken too, those near the selected ones of these lines. Lines of a network
+-- that is skipped are passed over.
 pub record Choice : Type 0 where
   pub selection : Selection
   pub around : Option Around
+  pub skips : Option Network
 
 -- a line that stands after these is taken
 abbrev pub Chooses : Choice → List FrameLine → FrameLine → Type 0
-Chooses choice before v = IsChosen choice.selection choice.around before v
+Chooses choice before v = (is_read choice.skips v.network ≡ true) × IsChosen choice.selection choice.around before v
 
 -- Of these lines, which stand after those before, and of what belongs to each, as its frame, this is taken, in their order.
 abbrev pub Takes : {X : Type 0} → Choice → List FrameLine → List FrameLine → List X → List X → Type 0

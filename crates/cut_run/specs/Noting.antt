@@ -1,5 +1,5 @@
 -- What is noted of a ledger's lines for their neighbours, and why it isn't (this project's profile).
-use Rattle.std.specs.Prelude.{◌≡◌, ◌⊎◌, ℕ, List, [], Option, None, Result, Ok, Err, ⊤}
+use Rattle.std.specs.Prelude.{◌≡◌, ◌⊎◌, ℕ, List, [], Option, None, Result, Ok, Err}
 use Rattle.std.specs.Io.KnownBytes.{IsAtEnd}
 use Rattle.ledger_text.specs.Ledger.{HasReadLines, ReadLine, ReadsLines, frame_lines}
 use Rattle.ledger_text.specs.Reader.{source_of}
@@ -13,7 +13,7 @@ use Rattle.line_selection.specs.declared.neighbours.Neighbours.{Neighbours}
 use Rattle.line_selection.specs.declared.selection.Selection.{Selection}
 use Rattle.run_outcome.specs.Device.{SourceMembers, SourceView, source_at}
 use Rattle.run_outcome.specs.Fault.{FailsWhere}
-use Rattle.cut_run.specs.Cut.{IsBadNext, NextSays}
+use Rattle.cut_run.specs.Cut.{FailsInLine, IsBadNext, NextSays}
 use Rattle.cut_run.specs.Faults.{LedgerSource, names}
 use Rattle.cut_run.specs.declared.fault.CutFault.{CutFault}
 use Rattle.cut_run.specs.declared.fault.CutFault.TheVariants as faults
@@ -34,11 +34,11 @@ pub record NotesLines (selection : Selection) (count : ℕ) (before after : Sour
   pub no_failure : after.failures ≡ before.failures
 
 -- what the fault says of the line after these; there may be no memory before the first line, or at the line of a frame
-abbrev pub IsNoteFault : CutFault → List ReadLine → Stage → Option (List ℕ) → Type 0
-IsNoteFault (faults.Ledger n fault) rs stage left = IsBadNext n fault rs stage left
-IsNoteFault (faults.Read source.Ledger) rs stage left = ⊤
-IsNoteFault faults.Memory rs stage left = (rs ≡ []) ⊎ ((v : FrameLine) × NextSays stage left v)
-IsNoteFault fault rs stage left = ⊥
+abbrev pub IsNoteFault : CutFault → List ReadLine → Stage → Option (List ℕ) → Option (List ℕ) → Type 0
+IsNoteFault (faults.Ledger n fault) rs stage left rest = IsBadNext n fault rs stage left
+IsNoteFault (faults.Read source.Ledger) rs stage left rest = FailsInLine left rest
+IsNoteFault faults.Memory rs stage left rest = (rs ≡ []) ⊎ ((v : FrameLine) × NextSays stage left v)
+IsNoteFault fault rs stage left rest = ⊥
 
 -- The run was aborted at the line after these.
 pub record AbortsNoting (fault : CutFault) (before after : SourceView) : Type 0 where
@@ -46,7 +46,7 @@ pub record AbortsNoting (fault : CutFault) (before after : SourceView) : Type 0 
   pub stage : Stage
   pub left : Option (List ℕ)
   pub lines : ReadsLines stages.Head before.remaining rs stage left
-  pub why : IsNoteFault fault rs stage left
+  pub why : IsNoteFault fault rs stage left after.remaining
   pub failures : FailsWhere (names fault LedgerSource) before.failures after.failures
 
 abbrev pub IsNeighboursRun : Selection → ℕ → Result Neighbours CutFault → SourceView → SourceView → Type 0

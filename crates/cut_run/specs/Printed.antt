@@ -1,8 +1,9 @@
 -- What is printed of a ledger's lines, and why it was aborted (this project's format).
-use Rattle.std.specs.Prelude.{◌≡◌, ◌≢◌, ◌⊎◌, ℕ, ◌<◌, ◌≤◌, List, [], ◌∷◌, ◌++◌, length, flat_map, take, Option, None, Some, Result, Ok, Err, ⊤}
+use Rattle.std.specs.Prelude.{◌≡◌, ◌≢◌, ◌⊎◌, ℕ, true, ◌<◌, ◌≤◌, List, [], ◌∷◌, ◌++◌, length, flat_map, take, Option, None, Some, Result, Ok, Err, ⊤}
 use Rattle.std.specs.Io.KnownBytes.{Appends, IsAtEnd}
 use Rattle.afdx_frame.specs.Frame.{Frame}
 use Rattle.afdx_frame.specs.declared.bounds.TheConstants.{MAX_SNAPLEN}
+use Rattle.afdx_frame.specs.declared.key.Network.{Network}
 use Rattle.afdx_frame.specs.declared.key.Network.TheVariants.{A, B}
 use Rattle.frame_finder.specs.Finder.{finder_source, finding_of}
 use Rattle.ledger_text.specs.Ledger.{HasReadLines, ReadLine, ReadsLines, TakesLine, frame_lines}
@@ -13,15 +14,15 @@ use Rattle.ledger_text.specs.declared.order.LedgerLine.TheVariants as lines
 use Rattle.ledger_text.specs.declared.order.Stage.{Stage}
 use Rattle.ledger_text.specs.declared.order.Stage.TheVariants as stages
 use Rattle.ledger_text.specs.declared.reader.LedgerReader.{LedgerReader}
-use Rattle.line_selection.specs.Neighbours.{HasAsked}
+use Rattle.line_selection.specs.Neighbours.{HasAsked, IsChosen}
 use Rattle.pcap_io.specs.Device.{Writes}
 use Rattle.run_outcome.specs.Device.{SinkMembers, SinkView, SourceMembers, SourceView, sink_at, source_at}
 use Rattle.run_outcome.specs.Fault.{FailsWhere}
 use Rattle.run_outcome.specs.Recording.{IsReadPart}
-use Rattle.cut_run.specs.Cut.{CutDevices, IsBadNext, IsLineFault, StopsAtOpening, any_lateness, ending_at}
+use Rattle.cut_run.specs.Cut.{CutDevices, FailsInLine, IsBadNext, IsLineFault, StopsAtOpening, any_lateness, ending_at}
 use Rattle.cut_run.specs.Cutting.{IsTakeFault}
 use Rattle.cut_run.specs.Faults.{LedgerSource, OutputSink, RecordingSource, names}
-use Rattle.cut_run.specs.Lines.{AreFramesOf, Choice, Chooses, Rise, TakesOf}
+use Rattle.cut_run.specs.Lines.{AreFramesOf, Choice, Chooses, Rise, TakesOf, is_read, read_lines}
 use Rattle.cut_run.specs.Naming.{HasNamed, ReadsPart, opening_at}
 use Rattle.cut_run.specs.declared.cut.CutEnding.{CutEnding}
 use Rattle.cut_run.specs.declared.fault.CutFault.{CutFault}
@@ -94,14 +95,15 @@ AreChecked (Some before) (Some after) vs =
     × (after.a.failures ≡ before.a.failures) × (after.b.failures ≡ before.b.failures)
 AreChecked before after vs = ⊥
 
--- The ledger was read to its end, and the output has the lines of frames that are taken, as they stand and in their order.
+-- The ledger was read to its end, and the output has the lines of frames that are taken, as they stand and in their order. Lines that are passed
+-- over aren't checked.
 pub record ArePrinted (choice : Choice) (e : CutEnding) (before after : LineDevices) : Type 0 where
   pub rs : List ReadLine
   pub stage : Stage
   pub left : Option (List ℕ)
   pub printed : List (List ℕ)
   pub lines : ReadsLines stages.Head before.ledger.remaining rs stage left
-  pub checked : AreChecked before.recordings after.recordings (frame_lines rs)
+  pub checked : AreChecked before.recordings after.recordings (read_lines choice.skips (frame_lines rs))
   pub takes : TakesOf choice (frame_lines rs) (frame_texts rs) printed
   pub ends : IsAtEnd left
   pub ending_is : e ≡ ending_at stage
@@ -118,19 +120,21 @@ StopsBefore fault before after (Some was) (Some now) = (fault ≢ faults.Write) 
 StopsBefore fault before after was now = ⊥
 
 -- what a fault says of the line after these, if there are no recordings
-abbrev pub IsLoneFault : CutFault → List ReadLine → Stage → Option (List ℕ) → Type 0
-IsLoneFault (faults.Ledger n fault) rs stage left = IsBadNext n fault rs stage left
-IsLoneFault (faults.Read source.Ledger) rs stage left = ⊤
-IsLoneFault faults.Write rs stage left = ⊤
-IsLoneFault fault rs stage left = ⊥
+abbrev pub IsLoneFault : CutFault → List ReadLine → Stage → Option (List ℕ) → Option (List ℕ) → Type 0
+IsLoneFault (faults.Ledger n fault) rs stage left rest = IsBadNext n fault rs stage left
+IsLoneFault (faults.Read source.Ledger) rs stage left rest = FailsInLine left rest
+IsLoneFault faults.Write rs stage left rest = ⊤
+IsLoneFault fault rs stage left rest = ⊥
 
 -- The lines before were checked, if there are recordings, and why the next one isn't printed.
-abbrev pub AreCheckedUpTo : CutFault → LineDevices → Option Sources → Option Sources → List ReadLine → Stage → Option (List ℕ) → Type 0
-AreCheckedUpTo fault before None None rs stage left = IsLoneFault fault rs stage left
-AreCheckedUpTo fault before (Some was) (Some now) rs stage left =
-    (frames_a : List Frame) × (frames_b : List Frame) × (frames : List Frame) × AreFound was now (frame_lines rs) frames_a frames_b frames
-    × IsLineFault fault (cut_devices before was) rs stage left frames_a frames_b
-AreCheckedUpTo fault before was now rs stage left = ⊥
+abbrev pub AreCheckedUpTo : Option Network → CutFault → LineDevices → Option Sources → Option Sources → List ReadLine → Stage → Option (List ℕ)
+    → Option (List ℕ) → Type 0
+AreCheckedUpTo skips fault before None None rs stage left rest = IsLoneFault fault rs stage left rest
+AreCheckedUpTo skips fault before (Some was) (Some now) rs stage left rest =
+    (frames_a : List Frame) × (frames_b : List Frame) × (frames : List Frame)
+    × AreFound was now (read_lines skips (frame_lines rs)) frames_a frames_b frames
+    × IsLineFault skips fault (cut_devices before was) rs stage left rest frames_a frames_b
+AreCheckedUpTo skips fault before was now rs stage left rest = ⊥
 
 -- The output has the lines that are taken. Where the sink failed, the next line is taken too, and a prefix of it follows.
 abbrev pub HasPrinted : Choice → CutFault → List ReadLine → Stage → Option (List ℕ) → List (List ℕ) → Option (List ℕ) → Option (List ℕ) → Type 0
@@ -146,7 +150,7 @@ pub record StopsPrinting (choice : Choice) (fault : CutFault) (before after : Li
   pub left : Option (List ℕ)
   pub printed : List (List ℕ)
   pub lines : ReadsLines stages.Head before.ledger.remaining rs stage left
-  pub checked : AreCheckedUpTo fault before before.recordings after.recordings rs stage left
+  pub checked : AreCheckedUpTo choice.skips fault before before.recordings after.recordings rs stage left after.ledger.remaining
   pub takes : TakesOf choice (frame_lines rs) (frame_texts rs) printed
   pub written : HasPrinted choice fault rs stage left printed before.output.contents after.output.contents
 
@@ -199,7 +203,7 @@ StopsChecking s t before vs v n fault recordings = ⊥
 -- These lines of frames, with these texts, were checked, and those that are taken were printed.
 pub record HasPrintedLines {S T W : Type 0} (s : SourceMembers S) (t : SourceMembers T) (w : SinkMembers W) (choice : Choice) (before : LineDevices)
     (vs : List FrameLine) (texts printed : List (List ℕ)) (printing : Printing S T W) : Type 0 where
-  pub checked : HasChecked s t before.recordings vs printing.recordings
+  pub checked : HasChecked s t before.recordings (read_lines choice.skips vs) printing.recordings
   pub takes : TakesOf choice vs texts printed
   pub asked : HasAsked choice.selection choice.around vs printing.chooser
   pub written : Appends before.output.contents (w.contents printing.output) (whole_lines printed)
@@ -211,13 +215,13 @@ abbrev pub PrintsMore : {S T W : Type 0} → SourceMembers S → SourceMembers T
 PrintsMore s t w choice before vs texts v text printing =
     (printed : List (List ℕ)) × HasPrintedLines s t w choice before (vs ++ v ∷ []) (texts ++ text ∷ []) printed printing
 
--- a line is printed if it is taken, and else passed over
+-- A line that isn't passed over is printed if it is chosen, and else left out.
 abbrev pub PrintsTaken : {S T W : Type 0} → SinkMembers W → Choice → List FrameLine → FrameLine → List ℕ → Result (Unit {0}) CutFault → Printing S T W
     → Printing S T W → Type 0
 PrintsTaken w choice before v text result old new =
-    (Chooses choice before v
+    (IsChosen choice.selection choice.around before v
     × Writes result (w.contents old.output) (w.contents new.output) (w.failures old.output) (w.failures new.output) (whole_line text))
-    ⊎ ((Chooses choice before v → ⊥) × (result ≡ Ok tt) × (new.output ≡ old.output))
+    ⊎ ((IsChosen choice.selection choice.around before v → ⊥) × (result ≡ Ok tt) × (new.output ≡ old.output))
 
 -- The lines that are taken were printed. Where the sink failed, this line is taken too, and a prefix of it was printed.
 abbrev pub PrintsUpTo : Choice → CutFault → List FrameLine → FrameLine → List ℕ → List (List ℕ) → Option (List ℕ) → Option (List ℕ) → Type 0
@@ -228,7 +232,8 @@ PrintsUpTo choice fault vs v text printed before after = Appends before after (w
 -- The lines before were printed, and this one stops the run.
 pub record StopsAtText {S T W : Type 0} (s : SourceMembers S) (t : SourceMembers T) (w : SinkMembers W) (choice : Choice) (before : LineDevices)
     (vs : List FrameLine) (texts printed : List (List ℕ)) (v : FrameLine) (text : List ℕ) (n : ℕ) (fault : CutFault) (printing : Printing S T W) : Type 0 where
-  pub checked : StopsChecking s t before.recordings vs v n fault printing.recordings
+  pub checked : StopsChecking s t before.recordings (read_lines choice.skips vs) v n fault printing.recordings
+  pub read : is_read choice.skips v.network ≡ true
   pub takes : TakesOf choice vs texts printed
   pub written : PrintsUpTo choice fault vs v text printed before.output.contents (w.contents printing.output)
   pub output_failures : FailsWhere (names fault OutputSink) before.output.failures (w.failures printing.output)

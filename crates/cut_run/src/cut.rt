@@ -4,6 +4,7 @@ ghost use Rattle.afdx_frame.specs.Frame.{Frame};
 ghost use Rattle.afdx_frame.specs.declared.bounds.TheConstants.{MAX_SNAPLEN};
 ghost use Rattle.frame_finder.specs.Finder.{finder_source, finding_of};
 ghost use Rattle.ledger_text.specs.declared.frame.FrameLine.{FrameLine};
+ghost use Rattle.afdx_frame.specs.declared.key.Network.{Network};
 ghost use Rattle.ledger_text.specs.declared.bounds.TheConstants.{MOST_LINES};
 ghost use Rattle.line_selection.specs.Neighbours.{AreNoted, Around, HasAsked};
 ghost use Rattle.pcap_io.specs.Writer.{has_failed, sink_of};
@@ -16,15 +17,15 @@ ghost use Rattle.cut_run.specs.declared.fault.CutFault.TheVariants as faults;
 
 use crate::fault::{CutFault, CutSource};
 use crate::observer::LineObserver;
-use crate::recordings::{Recordings, Unopened};
-use afdx_frame::TapFrame;
+use crate::recordings::{Recordings, Unopened, is_read};
+use afdx_frame::{Network, TapFrame};
 use ledger_text::{Found, FrameLine, LedgerLine, LedgerReader, LinesRefused, ReadFault};
 use line_selection::{Chooser, Neighbours, Selection};
 use pcap_io::{CaptureWriter, OutSink, TapSource};
 use std::alloc::Global;
 
 /// How the ledger of a cut ended.
-#[derive(Clone, Copy, Debug, PartialEq, Eq)]
+#[derive(Clone, Copy, PartialEq, Eq)]
 pub enum CutEnding {
     /// After its line `total`.
     Complete,
@@ -33,7 +34,7 @@ pub enum CutEnding {
 }
 
 /// A cut that has ended, with the devices that it was given.
-#[derive(Debug, Drop)]
+#[derive(Drop)]
 pub struct CutRun<L, S, T, W> {
     /// How the ledger ended, or why the cut was aborted.
     pub outcome: Result<CutEnding, CutFault>,
@@ -82,11 +83,11 @@ impl<S: TapSource, T: TapSource, W: OutSink> Taking<S, T, W> {
     ) -> Result<(), CutFault>
         requires { has_failed self.old.output ≡ false }
         ensures recordings { self.new.recordings ≡ self.old.recordings }
-        ensures written { (around : Option Around) (before : List FrameLine) → length before < MOST_LINES
-            → HasAsked selection.now around before self.old.chooser
+        ensures written { (around : Option Around) (skips : Option Network) (before : List FrameLine)
+            → length before < MOST_LINES → HasAsked selection.now around before self.old.chooser
             → HasAsked selection.now around (before ++ line.now ∷ []) self.new.chooser
-            × WritesTaken W.OutSink (record { selection = selection.now; around = around }) before line.now
-            frame.now result self.old self.new }
+            × WritesTaken W.OutSink (record { selection = selection.now; around = around; skips = skips })
+            before line.now frame.now result self.old self.new }
         ensures going { OnOk result (has_failed self.new.output ≡ false) }
         ensures fault { IfErr result (λ fault. fault ≡ faults.Write) }
     {
@@ -98,20 +99,36 @@ impl<S: TapSource, T: TapSource, W: OutSink> Taking<S, T, W> {
         self.output.put(frame, whole).map_err(|_| CutFault::Write)
     }
 
+    /// Passes over the ledger's next line.
+    #[inline]
+    fn pass_over<O: LineObserver>(&mut self, observer: &O, selection: &Selection, line: &FrameLine)
+        ensures recordings { self.new.recordings ≡ self.old.recordings }
+        ensures output { self.new.output ≡ self.old.output }
+        ensures asked { (around : Option Around) (before : List FrameLine) → length before < MOST_LINES
+            → HasAsked selection.now around before self.old.chooser
+            → HasAsked selection.now around (before ++ line.now ∷ []) self.new.chooser }
+    {
+        if self.chooser.takes(selection, line) {
+            observer.passes(line);
+        }
+    }
+
     /// Finds the frame of the ledger's next line, whose number this is, and writes it, if the line is taken.
+    /// A line of the network that is skipped is passed over.
     #[inline]
     fn cut_line<O: LineObserver>(
         &mut self,
         alloc: Global,
         observer: &O,
         selection: &Selection,
+        skips: Option<Network>,
         line: &FrameLine,
         number: u64,
     ) -> Result<(), CutFault>
         requires { has_failed self.old.output ≡ false }
         ensures cut { (around : Option Around) (a b : SourceView) (output : SinkView) (vs : List FrameLine)
             (fs taken frames_a frames_b : List Frame) → length vs < MOST_LINES
-            → (let choice : Choice = record { selection = selection.now; around = around } in
+            → (let choice : Choice = record { selection = selection.now; around = around; skips = skips } in
             HasTaken S.TapSource T.TapSource W.OutSink choice a b output vs fs taken
             frames_a frames_b self.old
             → MatchResult result
@@ -121,6 +138,11 @@ impl<S: TapSource, T: TapSource, W: OutSink> Taking<S, T, W> {
             line.now number fault self.new)) }
         ensures going { OnOk result (has_failed self.new.output ≡ false) }
     {
+        observer.reads(line);
+        if !is_read(skips, line.network) {
+            self.pass_over(observer, selection, line);
+            return Ok(());
+        }
         let frame = self.recordings.find(alloc, line, number)?;
         self.write_taken(observer, selection, line, &frame)
     }
@@ -150,13 +172,14 @@ fn cut_lines<L: TapSource, S: TapSource, T: TapSource, W: OutSink, O: LineObserv
     alloc: Global,
     observer: &O,
     selection: &Selection,
+    skips: Option<Network>,
     ledger: &mut LedgerReader<L>,
     taking: &mut Taking<S, T, W>,
 ) -> Result<CutEnding, CutFault>
     requires sound { ledger_failed ledger.old ≡ false }
     requires going { has_failed taking.old.output ≡ false }
     ensures { (around : Option Around) (before : CutDevices)
-        → (let choice : Choice = record { selection = selection.now; around = around } in
+        → (let choice : Choice = record { selection = selection.now; around = around; skips = skips } in
         HasCut L.TapSource S.TapSource T.TapSource W.OutSink choice before [] [] [] [] []
         ledger.old taking.old
         → MatchResult result
@@ -168,7 +191,7 @@ fn cut_lines<L: TapSource, S: TapSource, T: TapSource, W: OutSink, O: LineObserv
     loop {
         match ledger.advance() {
             Ok(Found::Line(LedgerLine::Frame(line))) => {
-                taking.cut_line(alloc, observer, selection, &line, ledger.number())?;
+                taking.cut_line(alloc, observer, selection, skips, &line, ledger.number())?;
             }
             Ok(Found::Line(LedgerLine::Head)) => {}
             Ok(Found::Line(LedgerLine::Counts(_))) => {}
@@ -193,10 +216,12 @@ fn refused<L, S, T, W>(fault: CutFault, ledger: L, a: S, b: T, output: W) -> Cut
 }
 
 /// Writes a capture of the frames whose lines in a ledger the selection takes, whole as recorded and in the
-/// ledger's order. Each line of a frame is checked against its network's recording, taken or not.
+/// ledger's order. Each line of a frame is checked against its network's recording, taken or not. Lines of
+/// the network that is skipped, as one without a recording, are passed over.
 ///
 /// With neighbours, which [`neighbours_of`](crate::neighbours_of) has found by the same selection, the lines
-/// near selected ones are taken too. `observer` is told the line of each packet before it is written.
+/// near selected ones are taken too. `observer` is told each line of a frame, and that of each packet before
+/// it is written.
 ///
 /// One pass over all three files. It allocates a block for each of them, and room for the frames
 /// that a recording with late timestamps has before those that the ledger names earlier. All devices
@@ -211,6 +236,7 @@ pub fn cut_frames<L: TapSource, S: TapSource, T: TapSource, W: OutSink, O: LineO
     alloc: Global,
     selection: &Selection,
     neighbours: Option<Neighbours>,
+    skips: Option<Network>,
     ledger: L,
     a: S,
     b: T,
@@ -218,7 +244,7 @@ pub fn cut_frames<L: TapSource, S: TapSource, T: TapSource, W: OutSink, O: LineO
     observer: &O,
 ) -> CutRun<L, S, T, W>
     ensures { (around : Option Around) → AreNoted selection.now around neighbours
-        → IsCutRun (record { selection = selection.now; around = around }) result.outcome
+        → IsCutRun (record { selection = selection.now; around = around; skips = skips }) result.outcome
         (devices_at L.TapSource S.TapSource T.TapSource W.OutSink ledger a b output)
         (devices_at L.TapSource S.TapSource T.TapSource W.OutSink
         result.ledger result.a result.b result.output) }
@@ -246,7 +272,7 @@ pub fn cut_frames<L: TapSource, S: TapSource, T: TapSource, W: OutSink, O: LineO
         output,
         chooser: Chooser::new(neighbours),
     };
-    let outcome = cut_lines(alloc, observer, selection, &mut ledger, &mut taking);
+    let outcome = cut_lines(alloc, observer, selection, skips, &mut ledger, &mut taking);
     let (a, b, output) = taking.into_devices();
     CutRun {
         outcome,

@@ -1,5 +1,6 @@
 //! The lines of a ledger that a selection takes, as they stand.
 ghost use Rattle.std.specs.Prelude.{◌≡◌, ◌≢◌, ◌<◌, ◌++◌, ◌∷◌, [], ℕ, false, length, List, Option, IfErr, MatchResult};
+ghost use Rattle.afdx_frame.specs.declared.key.Network.{Network};
 ghost use Rattle.ledger_text.specs.Ledger.{has_failed as ledger_failed};
 ghost use Rattle.ledger_text.specs.declared.bounds.TheConstants.{MOST_LINES};
 ghost use Rattle.ledger_text.specs.declared.frame.FrameLine.{FrameLine};
@@ -13,7 +14,9 @@ ghost use Rattle.cut_run.specs.declared.fault.CutFault.TheVariants as faults;
 
 use crate::cut::{CutEnding, ledger_fault};
 use crate::fault::CutFault;
-use crate::recordings::{Recordings, Unopened};
+use crate::observer::LineObserver;
+use crate::recordings::{Recordings, Unopened, is_read};
+use afdx_frame::Network;
 use ledger_text::{Found, FrameLine, LedgerLine, LedgerReader, LinesRefused};
 use line_selection::{Chooser, Neighbours, Selection};
 use pcap_io::{DeviceFault, OutSink, TapSource, write_all};
@@ -77,43 +80,61 @@ fn check<S: TapSource, T: TapSource>(
 impl<S: TapSource, T: TapSource, W: OutSink> Printing<S, T, W> {
     /// Prints the ledger's next line, if it is taken.
     #[inline]
-    fn print_taken(
+    fn print_taken<O: LineObserver>(
         &mut self,
+        observer: &O,
         selection: &Selection,
         line: &FrameLine,
         text: &[u8],
     ) -> Result<(), CutFault>
         ensures recordings { self.new.recordings ≡ self.old.recordings }
-        ensures written { (around : Option Around) (before : List FrameLine) → length before < MOST_LINES
-            → HasAsked selection.now around before self.old.chooser
+        ensures written { (around : Option Around) (skips : Option Network) (before : List FrameLine)
+            → length before < MOST_LINES → HasAsked selection.now around before self.old.chooser
             → HasAsked selection.now around (before ++ line.now ∷ []) self.new.chooser
-            × PrintsTaken W.OutSink (record { selection = selection.now; around = around }) before line.now
-            text.now result self.old self.new }
+            × PrintsTaken W.OutSink (record { selection = selection.now; around = around; skips = skips })
+            before line.now text.now result self.old self.new }
         ensures fault { IfErr result (λ fault. fault ≡ faults.Write) }
     {
         if !self.chooser.takes(selection, line) {
             return Ok(());
         }
+        observer.writes(line);
         match write_line(&mut self.output, text) {
             Ok(()) => Ok(()),
             Err(DeviceFault) => Err(CutFault::Write),
         }
     }
 
-    /// Prints the ledger's next line, whose number this is, if it is taken. Where there are recordings, its
-    /// frame is found first, taken or not.
+    /// Passes over the ledger's next line.
     #[inline]
-    fn print_line(
+    fn pass_over<O: LineObserver>(&mut self, observer: &O, selection: &Selection, line: &FrameLine)
+        ensures recordings { self.new.recordings ≡ self.old.recordings }
+        ensures output { self.new.output ≡ self.old.output }
+        ensures asked { (around : Option Around) (before : List FrameLine) → length before < MOST_LINES
+            → HasAsked selection.now around before self.old.chooser
+            → HasAsked selection.now around (before ++ line.now ∷ []) self.new.chooser }
+    {
+        if self.chooser.takes(selection, line) {
+            observer.passes(line);
+        }
+    }
+
+    /// Prints the ledger's next line, whose number this is, if it is taken. Where there are recordings, its
+    /// frame is found first, taken or not. A line of the network that is skipped is passed over.
+    #[inline]
+    fn print_line<O: LineObserver>(
         &mut self,
         alloc: Global,
+        observer: &O,
         selection: &Selection,
+        skips: Option<Network>,
         line: &FrameLine,
         number: u64,
         text: &[u8],
     ) -> Result<(), CutFault>
         ensures { (around : Option Around) (before : LineDevices) (vs : List FrameLine)
             (texts printed : List (List ℕ)) → length vs < MOST_LINES
-            → (let choice : Choice = record { selection = selection.now; around = around } in
+            → (let choice : Choice = record { selection = selection.now; around = around; skips = skips } in
             HasPrintedLines S.TapSource T.TapSource W.OutSink choice before vs texts printed self.old
             → MatchResult result
             (λ _. PrintsMore S.TapSource T.TapSource W.OutSink choice before vs texts line.now text.now
@@ -121,8 +142,13 @@ impl<S: TapSource, T: TapSource, W: OutSink> Printing<S, T, W> {
             (λ fault. StopsAtText S.TapSource T.TapSource W.OutSink choice before vs texts printed
             line.now text.now number fault self.new)) }
     {
+        observer.reads(line);
+        if !is_read(skips, line.network) {
+            self.pass_over(observer, selection, line);
+            return Ok(());
+        }
         check(&mut self.recordings, alloc, line, number)?;
-        self.print_taken(selection, line, text)
+        self.print_taken(observer, selection, line, text)
     }
 
     /// The sources and the sink.
@@ -143,15 +169,17 @@ impl<S: TapSource, T: TapSource, W: OutSink> Printing<S, T, W> {
 }
 
 /// Prints up to the ledger's end.
-fn print_all<L: TapSource, S: TapSource, T: TapSource, W: OutSink>(
+fn print_all<L: TapSource, S: TapSource, T: TapSource, W: OutSink, O: LineObserver>(
     alloc: Global,
+    observer: &O,
     selection: &Selection,
+    skips: Option<Network>,
     ledger: &mut LedgerReader<L>,
     printing: &mut Printing<S, T, W>,
 ) -> Result<CutEnding, CutFault>
     requires sound { ledger_failed ledger.old ≡ false }
     ensures { (around : Option Around) (before : LineDevices)
-        → (let choice : Choice = record { selection = selection.now; around = around } in
+        → (let choice : Choice = record { selection = selection.now; around = around; skips = skips } in
         HasPrintedLedger L.TapSource S.TapSource T.TapSource W.OutSink choice before [] []
         ledger.old printing.old
         → LeavesLines L.TapSource S.TapSource T.TapSource W.OutSink choice result before
@@ -160,7 +188,15 @@ fn print_all<L: TapSource, S: TapSource, T: TapSource, W: OutSink>(
     loop {
         match ledger.advance() {
             Ok(Found::Line(LedgerLine::Frame(line))) => {
-                printing.print_line(alloc, selection, &line, ledger.number(), ledger.line())?;
+                printing.print_line(
+                    alloc,
+                    observer,
+                    selection,
+                    skips,
+                    &line,
+                    ledger.number(),
+                    ledger.line(),
+                )?;
             }
             Ok(Found::Line(LedgerLine::Head)) => {}
             Ok(Found::Line(LedgerLine::Counts(_))) => {}
@@ -173,7 +209,8 @@ fn print_all<L: TapSource, S: TapSource, T: TapSource, W: OutSink>(
 
 /// Prints the lines of frames that the selection takes, as they stand in the ledger and in its order. Where
 /// there are recordings, each line of a frame is checked against its network's, taken or not. With
-/// neighbours the lines near selected ones are taken too, as in [`cut_frames`](crate::cut_frames).
+/// neighbours the lines near selected ones are taken too, and lines of the network that is skipped are passed
+/// over, as in [`cut_frames`](crate::cut_frames).
 ///
 /// One pass. It allocates a block for each file that it reads. All devices come back. Sources may have
 /// been read ahead.
@@ -183,16 +220,18 @@ fn print_all<L: TapSource, S: TapSource, T: TapSource, W: OutSink>(
 /// As those of [`cut_frames`](crate::cut_frames), and those that name a recording only if there are
 /// recordings. The output has the whole lines up to the fault, and after `Write` a prefix of the next
 /// one.
-pub fn print_lines<L: TapSource, S: TapSource, T: TapSource, W: OutSink>(
+pub fn print_lines<L: TapSource, S: TapSource, T: TapSource, W: OutSink, O: LineObserver>(
     alloc: Global,
     selection: &Selection,
     neighbours: Option<Neighbours>,
+    skips: Option<Network>,
     ledger: L,
     recordings: Option<(S, T)>,
     output: W,
+    observer: &O,
 ) -> LinesRun<L, S, T, W>
     ensures { (around : Option Around) → AreNoted selection.now around neighbours
-        → IsLinesRun (record { selection = selection.now; around = around }) result.outcome
+        → IsLinesRun (record { selection = selection.now; around = around; skips = skips }) result.outcome
         (line_devices_at L.TapSource S.TapSource T.TapSource W.OutSink ledger recordings output)
         (line_devices_at L.TapSource S.TapSource T.TapSource W.OutSink
         result.ledger result.recordings result.output) }
@@ -227,7 +266,14 @@ pub fn print_lines<L: TapSource, S: TapSource, T: TapSource, W: OutSink>(
         output,
         chooser: Chooser::new(neighbours),
     };
-    let outcome = print_all(alloc, selection, &mut ledger, &mut printing);
+    let outcome = print_all(
+        alloc,
+        observer,
+        selection,
+        skips,
+        &mut ledger,
+        &mut printing,
+    );
     let (recordings, output) = printing.into_devices();
     LinesRun {
         outcome,

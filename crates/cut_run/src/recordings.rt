@@ -9,7 +9,7 @@ ghost use Rattle.ledger_text.specs.declared.frame.FrameLine.{FrameLine};
 ghost use Rattle.run_outcome.specs.Device.{SourceView, source_at};
 ghost use Rattle.run_outcome.specs.Recording.{WasOpened};
 ghost use Rattle.cut_run.specs.Cut.{AreRefused};
-ghost use Rattle.cut_run.specs.Lines.{ComesLater, key_of_line};
+ghost use Rattle.cut_run.specs.Lines.{ComesLater, is_read, key_of_line};
 ghost use Rattle.cut_run.specs.Naming.{HasNamed, Names, StopsNaming, name_fault, open_fault};
 
 use crate::fault::{CutFault, CutSource};
@@ -45,6 +45,17 @@ fn key_of(line: &FrameLine) -> Key
         stamp: line.stamp,
         network: line.network,
         number: u64::from(line.number),
+    }
+}
+
+/// Are the frames of this network looked up? Its lines are passed over where it is skipped.
+#[inline]
+pub(crate) fn is_read(skips: Option<Network>, network: Network) -> bool
+    ensures { result ≡ is_read skips network }
+{
+    match (skips, network) {
+        (Some(Network::A), Network::A) | (Some(Network::B), Network::B) => false,
+        _ => true,
     }
 }
 

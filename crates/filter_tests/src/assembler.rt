@@ -1,8 +1,7 @@
-//! The assembler and the listing: worked filters from their source to their answers, each mnemonic with
-//! each form of operand, a fault of each kind, real sizes, and failing allocations.
+//! The assembler and the listing: worked filters from their source to their answers, and failing
+//! allocations. Each mnemonic with each form of operand, and a fault of each kind, are cases of the
+//! program (`tests/assembling.py`).
 
 mod allocation;
-mod faults;
 mod programs;
-mod sizes;
-mod table;
+// further: mod sizes;

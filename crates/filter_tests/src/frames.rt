@@ -1,16 +1,20 @@
 //! Frames at their bounds, with bytes of their own and in a block that they share, the order of keys, and
 //! views at their shortest lengths.
 
-use afdx_frame::{FrameBytes, FrameView, Key, Network, Stamp, TapFrame, VlId, key_order};
+use afdx_frame::{
+    FrameBytes, FrameView, Key, LentFrame, Network, Stamp, TapFrame, VlId, key_order,
+};
 use std::alloc::Global;
 use std::sync::Arc;
 use std::test::Fail;
+
+// further: mod parts;
 
 /// Nanoseconds.
 const SECOND: u64 = 1_000_000_000;
 
 /// From a source on network A to link 5: addresses, type, two bytes of body, sequence number 42.
-const FRAME: [u8; 17] = [
+pub(crate) const FRAME: [u8; 17] = [
     0x03, 0, 0, 0, 0, 5, 0x02, 0, 0, 0, 1, 0x20, 0x08, 0, 0x45, 0x46, 42,
 ];
 
@@ -30,25 +34,34 @@ const BOUNDS: [(u64, u64, u32, usize, bool); 12] = [
     (0, 0, 0, 1, false),
 ];
 
+const fn key(stamp: u64, network: Network, number: u64) -> Key {
+    Key {
+        stamp: Stamp(stamp),
+        network,
+        number,
+    }
+}
+
+/// The frame has this key, this length on the wire, and so many captured bytes, each of them a 7.
+fn is_of(frame: &TapFrame, key: Key, whole: u32, captured: usize) -> bool {
+    let bytes = frame.view().bytes();
+    frame.key() == key
+        && frame.whole() == whole
+        && bytes.len() == captured
+        && bytes.iter().all(|byte| *byte == 7)
+}
+
 #[test]
 fn frames_at_their_bounds(rt: HostRuntime) -> Result<(), Fail> {
-    for (number, stamp, whole, captured, fits) in BOUNDS {
+    for bounds in &BOUNDS {
+        let (number, stamp, whole, captured, fits) = *bounds;
         let bytes = vec![in rt.alloc(); 7; captured]?;
         match TapFrame::new(Network::B, number, Stamp(stamp), whole, bytes) {
             Ok(frame) => {
-                assert!(rt;
-                    fits,
-                    "number {number}, stamp {stamp}, {captured} of {whole} bytes"
-                );
-                assert!(rt; frame.view().bytes().len() == captured);
+                assert!(rt; fits && is_of(&frame, key(stamp, Network::B, number), whole, captured));
             }
             Err(back) => {
-                assert!(rt;
-                    !fits,
-                    "number {number}, stamp {stamp}, {captured} of {whole} bytes"
-                );
-                assert!(rt; back.len() == captured);
-                assert!(rt; back.last() == Some(&7));
+                assert!(rt; !fits && back.len() == captured && back.last() == Some(&7));
             }
         }
     }
@@ -69,48 +82,19 @@ fn bytes_of(alloc: Global, captured: usize, shared: bool) -> Result<FrameBytes, 
 
 #[test]
 fn frames_that_share_at_their_bounds(rt: HostRuntime) -> Result<(), Fail> {
-    for (number, stamp, whole, captured, fits) in BOUNDS {
+    for bounds in &BOUNDS {
+        let (number, stamp, whole, captured, fits) = *bounds;
         for shared in [true, false] {
             let bytes = bytes_of(rt.alloc(), captured, shared)?;
-            let frame = TapFrame::sharing(Network::B, number, Stamp(stamp), whole, bytes);
-            assert!(rt;
-                frame.is_some() == fits,
-                "number {number}, stamp {stamp}, {captured} of {whole} bytes"
-            );
-            let Some(frame) = frame else {
-                continue;
-            };
-            assert!(rt; frame.key() == key(stamp, Network::B, number));
-            assert!(rt; frame.whole() == whole);
-            assert!(rt; frame.view().bytes().len() == captured);
-            assert!(rt; frame.view().bytes().iter().all(|byte| *byte == 7));
+            match TapFrame::sharing(Network::B, number, Stamp(stamp), whole, bytes) {
+                Some(frame) => {
+                    assert!(rt;
+                        fits && is_of(&frame, key(stamp, Network::B, number), whole, captured)
+                    );
+                }
+                None => assert!(rt; !fits),
+            }
         }
-    }
-    Ok(())
-}
-
-#[test]
-fn parts_of_a_block(rt: HostRuntime) -> Result<(), Fail> {
-    let alloc = rt.alloc();
-    let block = Arc::new(alloc, FRAME.to_vec(alloc)?)?;
-    let mut parts = Vec::new(alloc);
-    for from in 0..=FRAME.len() {
-        for to in from..=FRAME.len() {
-            parts.push((from, to, FrameBytes::part(&block, from, to)?))?;
-        }
-    }
-    assert!(rt; parts.len() == 171);
-    // While a part is left, the block isn't given back.
-    let Err(block) = Arc::try_unwrap(block) else {
-        return Err("the block was given back".into());
-    };
-    for (from, to, part) in parts {
-        assert!(rt; from <= to && to <= FRAME.len());
-        assert!(rt; part.as_slice() == &FRAME[from..to], "from {from} to {to}");
-    }
-    match Arc::try_unwrap(block) {
-        Ok(bytes) => assert!(rt; bytes.as_slice() == FRAME.as_slice()),
-        Err(_) => panic!(rt; "the block is still shared"),
     }
     Ok(())
 }
@@ -128,33 +112,39 @@ fn a_part_outlives_its_block(rt: HostRuntime) -> Result<(), Fail> {
     Ok(())
 }
 
-#[test]
-fn parts_of_a_frame(rt: HostRuntime) -> Result<(), Fail> {
-    let bytes = FRAME.to_vec(rt.alloc())?;
-    let frame = TapFrame::new(Network::B, 3, Stamp(8), 60, bytes).map_err(|_| "refused")?;
-    assert!(rt; frame.network() == Network::B);
-    assert!(rt; frame.number() == 3);
-    assert!(rt; frame.stamp() == Stamp(8));
-    assert!(rt; frame.whole() == 60);
-    assert!(rt; frame.key() == key(8, Network::B, 3));
-    assert!(rt; frame.view().vl() == Some(VlId(5)));
-    let lent = frame.lent();
-    assert!(rt; lent.network() == Network::B);
-    assert!(rt; lent.number() == 3);
-    assert!(rt; lent.stamp() == Stamp(8));
-    assert!(rt; lent.whole() == 60);
-    assert!(rt; lent.key() == frame.key());
-    assert!(rt; lent.view().bytes() == FRAME.as_slice());
-    assert!(rt; frame.view().bytes() == FRAME.as_slice());
-    Ok(())
+/// A frame of 60 bytes on the wire, with these bytes.
+fn sample(alloc: Global) -> Option<TapFrame> {
+    let bytes = FRAME.to_vec(alloc).ok()?;
+    TapFrame::new(Network::B, 3, Stamp(8), 60, bytes).ok()
 }
 
-const fn key(stamp: u64, network: Network, number: u64) -> Key {
-    Key {
-        stamp: Stamp(stamp),
-        network,
-        number,
-    }
+/// Each part of the frame is what it was made of.
+fn is_sample(frame: &TapFrame) -> bool {
+    frame.network() == Network::B
+        && frame.number() == 3
+        && frame.stamp() == Stamp(8)
+        && frame.whole() == 60
+        && frame.key() == key(8, Network::B, 3)
+        && frame.view().vl() == Some(VlId(5))
+        && frame.view().bytes() == FRAME.as_slice()
+}
+
+fn is_lent_sample(frame: LentFrame<'_>) -> bool {
+    frame.network() == Network::B
+        && frame.number() == 3
+        && frame.stamp() == Stamp(8)
+        && frame.whole() == 60
+        && frame.key() == key(8, Network::B, 3)
+        && frame.view().bytes() == FRAME.as_slice()
+}
+
+#[test]
+fn parts_of_a_frame(rt: HostRuntime) {
+    let Some(frame) = sample(rt.alloc()) else {
+        panic!(rt; "no frame within the bounds");
+    };
+    assert!(rt; is_sample(&frame));
+    assert!(rt; is_lent_sample(frame.lent()));
 }
 
 #[test]
@@ -166,8 +156,7 @@ fn keys_by_stamp_then_network_then_number(rt: HostRuntime) {
         (key(1, A, 0), key(1, A, 1)),
         (key(1, B, 9), key(1, B, 10)),
     ] {
-        assert!(rt; lower < higher, "{lower:?} and {higher:?}");
-        assert!(rt; higher > lower, "{higher:?} and {lower:?}");
+        assert!(rt; lower < higher && higher > lower);
     }
     key_order();
 }
@@ -189,11 +178,9 @@ fn views_at_their_shortest_lengths(rt: HostRuntime) {
         (&FRAME[..], constant, link, Some(42), Some(&FRAME[14..16])),
     ] {
         let view = FrameView::new(bytes);
-        let captured = bytes.len();
-        assert!(rt; view.bytes() == bytes);
-        assert!(rt; view.constant() == constant, "of {captured} bytes");
-        assert!(rt; view.vl() == link, "of {captured} bytes");
-        assert!(rt; view.sequence() == sequence, "of {captured} bytes");
-        assert!(rt; view.body() == body, "of {captured} bytes");
+        assert!(rt; view.bytes() == bytes && view.body() == body);
+        assert!(rt;
+            view.constant() == constant && view.vl() == link && view.sequence() == sequence
+        );
     }
 }

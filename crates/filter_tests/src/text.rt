@@ -1,10 +1,10 @@
-//! The source text of filters: worked examples, each form of operand, a fault at each kind of place,
-//! every prefix and every changed byte beside a reference parser, real sizes, and failing
-//! allocations.
+//! The source text of filters: worked examples, a fault at each kind of place, and
+//! failing allocations.
 
 mod allocation;
-mod cuts;
+// further: mod cuts;
 mod faults;
 mod forms;
-mod reference;
-mod sizes;
+// further: mod operands;
+// further: mod reference;
+// further: mod sizes;

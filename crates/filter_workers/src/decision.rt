@@ -13,7 +13,7 @@ use std::alloc::{AllocError, Global};
 pub const MAX_FILTERS: usize = 8;
 
 /// What the filters say of a frame.
-#[derive(Clone, Copy, Debug, PartialEq, Eq)]
+#[derive(Clone, Copy, PartialEq, Eq)]
 pub struct Decision {
     /// Bit i is set where filter i accepts the frame.
     pub mask: u8,

@@ -11,7 +11,7 @@ use bpf_loader::Program;
 use std::alloc::{AllocError, Global};
 
 /// What the filters say of the frame of a number.
-#[derive(Clone, Copy, Debug)]
+#[derive(Clone, Copy)]
 pub(crate) struct Numbered {
     pub(crate) number: u64,
     pub(crate) decision: Decision,

@@ -43,7 +43,7 @@ pub enum FindFault {
 ///
 /// It reads the recording once. Frames that it passes are kept as long as they may still be asked for:
 /// only those whose timestamp lies above the one that is asked for, while that of a higher index is.
-#[derive(Debug, Drop)]
+#[derive(Drop)]
 pub struct FrameFinder<S> {
     reader: TapReader<S>,
     passed: BTreeMap<Place, TapFrame>,

@@ -10,7 +10,7 @@ use toml::Value;
 use vl_config::Key;
 
 /// Why a cell has no value.
-#[derive(Clone, Copy, Debug, PartialEq, Eq)]
+#[derive(Clone, Copy, PartialEq, Eq)]
 pub enum CellFault {
     /// It is none of its column's values.
     Value,

@@ -10,11 +10,11 @@ use csv::StringRecord;
 use vl_config::Key;
 
 /// A head stands twice, or none is `id`.
-#[derive(Clone, Copy, Debug)]
+#[derive(Clone, Copy)]
 pub struct WrongHeads;
 
 /// The places of the columns in a row. None: the document has no such column.
-#[derive(Clone, Copy, Debug)]
+#[derive(Clone, Copy)]
 pub struct Columns {
     pub id: usize,
     pub name: Option<usize>,

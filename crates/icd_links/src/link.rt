@@ -6,7 +6,7 @@ use afdx_frame::VlId;
 
 /// What a document specifies of a virtual link, in the units and the ranges of a table. None: it leaves that
 /// out.
-#[derive(Debug, Drop)]
+#[derive(Drop)]
 pub struct IcdLink {
     /// The identifier.
     pub id: VlId,

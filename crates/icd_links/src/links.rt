@@ -18,7 +18,7 @@ use std::alloc::Global;
 use vl_config::MAX_LINKS;
 
 /// What a document specifies of virtual links, no two of one identifier or one name.
-#[derive(Debug, Drop)]
+#[derive(Drop)]
 pub struct IcdLinks {
     links: Vec<IcdLink>,
 }

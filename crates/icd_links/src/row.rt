@@ -20,7 +20,7 @@ use std::alloc::{AllocFailed, Global};
 use vl_config::Key;
 
 /// Why a row isn't taken.
-#[derive(Clone, Copy, Debug)]
+#[derive(Clone, Copy)]
 pub enum RowFault {
     /// A cell has none of its column's values: the first one that has none.
     Value(Key),

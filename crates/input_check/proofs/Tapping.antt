@@ -5,7 +5,7 @@ use Rattle.std.proofs.lemmas.List.Sums.{count_by-le-length, sum_by-cons}
 use Rattle.std.specs.List.{count_by}
 use Rattle.afdx_frame.specs.Frame.{Frame}
 use Rattle.input_check.specs.Checksum.{ends_with_check}
-use Rattle.input_check.specs.Taps.{Classed, CountsTap, digest_after, first_of, is_checked, is_foreign, is_long, is_number, is_whole, network_number, one_if, whole_frames}
+use Rattle.input_check.specs.Taps.{Classed, CountsTap, digest_after, first_of, is_checked, is_cut, is_foreign, is_long, is_number, is_unlisted, is_whole, longest_with, network_number, one_if, whole_frames}
 use Rattle.input_check.specs.declared.tap.TapTally.{TapTally}
 
 pub count_few : (test : Classed → Bool) (frames : List Classed) → count_by test frames ≤ length frames
@@ -100,8 +100,10 @@ module _ (old new : TapTally) (frames : List Classed) (classed : Classed) (held 
 
   pub tap_more : new.frames ≡ old.frames + 1 → new.as_a ≡ one_if (is_number 1 (network_number classed.frame.bytes)) + old.as_a →
       new.as_b ≡ one_if (is_number 2 (network_number classed.frame.bytes)) + old.as_b → new.digest ≡ digest_after old.digest classed.frame →
-      new.foreign ≡ one_if (is_foreign classed.class) + old.foreign → new.long ≡ one_if (is_long classed.class) + old.long → CountsTap new (classed ∷ frames)
-  tap_more frames_are a b digest foreign long = record {
+      new.foreign ≡ one_if (is_foreign classed.class) + old.foreign → new.long ≡ one_if (is_long classed.class) + old.long →
+      new.unlisted ≡ one_if (is_unlisted classed.class) + old.unlisted → new.cut ≡ one_if (is_cut classed.class) + old.cut →
+      new.snaplen ≡ longest_with classed.class (length classed.frame.bytes) old.snaplen → CountsTap new (classed ∷ frames)
+  tap_more frames_are a b digest foreign long unlisted cut snaplen = record {
     frames_are = omega (arith, frames_are, held.frames_are);
     checked = checked_more.0;
     with_check = checked_more.1;
@@ -110,4 +112,7 @@ module _ (old new : TapTally) (frames : List Classed) (classed : Classed) (held 
     digest = digest ∙ ap (λ n. digest_after n classed.frame) held.digest;
     foreign = count_more (λ c. is_foreign c.class) classed frames old.foreign new.foreign held.foreign foreign;
     long = count_more (λ c. is_long c.class) classed frames old.long new.long held.long long;
+    unlisted = count_more (λ c. is_unlisted c.class) classed frames old.unlisted new.unlisted held.unlisted unlisted;
+    cut = count_more (λ c. is_cut c.class) classed frames old.cut new.cut held.cut cut;
+    snaplen = snaplen ∙ ap (λ n. longest_with classed.class (length classed.frame.bytes) n) held.snaplen;
   }

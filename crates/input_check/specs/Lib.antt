@@ -2,6 +2,7 @@ pub mod Checksum
 pub mod Clocks
 pub mod Decide
 pub mod Formats
+pub mod Lasts
 pub mod Parts
 pub mod Questions
 pub mod Seen

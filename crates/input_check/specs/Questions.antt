@@ -1,5 +1,5 @@
 -- What looks wrong with the inputs of a run, in the order in which it is to be mended, by counts alone (this project's profile).
-use Rattle.std.specs.Prelude.{◌≡◌, ℕ, ◌+◌, ◌-◌, ◌<◌, ◌≤◌, ◌==◌, Bool, true, false, not, ◌&&◌, ◌||◌, List, [], ◌∷◌, ◌++◌, length, min, max, nat_lt, get_or, Option, Some, None, is_some, if◌then◌else◌}
+use Rattle.std.specs.Prelude.{◌≡◌, ℕ, ◌+◌, ◌-◌, ◌*◌, ◌/◌, ◌<◌, ◌≤◌, ◌==◌, Bool, true, false, not, ◌&&◌, ◌||◌, List, [], ◌∷◌, ◌++◌, length, min, max, nat_lt, get_or, Option, Some, None, is_some, if◌then◌else◌}
 use Rattle.std.specs.List.{All, cons_option, sum_by}
 use Rattle.std.specs.Option.{option_map_or}
 use Rattle.afdx_frame.specs.declared.key.Network.{Network}
@@ -93,6 +93,25 @@ of_frames a b most =
     ++ (asked_if (has_checks b) (question.CheckSequence B)
     ++ asked_if (not (has_checks a) && (not (has_checks b) && is_nearly_all long all)) (question.TooLong long all)))
 
+abbrev pub is_over_half : ℕ → ℕ → Bool
+is_over_half count frames = nat_lt frames (count * 2)
+
+abbrev pub cut_on : Network → TapTally → Question
+cut_on network tally = question.Cut network tally.cut tally.frames tally.snaplen
+
+-- more than one frame in a hundred is cut short: by the recorder's snaplen, and not by an end within a record
+abbrev pub are_many_cut : TapTally → Bool
+are_many_cut tally = nat_lt (tally.frames / 100) tally.cut
+
+-- whether more than half of the frames are of links that the table lacks, and whether the recordings hold frames whole
+abbrev pub of_classes : TapTally → TapTally → List Question
+of_classes a b =
+    let all = sum_up (a.frames + b.frames) in
+    let unlisted = sum_up (a.unlisted + b.unlisted) in
+    asked_if (is_over_half unlisted all) (question.OtherTable unlisted all)
+    ++ (asked_if (are_many_cut a) (cut_on A a)
+    ++ asked_if (are_many_cut b) (cut_on B b))
+
 -- ---- the clocks
 
 -- the sum over the links with redundancy management on
@@ -169,4 +188,4 @@ pub record AreQuestions (inputs : Inputs) (look : Look) (questions : List Questi
   pub frames_are : AsksFrames inputs.a inputs.b (constants_of inputs) frames
   pub settled : is_settled inputs.a inputs.b ≡ true → clocks ≡ []
   pub open_is : is_settled inputs.a inputs.b ≡ false → AsksClocks (pairs_in inputs) (overlap_in look) clocks
-  pub are : questions ≡ of_networks inputs.a inputs.b (overlap_in look) ++ (frames ++ clocks)
+  pub are : questions ≡ of_networks inputs.a inputs.b (overlap_in look) ++ (frames ++ (of_classes inputs.a inputs.b ++ clocks))

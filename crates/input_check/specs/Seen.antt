@@ -1,5 +1,5 @@
 -- What was counted of two recordings whose frames were shown, the newest first.
-use Rattle.std.specs.Prelude.{◌≡◌, List, [], map, filter}
+use Rattle.std.specs.Prelude.{◌≡◌, List, map, filter}
 use Rattle.afdx_frame.specs.Frame.{Frame}
 use Rattle.afdx_frame.specs.declared.key.Network.{Network}
 use Rattle.link_estimate.specs.CopyPairs.{is_same}

@@ -4,6 +4,7 @@ use Rattle.afdx_frame.specs.declared.key.Network.{Network}
 use Rattle.afdx_frame.specs.declared.key.Network.TheVariants.{A, B}
 use Rattle.link_estimate.specs.CopyPairs.{CountsCopies, SeenFrame, frames_on, is_same}
 use Rattle.input_check.specs.Clocks.{first_meeting}
+use Rattle.input_check.specs.Lasts.{HasLast}
 use Rattle.input_check.specs.declared.clocks.Meeting.{Meeting}
 use Rattle.input_check.specs.declared.clocks.Sample.{Sample}
 use Rattle.input_check.specs.declared.link.LinkTally.{LinkTally}
@@ -27,7 +28,7 @@ pub record KeepsStarts (starts : Starts) (samples : List Sample) : Type 0 where
   pub kept : kept_samples starts ≡ first_samples samples
 
 -- What is counted of a link whose copies come no more than a skew after their frames.
-pub record CountsTally (skew : ℕ) (tally : LinkTally) (frames : List SeenFrame) : Type 0 where
+pub record CountsFrames (skew : ℕ) (tally : LinkTally) (frames : List SeenFrame) : Type 0 where
   pub frames_a : tally.frames_a ≡ frames_on A frames
   pub frames_b : tally.frames_b ≡ frames_on B frames
   pub starts_a : KeepsStarts tally.starts_a (samples_on A frames)
@@ -35,10 +36,19 @@ pub record CountsTally (skew : ℕ) (tally : LinkTally) (frames : List SeenFrame
   pub copies : CountsCopies tally.copies frames
   pub most_skew : tally.copies.most_skew ≡ skew
 
+-- with the last frame that both networks brought
+pub record CountsTally (skew : ℕ) (tally : LinkTally) (frames : List SeenFrame) : Type 0 where
+  pub counts : CountsFrames skew tally frames
+  pub last : HasLast frames tally.last
+
 -- how many frames of a network were counted
 abbrev pub counted_on : Network → LinkTally → ℕ
 counted_on A tally = tally.frames_a
 counted_on B tally = tally.frames_b
+
+abbrev pub starts_on : Network → LinkTally → List Sample
+starts_on A tally = kept_samples tally.starts_a
+starts_on B tally = kept_samples tally.starts_b
 
 -- the first frame on network B that network A has too, among the first of both
 abbrev pub meeting_of : LinkTally → Option Meeting

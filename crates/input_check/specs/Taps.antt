@@ -1,10 +1,10 @@
 -- What is counted of one recording, over the list of its frames, the newest first. The source address, whose last byte begins with the network's number, is
 -- ARINC 664 Part 7's; that the check sequence is looked for in the first 64 frames that were recorded whole, and the digest, are this project's profile.
-use Rattle.std.specs.Prelude.{◌≡◌, ℕ, ◌+◌, ◌-◌, ◌*◌, ◌/◌, ◌%◌, ◌^◌, ◌==◌, ◌&&◌, Bool, true, false, List, [], ◌∷◌, length, map, filter, drop, min, count_by, nat_lt, nat_le, Option, Some, None, slice_get, slice_index, bit_or, bit_xor, if◌then◌else◌}
+use Rattle.std.specs.Prelude.{◌≡◌, ℕ, ◌+◌, ◌-◌, ◌*◌, ◌/◌, ◌%◌, ◌^◌, ◌==◌, ◌&&◌, Bool, true, false, List, [], ◌∷◌, length, map, filter, drop, max, min, count_by, nat_lt, nat_le, Option, Some, None, slice_get, slice_index, bit_or, bit_xor, if◌then◌else◌}
 use Rattle.std.specs.Option.{option_map}
 use Rattle.afdx_frame.specs.Frame.{Frame}
 use Rattle.vl_config.specs.declared.class.Class.{Class}
-use Rattle.vl_config.specs.declared.class.Class.TheVariants.{Foreign, TooLong}
+use Rattle.vl_config.specs.declared.class.Class.TheVariants.{Cut, Foreign, TooLong, Unconfigured}
 use Rattle.input_check.specs.Checksum.{ends_with_check}
 use Rattle.input_check.specs.declared.decide.Marks.{Marks}
 use Rattle.input_check.specs.declared.tap.TapTally.{TapTally}
@@ -21,6 +21,22 @@ is_foreign _ = false
 abbrev pub is_long : Option Class → Bool
 is_long (Some TooLong) = true
 is_long _ = false
+
+abbrev pub is_unlisted : Option Class → Bool
+is_unlisted (Some Unconfigured) = true
+is_unlisted _ = false
+
+abbrev pub is_cut : Option Class → Bool
+is_cut (Some Cut) = true
+is_cut _ = false
+
+-- the most bytes held of a frame that is cut short, with one frame more
+abbrev pub longest_with : Option Class → ℕ → ℕ → ℕ
+longest_with class held longest = if is_cut class then max longest held else longest
+
+abbrev pub longest_cut : List Classed → ℕ
+longest_cut [] = 0
+longest_cut (classed ∷ before) = longest_with classed.class (length classed.frame.bytes) (longest_cut before)
 
 -- the number of the network that the source address names, in the three bits at the head of its last byte
 abbrev pub network_number : List ℕ → Option ℕ
@@ -76,6 +92,9 @@ pub record CountsTap (tally : TapTally) (frames : List Classed) : Type 0 where
   pub digest : tally.digest ≡ digest_of frames
   pub foreign : tally.foreign ≡ count_by (λ classed. is_foreign classed.class) frames
   pub long : tally.long ≡ count_by (λ classed. is_long classed.class) frames
+  pub unlisted : tally.unlisted ≡ count_by (λ classed. is_unlisted classed.class) frames
+  pub cut : tally.cut ≡ count_by (λ classed. is_cut classed.class) frames
+  pub snaplen : tally.snaplen ≡ longest_cut frames
 
 -- two recordings have as many frames, and the same digest; none where there is no frame
 abbrev pub are_same : TapTally → TapTally → Bool

@@ -4,14 +4,14 @@ ghost use Rattle.std.specs.Prelude.{◌≡◌, ◌==◌, ◌<◌, ◌≤◌, ℕ
 ghost use Rattle.input_check.specs.Clocks.{IsMostSupported, first_meeting, is_near, met, support};
 
 /// When a frame with a sequence number came, in nanoseconds.
-#[derive(Clone, Copy, Debug, PartialEq, Eq)]
+#[derive(Clone, Copy, PartialEq, Eq)]
 pub struct Sample {
     pub stamp: u64,
     pub number: u8,
 }
 
 /// When one frame came on networks A and B, each by the clock of its tap, in nanoseconds.
-#[derive(Clone, Copy, Debug, PartialEq, Eq)]
+#[derive(Clone, Copy, PartialEq, Eq)]
 pub struct Meeting {
     pub a: u64,
     pub b: u64,

@@ -11,7 +11,7 @@ pub fn is_nearly_all(count: u64, frames: u64) -> bool
 }
 
 /// The timestamps of what was read of a recording, in nanoseconds, and whether that is all of it.
-#[derive(Clone, Copy, Debug)]
+#[derive(Clone, Copy)]
 pub struct Reach {
     pub least: u64,
     pub greatest: u64,
@@ -19,7 +19,7 @@ pub struct Reach {
 }
 
 /// Whether two recordings overlap in time.
-#[derive(Clone, Copy, Debug, PartialEq, Eq)]
+#[derive(Clone, Copy, PartialEq, Eq)]
 pub enum Overlap {
     /// They do.
     Together,
@@ -54,7 +54,7 @@ pub fn overlap_of(a: Reach, b: Reach) -> Overlap
 
 /// How many frames of a recording there are, and how many of them have the source address of an end system on
 /// network A, and on network B.
-#[derive(Clone, Copy, Debug)]
+#[derive(Clone, Copy)]
 pub struct Marks {
     pub frames: u64,
     pub as_a: u64,
@@ -62,7 +62,7 @@ pub struct Marks {
 }
 
 /// How recordings are given to other networks than their frames' source addresses name.
-#[derive(Clone, Copy, Debug, PartialEq, Eq)]
+#[derive(Clone, Copy, PartialEq, Eq)]
 pub enum Wiring {
     /// That of A is given as B's, and that of B as A's.
     Swapped,

@@ -15,14 +15,14 @@ pub enum Order {
 }
 
 /// The unit of a pcap file's timestamps.
-#[derive(Clone, Copy, Debug, PartialEq, Eq)]
+#[derive(Clone, Copy, PartialEq, Eq)]
 pub enum Unit {
     Micro,
     Nano,
 }
 
 /// The format of a recording.
-#[derive(Clone, Copy, Debug, PartialEq, Eq)]
+#[derive(Clone, Copy, PartialEq, Eq)]
 pub enum Format {
     Pcap(Order, Unit),
     Pcapng,

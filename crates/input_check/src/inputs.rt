@@ -26,7 +26,7 @@ pub struct Constant {
 }
 
 /// The table's part of the counts.
-#[derive(Debug, Drop)]
+#[derive(Drop)]
 struct Listed<'a> {
     constant: u32,
     links: &'a [Link],
@@ -41,7 +41,7 @@ struct Listed<'a> {
 }
 
 /// What was seen of two recordings, and of the links of the table if there is one.
-#[derive(Debug, Drop)]
+#[derive(Drop)]
 pub struct Inputs<'a> {
     a: TapTally,
     b: TapTally,
@@ -137,7 +137,11 @@ impl<'a> Inputs<'a> {
     /// # Errors
     ///
     /// `AllocError` if the system is out of memory.
-    pub fn new(alloc: Global, config: Option<&'a Config>) -> Result<Inputs<'a>, AllocError> {
+    pub fn new(alloc: Global, config: Option<&'a Config>) -> Result<Inputs<'a>, AllocError>
+        // What `Observer::has_seen` takes of the first value: no frame is counted on either network.
+        ensures a { IfOk result (λ inputs. CountsTap (tap_of A inputs) []) }
+        ensures b { IfOk result (λ inputs. CountsTap (tap_of B inputs) []) }
+    {
         let listed = match config {
             Some(config) => Some(Listed::new(alloc, config)?),
             None => None,

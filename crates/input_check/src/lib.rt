@@ -8,8 +8,10 @@
 mod checksum;
 mod clocks;
 mod decide;
+mod drift;
 mod format;
 mod inputs;
+mod last;
 mod link;
 mod questions;
 mod tap;
@@ -19,6 +21,7 @@ pub use clocks::{Meeting, Sample, first_meeting, most_supported, support};
 pub use decide::{
     Marks, Overlap, Reach, Wiring, are_copies_few, is_agreed, is_nearly_all, overlap_of, wiring_of,
 };
+pub use drift::{Drift, link_questions};
 pub use format::{FORMAT_LEN, Format, Order, Unit, format_of};
 pub use inputs::{Constant, Inputs, MAX_CONSTANTS};
 pub use link::{LinkTally, STARTS};

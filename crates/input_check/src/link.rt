@@ -3,6 +3,7 @@
 ghost use Rattle.std.specs.Prelude.{◌≡◌, ◌≤◌, ◌<◌, ◌^◌, ℕ, List, [], ◌∷◌, length};
 
 use crate::clocks::{Meeting, Sample, first_meeting};
+use crate::last::LastFrames;
 use afdx_frame::{Network, Stamp};
 use link_estimate::Copies;
 
@@ -10,7 +11,7 @@ use link_estimate::Copies;
 pub const STARTS: usize = 32;
 
 /// A link's first frames on one network.
-#[derive(Debug, Drop)]
+#[derive(Drop)]
 struct Starts {
     samples: [Sample; 32],
     count: usize,
@@ -58,18 +59,19 @@ impl Starts {
 }
 
 /// The frames of a link of the table.
-#[derive(Debug, Drop)]
+#[derive(Drop)]
 pub struct LinkTally {
     frames_a: u64,
     frames_b: u64,
     starts_a: Starts,
     starts_b: Starts,
     copies: Copies,
+    last: LastFrames,
 }
 
 impl LinkTally {
     ghost use Rattle.link_estimate.specs.CopyPairs.{SeenFrame};
-    ghost use Rattle.input_check.specs.Tallies.{CountsTally, counted_on, meeting_of};
+    ghost use Rattle.input_check.specs.Tallies.{CountsFrames, CountsTally, counted_on, meeting_of, starts_on};
 
     /// Of no frame. A copy comes at most so many nanoseconds after the first frame.
     pub fn new(skew: u64) -> LinkTally
@@ -81,6 +83,7 @@ impl LinkTally {
             starts_a: Starts::new(),
             starts_b: Starts::new(),
             copies: Copies::within(skew),
+            last: LastFrames::new(),
         }
     }
 
@@ -94,6 +97,22 @@ impl LinkTally {
               stamp = stamp.0;
             } ∷ frames) }
     {
+        self.count(network, stamp, number);
+        let stamp = stamp.0;
+        self.last.see(network, Sample { stamp, number });
+    }
+
+    /// Counts it, without the last frame that both networks brought.
+    #[inline(always)]
+    fn count(&mut self, network: Network, stamp: Stamp, number: u8)
+        ensures counts { (skew : ℕ) (frames : List SeenFrame) → length frames < 2 ^ 32
+            → CountsFrames skew self.old frames → CountsFrames skew self.new (record {
+              network = network;
+              number = number;
+              stamp = stamp.0;
+            } ∷ frames) }
+        ensures last { self.new.last ≡ self.old.last }
+    {
         match network {
             Network::A => {
                 self.frames_a = self.frames_a.saturating_add(1);
@@ -105,6 +124,23 @@ impl LinkTally {
             }
         }
         self.copies.see(network, number, stamp);
+    }
+
+    /// The last frame that both networks brought, one after the other.
+    pub fn last_meeting(&self) -> Option<Meeting>
+        ensures { result ≡ self.now.last.met }
+    {
+        self.last.met()
+    }
+
+    /// The first frames on a network.
+    pub fn starts(&self, network: Network) -> &[Sample]
+        ensures { result.now ≡ starts_on network self.now }
+    {
+        match network {
+            Network::A => self.starts_a.as_slice(),
+            Network::B => self.starts_b.as_slice(),
+        }
     }
 
     /// How many frames there are on a network.

@@ -5,19 +5,20 @@ ghost use Rattle.std.specs.Prelude.{◌≡◌, ◌&&◌, ◌||◌, ◌++◌, not
 ghost use Rattle.input_check.specs.Decide.{is_nearly_all};
 ghost use Rattle.input_check.specs.Parts.{constants_of, pairs_in};
 ghost use Rattle.input_check.specs.Taps.{are_same};
-ghost use Rattle.input_check.specs.Questions.{Appends, AreQuestions, AsksClocks, AsksFrames, IsDifference, IsMostCommon, asked_if, has_checks, meetings_of, of_networks, option_list, overlap_in, pairs_of};
+ghost use Rattle.input_check.specs.Questions.{Appends, AreQuestions, AsksClocks, AsksFrames, IsDifference, IsMostCommon, are_many_cut, asked_if, cut_on, has_checks, is_over_half, meetings_of, of_classes, of_networks, option_list, overlap_in, pairs_of};
 
 use crate::clocks::{Meeting, most_supported, support};
 use crate::decide::{
     Overlap, Reach, Wiring, are_copies_few, is_agreed, is_nearly_all, overlap_of, wiring_of,
 };
+use crate::drift::Drift;
 use crate::inputs::{Constant, Inputs};
 use crate::tap::TapTally;
 use afdx_frame::Network;
 use std::alloc::{AllocError, Global};
 
 /// How far the clock of one tap is ahead of the other's.
-#[derive(Clone, Copy, Debug)]
+#[derive(Clone, Copy)]
 pub struct Difference {
     /// The tap whose clock is ahead.
     pub ahead: Network,
@@ -29,7 +30,7 @@ pub struct Difference {
 }
 
 /// What looks wrong.
-#[derive(Clone, Copy, Debug)]
+#[derive(Clone, Copy)]
 pub enum Question {
     /// Both networks' recordings have the same frames.
     SameRecording,
@@ -50,12 +51,31 @@ pub enum Question {
         frames: u64,
         of: u64,
     },
+    /// More than half of all frames are of links that the table lacks.
+    OtherTable {
+        frames: u64,
+        of: u64,
+    },
+    /// The recording of a network doesn't hold so many of its frames whole, and at most so many bytes of one.
+    Cut {
+        network: Network,
+        frames: u64,
+        of: u64,
+        snaplen: u64,
+    },
+    /// The frames of links come twice on a network; their source addresses name both networks, or don't.
+    Twice {
+        network: Network,
+        mixed: bool,
+    },
+    /// The clocks move apart.
+    Drift(Drift),
     /// Hardly a frame is the copy of another; the sequence numbers may say how far the clocks are apart.
     Clocks(Option<Difference>),
 }
 
 /// What was read of the recordings of networks A and B. None: no frame.
-#[derive(Clone, Copy, Debug)]
+#[derive(Clone, Copy)]
 pub struct Look {
     pub a: Option<Reach>,
     pub b: Option<Reach>,
@@ -232,6 +252,48 @@ fn ask_of_frames(questions: &mut Vec<Question>, inputs: &Inputs<'_>) -> Result<b
     Ok(of_a || of_b)
 }
 
+/// Are so many of all frames more than half of them?
+fn is_over_half(count: u64, frames: u64) -> bool
+    ensures { result ≡ is_over_half count frames }
+{
+    (frames as u128) < count as u128 * 2
+}
+
+/// Whether the table is that of the frames, and the recordings hold them whole.
+fn ask_of_classes(
+    questions: &mut Vec<Question>,
+    a: &TapTally,
+    b: &TapTally,
+) -> Result<(), AllocError>
+    ensures { OnOk result (questions.new.items ≡ questions.old.items ++ of_classes a.now b.now) }
+{
+    let of = a.frames().saturating_add(b.frames());
+    let frames = a.unlisted.saturating_add(b.unlisted);
+    let other = Question::OtherTable { frames, of };
+    ask_if(questions, is_over_half(frames, of), other)?;
+    ask_if(questions, are_many_cut(a), cut_on(Network::A, a))?;
+    ask_if(questions, are_many_cut(b), cut_on(Network::B, b))
+}
+
+/// Are more than one in a hundred of a recording's frames cut short? Fewer are told by the run itself.
+fn are_many_cut(tap: &TapTally) -> bool
+    ensures { result ≡ are_many_cut tap.now }
+{
+    tap.cut > tap.frames() / 100
+}
+
+/// The question of the frames of a network that are cut short.
+fn cut_on(network: Network, tap: &TapTally) -> Question
+    ensures { result ≡ cut_on network tap.now }
+{
+    Question::Cut {
+        network,
+        frames: tap.cut,
+        of: tap.frames(),
+        snaplen: tap.snaplen,
+    }
+}
+
 /// Are nearly all frames too long, and by more than check sequences?
 fn are_too_long(of_a: bool, of_b: bool, frames: u64, of: u64) -> bool
     ensures { result ≡ (not of_a && (not of_b && is_nearly_all frames of)) }
@@ -289,6 +351,7 @@ pub fn questions_of(
     let overlap = look.overlap();
     ask_of_networks(&mut questions, a, b, overlap)?;
     let has_checks = ask_of_frames(&mut questions, inputs)?;
+    ask_of_classes(&mut questions, a, b)?;
     if !is_settled(has_checks, a, b) {
         ask_of_clocks(alloc, &mut questions, inputs, overlap)?;
     }

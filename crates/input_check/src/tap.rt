@@ -2,7 +2,7 @@
 
 ghost use Rattle.std.specs.Prelude.{◌≡◌, ◌+◌, ◌<◌, ◌^◌, ◌&&◌, List, [], ◌∷◌, length};
 ghost use Rattle.input_check.specs.Checksum.{ends_with_check};
-ghost use Rattle.input_check.specs.Taps.{Classed, CountsTap, are_same, ends_of, is_checked, is_foreign, is_long, is_number, network_number, one_if};
+ghost use Rattle.input_check.specs.Taps.{Classed, CountsTap, are_same, ends_of, is_checked, is_cut, is_foreign, is_long, is_number, is_unlisted, longest_with, network_number, one_if};
 
 use crate::checksum::ends_with_check;
 use crate::decide::Marks;
@@ -16,7 +16,7 @@ pub const CHECKED: u64 = 64;
 const INTERFACE: usize = 11;
 
 /// The counts of a recording's frames.
-#[derive(Clone, Copy, Debug)]
+#[derive(Clone, Copy)]
 pub struct TapTally {
     frames: u64,
     /// Frames of which the check sequence was looked for, and those that have it.
@@ -31,6 +31,11 @@ pub struct TapTally {
     pub foreign: u64,
     /// Frames longer than their link's Smax allows.
     pub long: u64,
+    /// Frames of links that the table lacks.
+    pub unlisted: u64,
+    /// Frames that the recording doesn't hold whole, and the most bytes that it holds of one of them.
+    pub cut: u64,
+    pub snaplen: u64,
 }
 
 /// An odd number with bits in all places.
@@ -50,6 +55,9 @@ impl TapTally {
             digest: 0,
             foreign: 0,
             long: 0,
+            unlisted: 0,
+            cut: 0,
+            snaplen: 0,
         }
     }
 
@@ -63,8 +71,8 @@ impl TapTally {
             } ∷ frames) }
     {
         self.frames = self.frames.saturating_add(1);
-        self.see_class(class);
         let bytes = frame.view().bytes();
+        self.see_class(class, bytes.len());
         let shape = ends_of(bytes) << 32 | u64::from(frame.whole());
         self.digest = (self.digest ^ frame.stamp().0)
             .wrapping_mul(MULTIPLIER)
@@ -73,18 +81,26 @@ impl TapTally {
         self.see_check(bytes, frame.whole());
     }
 
-    /// Counts a frame of another constant field, or one that is too long.
+    /// Counts a frame by its class, of which so many bytes are held.
     #[inline]
-    fn see_class(&mut self, class: Option<Class>)
-        ensures { self.old.foreign < 2 ^ 32 → self.old.long < 2 ^ 32
-            → self.new ≡ record self.old {
+    fn see_class(&mut self, class: Option<Class>, held: usize)
+        ensures { self.old.foreign < 2 ^ 32 → self.old.long < 2 ^ 32 → self.old.unlisted < 2 ^ 32
+            → self.old.cut < 2 ^ 32 → self.new ≡ record self.old {
               foreign = one_if (is_foreign class) + self.old.foreign;
               long = one_if (is_long class) + self.old.long;
+              unlisted = one_if (is_unlisted class) + self.old.unlisted;
+              cut = one_if (is_cut class) + self.old.cut;
+              snaplen = longest_with class held self.old.snaplen;
             } }
     {
         match class {
             Some(Class::Foreign) => self.foreign = self.foreign.saturating_add(1),
             Some(Class::TooLong) => self.long = self.long.saturating_add(1),
+            Some(Class::Unconfigured) => self.unlisted = self.unlisted.saturating_add(1),
+            Some(Class::Cut) => {
+                self.cut = self.cut.saturating_add(1);
+                self.snaplen = self.snaplen.max(held as u64);
+            }
             Some(_) | None => {}
         }
     }

@@ -8,7 +8,7 @@ use std::marker::Model;
 
 /// Integrity checking of one virtual link on one network. It keeps the sequence number of the frame
 /// before, valid or not.
-#[derive(Debug, Drop)]
+#[derive(Drop)]
 pub struct Check {
     last: Option<u8>,
 }

@@ -1,5 +1,5 @@
 -- One more line of the ledger, for the blocks of a link's lines.
-use Rattle.std.proofs.Common.{◌≡◌, ◌≢◌, ◌∙◌, ℕ, zero, suc, ◌+◌, ◌<◌, ◌≤◌, ◌==◌, ◌⊎◌, inl, inr, Bool, true, false, not, ◌&&◌, ◌||◌, nat_lt, cond, List, [], ◌∷◌, ◌++◌, length, filter, take, reverse, Option, Some, None, if◌then◌else◌, refl, sym, ap, subst, arith, length-append}
+use Rattle.std.proofs.Common.{◌≡◌, ◌≢◌, ◌∙◌, ℕ, zero, suc, ◌+◌, ◌<◌, ◌≤◌, ◌^◌, ◌==◌, ◌⊎◌, inl, inr, Bool, true, false, not, ◌&&◌, ◌||◌, nat_lt, cond, List, [], ◌∷◌, ◌++◌, length, filter, take, reverse, Option, Some, None, if◌then◌else◌, refl, sym, ap, subst, arith, length-append}
 use Rattle.std.specs.List.{cons_option, list_any}
 use Rattle.std.specs.Option.{option_eq, option_map_or}
 use Rattle.std.proofs.Math.Bool.{beq}
@@ -9,9 +9,10 @@ use Rattle.std.proofs.lemmas.List.Sums.{sum_by-append}
 use Rattle.afdx_frame.specs.declared.key.Network.{Network}
 use Rattle.afdx_frame.specs.declared.key.Network.TheVariants.{A, B}
 use Rattle.ledger_text.specs.declared.frame.FrameLine.{FrameLine}
-use Rattle.ledger_report.specs.Absent.{Each, EachBlock, EndsRuns, GetsAbsences, HasBlocks, HasOlder, HasRun, HasRuns, HoldsRuns, IsDecided, TellsAbsences, absence_of, absence_with, blocks, counts_in, covers_after, is_block_on, joined, last_block, last_in, longer, longest_on, oldest_stamp, other_before, put_line, seen_lines, settled}
+use Rattle.ledger_report.specs.Absent.{Each, EachBlock, EndsAbsences, EndsRuns, GetsAbsences, HasAbsences, HasBlocks, HasOlder, HasRun, HasRuns, HoldsRuns, IsDecided, TellsAbsences, absence_of, absence_with, blocks, counts_in, covers_after, is_block_on, joined, last_block, last_in, longer, longest_on, oldest_stamp, other_before, put_line, seen_lines, settled}
 use Rattle.ledger_report.specs.Both.{side_of, with_side}
 use Rattle.ledger_report.specs.Covered.{covered_so_far, has_silence_after, is_covered}
+use Rattle.ledger_report.specs.Gaps.{HasGaps, TellsGaps}
 use Rattle.ledger_report.specs.Keeping.{KeepsNetworks}
 use Rattle.ledger_report.specs.Links.{Row}
 use Rattle.ledger_report.specs.Networks.{IsNetworkOf}
@@ -28,8 +29,10 @@ use Rattle.ledger_report.specs.declared.moment.Moment.{Moment}
 use Rattle.ledger_report.specs.declared.moment.Place.{Place}
 use Rattle.ledger_report.specs.declared.network.NetworkReport.{NetworkReport}
 use Rattle.ledger_report.specs.declared.network.Silence.{Silence}
+use Rattle.ledger_report.specs.declared.presence.Presence.{Presence}
 use Rattle.ledger_report.specs.declared.sides.Sides.{Sides}
 use Rattle.ledger_report.proofs.Coverings.{any_count}
+use Rattle.ledger_report.proofs.GapSteps.{times_unseen}
 use Rattle.ledger_report.proofs.NetworkSteps.{count_cons, frames_other, frames_own, keeps_network}
 
 -- ---- what is covered
@@ -113,7 +116,7 @@ any_push p (suc n) (x ∷ xs) s off = ap (λ (b : Bool). p x || b) (any_push p n
 
 has_same : (network : Network) (line : FrameLine) (lines : List FrameLine) (count : ℕ) → count < frames_on network lines →
     has_silence_after count (kept_silences network (line ∷ lines)) ≡ has_silence_after count (kept_silences network lines)
-has_same network line lines count less = at (is_on network line && is_silent network lines)
+has_same network line lines count less = at (is_on network line && is_silent network (record { line = line; before = lines }))
   where
     s : Silence
     s = silence_before network (record { line = line; before = lines })
@@ -518,7 +521,7 @@ before_is line lines network other networks report same a b is other_is =
     at A here = b.frames ∙ frames_other B line lines (ap (is_same_network B) here)
     at B here = a.frames ∙ frames_other A line lines (ap (is_same_network A) here)
 
-twin_of : (line : FrameLine) (lines : List FrameLine) (networks : Sides NetworkReport) (n : Network) →
+pub twin_of : (line : FrameLine) (lines : List FrameLine) (networks : Sides NetworkReport) (n : Network) →
     IsNetworkOf A (line ∷ lines) networks.a → IsNetworkOf B (line ∷ lines) networks.b → IsNetworkOf n (line ∷ lines) (side_of n networks)
 twin_of line lines networks A a b = a
 twin_of line lines networks B a b = b
@@ -551,8 +554,8 @@ settling line lines bs run mid held networks a b says h =
     (omega (arith, run_reached lines bs run held h, frames_more (other_of run.network) line lines))
 
 pub runs_first : (id : ℕ) (line : FrameLine) (lines : List FrameLine) (network : Network) (stamp before : ℕ) (old : Absences) → is_seen_of id line ≡ true →
-    line.network ≡ network → line.stamp.0 ≡ stamp → before ≡ frames_on (other_of line.network) lines → old.run ≡ None → HasRuns id lines old →
-    HasRuns id (line ∷ lines) (record old { run = Some (start_run network stamp before) })
+    line.network ≡ network → line.stamp.0 ≡ stamp → before ≡ frames_on (other_of line.network) lines → old.run ≡ None → HasAbsences id lines old →
+    HasAbsences id (line ∷ lines) (record old { run = Some (start_run network stamp before) })
 runs_first id line lines network stamp before old seen same at is none h =
     subst (λ (r : Run). HasBlocks (line ∷ lines) (blocks (seen_lines id (line ∷ lines))) (Some r) old.longest)
     (ap (λ (n : Network). start_run n line.stamp.0 (frames_on (other_of line.network) lines)) same
@@ -563,8 +566,8 @@ runs_first id line lines network stamp before old seen same at is none h =
 
 pub runs_same : (id : ℕ) (line : FrameLine) (lines : List FrameLine) (network : Network) (stamp before count : ℕ) (old : Absences) (run : Run) → is_seen_of id line ≡ true →
     line.network ≡ network → line.stamp.0 ≡ stamp → before ≡ frames_on (other_of line.network) lines → old.run ≡ Some run →
-    is_same_network run.network network ≡ true → run.before ≡ before → count ≡ saturated (run.group.lines + 1) → HasRuns id lines old →
-    HasRuns id (line ∷ lines) (record old { run = Some (record run { group = record { lines = count; from = run.group.from; to = stamp } }) })
+    is_same_network run.network network ≡ true → run.before ≡ before → count ≡ saturated (run.group.lines + 1) → HasAbsences id lines old →
+    HasAbsences id (line ∷ lines) (record old { run = Some (record run { group = record { lines = count; from = run.group.from; to = stamp } }) })
 runs_same id line lines network stamp before count old run seen same at is some on here counts h =
     let one : run.network ≡ line.network = side_same network run.network on ∙ sym same in
     subst (λ (r : Run). HasBlocks (line ∷ lines) (blocks (seen_lines id (line ∷ lines))) (Some r) old.longest)
@@ -580,8 +583,8 @@ pub runs_on : (id : ℕ) (line : FrameLine) (lines : List FrameLine) (network : 
     line.network ≡ network → line.stamp.0 ≡ stamp → before ≡ frames_on (other_of line.network) lines → old.run ≡ Some run →
     is_same_network mid.network network ≡ true → (is_same_network run.network network ≡ true → run.before ≢ before) →
     ((ls : List FrameLine) → IsNetworkOf (other_of run.network) ls (side_of (other_of run.network) networks) → run.before ≤ frames_on (other_of run.network) ls →
-    mid ≡ settled (covers_after (other_of run.network) run.before ls) run) → HasRuns id lines old →
-    HasRuns id (line ∷ lines) (record old { run = Some (record mid { group = record { lines = 1; from = stamp; to = stamp }; before = before }) })
+    mid ≡ settled (covers_after (other_of run.network) run.before ls) run) → HasAbsences id lines old →
+    HasAbsences id (line ∷ lines) (record old { run = Some (record mid { group = record { lines = 1; from = stamp; to = stamp }; before = before }) })
 runs_on id line lines network stamp before old run mid networks a b seen same at is some mid_on differs says h =
     let was = subst (λ (o : Option Run). HasBlocks lines (blocks (seen_lines id lines)) o old.longest) some h in
     let mid_is = settling line lines (blocks (seen_lines id lines)) run mid old.longest networks a b says was in
@@ -604,7 +607,7 @@ pub runs_other : (id : ℕ) (line : FrameLine) (lines : List FrameLine) (network
     ((ls : List FrameLine) → IsNetworkOf (other_of run.network) ls (side_of (other_of run.network) networks) → run.before ≤ frames_on (other_of run.network) ls →
     mid ≡ settled (covers_after (other_of run.network) run.before ls) run) →
     kept ≡ record old { longest = with_side (other_of mid.network) old.longest (longer mid.counted (side_of (other_of mid.network) old.longest)) } →
-    HasRuns id lines old → HasRuns id (line ∷ lines) (record kept { run = Some (start_run network stamp before) })
+    HasAbsences id lines old → HasAbsences id (line ∷ lines) (record kept { run = Some (start_run network stamp before) })
 runs_other id line lines network stamp before old kept run mid networks a b seen same at is some off says keeps h =
     let was = subst (λ (o : Option Run). HasBlocks lines (blocks (seen_lines id lines)) o old.longest) some h in
     let mid_is = settling line lines (blocks (seen_lines id lines)) run mid old.longest networks a b says was in
@@ -661,7 +664,7 @@ twin_at : (lines : List FrameLine) (networks : Sides NetworkReport) (n : Network
 twin_at lines networks A a b = a
 twin_at lines networks B a b = b
 
-pub runs_end_none : (id : ℕ) (lines : List FrameLine) (old : Absences) → old.run ≡ None → HasRuns id lines old → EndsRuns id lines old
+pub runs_end_none : (id : ℕ) (lines : List FrameLine) (old : Absences) → old.run ≡ None → HasAbsences id lines old → EndsAbsences id lines old
 runs_end_none id lines old none h =
     let ends = ends_none lines (blocks (seen_lines id lines)) old.longest (subst (λ (o : Option Run). HasBlocks lines (blocks (seen_lines id lines)) o old.longest) none h) in record {
       longest = ends.0;
@@ -673,7 +676,7 @@ pub runs_end : (id : ℕ) (lines : List FrameLine) (old placed new : Absences) (
     ((ls : List FrameLine) → IsNetworkOf (other_of run.network) ls (side_of (other_of run.network) networks) → run.before ≤ frames_on (other_of run.network) ls →
     mid ≡ settled (covers_after (other_of run.network) run.before ls) run) → placed ≡ record old { run = Some mid } →
     new ≡ record placed { longest = with_side (other_of mid.network) placed.longest (longer mid.counted (side_of (other_of mid.network) placed.longest)) } →
-    HasRuns id lines old → EndsRuns id lines new
+    HasAbsences id lines old → EndsAbsences id lines new
 runs_end id lines old placed new run mid networks a b some says put keeps h =
     let was = subst (λ (o : Option Run). HasBlocks lines (blocks (seen_lines id lines)) o old.longest) some h in
     let mid_is = says lines (twin_at lines networks (other_of run.network) a b) (run_reached lines (blocks (seen_lines id lines)) run old.longest was) in
@@ -712,12 +715,15 @@ blocks_as line lines (block ∷ older) (Some run) held (h, rest) = (run_still li
 pub runs_unseen : (row : Row) (line : FrameLine) (lines : List FrameLine) (report : LinkReport) → is_seen_of row.id line ≡ false → HoldsRuns row lines report →
     HoldsRuns row (line ∷ lines) report
 runs_unseen row line lines report off h =
-    subst (λ (b : Bool). HasBlocks (line ∷ lines) (blocks (cond b (record { line = line; before = lines } ∷ seen_lines row.id lines) (seen_lines row.id lines)))
-    report.runs.run report.runs.longest) (sym off)
-    (blocks_as line lines (blocks (seen_lines row.id lines)) report.runs.run report.runs.longest h)
+    let held = report.runs.absences in (
+      subst (λ (b : Bool). HasBlocks (line ∷ lines) (blocks (cond b (record { line = line; before = lines } ∷ seen_lines row.id lines) (seen_lines row.id lines)))
+          held.run held.longest) (sym off)
+          (blocks_as line lines (blocks (seen_lines row.id lines)) held.run held.longest h.0),
+      times_unseen row.id line lines report.runs.times off h.1,
+    )
 
 -- a line of the link
-pub runs_noted : (id : ℕ) (line : FrameLine) (lines : List FrameLine) (at : Moment) (networks numbered : Sides NetworkReport) (old held noted new : Absences) →
+pub runs_noted : (id : ℕ) (line : FrameLine) (lines : List FrameLine) (at : Moment) (networks numbered : Sides NetworkReport) (old held noted new : Presence) →
     KeepsNetworks networks numbered →
     (IsNetworkOf A (line ∷ lines) numbered.a → IsNetworkOf B (line ∷ lines) numbered.b → is_seen_of id line ≡ true → line.network ≡ at.network →
     line.stamp.0 ≡ at.place.stamp → HasRuns id lines held → HasRuns id (line ∷ lines) noted) →
@@ -729,21 +735,24 @@ runs_noted id line lines at networks numbered old held noted new keeps notes sam
     (sym moment.network) (ap (λ (p : Place). p.stamp) (sym moment.place)) (subst (HasRuns id lines) (sym same) h))
 
 -- what is told at the end
-pub absences_end : (row : Row) (lines : List FrameLine) (networks mid : Sides NetworkReport) (old held ended : Absences) (report : LinkReport) → KeepsNetworks networks mid →
+pub absences_end : (row : Row) (lines : List FrameLine) (networks mid : Sides NetworkReport) (old held ended : Presence) (report : LinkReport) → KeepsNetworks networks mid →
     (IsNetworkOf A lines mid.a → IsNetworkOf B lines mid.b → HasRuns row.id lines held → EndsRuns row.id lines ended) → held ≡ old →
-    report.absences.a ≡ side_of A ended.longest → report.absences.b ≡ side_of B ended.longest → report.stopped ≡ last_in ended.run →
+    report.absences.a ≡ side_of A ended.absences.longest → report.absences.b ≡ side_of B ended.absences.longest →
+    report.stopped ≡ last_in ended.absences.run →
+    ((id : ℕ) (ls : List FrameLine) → length ls < 2 ^ 62 → HasGaps id ls ended.times → TellsGaps id ls report.gaps) →
     IsNetworkOf A lines networks.a → IsNetworkOf B lines networks.b → HasRuns row.id lines old → TellsAbsences row lines report
-absences_end row lines networks mid old held ended report keeps ends same on_a on_b last a b h = record {
+absences_end row lines networks mid old held ended report keeps ends same on_a on_b last times a b h = record {
   longest = at;
-  stopped = last ∙ told.last;
+  stopped = last ∙ told.0.last;
+  gaps = λ few. times row.id lines few told.1;
 }
   where
     told : EndsRuns row.id lines ended
     told = ends (keeps_network A lines networks.a mid.a keeps.0 a) (keeps_network B lines networks.b mid.b keeps.1 b) (subst (HasRuns row.id lines) (sym same) h)
 
     at : (network : Network) → side_of (other_of network) report.absences ≡ longest_on lines network (blocks (seen_lines row.id lines))
-    at A = on_b ∙ told.longest A
-    at B = on_a ∙ told.longest B
+    at A = on_b ∙ told.0.longest A
+    at B = on_a ∙ told.0.longest B
 
 -- the networks' numbers stay while other links end
 pub gets_from : (first mid : Sides NetworkReport) (old new : LinkReport) → KeepsNetworks first mid → GetsAbsences mid old new → GetsAbsences first old new

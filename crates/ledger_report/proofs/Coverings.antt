@@ -43,7 +43,7 @@ after_if false x n is = tt
 pub after_at : (network : Network) (line : FrameLine) (lines : List FrameLine) →
     IfSome (silence_at network (record { line = line; before = lines })) (λ (s : Silence). s.after ≡ frames_on network lines)
 after_at network line lines =
-    after_if (is_on network line && is_silent network lines) (silence_before network (record { line = line; before = lines })) (frames_on network lines) refl
+    after_if (is_on network line && is_silent network (record { line = line; before = lines })) (silence_before network (record { line = line; before = lines })) (frames_on network lines) refl
 
 weaker : (n m : ℕ) (xs : List Silence) → n ≤ m → IsUpTo n xs → IsUpTo m xs
 weaker n m xs le h = All-weaker (λ (s : Silence). s.after ≤ n) (λ (s : Silence). s.after ≤ m) (λ s is. omega (arith, le, is)) xs h

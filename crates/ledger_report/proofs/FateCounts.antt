@@ -20,7 +20,7 @@ use Rattle.ledger_text.specs.FrameText.{IsFrameLine}
 use Rattle.ledger_text.specs.declared.frame.FrameLine.{FrameLine}
 use Rattle.ledger_report.specs.Copies.{Spot, delivers, latest_delivery, spot_in}
 use Rattle.ledger_report.specs.Deliveries.{deliver_count, says_copy, says_deliver}
-use Rattle.ledger_report.specs.Fates.{Known, PairingRules, count_below, ends_late, ends_met, ends_open, ends_paired, fate_at, fate_count, has_fate, is_open, known_at, known_of, late_hits, late_skews, latest_of, pairs}
+use Rattle.ledger_report.specs.Fates.{Known, PairingRules, count_below, ends_late, ends_met, ends_open, ends_paired, fate_at, fate_count, has_fate, is_open, known_at, known_of, late_hits, latest_of, pairs}
 use Rattle.ledger_report.specs.Extremes.{Hit}
 use Rattle.ledger_report.specs.LaneLines.{one_where}
 use Rattle.ledger_report.specs.Marks.{HasHits}

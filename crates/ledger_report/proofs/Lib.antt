@@ -18,7 +18,8 @@ pub mod FateCounts
 pub mod FateLines
 pub mod FateNotes
 pub mod FateSteps
-pub mod HitOrders
+pub mod GapSteps
+mod HitOrders
 pub mod HoldAccounts
 pub mod HoldNotes
 pub mod HoldSteps

@@ -4,7 +4,7 @@ use Rattle.std.proofs.lemmas.Bool.{cases_lt, lt-ltb, le-ltb, le-leb, ltb-true, l
 use Rattle.std.proofs.lemmas.List.Sums.{sum_by-cons}
 use Rattle.std.specs.Prelude.{nat_le, nat_lt, count_by}
 use Rattle.ledger_report.specs.Classes.{class_start, count_in, is_before}
-use Rattle.ledger_report.specs.Medians.{HasMiddle, HasRank, IsRounded}
+use Rattle.ledger_report.specs.Medians.{HasRank, HasRanked, IsRounded}
 use Rattle.ledger_report.specs.Sums.{greatest_of}
 use Rattle.ledger_report.proofs.Classes.{end_by_digits, start_by_digits}
 
@@ -86,9 +86,9 @@ class_rounded class number from to = elim (cases_lt class 32) [
 ]
 
 -- the class of the number at this index of the numbers in rising order
-pub middle_from : (class index : ℕ) (ns : List ℕ) → index ≡ (length ns - 1) / 2 → index < length ns → count_in (is_before class) ns ≤ index →
-    index < count_in (is_before (class + 1)) ns → HasMiddle ns (class_start class)
-middle_from class index ns is within below above =
+pub ranked_from : (class index : ℕ) (ns : List ℕ) → index < length ns → count_in (is_before class) ns ≤ index →
+    index < count_in (is_before (class + 1)) ns → HasRanked index ns (class_start class)
+ranked_from class index ns within below above =
     let found = ranked index ns within in
     let m = found.0 in
     let from : class_start class ≤ min m 2147483647 = elim (cases_lt (min m 2147483647) (class_start class)) as (λ _. class_start class ≤ min m 2147483647) [
@@ -107,7 +107,7 @@ middle_from class index ns is within below above =
           (λ n lt. lt-ltb n m (omega (arith, past, ltb-true (min n 2147483647) (class_start (class + 1)) lt))) ns in
           absurd (omega (arith, more, found.1.below, above))
     ] in record {
-      middle = m;
-      rank = rw (← is) found.1;
+      number = m;
+      rank = found.1;
       rounded = class_rounded class (min m 2147483647) from to;
     }

@@ -1,5 +1,5 @@
 -- One more line of the ledger, for a network.
-use Rattle.std.proofs.Common.{◌≡◌, ℕ, suc, ◌+◌, ◌-◌, ◌<◌, ◌≤◌, ◌^◌, ◌==◌, ◌&&◌, min, Bool, true, false, not, nat_le, nat_lt, cond, List, [], ◌∷◌, ◌++◌, length, map, filter, reverse, take, Option, Some, None, if◌then◌else◌, refl, sym, ap, ◌∙◌, subst, arith}
+use Rattle.std.proofs.Common.{◌≡◌, ℕ, suc, ◌+◌, ◌-◌, ◌<◌, ◌≤◌, ◌^◌, ◌==◌, ◌&&◌, ◌||◌, min, Bool, true, false, not, nat_le, nat_lt, cond, List, [], ◌∷◌, ◌++◌, length, map, filter, reverse, take, Option, Some, None, if◌then◌else◌, refl, sym, ap, ◌∙◌, subst, arith}
 use Rattle.std.specs.List.{cons_option, count_by, last_or}
 use Rattle.std.specs.Option.{IfSome, option_map_or}
 use Rattle.std.proofs.lemmas.Bool.{eq-eqb, ne_eqb}
@@ -9,7 +9,7 @@ use Rattle.afdx_frame.specs.declared.key.Network.{Network}
 use Rattle.ledger_text.specs.declared.frame.FrameLine.{FrameLine}
 use Rattle.ledger_report.specs.Keeping.{KeepsNetwork, NetworkNumbers}
 use Rattle.ledger_report.specs.Networks.{HasSilences, IsNetworkOf, wire_bytes}
-use Rattle.ledger_report.specs.Silences.{is_silent, kept_silences, latest_stamp, lines_since, silence_at, silence_before, silences}
+use Rattle.ledger_report.specs.Silences.{is_long, is_silent, kept_silences, latest_stamp, lines_since, silence_at, silence_before, silences, usual_time, usual_with}
 use Rattle.ledger_report.specs.Standings.{frames_on}
 use Rattle.ledger_report.specs.Sums.{saturated, total_of}
 use Rattle.ledger_report.specs.Words.{is_on}
@@ -50,11 +50,11 @@ silences_off : (network : Network) (line : FrameLine) (lines : List FrameLine) �
     silences network (line ∷ lines) ≡ silences network lines
 silences_off network line lines off = rw off refl
 
-silences_quiet : (network : Network) (line : FrameLine) (lines : List FrameLine) → is_on network line ≡ true → is_silent network lines ≡ false →
+silences_quiet : (network : Network) (line : FrameLine) (lines : List FrameLine) → is_on network line ≡ true → is_silent network (record { line = line; before = lines }) ≡ false →
     silences network (line ∷ lines) ≡ silences network lines
 silences_quiet network line lines on quiet = rw (on, quiet) refl
 
-silences_more : (network : Network) (line : FrameLine) (lines : List FrameLine) → is_on network line ≡ true → is_silent network lines ≡ true →
+silences_more : (network : Network) (line : FrameLine) (lines : List FrameLine) → is_on network line ≡ true → is_silent network (record { line = line; before = lines }) ≡ true →
     silences network (line ∷ lines) ≡ silence_before network (record { line = line; before = lines }) ∷ silences network lines
 silences_more network line lines on silent = rw (on, silent) refl
 
@@ -67,7 +67,7 @@ same_silences network line lines old new same items more h = record {
 }
 
 pub quiet_silences : (network : Network) (line : FrameLine) (lines : List FrameLine) (report : NetworkReport) → is_on network line ≡ true →
-    is_silent network lines ≡ false → HasSilences network lines report → HasSilences network (line ∷ lines) report
+    is_silent network (record { line = line; before = lines }) ≡ false → HasSilences network lines report → HasSilences network (line ∷ lines) report
 quiet_silences network line lines report on quiet h =
     same_silences network line lines report report (silences_quiet network line lines on quiet) refl refl h
 
@@ -89,7 +89,7 @@ kept_length network lines report h =
     ∙ ap (λ n. min 1024 n) (length-reverse (silences network lines))
 
 pub full_silences : (network : Network) (line : FrameLine) (lines : List FrameLine) (old new : NetworkReport) → length lines < 2 ^ 34 →
-    is_on network line ≡ true → is_silent network lines ≡ true → 1024 ≤ length old.silences.items →
+    is_on network line ≡ true → is_silent network (record { line = line; before = lines }) ≡ true → 1024 ≤ length old.silences.items →
     new.silences.items ≡ old.silences.items → new.more_silences ≡ saturated (old.more_silences + 1) →
     HasSilences network lines old → HasSilences network (line ∷ lines) new
 full_silences network line lines old new few on silent full items more h =
@@ -103,7 +103,7 @@ full_silences network line lines old new few on silent full items more h =
     }
 
 pub one_more_silence : (network : Network) (line : FrameLine) (lines : List FrameLine) (old new : NetworkReport) (s : Silence) →
-    is_on network line ≡ true → is_silent network lines ≡ true → length old.silences.items < 1024 →
+    is_on network line ≡ true → is_silent network (record { line = line; before = lines }) ≡ true → length old.silences.items < 1024 →
     new.silences.items ≡ old.silences.items ++ s ∷ [] → new.more_silences ≡ old.more_silences →
     s ≡ silence_before network (record { line = line; before = lines }) →
     HasSilences network lines old → HasSilences network (line ∷ lines) new
@@ -119,10 +119,25 @@ one_more_silence network line lines old new s on silent room items more is h =
       more = more ∙ omega (arith, h.more, few) ∙ sym (ap (λ (xs : List Silence). length xs - 1024) same);
     }
 
-pub was_silent : (network : Network) (lines : List FrameLine) (report : NetworkReport) (b : Bool) → IsNetworkOf network lines report →
-    b ≡ (nat_le 64 report.since && nat_lt 0 report.frames) → b ≡ true → is_silent network lines ≡ true
-was_silent network lines report b h is holds =
-    sym (ap (λ n. nat_le 64 n && nat_lt 0 report.frames) h.since ∙ ap (λ n. nat_le 64 (lines_since network lines) && nat_lt 0 n) h.frames) ∙ sym is ∙ holds
+-- what a network's numbers say of its silence up to a time
+abbrev silent_in : ℕ → ℕ → ℕ → ℕ → ℕ → Bool
+silent_in frames since usual last stamp = nat_lt 0 frames && (nat_le 64 since || is_long frames usual (stamp - last))
+
+silent_same : (network : Network) (line : FrameLine) (lines : List FrameLine) (report : NetworkReport) (stamp : ℕ) → IsNetworkOf network lines report →
+    line.stamp.0 ≡ stamp →
+    silent_in report.frames report.since report.usual report.last stamp ≡ is_silent network (record { line = line; before = lines })
+silent_same network line lines report stamp h same =
+    ap (λ n. silent_in n report.since report.usual report.last stamp) h.frames
+    ∙ ap (λ n. silent_in (frames_on network lines) n report.usual report.last stamp) h.since
+    ∙ ap (λ n. silent_in (frames_on network lines) (lines_since network lines) n report.last stamp) h.usual
+    ∙ ap (λ n. silent_in (frames_on network lines) (lines_since network lines) (usual_time network lines) n stamp) h.last
+    ∙ ap (λ n. silent_in (frames_on network lines) (lines_since network lines) (usual_time network lines) (latest_stamp network lines) n) (sym same)
+
+pub was_silent : (network : Network) (line : FrameLine) (lines : List FrameLine) (report : NetworkReport) (stamp : ℕ) (b was : Bool) →
+    IsNetworkOf network lines report → line.stamp.0 ≡ stamp →
+    b ≡ silent_in report.frames report.since report.usual report.last stamp → b ≡ was →
+    is_silent network (record { line = line; before = lines }) ≡ was
+was_silent network line lines report stamp b was h same is holds = sym (silent_same network line lines report stamp h same) ∙ sym is ∙ holds
 
 pub silence_same : (network : Network) (line : FrameLine) (lines : List FrameLine) (report : NetworkReport) (stamp : ℕ) → IsNetworkOf network lines report →
     line.stamp.0 ≡ stamp →
@@ -155,6 +170,7 @@ network_other network line lines old new few off is h = record {
       ∙ (let small = prefix_len-le-length (λ (l : FrameLine). not (is_on network l)) lines in
       let more : lines_since network (line ∷ lines) ≡ 1 + lines_since network lines = rw off refl in
       omega (arith, h.since, small, more, few));
+  usual = ap (λ (r : NetworkReport). r.usual) is ∙ h.usual ∙ rw off refl;
 }
 
 first_own : (network : Network) (line : FrameLine) (held new : ℕ) (own : List FrameLine) (frames : ℕ) → frames ≡ length own →
@@ -167,6 +183,19 @@ first_own network line held new (before ∷ own) frames same h is =
     let e : (frames == 0) ≡ false = ne_eqb frames 0 (omega (arith, same)) in
     subst (λ n. IfSome (last_or (Some before) own) (λ l. n ≡ l.stamp.0)) (sym (is ∙ ap (λ (b : Bool). if b then line.stamp.0 else held) e)) h
 
+abbrev usual_in : ℕ → ℕ → ℕ → ℕ → ℕ
+usual_in frames usual last stamp = if nat_lt 0 frames then usual_with frames usual (stamp - last) else usual
+
+usual_own : (network : Network) (line : FrameLine) (lines : List FrameLine) (report : NetworkReport) (stamp : ℕ) → is_on network line ≡ true →
+    line.stamp.0 ≡ stamp → report.frames ≡ frames_on network lines → report.usual ≡ usual_time network lines → report.last ≡ latest_stamp network lines →
+    usual_in report.frames report.usual report.last stamp ≡ usual_time network (line ∷ lines)
+usual_own network line lines report stamp on at frames usual last =
+    ap (λ n. usual_in n report.usual report.last stamp) frames
+    ∙ ap (λ n. usual_in (frames_on network lines) n report.last stamp) usual
+    ∙ ap (λ n. usual_in (frames_on network lines) (usual_time network lines) n stamp) last
+    ∙ ap (λ n. usual_in (frames_on network lines) (usual_time network lines) (latest_stamp network lines) n) (sym at)
+    ∙ rw on refl
+
 pub network_own : (network : Network) (line : FrameLine) (lines : List FrameLine) (stamp : ℕ) (kept : Option ℕ) (old mid counted new : NetworkReport) →
     length lines < 2 ^ 34 → is_on network line ≡ true → line.stamp.0 ≡ stamp → line.kept ≡ kept →
     HasSilences network (line ∷ lines) mid →
@@ -175,6 +204,7 @@ pub network_own : (network : Network) (line : FrameLine) (lines : List FrameLine
       frames = saturated (mid.frames + 1);
       first = if mid.frames == 0 then stamp else mid.first;
       last = stamp;
+      usual = usual_in mid.frames mid.usual mid.last stamp;
       since = 0;
     } →
     new.bytes ≡ option_map_or (λ k. saturated (counted.bytes + (k + 24))) kept counted.bytes →
@@ -204,6 +234,9 @@ network_own network line lines stamp kept old mid counted new few on at kept_is 
         more = ap (λ (r : NetworkReport). r.more_silences) last ∙ ap (λ (r : NetworkReport). r.more_silences) one ∙ silent.more;
       };
       since = ap (λ (r : NetworkReport). r.since) last ∙ ap (λ (r : NetworkReport). r.since) one ∙ rw on refl;
+      usual = ap (λ (r : NetworkReport). r.usual) last ∙ ap (λ (r : NetworkReport). r.usual) one
+          ∙ usual_own network line lines mid stamp on at frames (ap (λ (r : NetworkReport). r.usual) rest ∙ h.usual)
+          (ap (λ (r : NetworkReport). r.last) rest ∙ h.last);
     }
 
 -- ---- what stays
@@ -218,6 +251,7 @@ signs_changed network lines report signs h = record {
   bytes = h.bytes;
   silences = record { kept = h.silences.kept; more = h.silences.more };
   since = h.since;
+  usual = h.usual;
 }
 
 pub keeps_network : (network : Network) (lines : List FrameLine) (old new : NetworkReport) → KeepsNetwork old new →
@@ -232,4 +266,5 @@ keeps_network network lines old new is h = record {
     more = ap (λ (r : NetworkNumbers). r.more_silences) is ∙ h.silences.more;
   };
   since = ap (λ (r : NetworkNumbers). r.since) is ∙ h.since;
+  usual = ap (λ (r : NetworkNumbers). r.usual) is ∙ h.usual;
 }

@@ -1,11 +1,12 @@
 -- Absences of a link from a network, over the ledger's lines of frames, the newest first (this project's profile). Times are in nanoseconds.
-use Rattle.std.specs.Prelude.{◌≡◌, ℕ, ◌+◌, ◌<◌, ◌≤◌, ◌==◌, Bool, true, false, not, ◌&&◌, nat_le, nat_lt, List, [], ◌∷◌, ◌++◌, filter, length, slice_index_or, Option, Some, None, if◌then◌else◌}
+use Rattle.std.specs.Prelude.{◌≡◌, ℕ, ◌+◌, ◌<◌, ◌≤◌, ◌^◌, ◌==◌, Bool, true, false, not, ◌&&◌, nat_le, nat_lt, List, [], ◌∷◌, ◌++◌, filter, length, slice_index_or, Option, Some, None, if◌then◌else◌}
 use Rattle.std.specs.Option.{option_map, option_map_or}
 use Rattle.afdx_frame.specs.declared.key.Network.{Network}
 use Rattle.afdx_frame.specs.declared.key.Network.TheVariants.{A, B}
 use Rattle.ledger_text.specs.declared.frame.FrameLine.{FrameLine}
 use Rattle.ledger_report.specs.Both.{side_of}
 use Rattle.ledger_report.specs.Covered.{has_silence_after}
+use Rattle.ledger_report.specs.Gaps.{HasGaps, TellsGaps}
 use Rattle.ledger_report.specs.Links.{Row}
 use Rattle.ledger_report.specs.Networks.{IsNetworkOf}
 use Rattle.ledger_report.specs.Silences.{kept_silences}
@@ -18,6 +19,7 @@ use Rattle.ledger_report.specs.declared.absence.Run.{Run}
 use Rattle.ledger_report.specs.declared.bounds.TheConstants.{ABSENT_LINES}
 use Rattle.ledger_report.specs.declared.link.LinkReport.{LinkReport}
 use Rattle.ledger_report.specs.declared.network.NetworkReport.{NetworkReport}
+use Rattle.ledger_report.specs.declared.presence.Presence.{Presence}
 use Rattle.ledger_report.specs.declared.sides.Sides.{Sides}
 
 -- ---- which lines count
@@ -137,8 +139,12 @@ HasBlocks lines [] (Some run) held = ⊥
 HasBlocks lines (block ∷ older) None held = ⊥
 
 -- of the link with this identifier
-abbrev pub HasRuns : ℕ → List FrameLine → Absences → Type 0
-HasRuns id lines held = HasBlocks lines (blocks (seen_lines id lines)) held.run held.longest
+abbrev pub HasAbsences : ℕ → List FrameLine → Absences → Type 0
+HasAbsences id lines held = HasBlocks lines (blocks (seen_lines id lines)) held.run held.longest
+
+-- and the times between its deliveries
+abbrev pub HasRuns : ℕ → List FrameLine → Presence → Type 0
+HasRuns id lines held = HasAbsences id lines held.absences × HasGaps id lines held.times
 
 -- ---- at the end
 
@@ -153,16 +159,21 @@ abbrev pub last_in : Option Run → Option (Network × Absence)
 last_in run = option_map (λ held. (other_of held.network, held.counted)) run
 
 -- The longest block on each network is that of all blocks, and the latest is settled.
-pub record EndsRuns (id : ℕ) (lines : List FrameLine) (held : Absences) : Type 0 where
+pub record EndsAbsences (id : ℕ) (lines : List FrameLine) (held : Absences) : Type 0 where
   pub longest : (network : Network) → side_of (other_of network) held.longest ≡ longest_on lines network (blocks (seen_lines id lines))
   pub last : last_in held.run ≡ last_block lines (blocks (seen_lines id lines))
 
+abbrev pub EndsRuns : ℕ → List FrameLine → Presence → Type 0
+EndsRuns id lines held = EndsAbsences id lines held.absences × HasGaps id lines held.times
+
 -- The longest absence from each network, of 8 lines at least, is that of the blocks on the other one; and the block that lasts to the end.
+-- The times between deliveries are told of; a ledger has at most 2^34 lines.
 pub record TellsAbsences (row : Row) (lines : List FrameLine) (report : LinkReport) : Type 0 where
   pub longest : (network : Network) → side_of (other_of network) report.absences ≡ longest_on lines network (blocks (seen_lines row.id lines))
   pub stopped : report.stopped ≡ last_block lines (blocks (seen_lines row.id lines))
+  pub gaps : length lines < 2 ^ 62 → TellsGaps row.id lines report.gaps
 
--- The blocks so far are those of these lines.
+-- The blocks and the times so far are those of these lines.
 abbrev pub HoldsRuns : Row → List FrameLine → LinkReport → Type 0
 HoldsRuns row lines report = HasRuns row.id lines report.runs
 

@@ -47,6 +47,7 @@ pub record NetworkNumbers : Type 0 where
   pub silences : List Silence
   pub more_silences : ℕ
   pub since : ℕ
+  pub usual : ℕ
   pub rules : List Tally
 
 abbrev pub network_numbers : NetworkReport → NetworkNumbers
@@ -58,6 +59,7 @@ network_numbers report = record {
   silences = report.silences.items;
   more_silences = report.more_silences;
   since = report.since;
+  usual = report.usual;
   rules = rule_tallies report.signs;
 }
 

@@ -15,6 +15,7 @@ pub mod Covered
 pub mod Deliveries
 pub mod Extremes
 pub mod Fates
+pub mod Gaps
 pub mod Holding
 pub mod Judged
 pub mod Keeping

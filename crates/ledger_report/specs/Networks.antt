@@ -4,7 +4,7 @@ use Rattle.std.specs.Option.{IfSome, option_map_or}
 use Rattle.std.specs.List.{last_or}
 use Rattle.afdx_frame.specs.declared.key.Network.{Network}
 use Rattle.ledger_text.specs.declared.frame.FrameLine.{FrameLine}
-use Rattle.ledger_report.specs.Silences.{kept_silences, latest_stamp, lines_since, silences}
+use Rattle.ledger_report.specs.Silences.{kept_silences, latest_stamp, lines_since, silences, usual_time}
 use Rattle.ledger_report.specs.Standings.{frames_on}
 use Rattle.ledger_report.specs.Sums.{saturated, total_of}
 use Rattle.ledger_report.specs.Words.{is_on}
@@ -28,3 +28,4 @@ pub record IsNetworkOf (network : Network) (lines : List FrameLine) (report : Ne
   pub bytes : report.bytes ≡ saturated (total_of (map wire_bytes (filter (is_on network) lines)))
   pub silences : HasSilences network lines report
   pub since : report.since ≡ lines_since network lines
+  pub usual : report.usual ≡ usual_time network lines

@@ -7,7 +7,6 @@ use Rattle.afdx_frame.specs.declared.key.Network.TheVariants.{A, B}
 use Rattle.ledger_report.specs.declared.counts_lines.TapEnd.{TapEnd}
 use Rattle.ledger_report.specs.declared.counts_lines.TapEnd.TheVariants as ends
 use Rattle.ledger_report.specs.declared.counts_lines.TapEnding.{TapEnding}
-use Rattle.ledger_report.specs.declared.counts_lines.TheConstants.{LONGEST_REASON}
 
 -- how a recording ends, after how many frames, and why it isn't read on
 pub record Said : Type 0 where
@@ -37,7 +36,7 @@ reason_text end reason = []
 
 -- a word in lower case, if the recording isn't read on
 abbrev pub IsReason : TapEnd → List ℕ → Type 0
-IsReason ends.Bad reason = (0 < length reason) × (length reason ≤ LONGEST_REASON) × All IsAsciiLowercase reason
+IsReason ends.Bad reason = (0 < length reason) × (length reason ≤ 32) × All IsAsciiLowercase reason
 IsReason end reason = reason ≡ []
 
 -- the whole line

@@ -3,7 +3,7 @@
 ghost use Rattle.std.specs.Prelude.{◌≡◌, ◌≤◌, ℕ, true, List, [], ◌∷◌};
 ghost use Rattle.afdx_frame.specs.declared.key.Network.TheVariants.{A, B};
 ghost use Rattle.ledger_text.specs.declared.frame.FrameLine.{FrameLine};
-ghost use Rattle.ledger_report.specs.Absent.{EndsRuns, HasRuns, covers_after, last_in, longer, settled};
+ghost use Rattle.ledger_report.specs.Absent.{EndsAbsences, HasAbsences, covers_after, last_in, longer, settled};
 ghost use Rattle.ledger_report.specs.Both.{side_of, with_side};
 ghost use Rattle.ledger_report.specs.Networks.{IsNetworkOf};
 ghost use Rattle.ledger_report.specs.Standings.{frames_on};
@@ -15,7 +15,7 @@ use crate::sides::{Sides, other};
 use afdx_frame::Network;
 
 /// A block of lines of a link that are all on one network while the other was alive.
-#[derive(Clone, Copy, Debug, PartialEq, Eq)]
+#[derive(Clone, Copy, PartialEq, Eq)]
 pub struct Absence {
     /// How many lines.
     pub lines: u64,
@@ -25,7 +25,7 @@ pub struct Absence {
 }
 
 /// The block that the link's latest lines belong to.
-#[derive(Clone, Copy, Debug)]
+#[derive(Clone, Copy)]
 struct Run {
     network: Network,
     counted: Absence,
@@ -54,7 +54,7 @@ impl Run {
 }
 
 /// The absences of a link.
-#[derive(Debug, Drop)]
+#[derive(Drop)]
 pub struct Absences {
     run: Option<Run>,
     /// The longest from each network.
@@ -63,7 +63,7 @@ pub struct Absences {
 
 impl Absences {
     pub(crate) fn new() -> Absences
-        ensures { (id : ℕ) → HasRuns id [] result }
+        ensures { (id : ℕ) → HasAbsences id [] result }
     {
         Absences {
             run: None,
@@ -110,7 +110,7 @@ impl Absences {
         ensures { (id : ℕ) (line : FrameLine) (lines : List FrameLine)
             → IsNetworkOf A (line ∷ lines) networks.now.a → IsNetworkOf B (line ∷ lines) networks.now.b
             → is_seen_of id line ≡ true → line.network ≡ network → line.stamp.0 ≡ stamp
-            → HasRuns id lines self.old → HasRuns id (line ∷ lines) self.new }
+            → HasAbsences id lines self.old → HasAbsences id (line ∷ lines) self.new }
     {
         let before = networks.of(other(network)).frames;
         let one = Absence {
@@ -159,7 +159,7 @@ impl Absences {
     pub(crate) fn end(&mut self, networks: &Sides<NetworkReport>)
         ensures { (id : ℕ) (lines : List FrameLine)
             → IsNetworkOf A lines networks.now.a → IsNetworkOf B lines networks.now.b
-            → HasRuns id lines self.old → EndsRuns id lines self.new }
+            → HasAbsences id lines self.old → EndsAbsences id lines self.new }
     {
         if let Some(mut run) = self.run {
             run.settle(networks);

@@ -128,7 +128,7 @@ fn is_copy(line: &FrameLine) -> bool
 
 /// Is the frame delivered?
 #[inline(always)]
-fn is_delivered(line: &FrameLine) -> bool
+pub(crate) fn is_delivered(line: &FrameLine) -> bool
     ensures { result ≡ is_delivered (judgement_of line.now) }
 {
     match line.redundancy {
@@ -138,7 +138,7 @@ fn is_delivered(line: &FrameLine) -> bool
 }
 
 /// The counts of all lines, of each network's, of each link's and of each filter's.
-#[derive(Debug, Drop)]
+#[derive(Drop)]
 pub struct FrameCounts {
     all: Counts,
     a: Counts,

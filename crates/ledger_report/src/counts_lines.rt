@@ -27,7 +27,7 @@ use std::fmt::Write;
 use vl_config::Config;
 
 /// How a recording ends.
-#[derive(Clone, Copy, Debug, PartialEq, Eq)]
+#[derive(Clone, Copy, PartialEq, Eq)]
 pub enum TapEnd {
     /// After a frame.
     Clean,
@@ -38,7 +38,7 @@ pub enum TapEnd {
 }
 
 /// How a recording ends, and after how many frames.
-#[derive(Debug, Drop)]
+#[derive(Drop)]
 pub struct TapEnding {
     pub end: TapEnd,
     pub frames: u64,
@@ -50,7 +50,7 @@ pub struct TapEnding {
 const LONGEST_REASON: usize = 32;
 
 /// Which lines of counts stood so far.
-#[derive(Debug, Drop)]
+#[derive(Drop)]
 pub struct CountsLines {
     links: usize,
     filters: usize,

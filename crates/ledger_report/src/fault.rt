@@ -51,7 +51,7 @@ pub enum ReportFault {
 }
 
 /// Why a line isn't noted.
-#[derive(Clone, Copy, Debug, PartialEq, Eq)]
+#[derive(Clone, Copy, PartialEq, Eq)]
 pub enum Refusal {
     Wrong(WrongLine),
     Memory,

@@ -26,7 +26,7 @@ const CHECK_BYTES: u64 = 4;
 
 /// What the lines of one link on one network say. Of these only the lines of class `toolong` and `regular`
 /// count.
-#[derive(Debug, Drop)]
+#[derive(Drop)]
 pub struct Lane {
     /// How many lines it has.
     pub frames: u64,
@@ -63,7 +63,7 @@ pub struct Lane {
 }
 
 /// A seen line, as its lane takes it.
-#[derive(Clone, Copy, Debug)]
+#[derive(Clone, Copy)]
 pub struct LaneLine {
     pub at: Moment,
     /// Which line of its network it is, from 1.
@@ -79,7 +79,7 @@ pub struct LaneLine {
 }
 
 /// What a lane is counted against.
-#[derive(Clone, Copy, Debug)]
+#[derive(Clone, Copy)]
 pub struct LaneRules {
     /// BAG less jitter, in nanoseconds.
     pub least: u64,
@@ -88,7 +88,7 @@ pub struct LaneRules {
 }
 
 /// What a sequence number says against that of the lane's line before.
-#[derive(Clone, Copy, Debug, PartialEq, Eq)]
+#[derive(Clone, Copy, PartialEq, Eq)]
 pub enum Numbering {
     /// Nothing.
     Follows,

@@ -15,12 +15,14 @@ mod bounds;
 mod counts;
 mod counts_lines;
 mod fault;
+mod gaps;
 mod lane;
 mod link;
 mod median;
 mod moment;
 mod network;
 mod pairing;
+mod presence;
 mod report;
 mod series;
 mod sides;
@@ -29,11 +31,13 @@ mod statistics;
 
 pub use absence::Absence;
 pub use bounds::{
-    ABSENT_LINES, BINS, FIRST_WIDTH, MOST_SILENCES, SILENT_LINES, STOPPED_LINES, WINDOW_BAGS,
+    ABSENT_LINES, BINS, FIRST_WIDTH, LONG_TIME, LONG_TIMES, MOST_SILENCES, SILENT_LINES,
+    STOPPED_LINES, WINDOW_BAGS, bounds_are_documented,
 };
 pub use counts::{Counts, FrameCounts};
 pub use counts_lines::{TapEnd, TapEnding};
 pub use fault::{ReportFault, WrongLine};
+pub use gaps::{Gaps, Interval};
 pub use lane::Lane;
 pub use link::{Fates, LinkReport};
 pub use moment::Place;

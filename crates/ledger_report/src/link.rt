@@ -18,14 +18,16 @@ ghost use Rattle.ledger_report.specs.Numbering.{IsPlain, missing_in};
 ghost use Rattle.ledger_report.specs.Marks.{IsRule, sign_index};
 ghost use Rattle.ledger_report.specs.Noting.{seen_line};
 
-use crate::absence::{Absence, Absences};
+use crate::absence::Absence;
 use crate::bounds::WINDOW_BAGS;
 use crate::fault::{Refusal, WrongLine};
+use crate::gaps::Gaps;
 use crate::lane::{Lane, LaneLine, LaneRules, Numbering};
 use crate::median::Classes;
 use crate::moment::{Moment, Place};
 use crate::network::NetworkReport;
 use crate::pairing::{Delivery, Fate, Pairing};
+use crate::presence::Presence;
 use crate::series::{Merge, Series};
 use crate::sides::{Sides, other};
 use crate::signs::Sign;
@@ -38,7 +40,7 @@ use std::alloc::{AllocError, Global};
 use vl_config::Link;
 
 /// How many deliveries of a link ended how. Each has one fate, so their sum is the count of lines `deliver`.
-#[derive(Clone, Copy, Debug, PartialEq, Eq)]
+#[derive(Clone, Copy, PartialEq, Eq)]
 pub struct Fates {
     /// A copy came from the other network.
     pub paired: u64,
@@ -55,7 +57,7 @@ pub struct Fates {
 }
 
 /// What the lines of one link say.
-#[derive(Debug, Drop)]
+#[derive(Drop)]
 pub struct LinkReport {
     pub id: VlId,
     /// BAG, jitter and SkewMax in nanoseconds, Smax in bytes, from the table.
@@ -87,9 +89,11 @@ pub struct LinkReport {
     pub absences: Sides<Option<Absence>>,
     /// The absence that lasts to the end, and the network that the link is absent from.
     pub stopped: Option<(Network, Absence)>,
+    /// The times between deliveries.
+    pub gaps: Gaps,
     classes: Classes,
     pairing: Pairing,
-    runs: Absences,
+    runs: Presence,
 }
 
 /// Counts a line so often for a sign of its network.
@@ -226,9 +230,10 @@ impl LinkReport {
             first_lost_both: None,
             absences: Sides { a: None, b: None },
             stopped: None,
+            gaps: Gaps::none(),
             classes: Classes::new(alloc),
             pairing: Pairing::new(alloc),
-            runs: Absences::new(),
+            runs: Presence::new(alloc),
         })
     }
 
@@ -286,7 +291,7 @@ impl LinkReport {
         let numbering = self.note_lane(&seen)?;
         self.note_numbering(numbering, at, networks)?;
         self.note_discarded(&seen)?;
-        self.runs.note(at.network, at.place.stamp, networks);
+        self.runs.note(line, at, networks)?;
         let Some(word) = line.redundancy else {
             return Ok(());
         };
@@ -672,10 +677,11 @@ impl LinkReport {
         self.sum_fates();
         self.runs.end(networks);
         self.absences = Sides {
-            a: self.runs.longest(Network::A),
-            b: self.runs.longest(Network::B),
+            a: self.runs.absences.longest(Network::A),
+            b: self.runs.absences.longest(Network::B),
         };
-        self.stopped = self.runs.last();
+        self.stopped = self.runs.absences.last();
+        self.gaps = self.runs.times.told();
         self.skew_median = self.classes.median(self.copies);
         Ok(())
     }

@@ -1,19 +1,19 @@
-//! The median of skews, from counts of classes of them.
+//! The median of values and those of other ranks, from counts of classes of them.
 
 ghost use Rattle.std.specs.Prelude.{◌≡◌, ◌+◌, ◌-◌, ◌<◌, ◌≤◌, ◌^◌, ℕ, List, [], ◌∷◌, length, min, IsTrue, OnOk, vec_len};
 ghost use Rattle.ledger_report.specs.Classes.{CountsClasses, IsClassOf, class_start, is_within};
-ghost use Rattle.ledger_report.specs.Medians.{IsMedian};
+ghost use Rattle.ledger_report.specs.Medians.{IsMedian, IsRanked};
 ghost use Rattle.ledger_report.specs.declared.median.TheConstants.{CLASSES};
 
 use std::alloc::{AllocError, Global};
 
 /// How many classes there are: values below 32 have one each, and each octave above has 16, up to 2^31.
 const CLASSES: usize = 448;
-/// A greater value counts as this one. Skews are a second at most.
+/// A greater value counts as this one.
 const GREATEST: u64 = 2_147_483_647;
 
 /// Counts of values by their five leading binary digits.
-#[derive(Debug, Drop)]
+#[derive(Drop)]
 pub struct Classes {
     counts: Vec<u64>,
     ghost room: { vec_len counts ≤ CLASSES },
@@ -107,7 +107,16 @@ impl Classes {
         ensures { (values : List ℕ) → length values < 2 ^ 62 → count ≡ length values
             → CountsClasses values self.now.counts.items → IsMedian values result }
     {
-        let mut left = count.saturating_add(1) / 2;
+        self.ranked(count.saturating_sub(1) / 2)
+    }
+
+    /// The value at this index of the values in rising order, from 0, rounded down to its five leading binary
+    /// digits; 0 where there is none.
+    pub(crate) fn ranked(&self, index: u64) -> u64
+        ensures { (values : List ℕ) → length values < 2 ^ 62
+            → CountsClasses values self.now.counts.items → IsRanked index values result }
+    {
+        let mut left = index.saturating_add(1);
         for (class, held) in self.counts.iter().enumerate() {
             if left <= *held {
                 return least_of(class);

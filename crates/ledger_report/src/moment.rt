@@ -25,7 +25,7 @@ impl Place {
 }
 
 /// A line's network and place, and the bin of its timestamp.
-#[derive(Clone, Copy, Debug)]
+#[derive(Clone, Copy)]
 pub struct Moment {
     pub network: Network,
     pub place: Place,

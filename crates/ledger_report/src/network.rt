@@ -1,16 +1,18 @@
 //! What is kept of a network.
 
-ghost use Rattle.std.specs.Prelude.{◌≡◌, ◌+◌, ◌==◌, ◌&&◌, ◌<◌, List, ◌∷◌, if◌then◌else◌, length, nat_le, nat_lt, true, false, IfOk, OnOk};
+ghost use Rattle.std.specs.Prelude.{◌≡◌, ◌+◌, ◌==◌, ◌&&◌, ◌||◌, ◌-◌, ◌<◌, List, ◌∷◌, if◌then◌else◌, length, nat_le, nat_lt, true, false, IfOk, OnOk};
 ghost use Rattle.afdx_frame.specs.declared.key.Network.{Network};
 ghost use Rattle.ledger_text.specs.declared.bounds.TheConstants.{MOST_LINES};
 ghost use Rattle.ledger_text.specs.declared.frame.FrameLine.{FrameLine};
 ghost use Rattle.std.specs.Option.{option_map_or};
+ghost use Rattle.ledger_report.specs.Gaps.{begins_since};
 ghost use Rattle.ledger_report.specs.Sums.{saturated};
 ghost use Rattle.ledger_report.specs.LinkLines.{is_silent_since};
 ghost use Rattle.ledger_report.specs.Words.{is_on};
+ghost use Rattle.ledger_report.specs.Silences.{is_long, usual_with};
 ghost use Rattle.ledger_report.specs.declared.bounds.TheConstants.{SILENT_LINES};
 
-use crate::bounds::{MOST_SILENCES, SILENT_LINES};
+use crate::bounds::{LONG_TIME, LONG_TIMES, MOST_SILENCES, SILENT_LINES};
 use crate::moment::Moment;
 use crate::series::{Merge, Series};
 use crate::signs::Signs;
@@ -19,8 +21,8 @@ use std::alloc::{AllocError, Global};
 /// Preamble, start of frame, check sequence and least gap: what a frame takes on the wire beside its bytes.
 const WIRE_BYTES: u64 = 24;
 
-/// Two lines of a network one after another, with many of the other network between them.
-#[derive(Clone, Copy, Debug, PartialEq, Eq)]
+/// Two lines of a network one after another, with many of the other network or a long time between them.
+#[derive(Clone, Copy, PartialEq, Eq)]
 pub struct Silence {
     /// How many lines of the network stand before the silence.
     pub after: u64,
@@ -32,7 +34,7 @@ pub struct Silence {
 }
 
 /// What the lines of one network say.
-#[derive(Debug, Drop)]
+#[derive(Drop)]
 pub struct NetworkReport {
     /// How many lines it has.
     pub frames: u64,
@@ -50,8 +52,18 @@ pub struct NetworkReport {
     pub lines: Series,
     pub loads: Series,
     pub skews: Series,
+    /// The longest time between two of its lines, one after the other, that isn't a silence by its length.
+    pub usual: u64,
     /// How many lines of the other network stand after its last.
     since: u64,
+}
+
+/// Is a time between two lines long, after so many lines of the network with this longest usual time?
+#[inline]
+fn is_long(frames: u64, usual: u64, time: u64) -> bool
+    ensures { result ≡ is_long frames usual time }
+{
+    frames >= SILENT_LINES && time >= LONG_TIME && time / LONG_TIMES >= usual
 }
 
 impl NetworkReport {
@@ -96,6 +108,7 @@ impl NetworkReport {
             lines: Series::new(alloc, Merge::Sum),
             loads: Series::new(alloc, Merge::Sum),
             skews: Series::new(alloc, Merge::Greatest),
+            usual: 0,
             since: 0,
         })
     }
@@ -113,12 +126,30 @@ impl NetworkReport {
         self.since = self.since.saturating_add(1);
     }
 
-    /// Has the network a line, and do many of the other network's stand after it?
+    /// Has the network a line, and do many of the other network's stand after it, or is it long ago at this
+    /// time?
     #[inline]
-    fn is_silent(&self) -> bool
-        ensures { result ≡ (nat_le SILENT_LINES self.now.since && nat_lt 0 self.now.frames) }
+    fn is_silent(&self, stamp: u64) -> bool
+        ensures { result ≡ (nat_lt 0 self.now.frames && (nat_le SILENT_LINES self.now.since
+            || is_long self.now.frames self.now.usual (stamp - self.now.last))) }
     {
-        self.since >= SILENT_LINES && self.frames > 0
+        self.frames > 0
+            && (self.since >= SILENT_LINES
+                || is_long(self.frames, self.usual, stamp.saturating_sub(self.last)))
+    }
+
+    /// The longest usual time, with the time up to this line.
+    #[inline]
+    fn usual_with(&self, stamp: u64) -> u64
+        ensures { result ≡ (if nat_lt 0 self.now.frames
+            then usual_with self.now.frames self.now.usual (stamp - self.now.last) else self.now.usual) }
+    {
+        let time = stamp.saturating_sub(self.last);
+        if self.frames == 0 || is_long(self.frames, self.usual, time) {
+            self.usual
+        } else {
+            self.usual.max(time)
+        }
     }
 
     /// Notes that the network has been silent, if it has, up to this line.
@@ -131,7 +162,7 @@ impl NetworkReport {
           more_silences = self.new.more_silences;
         }) }
     {
-        if !self.is_silent() {
+        if !self.is_silent(stamp) {
             return Ok(());
         }
         if self.silences.len() >= MOST_SILENCES {
@@ -176,10 +207,13 @@ impl NetworkReport {
           frames = saturated (self.old.frames + 1);
           first = if self.old.frames == 0 then stamp else self.old.first;
           last = stamp;
+          usual = if nat_lt 0 self.old.frames
+              then usual_with self.old.frames self.old.usual (stamp - self.old.last) else self.old.usual;
           since = 0;
         } }
     {
         self.since = 0;
+        self.usual = self.usual_with(stamp);
         if self.frames == 0 {
             self.first = stamp;
         }
@@ -234,6 +268,17 @@ impl NetworkReport {
     {
         match self.silences.last() {
             Some(silence) => silence.after >= line,
+            None => false,
+        }
+    }
+
+    /// Does its latest silence begin at this time, or later?
+    #[inline]
+    pub(crate) fn was_silent_since(&self, stamp: u64) -> bool
+        ensures { result ≡ begins_since stamp self.now.silences.items }
+    {
+        match self.silences.last() {
+            Some(silence) => silence.from >= stamp,
             None => false,
         }
     }

@@ -12,7 +12,7 @@ use afdx_frame::Network;
 use std::alloc::{AllocError, Global};
 
 /// What is known of a delivery so far.
-#[derive(Clone, Copy, Debug, PartialEq, Eq)]
+#[derive(Clone, Copy, PartialEq, Eq)]
 pub enum Fate {
     /// Nothing.
     Open,
@@ -25,7 +25,7 @@ pub enum Fate {
 }
 
 /// The latest delivery of a sequence number.
-#[derive(Clone, Copy, Debug)]
+#[derive(Clone, Copy)]
 pub struct Delivery {
     pub network: Network,
     pub place: Place,
@@ -49,7 +49,7 @@ impl Delivery {
 }
 
 /// The latest delivery of each sequence number of a link, and its latest discarded line on each network.
-#[derive(Debug, Drop)]
+#[derive(Drop)]
 pub struct Pairing {
     deliveries: Vec<Option<Delivery>>,
     discarded: Sides<Vec<Option<u64>>>,

@@ -38,7 +38,7 @@ use std::alloc::{AllocError, Global};
 use vl_config::Config;
 
 /// The frames of a link that the table doesn't have.
-#[derive(Clone, Copy, Debug, PartialEq, Eq)]
+#[derive(Clone, Copy, PartialEq, Eq)]
 pub struct OutsideLink {
     /// How many; the rest is of no use where there is none.
     pub frames: u64,
@@ -81,7 +81,7 @@ impl OutsideLink {
 }
 
 /// What a ledger says.
-#[derive(Debug, Drop)]
+#[derive(Drop)]
 pub struct Report {
     /// The timestamps of the first line and the last; 0 where there is none.
     pub start: u64,

@@ -8,7 +8,7 @@ use crate::bounds::BINS;
 use std::alloc::{AllocError, Global};
 
 /// How two bins become one.
-#[derive(Clone, Copy, Debug, PartialEq, Eq)]
+#[derive(Clone, Copy, PartialEq, Eq)]
 pub enum Merge {
     /// Their sum; 0 where nothing came.
     Sum,
@@ -42,7 +42,7 @@ impl Merge {
 }
 
 /// A number for each bin of time, [`BINS`] of them; none where nothing ever came.
-#[derive(Debug, Drop)]
+#[derive(Drop)]
 pub struct Series {
     merge: Merge,
     bins: Vec<u64>,

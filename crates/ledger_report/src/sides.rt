@@ -6,7 +6,7 @@ ghost use Rattle.ledger_report.specs.Words.{other_of};
 use afdx_frame::Network;
 
 /// One value for each of the two networks.
-#[derive(Debug, Drop)]
+#[derive(Drop)]
 pub struct Sides<T> {
     /// That of network A.
     pub a: T,

@@ -10,7 +10,7 @@ use crate::series::{Merge, Series};
 use std::alloc::{AllocError, Global};
 
 /// What is counted.
-#[derive(Clone, Copy, Debug, PartialEq, Eq)]
+#[derive(Clone, Copy, PartialEq, Eq)]
 pub enum Sign {
     Cut,
     Runt,
@@ -32,7 +32,7 @@ pub enum Sign {
 const SIGNS: usize = 14;
 
 /// A count, with the places of the first and the last frame, and its bins.
-#[derive(Debug, Drop)]
+#[derive(Drop)]
 pub struct Mark {
     pub count: u64,
     pub first: Option<Place>,
@@ -143,7 +143,7 @@ impl Mark {
 }
 
 /// The marks of a lane or a network by their signs.
-#[derive(Debug, Drop)]
+#[derive(Drop)]
 pub struct Signs {
     marks: Vec<Mark>,
     ghost whole: { vec_len marks ≡ 14 },

@@ -86,7 +86,7 @@ pub fn bin_of(start: u64, width: u64, stamp: u64) -> usize
 }
 
 /// The numbers so far.
-#[derive(Debug, Drop)]
+#[derive(Drop)]
 pub struct Statistics {
     /// The timestamp of the first line, and the width of a bin.
     pub start: u64,

@@ -1,5 +1,5 @@
 -- What follows from the fields that are read so far.
-use Rattle.std.proofs.Common.{◌≡◌, ◌∙◌, ℕ, suc, ◌^◌, length, ◌<◌, ◌≤◌, false, List, [], ◌∷◌, Option, None, Some, IfSome, Result, Ok, Err, is_some, refl, sym, ap, subst, arith, lit<}
+use Rattle.std.proofs.Common.{◌≡◌, ◌∙◌, ℕ, suc, ◌^◌, length, ◌<◌, false, List, [], ◌∷◌, Option, None, Some, IfSome, Result, Ok, Err, is_some, refl, sym, ap, subst, arith, lit<}
 use Rattle.std.specs.Option.{option_map_or}
 use Rattle.std.specs.Result.{result_ok}
 use Rattle.std.specs.Fmt.{decimal}
@@ -20,11 +20,11 @@ use Rattle.vl_judge.specs.Judgement.{is_regular, is_within}
 use Rattle.verdict_ledger.specs.Text.{network_word, class_word, policing_word, integrity_word, redundancy_word, mask_text, is_addressed}
 use Rattle.ledger_text.specs.Reads.{Any, Below, Optional, Reads, dash_or}
 use Rattle.ledger_text.specs.Fields.{Agrees, first_field, next_fields, fields_of}
-use Rattle.ledger_text.specs.FrameText.{IsFrameLine, IsFrameFault, IsFrameText, IsReadOf, frame_fields, link_fits, link_text, stamp_bound}
+use Rattle.ledger_text.specs.FrameText.{IsFrameLine, IsFrameFault, IsFrameText, IsMaskOf, IsReadOf, frame_fields, link_fits, link_text, stamp_bound}
 use Rattle.ledger_text.specs.declared.frame.FrameLine.{FrameLine}
 use Rattle.ledger_text.specs.declared.fault.FrameFault.{FrameFault}
 use Rattle.ledger_text.specs.declared.fault.FrameFault.TheVariants as faults
-use Rattle.ledger_text.proofs.Spelling.{make, one_class, one_policing, one_integrity, one_link}
+use Rattle.ledger_text.proofs.Spelling.{make, one_class, one_policing, one_integrity, one_link, one_number, wider}
 
 -- ---- what a step of reading says
 
@@ -55,7 +55,7 @@ pub record Fit (s i : ℕ) (l : Option VlId) (q : Option ℕ) (c : Class) (p : O
   pub integrity : is_some t ≡ option_map_or is_within p false
   pub redundancy : is_some r ≡ option_map_or is_valid t false
   pub kept : IfSome k (Below (2 ^ 32))
-  pub mask : m < 2 ^ 8
+  pub mask : IsMaskOf k m
 
 pub fits : (s : ℕ) (n : Network) (i : ℕ) (l : Option VlId) (q : Option ℕ) (c : Class) (p : Option Policing) (t : Option Integrity) (r : Option Redundancy) (k : Option ℕ) (m : ℕ)
     → Fit s i l q c p t r k m → IsFrameLine (make s n i l q c p t r k m)
@@ -121,6 +121,17 @@ some_redundancy (Some Skip) = refl
 some_redundancy (Some Off) = refl
 some_redundancy (Some Out) = refl
 
+abbrev any_mask : Option ℕ → ℕ
+any_mask None = 0
+any_mask (Some k) = 1
+
+some_mask : (k : Option ℕ) → IsMaskOf k (any_mask k)
+some_mask None = record { small = lit< tt; names = refl }
+some_mask (Some k) = record { small = lit< tt; names = refl }
+
+no_mask : IsMaskOf None 0
+no_mask = some_mask None
+
 -- no verdict of the line's class
 abbrev pub from_link : ℕ → Network → ℕ → Option VlId → Option ℕ → FrameLine
 from_link s n i l q = make s n i l q (any_class l) (any_policing (any_class l)) (any_integrity (any_policing (any_class l))) (any_redundancy (any_integrity (any_policing (any_class l)))) None 0
@@ -141,7 +152,7 @@ link_fit s n i l q hs hi hl hq =
       integrity = some_integrity p;
       redundancy = some_redundancy t;
       kept = tt;
-      mask = lit< tt;
+      mask = no_mask;
     })
 
 -- ---- the fault of each field
@@ -198,7 +209,7 @@ pub fault_policing : (fields : List (List ℕ)) (s : ℕ) (n : Network) (i : ℕ
     → Agrees 6 (decimal s ∷ network_word n ∷ decimal i ∷ dash_or link_text l ∷ dash_or decimal q ∷ class_word c ∷ []) fields
     → ((x : Option Policing) → Optional Any (is_regular c) x → dash_or policing_word x ≡ first_field (next_fields (next_fields (next_fields (next_fields (next_fields (next_fields fields)))))) → ⊥) → IsFrameFault fields faults.Policing
 fault_policing fields s n i l q c hs hi hl hq hc b none = record {
-  before = (make s n i l q c (any_policing c) (any_integrity (any_policing c)) (any_redundancy (any_integrity (any_policing c))) None 0, fits s n i l q c (any_policing c) (any_integrity (any_policing c)) (any_redundancy (any_integrity (any_policing c))) None 0 (record { stamp = hs; number = hi; link = hl; sequence = hq; class = hc; policing = some_policing c; integrity = some_integrity (any_policing c); redundancy = some_redundancy (any_integrity (any_policing c)); kept = tt; mask = lit< tt }), b);
+  before = (make s n i l q c (any_policing c) (any_integrity (any_policing c)) (any_redundancy (any_integrity (any_policing c))) None 0, fits s n i l q c (any_policing c) (any_integrity (any_policing c)) (any_redundancy (any_integrity (any_policing c))) None 0 (record { stamp = hs; number = hi; link = hl; sequence = hq; class = hc; policing = some_policing c; integrity = some_integrity (any_policing c); redundancy = some_redundancy (any_integrity (any_policing c)); kept = tt; mask = no_mask }), b);
   departs = λ w z a. let same = one_class w.class c (a.1.1.1.1.1.0 ∙ sym b.1.1.1.1.1.0) in none w.policing (record { present = z.reached.policing ∙ ap is_regular same; fits = any_fits w.policing }) a.1.1.1.1.1.1.0;
 }
 
@@ -206,7 +217,7 @@ pub fault_integrity : (fields : List (List ℕ)) (s : ℕ) (n : Network) (i : �
     → Agrees 7 (decimal s ∷ network_word n ∷ decimal i ∷ dash_or link_text l ∷ dash_or decimal q ∷ class_word c ∷ dash_or policing_word p ∷ []) fields
     → ((x : Option Integrity) → Optional Any (option_map_or is_within p false) x → dash_or integrity_word x ≡ first_field (next_fields (next_fields (next_fields (next_fields (next_fields (next_fields (next_fields fields))))))) → ⊥) → IsFrameFault fields faults.Integrity
 fault_integrity fields s n i l q c p hs hi hl hq hc hp b none = record {
-  before = (make s n i l q c p (any_integrity p) (any_redundancy (any_integrity p)) None 0, fits s n i l q c p (any_integrity p) (any_redundancy (any_integrity p)) None 0 (record { stamp = hs; number = hi; link = hl; sequence = hq; class = hc; policing = hp; integrity = some_integrity p; redundancy = some_redundancy (any_integrity p); kept = tt; mask = lit< tt }), b);
+  before = (make s n i l q c p (any_integrity p) (any_redundancy (any_integrity p)) None 0, fits s n i l q c p (any_integrity p) (any_redundancy (any_integrity p)) None 0 (record { stamp = hs; number = hi; link = hl; sequence = hq; class = hc; policing = hp; integrity = some_integrity p; redundancy = some_redundancy (any_integrity p); kept = tt; mask = no_mask }), b);
   departs = λ w z a. let same = one_policing w.policing p (a.1.1.1.1.1.1.0 ∙ sym b.1.1.1.1.1.1.0) in none w.integrity (record { present = z.reached.integrity ∙ ap (λ (o : Option Policing). option_map_or is_within o false) same; fits = any_fits w.integrity }) a.1.1.1.1.1.1.1.0;
 }
 
@@ -214,7 +225,7 @@ pub fault_redundancy : (fields : List (List ℕ)) (s : ℕ) (n : Network) (i : �
     → Agrees 8 (decimal s ∷ network_word n ∷ decimal i ∷ dash_or link_text l ∷ dash_or decimal q ∷ class_word c ∷ dash_or policing_word p ∷ dash_or integrity_word t ∷ []) fields
     → ((x : Option Redundancy) → Optional Any (option_map_or is_valid t false) x → dash_or redundancy_word x ≡ first_field (next_fields (next_fields (next_fields (next_fields (next_fields (next_fields (next_fields (next_fields fields)))))))) → ⊥) → IsFrameFault fields faults.Redundancy
 fault_redundancy fields s n i l q c p t hs hi hl hq hc hp ht b none = record {
-  before = (make s n i l q c p t (any_redundancy t) None 0, fits s n i l q c p t (any_redundancy t) None 0 (record { stamp = hs; number = hi; link = hl; sequence = hq; class = hc; policing = hp; integrity = ht; redundancy = some_redundancy t; kept = tt; mask = lit< tt }), b);
+  before = (make s n i l q c p t (any_redundancy t) None 0, fits s n i l q c p t (any_redundancy t) None 0 (record { stamp = hs; number = hi; link = hl; sequence = hq; class = hc; policing = hp; integrity = ht; redundancy = some_redundancy t; kept = tt; mask = no_mask }), b);
   departs = λ w z a. let same = one_integrity w.integrity t (a.1.1.1.1.1.1.1.0 ∙ sym b.1.1.1.1.1.1.1.0) in none w.redundancy (record { present = z.reached.redundancy ∙ ap (λ (o : Option Integrity). option_map_or is_valid o false) same; fits = any_fits w.redundancy }) a.1.1.1.1.1.1.1.1.0;
 }
 
@@ -222,19 +233,19 @@ pub fault_kept : (fields : List (List ℕ)) (s : ℕ) (n : Network) (i : ℕ) (l
     → Agrees 9 (decimal s ∷ network_word n ∷ decimal i ∷ dash_or link_text l ∷ dash_or decimal q ∷ class_word c ∷ dash_or policing_word p ∷ dash_or integrity_word t ∷ dash_or redundancy_word r ∷ []) fields
     → ((x : Option ℕ) → IfSome x (Below (2 ^ 32)) → dash_or decimal x ≡ first_field (next_fields (next_fields (next_fields (next_fields (next_fields (next_fields (next_fields (next_fields (next_fields fields))))))))) → ⊥) → IsFrameFault fields faults.Kept
 fault_kept fields s n i l q c p t r hs hi hl hq hc hp ht hr b none = record {
-  before = (make s n i l q c p t r None 0, fits s n i l q c p t r None 0 (record { stamp = hs; number = hi; link = hl; sequence = hq; class = hc; policing = hp; integrity = ht; redundancy = hr; kept = tt; mask = lit< tt }), b);
+  before = (make s n i l q c p t r None 0, fits s n i l q c p t r None 0 (record { stamp = hs; number = hi; link = hl; sequence = hq; class = hc; policing = hp; integrity = ht; redundancy = hr; kept = tt; mask = no_mask }), b);
   departs = λ w z a. none w.kept z.kept a.1.1.1.1.1.1.1.1.1.0;
 }
 
 pub fault_mask : (fields : List (List ℕ)) (s : ℕ) (n : Network) (i : ℕ) (l : Option VlId) (q : Option ℕ) (c : Class) (p : Option Policing) (t : Option Integrity) (r : Option Redundancy) (k : Option ℕ) → s < stamp_bound → i < 2 ^ 32 → IfSome l link_fits → Optional (Below (2 ^ 8)) (is_some l) q → is_addressed c ≡ is_some l → is_some p ≡ is_regular c → is_some t ≡ option_map_or is_within p false → is_some r ≡ option_map_or is_valid t false → IfSome k (Below (2 ^ 32))
     → Agrees 10 (decimal s ∷ network_word n ∷ decimal i ∷ dash_or link_text l ∷ dash_or decimal q ∷ class_word c ∷ dash_or policing_word p ∷ dash_or integrity_word t ∷ dash_or redundancy_word r ∷ dash_or decimal k ∷ []) fields
-    → ((x : ℕ) → Below (2 ^ 8) x → mask_text x ≡ first_field (next_fields (next_fields (next_fields (next_fields (next_fields (next_fields (next_fields (next_fields (next_fields (next_fields fields)))))))))) → ⊥) → IsFrameFault fields faults.Mask
+    → ((x : ℕ) → IsMaskOf k x → mask_text x ≡ first_field (next_fields (next_fields (next_fields (next_fields (next_fields (next_fields (next_fields (next_fields (next_fields (next_fields fields)))))))))) → ⊥) → IsFrameFault fields faults.Mask
 fault_mask fields s n i l q c p t r k hs hi hl hq hc hp ht hr hk b none = record {
-  before = (make s n i l q c p t r k 0, fits s n i l q c p t r k 0 (record { stamp = hs; number = hi; link = hl; sequence = hq; class = hc; policing = hp; integrity = ht; redundancy = hr; kept = hk; mask = lit< tt }), b);
-  departs = λ w z a. none w.mask z.mask a.1.1.1.1.1.1.1.1.1.1.0;
+  before = (make s n i l q c p t r k (any_mask k), fits s n i l q c p t r k (any_mask k) (record { stamp = hs; number = hi; link = hl; sequence = hq; class = hc; policing = hp; integrity = ht; redundancy = hr; kept = hk; mask = some_mask k }), b);
+  departs = λ w z a. let same = one_number w.kept k (wider w.kept (2 ^ 32) (omega arith) z.kept) (wider k (2 ^ 32) (omega arith) hk) (a.1.1.1.1.1.1.1.1.1.0 ∙ sym b.1.1.1.1.1.1.1.1.1.0) in none w.mask (subst (λ (o : Option ℕ). IsMaskOf o w.mask) same z.mask) a.1.1.1.1.1.1.1.1.1.1.0;
 }
 
-pub fault_fields : (fields : List (List ℕ)) (s : ℕ) (n : Network) (i : ℕ) (l : Option VlId) (q : Option ℕ) (c : Class) (p : Option Policing) (t : Option Integrity) (r : Option Redundancy) (k : Option ℕ) (m : ℕ) → s < stamp_bound → i < 2 ^ 32 → IfSome l link_fits → Optional (Below (2 ^ 8)) (is_some l) q → is_addressed c ≡ is_some l → is_some p ≡ is_regular c → is_some t ≡ option_map_or is_within p false → is_some r ≡ option_map_or is_valid t false → IfSome k (Below (2 ^ 32)) → m < 2 ^ 8
+pub fault_fields : (fields : List (List ℕ)) (s : ℕ) (n : Network) (i : ℕ) (l : Option VlId) (q : Option ℕ) (c : Class) (p : Option Policing) (t : Option Integrity) (r : Option Redundancy) (k : Option ℕ) (m : ℕ) → s < stamp_bound → i < 2 ^ 32 → IfSome l link_fits → Optional (Below (2 ^ 8)) (is_some l) q → is_addressed c ≡ is_some l → is_some p ≡ is_regular c → is_some t ≡ option_map_or is_within p false → is_some r ≡ option_map_or is_valid t false → IfSome k (Below (2 ^ 32)) → IsMaskOf k m
     → Agrees 11 (decimal s ∷ network_word n ∷ decimal i ∷ dash_or link_text l ∷ dash_or decimal q ∷ class_word c ∷ dash_or policing_word p ∷ dash_or integrity_word t ∷ dash_or redundancy_word r ∷ dash_or decimal k ∷ mask_text m ∷ []) fields
     → ((next_fields (next_fields (next_fields (next_fields (next_fields (next_fields (next_fields (next_fields (next_fields (next_fields (next_fields fields))))))))))) ≡ [] → ⊥) → IsFrameFault fields faults.Fields
 fault_fields fields s n i l q c p t r k m hs hi hl hq hc hp ht hr hk hm b none = record {
@@ -294,10 +305,6 @@ number_some (Some n) h = decimal_nonempty n h
 link_some : (o : Option VlId) → IfSome o link_fits → 0 < length (dash_or link_text o)
 link_some None h = lit< tt
 link_some (Some l) h = decimal_nonempty l.0 (omega arith)
-
-wider : (o : Option ℕ) (k : ℕ) → k ≤ 2 ^ 64 → IfSome o (Below k) → IfSome o (Below (2 ^ 64))
-wider None k le h = tt
-wider (Some n) k le h = omega arith
 
 pub all_some : (v : FrameLine) → IsFrameLine v → AllSome (frame_fields v)
 all_some v z = (

@@ -1,5 +1,5 @@
 -- The length of a line is where the first newline stands, or all bytes where there is none.
-use Rattle.std.proofs.Common.{◌≡◌, ◌<◌, ℕ, zero, suc, Bool, true, false, List, Option, Some, None, length, arith, refl, sym, unwrap_or}
+use Rattle.std.proofs.Common.{◌≡◌, ℕ, Bool, true, false, List, Option, Some, None, length, arith, refl, sym, unwrap_or}
 use Rattle.std.proofs.lemmas.List.Sums.{position_or_len_is}
 use Rattle.std.specs.List.{position_or_len}
 use Rattle.memchr.specs.Find.{IsFirstByte, is_byte}

@@ -127,7 +127,7 @@ make s n i l q c p t r k m = record {
   mask = m;
 }
 
-wider : (o : Option ℕ) (k : ℕ) → k ≤ 2 ^ 64 → IfSome o (Below k) → IfSome o (Below (2 ^ 64))
+pub wider : (o : Option ℕ) (k : ℕ) → k ≤ 2 ^ 64 → IfSome o (Below k) → IfSome o (Below (2 ^ 64))
 wider None k le h = tt
 wider (Some n) k le h = omega arith
 
@@ -157,7 +157,7 @@ hex_back (suc (suc (suc (suc (suc (suc (suc (suc (suc (suc (suc (suc (suc (suc (
 one_hex : (m n : ℕ) → m < 16 → n < 16 → hex_digit m ≡ hex_digit n → m ≡ n
 one_hex m n a b e = sym (hex_back m a) ∙ (ap unhex e ∙ hex_back n b)
 
-one_mask : (m n : ℕ) → m < 2 ^ 8 → n < 2 ^ 8 → mask_text m ≡ mask_text n → m ≡ n
+pub one_mask : (m n : ℕ) → m < 2 ^ 8 → n < 2 ^ 8 → mask_text m ≡ mask_text n → m ≡ n
 one_mask m n a b e =
     let high : m / 16 ≡ n / 16 = one_hex (m / 16) (n / 16) (omega arith) (omega arith) (ap (λ (l : List ℕ). get_or l 0 0) e) in
     let low : m % 16 ≡ n % 16 = one_hex (m % 16) (n % 16) (omega arith) (omega arith) (ap (λ (l : List ℕ). get_or l 1 0) e) in
@@ -186,7 +186,7 @@ one_line v w p q e =
     let t = one_integrity v.integrity w.integrity e7 in
     let r = one_redundancy v.redundancy w.redundancy e8 in
     let k = one_number v.kept w.kept (wider v.kept (2 ^ 32) (omega arith) p.kept) (wider w.kept (2 ^ 32) (omega arith) q.kept) e9 in
-    let m = one_mask v.mask w.mask p.mask q.mask e10 in
+    let m = one_mask v.mask w.mask p.mask.small q.mask.small e10 in
     let same : make v.stamp.0 v.network v.number v.link v.sequence v.class v.policing v.integrity v.redundancy v.kept v.mask
     ≡ make w.stamp.0 w.network w.number w.link w.sequence w.class w.policing w.integrity w.redundancy w.kept w.mask = cc in
     same

@@ -174,7 +174,7 @@ all_clear v z = (
                 integrity_clear v.integrity,
                 (
                   redundancy_clear v.redundancy,
-                  (number_clear v.kept (2 ^ 32) (omega arith) z.kept, (mask_clear v.mask z.mask, tt)),
+                  (number_clear v.kept (2 ^ 32) (omega arith) z.kept, (mask_clear v.mask z.mask.small, tt)),
                 ),
               ),
             ),

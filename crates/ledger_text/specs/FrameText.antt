@@ -1,5 +1,5 @@
 -- The line of a frame as its fields, and what is wrong with a line that is none.
-use Rattle.std.specs.Prelude.{◌≡◌, ℕ, suc, ◌^◌, ◌<◌, List, [], ◌∷◌, None, decimal, IfSome, Result, Ok, Err, if◌then◌else◌}
+use Rattle.std.specs.Prelude.{◌≡◌, ℕ, suc, ◌^◌, ◌<◌, List, [], ◌∷◌, None, decimal, IfSome, is_some, nat_lt, Option, Result, Ok, Err, if◌then◌else◌}
 use Rattle.afdx_frame.specs.View.{link_of, sequence_of}
 use Rattle.afdx_frame.specs.declared.key.VlId.{VlId}
 use Rattle.vl_judge.specs.Judgement.{Judgement, IsReached}
@@ -32,7 +32,13 @@ stamp_bound = 4294967296000000000
 abbrev pub link_fits : VlId → Type 0
 link_fits id = id.0 < 2 ^ 16
 
--- The values of a line go together: it has a link and a sequence number where its class says so, and each verdict that was reached.
+-- The mask has eight bits, and names a filter where bytes are kept and nowhere else: the capture holds a frame that a filter accepts.
+pub record IsMaskOf (kept : Option ℕ) (mask : ℕ) : Type 0 where
+  pub small : mask < 2 ^ 8
+  pub names : nat_lt 0 mask ≡ is_some kept
+
+-- The values of a line go together: it has a link and a sequence number where its class says so, each verdict that was reached, and bytes
+-- kept where its mask names a filter.
 pub record IsFrameLine (v : FrameLine) : Type 0 where
   pub stamp : v.stamp.0 < stamp_bound
   pub number : v.number < 2 ^ 32
@@ -40,7 +46,7 @@ pub record IsFrameLine (v : FrameLine) : Type 0 where
   pub sequence : Optional (Below (2 ^ 8)) (is_addressed v.class) v.sequence
   pub reached : IsReached (judgement_of v)
   pub kept : IfSome v.kept (Below (2 ^ 32))
-  pub mask : v.mask < 2 ^ 8
+  pub mask : IsMaskOf v.kept v.mask
 
 -- how many fields stand before that of the fault
 abbrev pub fields_before : FrameFault → ℕ

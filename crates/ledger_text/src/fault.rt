@@ -39,7 +39,8 @@ pub enum FrameFault {
     /// Field 10 is no count of bytes: a decimal number below 2^32, or a dash.
     #[error("the bytes kept")]
     Kept,
-    /// Field 11 is no mask: two hexadecimal digits, in lower case.
+    /// Field 11 is no mask: two hexadecimal digits, in lower case, which name a filter after a count of
+    /// bytes, and none after a dash.
     #[error("the mask")]
     Mask,
     /// More stands after field 11.

@@ -1,7 +1,9 @@
 //! The line of a frame.
 ghost use Rattle.std.specs.Prelude.{◌≡◌, ◌^◌, IfSome, decimal, is_some};
-ghost use Rattle.verdict_ledger.specs.Text.{class_word, is_addressed};
-ghost use Rattle.ledger_text.specs.FrameText.{IsReadOf, link_fits, link_text};
+ghost use Rattle.afdx_frame.specs.LentFrame.{frame_of_lent};
+ghost use Rattle.verdict_ledger.specs.Entry.{entry_with};
+ghost use Rattle.verdict_ledger.specs.Text.{class_word, is_addressed, mask_text};
+ghost use Rattle.ledger_text.specs.FrameText.{IsMaskOf, IsReadOf, link_fits, link_text, shown};
 ghost use Rattle.ledger_text.specs.Reads.{Below, Optional, Reads, dash_or};
 
 use crate::fault::FrameFault;
@@ -12,14 +14,15 @@ use crate::words::{class_of, integrity_of, mask_of, network_of, policing_of, red
 /// Timestamps are below 2^32 seconds, in nanoseconds.
 const STAMP_BOUND: u64 = 1_000_000_000 << 32;
 
-use afdx_frame::{Network, Stamp, VlId};
+use afdx_frame::{LentFrame, Network, Stamp, VlId};
 use integrity::Integrity;
 use policing::Policing;
 use redundancy::Redundancy;
 use vl_config::Class;
+use vl_judge::Verdict;
 
 /// What the line of a frame says.
-#[derive(Clone, Copy, Debug, PartialEq, Eq)]
+#[derive(Clone, Copy, PartialEq, Eq)]
 pub struct FrameLine {
     /// The timestamp.
     pub stamp: Stamp,
@@ -43,6 +46,34 @@ pub struct FrameLine {
     pub kept: Option<u32>,
     /// The mask of the filters that accept the frame: bit i is that of filter i.
     pub mask: u8,
+}
+
+impl FrameLine {
+    /// What the line of a frame says that has this verdict, of which a filter keeps so many bytes, and which
+    /// these filters accept.
+    #[inline]
+    pub fn of(frame: &LentFrame<'_>, verdict: &Verdict, kept: Option<u32>, mask: u8) -> FrameLine
+        ensures { result ≡ shown (entry_with (frame_of_lent frame.now) verdict.now kept mask) }
+    {
+        let (link, sequence) = if is_addressed(verdict.class) {
+            (frame.view().vl(), frame.view().sequence())
+        } else {
+            (None, None)
+        };
+        FrameLine {
+            stamp: frame.stamp(),
+            network: frame.network(),
+            number: frame.number() as u32,
+            link,
+            sequence,
+            class: verdict.class,
+            policing: verdict.policing,
+            integrity: verdict.integrity,
+            redundancy: verdict.redundancy,
+            kept,
+            mask,
+        }
+    }
 }
 
 /// Is there a link where the class has one, and none elsewhere?
@@ -103,6 +134,19 @@ fn kept_of(field: &[u8]) -> Option<Option<u32>>
     }
 }
 
+/// A mask that names a filter where bytes are kept, and none elsewhere.
+#[inline(always)]
+fn mask_with(field: &[u8], kept: Option<u32>) -> Option<u8>
+    ensures { Reads (IsMaskOf kept) mask_text field.now result }
+{
+    let mask = mask_of(field)?;
+    if (mask > 0) == kept.is_some() {
+        Some(mask)
+    } else {
+        None
+    }
+}
+
 /// Reads the line of a frame, without its newline.
 #[inline]
 pub fn read_frame(line: &[u8]) -> Result<FrameLine, FrameFault>
@@ -119,7 +163,7 @@ pub fn read_frame(line: &[u8]) -> Result<FrameLine, FrameFault>
     let integrity = integrity_of(fields.next(), policing).ok_or(FrameFault::Integrity)?;
     let redundancy = redundancy_of(fields.next(), integrity).ok_or(FrameFault::Redundancy)?;
     let kept = kept_of(fields.next()).ok_or(FrameFault::Kept)?;
-    let mask = mask_of(fields.next()).ok_or(FrameFault::Mask)?;
+    let mask = mask_with(fields.next(), kept).ok_or(FrameFault::Mask)?;
     if !fields.is_at_end() {
         return Err(FrameFault::Fields);
     }

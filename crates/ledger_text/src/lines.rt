@@ -10,7 +10,7 @@ use pcap_io::{DeviceFault, TapSource};
 use std::alloc::{AllocError, Global};
 
 /// What stands next in a source.
-#[derive(Clone, Copy, Debug, PartialEq, Eq)]
+#[derive(Clone, Copy, PartialEq, Eq)]
 pub enum LineFound {
     /// A line and its newline.
     Line,
@@ -23,14 +23,14 @@ pub enum LineFound {
 }
 
 /// A source whose lines can't be read, since the system is out of memory.
-#[derive(Debug, Drop)]
+#[derive(Drop)]
 pub struct LinesRefused<S> {
     /// The source. Nothing was read from it.
     pub source: S,
 }
 
 /// The lines of a source, which is read ahead a block at a time. Each is lent out of the block.
-#[derive(Debug, Drop)]
+#[derive(Drop)]
 pub struct LineSource<S> {
     source: S,
     block: Vec<u8>,

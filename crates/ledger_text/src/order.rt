@@ -23,7 +23,7 @@ pub enum Counts {
 }
 
 /// What stands before the next line.
-#[derive(Clone, Copy, Debug, PartialEq, Eq)]
+#[derive(Clone, Copy, PartialEq, Eq)]
 pub enum Stage {
     /// Nothing: the head is next.
     Head,
@@ -34,7 +34,7 @@ pub enum Stage {
 }
 
 /// A line of a ledger.
-#[derive(Clone, Copy, Debug, PartialEq, Eq)]
+#[derive(Clone, Copy, PartialEq, Eq)]
 pub enum LedgerLine {
     /// The head.
     Head,

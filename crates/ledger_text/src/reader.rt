@@ -11,7 +11,7 @@ use pcap_io::TapSource;
 use std::alloc::Global;
 
 /// What a reader finds next.
-#[derive(Clone, Copy, Debug, PartialEq, Eq)]
+#[derive(Clone, Copy, PartialEq, Eq)]
 pub enum Found {
     /// A line, whose bytes the reader lends.
     Line(LedgerLine),
@@ -33,7 +33,7 @@ fn stage_after(line: &LedgerLine) -> Stage
 }
 
 /// A ledger that is read line by line.
-#[derive(Debug, Drop)]
+#[derive(Drop)]
 pub struct LedgerReader<S> {
     lines: LineSource<S>,
     stage: Stage,

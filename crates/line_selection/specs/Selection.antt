@@ -7,7 +7,7 @@ use Rattle.ledger_text.specs.declared.frame.FrameLine.{FrameLine}
 use Rattle.line_selection.specs.Links.{has_link}
 use Rattle.line_selection.specs.declared.link_set.LinkSet.{LinkSet}
 use Rattle.line_selection.specs.declared.moment.Moment.{Moment}
-use Rattle.line_selection.specs.declared.moment.Moment.TheVariants.{At, OfDay}
+use Rattle.line_selection.specs.declared.moment.Moment.TheVariants.{At, Next, OfDay, Since}
 use Rattle.line_selection.specs.declared.selection.Selection.{Selection}
 use Rattle.line_selection.specs.declared.word.Word.{Word}
 use Rattle.line_selection.specs.declared.word.Word.TheVariants as words
@@ -20,9 +20,15 @@ day = 86400000000000
 abbrev pub midnight : Stamp → ℕ
 midnight stamp = stamp.0 - stamp.0 % day
 
--- a moment in nanoseconds since 1970, by the timestamp of the ledger's first frame
+-- How long after a moment the first one of a time of day is: it is that moment itself, or comes less than a day later.
+abbrev pub until_of_day : ℕ → ℕ → ℕ
+until_of_day earliest of_day = (of_day % day + (day - earliest % day)) % day
+
+-- a moment in nanoseconds since 1970, by the timestamp of the ledger's first frame; 0 where it lies before 1970
 abbrev pub moment_of : Stamp → Moment → ℕ
 moment_of first (At stamp) = stamp.0
+moment_of first (Since after) = first.0 + after
+moment_of first (Next of_day after before) = ((first.0 + after) + until_of_day (first.0 + after) of_day) - before
 moment_of first (OfDay since) = midnight first + since
 
 -- the line's field has this word

@@ -23,7 +23,7 @@ pub use chooser::Chooser;
 pub use link_list::{ItemFault, LinkSetFault};
 pub use link_set::LinkSet;
 pub use mask::read_mask;
-pub use moment::Moment;
+pub use moment::{Moment, until_of_day};
 pub use neighbours::Neighbours;
 pub use pattern::{LONGEST_NAME, matches};
 pub use selection::Selection;

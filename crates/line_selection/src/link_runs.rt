@@ -7,7 +7,7 @@ use std::alloc::{AllocError, Global};
 
 /// Selected lines of a link, by their ordinals among its lines: the first and the last of some that are so
 /// close to each other that each line between them is near one.
-#[derive(Clone, Copy, Debug, PartialEq, Eq)]
+#[derive(Clone, Copy, PartialEq, Eq)]
 pub(crate) struct Run {
     first: u64,
     last: u64,

@@ -9,7 +9,7 @@ use redundancy::Redundancy;
 use vl_config::Class;
 
 /// A word of fields 6 to 9.
-#[derive(Clone, Copy, Debug, PartialEq, Eq)]
+#[derive(Clone, Copy, PartialEq, Eq)]
 pub enum Word {
     /// Field 6: the class.
     Class(Class),

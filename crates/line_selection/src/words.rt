@@ -1,7 +1,7 @@
 //! Words of fields 6 to 9, from text.
 ghost use Rattle.std.specs.Prelude.{◌≡◌, ◌≢◌, [], IfOk, IfErr, OnOk, flat_map};
 ghost use Rattle.std.specs.List.{All};
-ghost use Rattle.line_selection.specs.Words.{IsWordFault, group_text, items_of, names};
+ghost use Rattle.line_selection.specs.Words.{IsWordFault, fault_text, group_text, items_of, names};
 ghost use Rattle.line_selection.specs.Words.{word_text, words_named};
 
 use crate::word::Word;
@@ -95,11 +95,24 @@ fn group_of(word: Word) -> &'static str
     }
 }
 
+/// The name of all faults, if a frame whose last word this is was discarded, and not as a copy; else the word
+/// itself.
+fn fault_of(word: Word) -> &'static str
+    ensures { result.now ≡ fault_text word }
+{
+    match word {
+        Word::Class(Class::Regular) | Word::Policing(Policing::Within) => text_of(word),
+        Word::Class(_) | Word::Policing(Policing::Excess) => "faults",
+        Word::Integrity(Integrity::Out) => "faults",
+        Word::Integrity(_) | Word::Redundancy(_) => text_of(word),
+    }
+}
+
 /// Does the item stand for the word?
 fn names(item: &str, word: Word) -> bool
     ensures { result ≡ names item.now word }
 {
-    item == text_of(word) || item == group_of(word)
+    item == text_of(word) || item == group_of(word) || item == fault_of(word)
 }
 
 /// The words that an item stands for.
@@ -115,8 +128,9 @@ fn words_named(alloc: Global, item: &str) -> Result<Vec<Word>, AllocError>
 }
 
 /// Reads words of fields 6 to 9, as the ledger writes them, separated by commas. `discarded` stands for each
-/// word that says that a frame was, and `delivered` likewise. The words stand in the order of the items, and
-/// those of one item in that of the fields. `Memory` may come at any text.
+/// word that says that a frame was, and `delivered` likewise; `faults` for those that `discarded` stands for,
+/// but `copy`. The words stand in the order of the items, and those of one item in that of the fields.
+/// `Memory` may come at any text.
 pub fn read_words(alloc: Global, text: &str) -> Result<Vec<Word>, WordFault>
     ensures words { IfOk result (λ words. words.items ≡ flat_map words_named (items_of text.now)) }
     ensures whole { OnOk result (All (λ item. words_named item ≢ []) (items_of text.now)) }

@@ -1,6 +1,6 @@
 -- What a draft has: the constant field, and of each link what a document specifies of it and, where that leaves a value out, what was seen
 -- (this project's profile). Times of a table are in nanoseconds; lists of frames have the newest first.
-use Rattle.std.specs.Prelude.{◌≡◌, ℕ, ◌*◌, ◌<◌, ◌==◌, Bool, true, ◌||◌, List, [], length, find, max, min, Option, Some, None, is_some, IfNone, unwrap_or, slice_index, slice_index_or, option_map, string_bytes, if◌then◌else◌}
+use Rattle.std.specs.Prelude.{◌≡◌, ℕ, ◌*◌, ◌<◌, ◌==◌, Bool, true, ◌||◌, List, [], ◌++◌, length, codes, decimal, find, max, min, nat_lt, Option, Some, None, is_some, IfNone, unwrap_or, slice_index, slice_index_or, option_map, string_bytes, if◌then◌else◌}
 use Rattle.std.specs.Int.{div_ceil}
 use Rattle.std.specs.Option.{option_and_then, option_map_or}
 use Rattle.afdx_frame.specs.Frame.{Frame}
@@ -67,6 +67,13 @@ given value specified = option_and_then value specified
 
 -- ---- what a draft has of it
 
+-- where a name isn't specified it is vl_ and the identifier
+abbrev pub usual_name : ℕ → List ℕ
+usual_name id = codes "vl_" ++ decimal id
+
+abbrev pub name_beside : Option (List ℕ) → ℕ → List ℕ
+name_beside specified id = unwrap_or specified (usual_name id)
+
 -- where a jitter isn't specified it is the one that the frames need at the draft's BAG
 abbrev pub HasJitter : Option ℕ → ℕ → List Sighting → ℕ → Type 0
 HasJitter (Some specified) bag frames micros = micros ≡ specified
@@ -108,14 +115,14 @@ pub record HasFlags (drafted : Estimate) (link : VirtualLink) : Type 0 where
   pub integrity : link.integrity ≡ drafted.integrity
   pub redundancy : link.redundancy ≡ drafted.redundancy
 
--- it has all values, and the BAG and the name that are specified
+-- it has all values, the BAG that is specified, and its name
 pub record IsDrafted (specified : Option IcdLink) (frames : List Sighting) (link : VirtualLink) : Type 0 where
   pub drafted : Estimate
   pub values : HasValues specified frames drafted
   pub numbers : HasNumbers drafted link
   pub flags : HasFlags drafted link
   pub bag_is : (ms : ℕ) → given (λ it. it.bag_ms) specified ≡ Some ms → link.bag ≡ ms * 1000000
-  pub name : (name : List ℕ) → option_map string_bytes (given (λ it. it.name) specified) ≡ Some name → link.name ≡ name
+  pub name : link.name ≡ name_beside (option_map string_bytes (given (λ it. it.name) specified)) link.id.0
 
 -- ---- a whole draft
 
@@ -139,23 +146,27 @@ has_link links id = is_some (link_with links (record { 0 = id }))
 abbrev pub constant_by : Option ℕ → Option Field → ℕ
 constant_by wanted main = option_map_or (λ field. field.constant) main (unwrap_or wanted 50331648)
 
--- how far a timestamp lies below a greater one before it at most, in whole microseconds of both recordings; 0 where no constant field is kept
+-- how far a timestamp lies below a greater one before it at most, in whole microseconds of both recordings
 abbrev pub late_of : Option Recorded → ℕ
 late_of recorded = option_map_or (λ it. it.late) recorded 0
 
 abbrev pub late_micros : Recordings → ℕ
 late_micros recordings = div_ceil (max (late_of recordings.a) (late_of recordings.b)) 1000
 
-abbrev pub late_by : Option Field → Recordings → ℕ
-late_by None recordings = 0
-late_by (Some main) recordings = late_micros recordings * 1000
+-- the window for late timestamps where so much was seen: twice that, at least 100 microseconds and at most a second
+abbrev pub window_micros : ℕ → ℕ
+window_micros seen = if nat_lt 500000 seen then 1000000 else max (seen * 2) 100
 
--- the table of a draft has the links that are specified or seen, each with its values, and no other
+abbrev pub window_in : Recordings → ℕ
+window_in recordings = window_micros (late_micros recordings) * 1000
+
+-- the table of a draft has the links that are specified or seen, each with its values, and no other, and no filter
 pub record IsDraftOf (icd : List IcdLink) (wanted : Option ℕ) (recordings : Recordings) (main : Option Field) (seen : List Sighting) (vl_table : VlTable) : Type 0 where
   pub constant : vl_table.constant ≡ constant_by wanted main
-  pub late : vl_table.late ≡ late_by main recordings
+  pub late : vl_table.late ≡ window_in recordings
   pub drafted : AreOfDraft icd seen vl_table.links
   pub complete : (id : ℕ) → id < 65536 → is_known icd seen id ≡ true → has_link vl_table.links id ≡ true
+  pub filters : vl_table.filters ≡ []
 
 -- a text says such a table, where these are the frames that a survey counts
 pub record SaysDraft (icd : List IcdLink) (wanted : Option ℕ) (recordings : Recordings) (survey : Survey) (frames : List Frame) (text : List ℕ) : Type 0 where

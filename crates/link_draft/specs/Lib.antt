@@ -1,4 +1,5 @@
 pub mod Comparing
 pub mod Drafts
 pub mod Estimates
+pub mod Refusals
 pub mod Rules

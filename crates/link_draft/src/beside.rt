@@ -11,7 +11,7 @@ use std::fmt::{Display, Formatter};
 use vl_config::Key;
 
 /// How many links were seen otherwise than they are specified.
-#[derive(Clone, Copy, Debug, PartialEq, Eq)]
+#[derive(Clone, Copy, PartialEq, Eq)]
 pub struct Comparison {
     /// Links whose frames contradict what is specified.
     pub beyond: u32,

@@ -1,21 +1,23 @@
 //! Whether the table that a draft's text is read back as has what the draft is to have.
 
-ghost use Rattle.std.specs.Prelude.{◌≡◌, ◌<◌, ◌^◌, ◌*◌, ℕ, List, Some, length, is_some, option_copied, slice_index_or, true};
+ghost use Rattle.std.specs.Prelude.{◌≡◌, ◌<◌, ◌^◌, ◌*◌, ℕ, List, [], Some, length, is_some, option_copied, slice_index_or, true};
 ghost use Rattle.survey_run.specs.LinkFrames.{Sighting, kept_links};
 ghost use Rattle.survey_run.specs.FirstSeen.{is_among};
 ghost use Rattle.icd_links.specs.declared.link.IcdLink.{IcdLink};
-ghost use Rattle.link_draft.specs.Drafts.{AreOfDraft, CountsMain, HasFlags, HasNumbers, IsDraftOf, IsDrafted, IsOfDraft, IsSeenOf, constant_by, has_link, icd_list, is_known, late_by, seen_of, specified_of};
+ghost use Rattle.link_draft.specs.Drafts.{AreOfDraft, CountsMain, HasFlags, HasNumbers, IsDraftOf, IsDrafted, IsOfDraft, IsSeenOf, constant_by, has_link, icd_list, is_known, name_beside, seen_of, specified_of, window_in};
 
 use crate::draft::{Sources, USUAL_CONSTANT};
 use crate::estimate::Estimate;
 use crate::known::Known;
+use crate::names::is_usual_name;
 use afdx_frame::VlId;
 use icd_links::{IcdLink, IcdLinks};
 use link_estimate::BAGS;
 use survey_run::{Field, LinkSurvey};
 use vl_config::{Config, Link};
 
-/// Does the table have the constant field and the links that its draft is to have, and no other link?
+/// Does the table have the constant field and the links that its draft is to have, no other link, and no
+/// filter?
 pub fn is_draft_of(table: &Config, sources: &Sources<'_>, main: Option<&Field>) -> bool
     ensures { result ≡ true → (seen : List Sighting) → length seen < 2 ^ 32
         → CountsMain (option_copied main.entry) seen
@@ -28,20 +30,18 @@ pub fn is_draft_of(table: &Config, sources: &Sources<'_>, main: Option<&Field>) 
         && has_seen(table, main)
 }
 
-/// Does a table have the constant field and the lateness of its draft?
+/// Does a table have the constant field and the window of its draft, and no filter?
 fn has_top(table: &Config, sources: &Sources<'_>, main: Option<&Field>) -> bool
     ensures constant { result ≡ true
         → table.now.constant ≡ constant_by sources.now.constant (option_copied main.entry) }
     ensures late { result ≡ true
-        → table.now.late ≡ late_by (option_copied main.entry) sources.now.recordings }
+        → table.now.late ≡ window_in sources.now.recordings }
+    ensures filters { result ≡ true → table.now.filters ≡ [] }
 {
-    let late_us = match main {
-        Some(_) => sources.recordings.late_us(),
-        None => 0,
-    };
     table.constant() == constant_of(sources.constant, main)
-        && table.late() / 1000 == late_us
+        && table.late() / 1000 == sources.recordings.window_us()
         && table.late() % 1000 == 0
+        && table.filters().is_empty()
 }
 
 /// The constant field of a draft: that of the frames, or the one that was asked for.
@@ -55,14 +55,14 @@ fn constant_of(wanted: Option<u32>, main: Option<&Field>) -> u32
 }
 
 /// What a document specifies of a link.
-fn specified_in(icd: Option<&IcdLinks>, id: VlId) -> Option<&IcdLink>
+pub fn specified_in(icd: Option<&IcdLinks>, id: VlId) -> Option<&IcdLink>
     ensures { option_copied result ≡ specified_of (icd_list (option_copied icd.entry)) id.0 }
 {
     icd?.links().iter().find(|link| link.id == id)
 }
 
 /// What was seen of a link.
-fn seen_in(main: Option<&Field>, id: VlId) -> Option<&LinkSurvey>
+pub fn seen_in(main: Option<&Field>, id: VlId) -> Option<&LinkSurvey>
     ensures kept { (seen : List Sighting) → CountsMain (option_copied main.entry) seen
         → is_some (option_copied result) ≡ is_among id.0 (kept_links seen) }
     ensures frames { (seen : List Sighting) → CountsMain (option_copied main.entry) seen
@@ -141,14 +141,14 @@ fn is_bag_of(link: &Link, specified_ms: Option<u64>) -> bool
     }
 }
 
-/// Has the link the name that is specified, if one is?
+/// Has the link the name that is specified, or else the usual one?
 fn is_name_of(link: &Link, specified: Option<&str>) -> bool
-    ensures { result ≡ true → (name : List ℕ) → option_copied specified.entry ≡ Some name
-        → link.now.name ≡ name }
+    ensures { result ≡ true
+        → link.now.name ≡ name_beside (option_copied specified.entry) link.now.id.0 }
 {
     match specified {
         Some(name) => link.name.as_str() == name,
-        None => true,
+        None => is_usual_name(link.name.as_str(), link.id),
     }
 }
 

@@ -10,7 +10,7 @@ use std::fmt::{Display, Formatter};
 use vl_config::Key;
 
 /// How a value that was seen stands to the one that is specified.
-#[derive(Clone, Copy, Debug, PartialEq, Eq)]
+#[derive(Clone, Copy, PartialEq, Eq)]
 pub enum Stand {
     /// It is the same, or one of the two isn't known.
     Same,
@@ -21,7 +21,7 @@ pub enum Stand {
 }
 
 /// A value that was seen.
-#[derive(Clone, Copy, Debug)]
+#[derive(Clone, Copy)]
 pub enum SeenValue {
     Number(u64),
     Flag(bool),
@@ -37,7 +37,7 @@ impl Display for SeenValue {
 }
 
 /// A key of a link, and what was seen of it beside what is specified.
-#[derive(Clone, Copy, Debug)]
+#[derive(Clone, Copy)]
 pub struct Difference {
     pub key: Key,
     pub seen: SeenValue,

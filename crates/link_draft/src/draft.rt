@@ -1,9 +1,10 @@
 //! A draft: its text, and how what was seen stands to what is specified.
 
-ghost use Rattle.std.specs.Prelude.{◌≡◌, ◌<◌, ◌^◌, ℕ, List, IfOk, None, Option, length, option_copied, string_bytes};
+ghost use Rattle.std.specs.Prelude.{◌≡◌, ◌<◌, ◌^◌, ℕ, List, IfErr, IfOk, None, Option, length, option_copied, string_bytes};
 ghost use Rattle.afdx_frame.specs.Frame.{Frame};
 ghost use Rattle.survey_run.specs.NetworkFrames.{Surveys};
 ghost use Rattle.link_draft.specs.Drafts.{SaysDraft, icd_list};
+ghost use Rattle.link_draft.specs.Refusals.{RefusesDraft};
 ghost use Rattle.vl_config.specs.Document.{first_fault};
 ghost use Rattle.link_draft.specs.declared.draft.DraftFault.TheVariants.{Memory};
 
@@ -11,6 +12,7 @@ use crate::beside::{Comparison, write_beside};
 use crate::checked::is_draft_of;
 use crate::known::Known;
 use crate::recordings::Recordings;
+use crate::refusals::have_fault;
 use crate::text::{HEADER, ICD_HEADER, write_constants, write_ending, write_keys, write_seen};
 use afdx_frame::VlId;
 use icd_links::IcdLinks;
@@ -35,7 +37,7 @@ pub struct Sources<'a> {
 }
 
 /// The draft of a table.
-#[derive(Debug, Drop)]
+#[derive(Drop)]
 pub struct Draft {
     /// A TOML document that [`Config::read`] takes.
     pub text: String,
@@ -44,12 +46,14 @@ pub struct Draft {
 }
 
 /// Why there is no draft.
-#[derive(Clone, Copy, Debug, PartialEq, Eq)]
+#[derive(Clone, Copy, PartialEq, Eq)]
 pub enum DraftFault {
-    /// Its text would be no table: there are too many links, or two have one name.
+    /// Its links make no table: there are more than 4096, or two have one name.
     NoTable(ConfigFault),
-    /// The table that its text says isn't what the draft is to have. No input is known that leads here.
+    /// The text that was written says no table, though the draft's links have no such fault, or another table
+    /// than the draft is to have. No input is known that leads here.
     Unlike,
+    /// The system is out of memory, at whatever piece of the text.
     Memory,
 }
 
@@ -76,17 +80,21 @@ pub fn draft_of(alloc: Global, sources: &Sources<'_>) -> Result<Draft, DraftFaul
         → Surveys wanted sources.now.survey.now frames
         → SaysDraft (icd_list (option_copied sources.now.icd)) sources.now.constant
         sources.now.recordings sources.now.survey.now frames (string_bytes draft.text)) }
+    ensures refused { IfErr result (λ fault. (wanted : Option ℕ) (frames : List Frame)
+        → Surveys wanted sources.now.survey.now frames
+        → RefusesDraft (icd_list (option_copied sources.now.icd)) sources.now.survey.now frames fault) }
 {
     let mut text = String::new(alloc);
     write_head(&mut text, sources)?;
     let main = sources.survey.main_field();
     write_constant(&mut text, sources, main)?;
+    write_window(&mut text, sources.recordings)?;
     let comparison = write_links(&mut text, sources, main)?;
     match Config::read(alloc, text.as_str()) {
         Ok(table) if is_draft_of(&table, sources, main) => Ok(Draft { text, comparison }),
-        Ok(_) => Err(DraftFault::Unlike),
         Err(ConfigFault::Memory) => Err(DraftFault::Memory),
-        Err(fault) => Err(DraftFault::NoTable(fault)),
+        Err(fault) if have_fault(fault, sources.icd, main) => Err(DraftFault::NoTable(fault)),
+        Ok(_) | Err(_) => Err(DraftFault::Unlike),
     }
 }
 
@@ -102,42 +110,60 @@ fn write_head(text: &mut String, sources: &Sources<'_>) -> Result<(), AllocError
     if unusable > 0 {
         write!(
             text,
-            "# {unusable} frames weren't recorded whole, or aren't of 60 to 1514 bytes.\n"
+            "# {unusable} frames weren't recorded whole, or aren't of 60 to 1514 bytes. \
+A link that has no others isn't here.\n"
         )?;
     }
     Ok(())
 }
 
-/// The constant field, and how late a frame may come.
+/// Why a draft has a constant field that no frame has.
+fn absent_constant(sources: &Sources<'_>) -> &'static str {
+    if !sources.recordings.is_any() {
+        "No recording was given"
+    } else if sources.constant.is_some() {
+        "No frame has this constant field"
+    } else {
+        "No frame has a constant field with bits 24 and 25 set"
+    }
+}
+
+/// The constant field.
 fn write_constant(
     text: &mut String,
     sources: &Sources<'_>,
     main: Option<&Field>,
 ) -> Result<(), AllocError> {
-    match (main, sources.constant) {
-        (Some(main), _) => write_constants(text, sources.survey, main)?,
-        (None, Some(constant)) => {
-            write!(
-                text,
-                "# No frame has this constant field.\nconstant = {constant}\n"
-            )?;
-        }
-        (None, None) => {
+    if let Some(main) = main {
+        return write_constants(text, sources.survey, main);
+    }
+    let absent = absent_constant(sources);
+    match sources.constant {
+        Some(constant) => write!(text, "# {absent}.\nconstant = {constant}\n"),
+        None => {
             let constant = USUAL_CONSTANT;
             write!(
                 text,
-                "# No frame has a constant field with bits 24 and 25 set.\nconstant = {constant}\n"
-            )?;
+                "# {absent}: 0x{constant:08x} is assumed.\nconstant = {constant}\n"
+            )
         }
     }
-    let late = sources.recordings.late_us();
-    if late > 0 && main.is_some() {
-        write!(
-            text,
-            "late_us = {late}  # a frame came so much after one of a later timestamp\n"
-        )?;
+}
+
+/// The window for late timestamps.
+fn write_window(text: &mut String, recordings: Recordings) -> Result<(), AllocError> {
+    let (window, late) = (recordings.window_us(), recordings.late_us());
+    write!(
+        text,
+        "late_us = {window}  # room for timestamps out of order"
+    )?;
+    if !recordings.is_any() {
+        return text.push_str(": no recording was given\n");
     }
-    Ok(())
+    if late == 0 {
+        return text.push_str(": none was seen\n");
+    }
+    write!(text, ": one was {late} us late\n")
 }
 
 /// The links that are specified or seen, by rising identifier.

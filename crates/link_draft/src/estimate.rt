@@ -22,7 +22,7 @@ pub const MAX_JITTER_US: u64 = 100_000;
 pub const MAX_SKEW_US: u64 = 1_000_000;
 
 /// What a draft says of a link.
-#[derive(Clone, Copy, Debug)]
+#[derive(Clone, Copy)]
 pub struct Estimate {
     /// The index of the BAG in `BAGS`.
     pub bag: usize,

@@ -33,7 +33,7 @@ pub struct Known<'a> {
 }
 
 /// What recordings say of a link's values. None: they don't say.
-#[derive(Clone, Copy, Debug)]
+#[derive(Clone, Copy)]
 pub struct Seen {
     pub bag_ms: Option<u64>,
     pub jitter_us: Option<u64>,

@@ -10,7 +10,9 @@ mod differences;
 mod draft;
 mod estimate;
 mod known;
+mod names;
 mod recordings;
+mod refusals;
 mod text;
 
 pub use beside::Comparison;

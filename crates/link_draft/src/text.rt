@@ -5,9 +5,12 @@ ghost use Rattle.std.specs.Prelude.{◌≡◌, ◌<◌};
 use crate::estimate::{Estimate, MAX_JITTER_US, needed_by, not_next};
 use crate::known::{Known, bag_ms};
 use afdx_frame::Stamp;
+use jiff::Timestamp;
 use link_estimate::Arrivals;
 use pcap_io::Ending;
 use std::alloc::AllocError;
+use std::fmt;
+use std::fmt::{Display, Formatter};
 use survey_run::{Field, LinkSurvey, Recorded, Survey};
 
 /// How a draft begins.
@@ -21,6 +24,49 @@ pub const ICD_HEADER: &str = "\
 # A draft of the table of virtual links: what an ICD specifies, and what was seen in \
 recordings where it leaves a value out.
 ";
+
+/// A length of time in nanoseconds, in three digits that aren't below it.
+#[derive(Clone, Copy)]
+struct About(u64);
+
+impl Display for About {
+    fn fmt<W: fmt::Write>(&self, f: &mut Formatter<W>) -> fmt::Result {
+        let micros = self.0.div_ceil(1000);
+        let step = match micros {
+            0..=999 => 1,
+            1000..=9999 => 10,
+            10_000..=99_999 => 100,
+            _ => 1000,
+        };
+        let micros = micros.div_ceil(step).saturating_mul(step);
+        let (millis, rest) = (micros / 1000, micros % 1000);
+        if millis == 0 {
+            write!(f, "{micros} us")
+        } else if rest == 0 {
+            write!(f, "{millis} ms")
+        } else if rest % 100 == 0 {
+            let tenths = rest / 100;
+            write!(f, "{millis}.{tenths} ms")
+        } else {
+            let hundredths = rest / 10;
+            write!(f, "{millis}.{hundredths:02} ms")
+        }
+    }
+}
+
+/// A time in UTC, as RFC 3339 writes it.
+#[derive(Clone, Copy)]
+struct Moment(Stamp);
+
+impl Display for Moment {
+    fn fmt<W: fmt::Write>(&self, f: &mut Formatter<W>) -> fmt::Result {
+        let nanos = self.0.0;
+        match Timestamp::from_nanosecond(i128::from(nanos)) {
+            Ok(timestamp) => write!(f, "{timestamp}"),
+            Err(_) => write!(f, "{nanos} ns"),
+        }
+    }
+}
 
 /// How a network's recording was read.
 pub fn write_ending(
@@ -138,10 +184,10 @@ fn write_arrivals(text: &mut String, network: &str, arrivals: &Arrivals) -> Resu
     };
     let least = arrivals.gaps().least() / 1000;
     let greatest = arrivals.gaps().greatest() / 1000;
-    let from = median.from / 1000;
+    let about = About(median.from);
     write!(
         text,
-        "# {network}: intervals {least} to {greatest} us, median from {from} us.\n"
+        "# {network}: intervals {least} to {greatest} us, median about {about}.\n"
     )
 }
 
@@ -159,11 +205,10 @@ fn write_need(
     if needed == 0 {
         return Ok(());
     }
-    let Stamp(at) = need.at();
-    let (seconds, nanos) = (at / 1_000_000_000, at % 1_000_000_000);
+    let at = Moment(need.at());
     write!(
         text,
-        "# {network}: a jitter of {needed} us is needed first at {seconds} s {nanos} ns"
+        "# {network}: the largest jitter needed is {needed} us, first at {at}"
     )?;
     if needed > MAX_JITTER_US {
         text.push_str(", more than a table allows")?;

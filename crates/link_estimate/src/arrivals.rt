@@ -9,7 +9,7 @@ use crate::numbering::Numbering;
 use afdx_frame::Stamp;
 
 /// What the frames of a link on one network say of its parameters.
-#[derive(Debug, Drop)]
+#[derive(Drop)]
 pub struct Arrivals {
     frames: u64,
     greatest_len: u32,

@@ -13,7 +13,7 @@ const MAX_SKEW: u64 = 1_000_000_000;
 const MOST_SINCE: u64 = 127;
 
 /// The frame that came last with a sequence number.
-#[derive(Clone, Copy, Debug)]
+#[derive(Clone, Copy)]
 struct Arrival {
     network: Network,
     stamp: Stamp,
@@ -24,7 +24,7 @@ struct Arrival {
 /// The copies among the frames of one link on both networks. A frame is the copy of the last one with its
 /// sequence number, where that came on the other network, at most a second or what is given before, is one of
 /// the last 128 of the link there, and has no copy yet.
-#[derive(Debug, Drop)]
+#[derive(Drop)]
 pub struct Copies {
     most_skew: u64,
     latest: [Option<Arrival>; 256],

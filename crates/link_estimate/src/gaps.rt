@@ -20,7 +20,7 @@ pub struct Range {
 
 /// The gaps between a link's frames on one network, in nanoseconds: their least, their greatest, and how
 /// many there are in each bucket. A bucket is no wider than 2048 ns or a thirty-second of its gaps.
-#[derive(Debug, Drop)]
+#[derive(Drop)]
 pub struct Gaps {
     count: u64,
     least: u64,

@@ -15,7 +15,7 @@ const CLASSES: usize = 19;
 ///
 /// A frame of the full size costs as much as a BAG credits, so n + 1 frames fit the account where they
 /// take n BAGs less the jitter.
-#[derive(Debug, Drop)]
+#[derive(Drop)]
 pub struct Need {
     bag: u64,
     newest: u64,

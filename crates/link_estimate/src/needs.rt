@@ -20,7 +20,7 @@ pub const BAGS: [u64; 8] = [
 ];
 
 /// The least jitter that the frames of a link on one network need, for each BAG.
-#[derive(Debug, Drop)]
+#[derive(Drop)]
 pub struct Needs {
     needs: [Need; 8],
 }

@@ -7,7 +7,7 @@ use integrity::{Check, Integrity};
 
 /// The verdicts of integrity checking on the sequence numbers of a link's frames on one network: how many
 /// follow the number before, and how many don't.
-#[derive(Debug, Drop)]
+#[derive(Drop)]
 pub struct Numbering {
     check: Check,
     next: u64,

@@ -1,7 +1,8 @@
 -- The queue and the map of one tap's pending frames.
-use Rattle.std.proofs.Common.{◌≡◌, ℕ, zero, suc, ◌+◌, ◌-◌, ◌^◌, ◌<◌, ◌≤◌, min, Bool, true, false, cond, List, [], ◌∷◌, ◌++◌, Option, Some, None, length, drop, take, get_or, count_by, slice_get, refl, sym, ap, ◌∙◌, subst, arith, Bor}
+use Rattle.std.proofs.Common.{◌≡◌, ℕ, zero, suc, ◌+◌, ◌-◌, ◌^◌, ◌<◌, ◌≤◌, min, Bool, true, false, cond, List, [], ◌∷◌, ◌++◌, Option, Some, None, length, drop, take, get_or, count_by, slice_get, refl, sym, ap, ◌∙◌, subst, append_assoc, length-append, arith, Bor}
 use Rattle.std.proofs.lemmas.Bool.{cond_both, false≢true, ltb-false, le-ltb}
 use Rattle.std.proofs.lemmas.Cmp.{ranked}
+use Rattle.std.proofs.lemmas.List.{take_more}
 use Rattle.std.proofs.lemmas.List.Sums.{sum_by-cons}
 use Rattle.std.proofs.lemmas.Option.{same_Some, slice_get-get_or, slice_get_past, slice_get_read}
 use Rattle.std.specs.List.{AllByRecursion, prefix_len}
@@ -15,7 +16,8 @@ use Rattle.std.specs.declared.cmp.Ordering.TheVariants.{Less, Equal, Greater}
 use Rattle.afdx_frame.specs.Frame.{Frame, key_of, key_cmp, network_cmp}
 use Rattle.afdx_frame.specs.declared.key.Key.{Key}
 use Rattle.ordered_merge.specs.Order.{is_before, IsBefore, IsRising, insert_frame, insert_frames, leads}
-use Rattle.ordered_merge.specs.Buffer.{IsBuffer, buffered, IsKept, is_below, is_late}
+use Rattle.ordered_merge.specs.Merge.{highest}
+use Rattle.ordered_merge.specs.Buffer.{AreInOrder, AreNumbered, BufferState, IsBuffer, NoneLate, buffered, IsKept, is_below, is_late, pushed, pushed_all}
 use Rattle.ordered_merge.proofs.Rising.{each_append, each_weaker, Differs, same_number, before_trans, before_from_not, insert_last, insert_into_first, insert_into_second, rising_insert, each_insert, each_insert_frames, leading_rest, other_rest}
 
 -- ---- what a reference lends
@@ -144,16 +146,7 @@ queued_buffer queue late f fits b h =
       late_kept = numbers_more f.number (values_of late) b.late_kept;
     }
 
--- ---- how many
-
-prefix_step : (b : Bool) (n m k : ℕ) → m ≡ min n k → cond b (1 + m) 0 ≡ min (suc n) (cond b (1 + k) 0)
-prefix_step true n m k e = omega arith
-prefix_step false n m k e = omega arith
-
-pub prefix_take : {X : Type 0} (p : X → Bool) (n : ℕ) (xs : List X) → prefix_len p (take n xs) ≡ min n (prefix_len p xs)
-prefix_take p zero xs = omega arith
-prefix_take p (suc n) [] = omega arith
-prefix_take p (suc n) (x ∷ xs) = prefix_step (p x) n (prefix_len p (take n xs)) (prefix_len p xs) (prefix_take p n xs)
+-- ---- timestamps
 
 then_less : (o p : Ordering) → ordering_then o p ≡ Less → (o ≡ Greater → ⊥)
 then_less Less p e = λ g. cc
@@ -169,6 +162,121 @@ pub before_stamp : (f g : Frame) → IsBefore f g → f.stamp ≤ g.stamp
 before_stamp f g e =
     stamp_order (nat_cmp f.stamp g.stamp) f.stamp g.stamp (ranked f.stamp g.stamp (nat_cmp f.stamp g.stamp) refl)
     (then_less (nat_cmp f.stamp g.stamp) (ordering_then (network_cmp f.network g.network) (nat_cmp f.number g.number)) e)
+
+-- ---- frames that come in order, one after another
+
+pub take_next : (xs : List Frame) (i : ℕ) (f : Frame) → i < length xs → f ≡ get_or xs i f → take (i + 1) xs ≡ take i xs ++ f ∷ []
+take_next xs i f h e = take_more xs i f h ∙ ap (λ (x : Frame). take i xs ++ x ∷ []) (sym e)
+
+in_order_more : (xs : List Frame) (f g : Frame) → AreInOrder (xs ++ f ∷ []) → is_before g f ≡ false → AreInOrder ((xs ++ f ∷ []) ++ g ∷ [])
+in_order_more [] f g h t = (t, tt)
+in_order_more (x ∷ []) f g h t = (h.0, (t, tt))
+in_order_more (x ∷ y ∷ xs) f g h t = (h.0, in_order_more (y ∷ xs) f g h.1 t)
+
+pub in_order_next : (xs : List Frame) (i : ℕ) (f g : Frame) → 0 < i → i < length xs → f ≡ get_or xs (i - 1) f → g ≡ get_or xs i g → is_before g f ≡ false
+    → AreInOrder (take i xs) → AreInOrder (take (i + 1) xs)
+in_order_next xs i f g some within before here t h =
+    let at : i - 1 + 1 ≡ i = omega arith in
+    let last : take i xs ≡ take (i - 1) xs ++ f ∷ [] =
+    ap (λ (k : ℕ). take k xs) (sym at) ∙ take_next xs (i - 1) f (omega arith) before in
+    subst AreInOrder (ap (λ (l : List Frame). l ++ g ∷ []) (sym last) ∙ sym (take_next xs i g within here))
+    (in_order_more (take (i - 1) xs) f g (subst AreInOrder last h) t)
+
+pub in_order_first : (xs : List Frame) → AreInOrder (take 1 xs)
+in_order_first [] = tt
+in_order_first (f ∷ xs) = tt
+
+abbrev last_of : Frame → List Frame → Frame
+last_of f [] = f
+last_of f (g ∷ l) = last_of g l
+
+last_is : (f : Frame) (l : List Frame) (last : Frame) → last ≡ get_or (f ∷ l) (length l) last → last ≡ last_of f l
+last_is f [] last e = e
+last_is f (g ∷ l) last e = last_is g l last e
+
+last_get : (queue : List Frame) (f : Frame) → slice_get (queue ++ f ∷ []) (length queue) ≡ Some f
+last_get [] f = refl
+last_get (g ∷ queue) f = last_get queue f
+
+not_late : (queue : List Frame) (f g : Frame) → is_before g f ≡ false → is_late (queue ++ f ∷ []) g ≡ false
+not_late queue f g t =
+    let at : length (queue ++ f ∷ []) - 1 ≡ length queue = omega (arith, length-append queue (f ∷ [])) in
+    ap (λ (o : Option Frame). option_map_or (is_before g) o false) (ap (slice_get (queue ++ f ∷ [])) at ∙ last_get queue f) ∙ t
+
+stamps_rise : (f : Frame) (l : List Frame) → AreNumbered f.number (f ∷ l) → AreInOrder (f ∷ l) → f.stamp ≤ (last_of f l).stamp
+stamps_rise f [] numbered order = omega arith
+stamps_rise f (g ∷ l) numbered order =
+    let number : g.number ≡ f.number + 1 = numbered.1.0 in
+    let less : f.number < g.number = omega arith in
+    let first = before_stamp f g (before_from_not g f order.0 (number_differs g f less)) in
+    let rest = stamps_rise g l (refl, subst (λ (n : ℕ). AreNumbered (n + 1) l) (sym number) numbered.1.1) order.1 in
+    omega arith
+
+highest_both : (high : Option ℕ) (m n : ℕ) → m ≤ n → highest (Some (highest high m)) n ≡ highest high n
+highest_both None m n less = omega arith
+highest_both (Some h) m n less = omega arith
+
+pub pushed_all_more : (s : BufferState) (fs : List Frame) (f : Frame) → pushed_all s (fs ++ f ∷ []) ≡ pushed (pushed_all s fs) f
+pushed_all_more s [] f = refl
+pushed_all_more s (g ∷ fs) f = pushed_all_more (pushed s g) fs f
+
+abbrev state_with : Bool → ℕ → Option ℕ → List Frame → BufferState
+state_with ended next high frames = record { tap = record { ended = ended; next = next; high = high }; frames = frames }
+
+queued_all : (ended : Bool) (high : Option ℕ) (queue : List Frame) (late : List (Key × Frame)) (f : Frame) (l : List Frame) → IsBuffer queue late f.number
+    → AreNumbered f.number (f ∷ l) → AllByRecursion (λ g. g.stamp < 2 ^ 63) (f ∷ l) → is_late queue f ≡ false → AreInOrder (f ∷ l)
+    → IsBuffer (queue ++ f ∷ l) late ((last_of f l).number + 1)
+    × (state_with ended ((last_of f l).number + 1) (Some (highest high (last_of f l).stamp)) (buffered (queue ++ f ∷ l) late)
+    ≡ pushed_all (state_with ended f.number high (buffered queue late)) (f ∷ l))
+queued_all ended high queue late f [] b numbered fits t order =
+    let below = in_order queue f b.queue_rises b.queue_kept t in (
+      queued_buffer queue late f fits.0 b below,
+      ap (state_with ended (f.number + 1) (Some (highest high f.stamp))) (queued_frames queue late f b below),
+    )
+queued_all ended high queue late f (g ∷ l) b numbered fits t order =
+    let below = in_order queue f b.queue_rises b.queue_kept t in
+    let number : g.number ≡ f.number + 1 = numbered.1.0 in
+    let next = subst (IsBuffer (queue ++ f ∷ []) late) (sym number) (queued_buffer queue late f fits.0 b below) in
+    let rest_numbered : AreNumbered g.number (g ∷ l) = (refl, subst (λ (n : ℕ). AreNumbered (n + 1) l) (sym number) numbered.1.1) in
+    let rest = queued_all ended (Some (highest high f.stamp)) (queue ++ f ∷ []) late g l next rest_numbered fits.1 (not_late queue f g order.0) order.1 in
+    let joined : (queue ++ f ∷ []) ++ g ∷ l ≡ queue ++ f ∷ g ∷ l = append_assoc queue (f ∷ []) (g ∷ l) in
+    let last = last_of g l in (
+      subst (λ (q : List Frame). IsBuffer q late (last.number + 1)) joined rest.0,
+      ap (λ (h : ℕ). state_with ended (last.number + 1) (Some h) (buffered (queue ++ f ∷ g ∷ l) late)) (sym (highest_both high f.stamp last.stamp (stamps_rise f (g ∷ l) numbered order)))
+          ∙ ap (λ (q : List Frame). state_with ended (last.number + 1) (Some (highest (Some (highest high f.stamp)) last.stamp)) (buffered q late)) (sym joined)
+          ∙ rest.1
+          ∙ ap (λ (n : ℕ). pushed_all (state_with ended n (Some (highest high f.stamp)) (buffered (queue ++ f ∷ []) late)) (g ∷ l)) number
+          ∙ ap (λ (q : List Frame). pushed_all (state_with ended (f.number + 1) (Some (highest high f.stamp)) q) (g ∷ l)) (queued_frames queue late f b below),
+    )
+
+pub queued_list : (ended : Bool) (next : ℕ) (high : Option ℕ) (queue : List Frame) (late : List (Key × Frame)) (fs : List Frame) (last : Frame) → IsBuffer queue late next
+    → AreNumbered next fs → AllByRecursion (λ g. g.stamp < 2 ^ 63) fs → NoneLate queue fs → 0 < length fs → last ≡ get_or fs (length fs - 1) last
+    → IsBuffer (queue ++ fs) late (last.number + 1)
+    × (record { tap = record { ended = ended; next = last.number + 1; high = Some (highest high last.stamp) }; frames = buffered (queue ++ fs) late }
+    ≡ pushed_all (record { tap = record { ended = ended; next = next; high = high }; frames = buffered queue late }) fs)
+queued_list ended next high queue late [] last b numbered fits none some is = absurd (omega (arith, some))
+queued_list ended next high queue late (f ∷ l) last b numbered fits none some is =
+    let at : length (f ∷ l) - 1 ≡ length l = omega arith in
+    let same : last ≡ last_of f l = last_is f l last (is ∙ ap (λ (k : ℕ). get_or (f ∷ l) k last) at) in
+    let first : next ≡ f.number = sym numbered.0 in
+    let P : Frame → ℕ → Type 0 = λ x n.
+    IsBuffer (queue ++ f ∷ l) late (x.number + 1)
+    × (state_with ended (x.number + 1) (Some (highest high x.stamp)) (buffered (queue ++ f ∷ l) late)
+    ≡ pushed_all (state_with ended n high (buffered queue late)) (f ∷ l)) in
+    subst (λ (n : ℕ). P last n) numbered.0
+    (subst (λ (x : Frame). P x f.number) (sym same)
+    (queued_all ended high queue late f l (subst (IsBuffer queue late) first b) (subst (λ (n : ℕ). AreNumbered n (f ∷ l)) first numbered) fits none.0 none.1))
+
+-- ---- how many
+
+prefix_step : (b : Bool) (n m k : ℕ) → m ≡ min n k → cond b (1 + m) 0 ≡ min (suc n) (cond b (1 + k) 0)
+prefix_step true n m k e = omega arith
+prefix_step false n m k e = omega arith
+
+pub prefix_take : {X : Type 0} (p : X → Bool) (n : ℕ) (xs : List X) → prefix_len p (take n xs) ≡ min n (prefix_len p xs)
+prefix_take p zero xs = omega arith
+prefix_take p (suc n) [] = omega arith
+prefix_take p (suc n) (x ∷ xs) = prefix_step (p x) n (prefix_len p (take n xs)) (prefix_len p xs) (prefix_take p n xs)
 
 pub count_cons : {X : Type 0} (p : X → Bool) (x : X) (xs : List X) → count_by p (x ∷ xs) ≡ cond (p x) 1 0 + count_by p xs
 count_cons p x xs = sum_by-cons (λ y. cond (p y) 1 0) x xs

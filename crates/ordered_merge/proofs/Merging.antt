@@ -15,9 +15,9 @@ use Rattle.afdx_frame.specs.Frame.{Frame, network_cmp}
 use Rattle.afdx_frame.specs.declared.key.Network.{Network}
 use Rattle.afdx_frame.specs.declared.key.Network.TheVariants.{A, B}
 use Rattle.ordered_merge.specs.Order.{IsBefore, IsRising, insert_frame, insert_frames}
-use Rattle.ordered_merge.specs.Merge.{MergerState, change_tap, tap_after, fetched, reaches, passes, is_safe, is_safe_of, safe_frames, cut_frames, without_first}
-use Rattle.ordered_merge.specs.Buffer.{BufferState, is_below, pushed}
-use Rattle.ordered_merge.proofs.Rising.{each_weaker, Differs, same_network, insert_into_first, insert_into_second, rising_insert_frames}
+use Rattle.ordered_merge.specs.Merge.{CanFetchAll, MergerState, change_tap, tap_after, tap_of, fetched, fetched_all, reaches, passes, is_safe, is_safe_of, safe_frames, cut_frames, without_first}
+use Rattle.ordered_merge.specs.Buffer.{AreNumbered, BufferState, is_below, pushed, pushed_all}
+use Rattle.ordered_merge.proofs.Rising.{each_insert, each_weaker, Differs, same_network, insert_into_first, insert_into_second, rising_insert_frames}
 use Rattle.ordered_merge.proofs.Buffers.{before_stamp, count_cons, count_insert_frames, number_differs}
 
 abbrev pub OfNetwork : Network → List Frame → Type 0
@@ -57,6 +57,48 @@ fetched_b late x y f e numbers =
     let into = insert_into_first f y.frames x.frames (each_weaker (λ g. g.number < f.number) (Differs f) (number_differs f) y.frames numbers) in
     ap (λ (l : List Frame). record (state_of late x y) { pending = l; b = tap_after f.stamp y.tap }) into
     ∙ ap (λ (n : Network). record (change_tap (tap_after f.stamp) n (state_of late x y)) { pending = insert_frame f (insert_frames y.frames x.frames) }) (sym e)
+
+-- ---- frames one after another
+
+next_after : (network : Network) (s : MergerState) (f : Frame) → f.network ≡ network → (tap_of (fetched s f) network).next ≡ (tap_of s network).next + 1
+next_after A s f e = ap (λ (n : Network). (change_tap (tap_after f.stamp) n s).a.next) e
+next_after B s f e = ap (λ (n : Network). (change_tap (tap_after f.stamp) n s).b.next) e
+
+pub numbered_from : (network : Network) (s : MergerState) (fs : List Frame) → CanFetchAll network s fs → AreNumbered (tap_of s network).next fs
+numbered_from network s [] h = tt
+numbered_from network s (f ∷ fs) (is, can, rest) = (
+  can.number ∙ ap (λ (n : Network). (tap_of s n).next) is,
+  subst (λ (n : ℕ). AreNumbered n fs) (next_after network s f is) (numbered_from network (fetched s f) fs rest),
+)
+
+pub all_of : (network : Network) (s : MergerState) (fs : List Frame) → CanFetchAll network s fs → OfNetwork network fs
+all_of network s [] h = tt
+all_of network s (f ∷ fs) (is, can, rest) = (is, all_of network (fetched s f) fs rest)
+
+pub numbered_front : (n : ℕ) (xs ys : List Frame) → AreNumbered n (xs ++ ys) → AreNumbered n xs
+numbered_front n [] ys h = tt
+numbered_front n (f ∷ xs) ys h = (h.0, numbered_front (n + 1) xs ys h.1)
+
+pub each_pushed : (P : Frame → Type 0) (s : BufferState) (fs : List Frame) → AllByRecursion P fs → AllByRecursion P s.frames → AllByRecursion P (pushed_all s fs).frames
+each_pushed P s [] h k = k
+each_pushed P s (f ∷ fs) h k = each_pushed P (pushed s f) fs h.1 (each_insert P f s.frames h.0 k)
+
+pub fetched_all_a : (late : ℕ) (x y : BufferState) (fs : List Frame) → OfNetwork A fs → OfNetwork B y.frames
+    → state_of late (pushed_all x fs) y ≡ fetched_all (state_of late x y) fs
+fetched_all_a late x y [] h k = refl
+fetched_all_a late x y (f ∷ fs) h k =
+    fetched_all_a late (pushed x f) y fs h.1 k ∙ ap (λ (s : MergerState). fetched_all s fs) (fetched_a late x y f h.0 k)
+
+pub fetched_all_b : (late : ℕ) (x y : BufferState) (fs : List Frame) → OfNetwork B fs → AreNumbered y.tap.next fs
+    → AllByRecursion (λ g. g.number < y.tap.next) y.frames → state_of late x (pushed_all y fs) ≡ fetched_all (state_of late x y) fs
+fetched_all_b late x y [] h numbered below = refl
+fetched_all_b late x y (f ∷ fs) h numbered below =
+    let number : f.number ≡ y.tap.next = numbered.0 in
+    let next = each_insert (λ g. g.number < y.tap.next + 1) f y.frames (omega arith)
+    (each_weaker (λ g. g.number < y.tap.next) (λ g. g.number < y.tap.next + 1) (λ g less. omega (arith, less)) y.frames below) in
+    fetched_all_b late x (pushed y f) fs h.1 numbered.1 next
+    ∙ ap (λ (s : MergerState). fetched_all s fs)
+    (fetched_b late x y f h.0 (subst (λ (n : ℕ). AllByRecursion (λ g. g.number < n) y.frames) (sym number) below))
 
 -- what holds of a buffer after a push holds of it whatever the push returned
 pub kept_on : {E : Type 0} (r : Result (Unit {0}) E) (P : BufferState → Type 0) (old next new : BufferState) → OnOk r (new ≡ next) → OnErr r (new ≡ old) → P next → P old → P new

@@ -1,5 +1,5 @@
 -- The pending frames of one tap: a queue of those that came in order, and a map of those that came late.
-use Rattle.std.specs.Prelude.{◌≡◌, ℕ, ◌^◌, ◌<◌, Bool, false, List, nat_lt, ◌-◌, length, slice_get}
+use Rattle.std.specs.Prelude.{◌≡◌, ℕ, ◌+◌, ◌^◌, ◌<◌, Bool, false, List, [], ◌∷◌, nat_lt, ◌-◌, length, slice_get, ⊤}
 use Rattle.std.specs.List.{AllByRecursion}
 use Rattle.std.specs.Option.{option_map_or}
 use Rattle.std.specs.Map.{values_of}
@@ -20,6 +20,16 @@ buffered queue late = insert_frames (values_of late) queue
 abbrev pub pushed : BufferState → Frame → BufferState
 pushed s f = record { tap = tap_after f.stamp s.tap; frames = insert_frame f s.frames }
 
+-- after frames, one after another
+abbrev pub pushed_all : BufferState → List Frame → BufferState
+pushed_all s [] = s
+pushed_all s (f ∷ fs) = pushed_all (pushed s f) fs
+
+-- The numbers count on from the first.
+abbrev pub AreNumbered : ℕ → List Frame → Type 0
+AreNumbered next [] = ⊤
+AreNumbered next (f ∷ fs) = (f.number ≡ next) × AreNumbered (next + 1) fs
+
 -- The number is below the next one, and the timestamp fits 63 bits, as each frame's does.
 abbrev pub IsKept : ℕ → Frame → Type 0
 IsKept next f = (f.number < next) × (f.stamp < 2 ^ 63)
@@ -36,6 +46,17 @@ pub record IsBuffer (queue : List Frame) (late : List (Key × Frame)) (next : �
 -- the frame's key is below that of the queue's last
 abbrev pub is_late : List Frame → Frame → Bool
 is_late queue f = option_map_or (is_before f) (slice_get queue (length queue - 1)) false
+
+-- each frame comes after the one before it, or is the first
+abbrev pub AreInOrder : List Frame → Type 0
+AreInOrder [] = ⊤
+AreInOrder (f ∷ []) = ⊤
+AreInOrder (f ∷ g ∷ l) = (is_before g f ≡ false) × AreInOrder (g ∷ l)
+
+-- none of the frames comes late after the queue
+abbrev pub NoneLate : List Frame → List Frame → Type 0
+NoneLate queue [] = ⊤
+NoneLate queue (f ∷ l) = (is_late queue f ≡ false) × AreInOrder (f ∷ l)
 
 -- the timestamp is below the bound
 abbrev pub is_below : ℕ → Frame → Bool

@@ -1,5 +1,5 @@
 -- What a merger knows, which frames it may take and give, and what it has given along a whole run.
-use Rattle.std.specs.Prelude.{◌≡◌, ℕ, ◌+◌, ◌≤◌, max, Bool, true, false, ◌||◌, ◌&&◌, nat_lt, nat_le, List, [], ◌∷◌, ◌++◌, length, take, drop, filter, Option, Some, None}
+use Rattle.std.specs.Prelude.{◌≡◌, ℕ, ◌+◌, ◌≤◌, max, Bool, true, false, ◌||◌, ◌&&◌, nat_lt, nat_le, List, [], ◌∷◌, ◌++◌, length, take, drop, filter, Option, Some, None, ⊤}
 use Rattle.std.specs.List.{AllByRecursion}
 use Rattle.std.specs.Option.{ForSome, option_map_or}
 use Rattle.afdx_frame.specs.Frame.{Frame}
@@ -68,6 +68,16 @@ tap_after stamp tap = record { ended = tap.ended; next = tap.next + 1; high = So
 
 abbrev pub fetched : MergerState → Frame → MergerState
 fetched s f = record (change_tap (tap_after f.stamp) f.network s) { pending = insert_frame f s.pending }
+
+-- after frames, one after another
+abbrev pub fetched_all : MergerState → List Frame → MergerState
+fetched_all s [] = s
+fetched_all s (f ∷ fs) = fetched_all (fetched s f) fs
+
+-- The frames are of the network, and may come next, one after another.
+abbrev pub CanFetchAll : Network → MergerState → List Frame → Type 0
+CanFetchAll network s [] = ⊤
+CanFetchAll network s (f ∷ fs) = (f.network ≡ network) × CanFetch s f × CanFetchAll network (fetched s f) fs
 
 abbrev pub ended : MergerState → Network → MergerState
 ended s network = change_tap (λ tap. record tap { ended = true }) network s

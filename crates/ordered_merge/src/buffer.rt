@@ -1,24 +1,26 @@
 //! The pending frames of one tap.
-ghost use Rattle.std.specs.Prelude.{◌≡◌, ◌+◌, ◌++◌, ◌^◌, ◌<◌, IfErr, IsTrue, ◌↔◌, OnErr, OnOk, [], count_by, drop, min, nat_lt, slice_get, take, true, ℕ};
+ghost use Rattle.std.specs.Prelude.{◌≡◌, ◌+◌, ◌++◌, ◌^◌, ◌<◌, IfErr, IsTrue, ◌↔◌, List, OnErr, OnOk, [], count_by, drop, length, min, nat_lt, slice_get, take, true, ℕ};
+ghost use Rattle.afdx_frame.specs.Frame.{Frame};
 ghost use Rattle.std.specs.List.{AllByRecursion, prefix_len};
 ghost use Rattle.std.specs.Map.{values_of};
 ghost use Rattle.std.specs.Option.{option_copied, option_to_list};
-ghost use Rattle.ordered_merge.specs.Buffer.{IsBuffer, buffered, is_below, is_late, pushed};
+ghost use Rattle.ordered_merge.specs.Buffer.{AreInOrder, AreNumbered, IsBuffer, NoneLate, buffered, is_below, is_late, pushed, pushed_all};
 ghost use Rattle.ordered_merge.specs.Merge.{IsNextOf, highest, new_tap, passes, reaches};
 ghost use Rattle.ordered_merge.specs.Order.{IsRising, insert_frame, leads};
 
 use crate::order::comes_before;
 use crate::recording::is_in_time;
 use afdx_frame::{Key, TapFrame, key_order};
-use std::alloc::Global;
+use std::alloc::{AllocError, Global};
 use std::collections::{BTreeMap, VecDeque};
 use std::marker::Model;
+use std::mem;
 
 /// The pending frames of one tap, in order, and what is known of the tap.
 ///
 /// Most frames come in rising order of their keys, and wait in a queue. A frame that comes late, with
 /// a key below that of the queue's last, waits in a map.
-#[derive(Debug, Drop)]
+#[derive(Drop)]
 pub(crate) struct TapBuffer {
     ended: bool,
     next: u64,
@@ -101,8 +103,54 @@ impl TapBuffer {
         Ok(())
     }
 
+    /// What is known of the numbers of the frames.
+    pub(crate) fn note_numbers(&self)
+        ensures { AllByRecursion (λ f. f.number < self.now.tap.next) self.now.frames }
+    {
+        let _next = self.next;
+    }
+
+    /// Adds the tap's next frames, which it moves out of the list, one after another. An `Err`: there is no
+    /// memory for those that are left.
+    pub(crate) fn push_all(&mut self, frames: &mut VecDeque<TapFrame>) -> Result<(), AllocError>
+        requires { AreNumbered self.old.tap.next frames.old.items }
+        ensures moved { (moved : List Frame) × (frames.old.items ≡ moved ++ frames.new.items)
+            × (self.new ≡ pushed_all self.old moved) }
+        ensures all { OnOk result (frames.new.items ≡ []) }
+        ensures memory { OnErr result (0 < length frames.new.items) }
+    {
+        if !none_late(&self.queue, frames) {
+            return self.push_each(frames);
+        }
+        let Some(last) = frames.back() else {
+            return Ok(());
+        };
+        let (number, stamp) = (last.number(), last.stamp().0);
+        join(&mut self.queue, frames)?;
+        self.next = number + 1;
+        self.high = Some(highest(self.high, stamp));
+        Ok(())
+    }
+
+    /// As [`push_all`](TapBuffer::push_all), frame by frame.
+    fn push_each(&mut self, frames: &mut VecDeque<TapFrame>) -> Result<(), AllocError>
+        requires { AreNumbered self.old.tap.next frames.old.items }
+        ensures moved { (moved : List Frame) × (frames.old.items ≡ moved ++ frames.new.items)
+            × (self.new ≡ pushed_all self.old moved) }
+        ensures all { OnOk result (frames.new.items ≡ []) }
+        ensures memory { OnErr result (0 < length frames.new.items) }
+    {
+        while let Some(frame) = frames.pop_front() {
+            if let Err(frame) = self.push(frame) {
+                frames.push_front_reserved(frame);
+                return Err(AllocError);
+            }
+        }
+        Ok(())
+    }
+
     /// The first frame of all.
-    #[inline]
+    #[inline(always)]
     pub(crate) fn first(&self) -> Option<&TapFrame>
         ensures first { option_copied result ≡ slice_get self.now.frames 0 }
         ensures rising { IsRising self.now.frames }
@@ -115,7 +163,7 @@ impl TapBuffer {
     }
 
     /// Takes out the first frame of all.
-    #[inline]
+    #[inline(always)]
     pub(crate) fn pop(&mut self) -> Option<TapFrame>
         ensures first { result ≡ slice_get self.old.frames 0 }
         ensures rest { self.new ≡ record self.old { frames = drop 1 self.old.frames } }
@@ -125,6 +173,12 @@ impl TapBuffer {
         } else {
             self.queue.pop_front()
         }
+    }
+
+    /// How many frames there are. No clause says so.
+    #[inline]
+    pub(crate) fn count(&self) -> usize {
+        self.queue.len().saturating_add(self.late.len())
     }
 
     /// The bound of the timestamps for which none lower follows, in nanoseconds, where a timestamp may lie by
@@ -190,6 +244,48 @@ fn hold(
             Err(refused) => Err(refused.value),
         }
     }
+}
+
+/// Moves the frames to the end of the queue. An `Err`: there is no memory, and nothing has changed.
+fn join(queue: &mut VecDeque<TapFrame>, frames: &mut VecDeque<TapFrame>) -> Result<(), AllocError>
+    ensures joined { OnOk result (queue.new.items ≡ queue.old.items ++ frames.old.items) }
+    ensures moved { OnOk result (frames.new.items ≡ []) }
+    ensures queue { OnErr result (queue.new.items ≡ queue.old.items) }
+    ensures frames { OnErr result (frames.new.items ≡ frames.old.items) }
+{
+    if queue.is_empty() {
+        mem::swap(queue, frames);
+        return Ok(());
+    }
+    queue.append(frames)
+}
+
+/// Whether none of a tap's next frames comes late.
+fn none_late(queue: &VecDeque<TapFrame>, frames: &VecDeque<TapFrame>) -> bool
+    ensures late { IsTrue result → NoneLate queue.now.items frames.now.items }
+    ensures fit { IsTrue result → AllByRecursion (λ f. f.stamp < 2 ^ 63) frames.now.items }
+{
+    match frames.front() {
+        Some(first) => !is_late(queue, first) && are_in_order(frames),
+        None => true,
+    }
+}
+
+/// Whether no frame's key is below that of the one before it.
+fn are_in_order(frames: &VecDeque<TapFrame>) -> bool
+    requires { 0 < length frames.now.items }
+    ensures order { IsTrue result → AreInOrder frames.now.items }
+    ensures fit { IsTrue result → AllByRecursion (λ f. f.stamp < 2 ^ 63) frames.now.items }
+{
+    let _fits = frames[0].stamp();
+    for index in 1..frames.len() {
+        let frame = &frames[index];
+        let _fits = frame.stamp();
+        if comes_before(frame, &frames[index - 1]) {
+            return false;
+        }
+    }
+    true
 }
 
 /// Whether the frame's key is below that of the queue's last.

@@ -1,13 +1,15 @@
 //! The merger that programs run: frames in, rounds in order out.
-ghost use Rattle.std.specs.Prelude.{◌≡◌, ◌+◌, ◌++◌, ◌^◌, ◌<◌, if◌then◌else◌, IfErr, IfOk, IsTrue, ◌↔◌, OnErr, OnOk, length, nat_lt, slice_get, take, ℕ};
+ghost use Rattle.std.specs.Prelude.{◌≡◌, ◌+◌, ◌++◌, ◌^◌, ◌<◌, if◌then◌else◌, IfErr, IfOk, IsTrue, ◌↔◌, List, OnErr, OnOk, [], length, nat_lt, slice_get, take, ℕ};
 ghost use Rattle.std.specs.List.{AllByRecursion};
-ghost use Rattle.ordered_merge.specs.Merge.{CanFetch, Wants, after_cut, cut_frames, ended, fetched, is_no_later, is_safe_of, new_state, without_first};
+ghost use Rattle.afdx_frame.specs.Frame.{Frame};
+ghost use Rattle.ordered_merge.specs.Merge.{CanFetch, CanFetchAll, Wants, after_cut, cut_frames, ended, fetched, fetched_all, is_no_later, is_safe_of, new_state, without_first};
 ghost use Rattle.ordered_merge.specs.Order.{IsRising, leads};
 
 use crate::buffer::TapBuffer;
 use crate::order::comes_before;
 use afdx_frame::{Network, TapFrame};
 use std::alloc::{AllocError, Global};
+use std::collections::VecDeque;
 use std::marker::Model;
 
 /// Merges the frames of both networks into the one order of their keys.
@@ -16,7 +18,7 @@ use std::marker::Model;
 /// timestamp may lie by some nanoseconds below the greatest one before it. A frame is safe once no frame
 /// that may still come has a lower key. [`cut`](Merger::cut) takes out the first safe frames, so that
 /// the frames of all cuts, one after another, are in order.
-#[derive(Debug, Drop)]
+#[derive(Drop)]
 pub struct Merger {
     alloc: Global,
     late: u64,
@@ -81,6 +83,41 @@ impl Merger {
             Network::A => self.a.push(frame),
             Network::B => self.b.push(frame),
         }
+    }
+
+    /// Adds the next frames of a network, which has not ended, one after another. It moves them out of the
+    /// list. An `Err`: there is no memory for those that are left in it.
+    pub fn fetch_all(
+        &mut self,
+        network: Network,
+        frames: &mut VecDeque<TapFrame>,
+    ) -> Result<(), AllocError>
+        requires { CanFetchAll network self.old frames.old.items }
+        ensures moved { (moved : List Frame) × (frames.old.items ≡ moved ++ frames.new.items)
+            × (self.new ≡ fetched_all self.old moved) }
+        ensures all { OnOk result (frames.new.items ≡ []) }
+        ensures memory { OnErr result (0 < length frames.new.items) }
+    {
+        match network {
+            Network::A => self.a.push_all(frames),
+            Network::B => {
+                self.b.note_numbers();
+                self.b.push_all(frames)
+            }
+        }
+    }
+
+    /// Whether so many frames are safe.
+    pub fn has_round(&self, most: usize) -> bool
+        ensures { IsTrue result ↔ length (cut_frames self.now most) ≡ most }
+    {
+        self.count_safe(most) == most
+    }
+
+    /// How many frames are pending. No clause says so.
+    #[inline]
+    pub fn count_pending(&self) -> usize {
+        self.a.count().saturating_add(self.b.count())
     }
 
     /// The network has ended: none of its frames follows.
@@ -153,7 +190,7 @@ impl Merger {
     }
 
     /// Takes out the first frame.
-    #[inline]
+    #[inline(always)]
     fn pop(&mut self) -> Option<TapFrame>
         ensures first { result ≡ slice_get self.old.pending 0 }
         ensures rest { self.new ≡ without_first 1 self.old }

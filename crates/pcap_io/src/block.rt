@@ -18,7 +18,7 @@ use std::mem;
 const BLOCK_LEN: usize = 65_536;
 
 /// A source, and a block of the bytes that were read ahead from it.
-#[derive(Debug, Drop)]
+#[derive(Drop)]
 pub struct BlockSource<S> {
     source: S,
     /// The length of the block, unless a packet is longer.

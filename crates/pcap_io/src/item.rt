@@ -17,7 +17,7 @@ pub enum Item {
 }
 
 /// What stands at a reader's place.
-#[derive(Clone, Copy, Debug, PartialEq, Eq)]
+#[derive(Clone, Copy, PartialEq, Eq)]
 pub enum Found {
     /// A frame, which the reader lends until the next call.
     Frame,

@@ -15,7 +15,7 @@ pub enum ByteOrder {
 }
 
 /// The unit of the fraction of a second in a timestamp.
-#[derive(Clone, Copy, Debug, PartialEq, Eq)]
+#[derive(Clone, Copy, PartialEq, Eq)]
 pub enum Precision {
     /// Nanosecond pcap.
     Nanoseconds,
@@ -27,7 +27,7 @@ pub enum Precision {
 }
 
 /// How a recording writes its numbers.
-#[derive(Clone, Copy, Debug, PartialEq, Eq)]
+#[derive(Clone, Copy, PartialEq, Eq)]
 pub struct Layout {
     pub order: ByteOrder,
     pub precision: Precision,

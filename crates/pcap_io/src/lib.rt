@@ -61,4 +61,4 @@ pub use recording::{BadReason, Ending};
 pub use script::Script;
 pub use transfer::{fill, write_all};
 pub use write_sink::WriteSink;
-pub use writer::{CaptureWriter, WriteFault, append_packet};
+pub use writer::{CaptureWriter, WriteFault, append_header, append_packet};

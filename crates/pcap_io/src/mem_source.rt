@@ -11,7 +11,7 @@ use crate::script::{Script, ScriptState};
 use std::marker::Model;
 
 /// A source that gives bytes of memory as its script says, and exposes them.
-#[derive(Debug, Drop)]
+#[derive(Drop)]
 pub struct MemSource {
     bytes: Vec<u8>,
     at: usize,

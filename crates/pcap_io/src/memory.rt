@@ -13,7 +13,7 @@ use std::sync::Arc;
 const MAX_SPARES: usize = 32;
 
 /// The memory of a block: its source's alone until a frame shares it.
-#[derive(Debug, Drop)]
+#[derive(Drop)]
 pub enum BlockMemory {
     /// There is none yet.
     Empty,
@@ -118,7 +118,7 @@ impl BlockMemory {
 }
 
 /// Blocks that were filled before, some of which frames may still share.
-#[derive(Debug, Drop)]
+#[derive(Drop)]
 pub struct Spares {
     blocks: Option<VecDeque<Arc<Vec<u8>>>>,
 }

@@ -15,7 +15,7 @@ pub const PACKET_HEADER_LEN: usize = 16;
 pub const MAX_PACKET_LEN: usize = PACKET_HEADER_LEN + MAX_SNAPLEN;
 
 /// The header of a packet (pcap savefile format 2.4): what it claims of the bytes that follow it.
-#[derive(Clone, Copy, Debug)]
+#[derive(Clone, Copy)]
 pub struct PacketHeader {
     pub seconds: u32,
     /// Part of a second, in the recording's unit.

@@ -11,7 +11,7 @@ use crate::recording::{BadReason, Ending, Stage};
 use afdx_frame::{FrameBytes, MAX_SNAPLEN, Network, Stamp, TapFrame};
 
 /// Where a reader stands in its recording.
-#[derive(Clone, Copy, Debug)]
+#[derive(Clone, Copy)]
 pub struct Position {
     pub network: Network,
     pub layout: Layout,

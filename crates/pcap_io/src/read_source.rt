@@ -8,7 +8,7 @@ use std::io;
 use std::io::Read;
 
 /// A source over a reader. It exposes what the reader exposes: of a file or a pipe nothing is known.
-#[derive(Debug, Drop)]
+#[derive(Drop)]
 pub struct ReadSource<R> {
     reader: R,
     failures: u64,

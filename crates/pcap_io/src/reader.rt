@@ -53,7 +53,7 @@ impl From<HeaderFault> for OpenFault {
 }
 
 /// A source that no reader was opened on, and why.
-#[derive(Debug, Drop)]
+#[derive(Drop)]
 pub struct OpenRefused<S> {
     pub source: S,
     pub fault: OpenFault,
@@ -83,7 +83,7 @@ fn read_layout<S: TapSource>(source: &mut S) -> Result<Layout, OpenFault>
 /// It reads the data of its source ahead, a block of 64 KiB at a time, or more for a longer packet.
 /// `advance` goes on to the next frame, which `frame` lends out of the block; `next` gives a frame
 /// that lasts, whose bytes stand in the block: that is filled again once no such frame is left.
-#[derive(Debug, Drop)]
+#[derive(Drop)]
 pub struct TapReader<S> {
     input: BlockSource<S>,
     position: Position,

@@ -47,7 +47,7 @@ pub enum Ending {
 }
 
 /// Whether a reader goes on.
-#[derive(Clone, Copy, Debug, PartialEq, Eq)]
+#[derive(Clone, Copy, PartialEq, Eq)]
 pub enum Stage {
     Going,
     Ended(Ending),

@@ -4,7 +4,7 @@ ghost use Rattle.std.specs.Prelude.{◌≡◌, IsTrue, ◌↔◌};
 use crate::device::DeviceFault;
 
 /// How a device over memory behaves. A call passes as many bytes as it can.
-#[derive(Clone, Copy, Debug, PartialEq, Eq)]
+#[derive(Clone, Copy, PartialEq, Eq)]
 pub struct Script {
     /// The most bytes that one call passes; 0 counts as 1.
     pub piece: usize,
@@ -15,7 +15,7 @@ pub struct Script {
 }
 
 /// Where a device stands in its script.
-#[derive(Clone, Copy, Debug, PartialEq, Eq)]
+#[derive(Clone, Copy, PartialEq, Eq)]
 pub struct ScriptState {
     pub piece: usize,
     /// How many bytes may still pass.

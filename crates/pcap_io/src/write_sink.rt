@@ -7,7 +7,7 @@ use std::io;
 use std::io::Write;
 
 /// A sink over a writer. It exposes what the writer exposes: of a file or a pipe nothing is known.
-#[derive(Debug, Drop)]
+#[derive(Drop)]
 pub struct WriteSink<W> {
     writer: W,
     failures: u64,

@@ -64,17 +64,35 @@ fn append_both(bytes: &mut Vec<u8>, first: &[u8], second: &[u8]) -> Result<(), A
 ///
 /// There is no memory for the packet. The bytes are as they were.
 #[inline]
-pub fn append_packet(bytes: &mut Vec<u8>, frame: &TapFrame, keep: u32) -> Result<(), AllocError>
-    requires { keep ≤ length frame.now.bytes }
-    ensures packet { OnOk result (bytes.new.items ≡ bytes.old.items ++ packet_text frame.now keep) }
+pub fn append_packet(
+    bytes: &mut Vec<u8>,
+    frame: &LentFrame<'_>,
+    keep: u32,
+) -> Result<(), AllocError>
+    requires { keep ≤ length (frame_of_lent frame.now).bytes }
+    ensures packet { OnOk result (bytes.new.items
+        ≡ bytes.old.items ++ packet_text (frame_of_lent frame.now) keep) }
     ensures memory { OnErr result (bytes.new.items ≡ bytes.old.items) }
 {
     let captured = frame.view().bytes();
     append_both(
         bytes,
-        &packet_header(&frame.lent(), keep),
+        &packet_header(frame, keep),
         &captured[..keep as usize],
     )
+}
+
+/// Appends the file header of a capture.
+///
+/// # Errors
+///
+/// There is no memory for it. The bytes are as they were.
+#[tactic(auto, unfolding(crate::specs::Capture::capture_header))]
+pub fn append_header(bytes: &mut Vec<u8>) -> Result<(), AllocError>
+    ensures header { OnOk result (bytes.new.items ≡ bytes.old.items ++ capture_header) }
+    ensures memory { OnErr result (bytes.new.items ≡ bytes.old.items) }
+{
+    bytes.extend_from_slice(&HEADER)
 }
 
 /// Writes a frame's packet: the header, and then the first `keep` of its bytes.
@@ -95,7 +113,7 @@ fn write_packet<W: OutSink>(
 }
 
 /// Writes a capture to a sink that it holds: a file header, and then packets.
-#[derive(Debug, Drop)]
+#[derive(Drop)]
 pub struct CaptureWriter<W> {
     sink: W,
     failed: bool,
@@ -112,8 +130,18 @@ impl<W: OutSink> CaptureWriter<W> {
             (W.failures sink) (W.failures (sink_after result)) capture_header }
         ensures going { IfOk result (λ w. has_failed w ≡ false) }
     {
+        CaptureWriter::begin_with(sink, &HEADER)
+    }
+
+    /// Writes what a capture begins with in some format. An `Err` gives the sink back, which failed after a
+    /// prefix of it.
+    pub fn begin_with(sink: W, head: &[u8]) -> Result<CaptureWriter<W>, W>
+        ensures written { Writes result (W.contents sink) (W.contents (sink_after result))
+            (W.failures sink) (W.failures (sink_after result)) head.now }
+        ensures going { IfOk result (λ w. has_failed w ≡ false) }
+    {
         let mut sink = sink;
-        match write_all(&mut sink, &HEADER) {
+        match write_all(&mut sink, head) {
             Ok(()) => Ok(CaptureWriter {
                 sink,
                 failed: false,
@@ -179,8 +207,8 @@ impl<W: OutSink> CaptureWriter<W> {
         }
     }
 
-    /// Writes packets that [`append_packet`] made, in one go where the sink takes them so. After a fault
-    /// each later call returns `Failed` and writes nothing.
+    /// Writes packets that were made in memory, as by [`append_packet`], in one go where the sink takes them
+    /// so. After a fault each later call returns `Failed` and writes nothing.
     pub fn put_packets(&mut self, packets: &[u8]) -> Result<(), WriteFault>
         ensures written { has_failed self.old ≡ false → Writes result
             (W.contents (sink_of self.old)) (W.contents (sink_of self.new))

@@ -1,15 +1,24 @@
 -- Sections: the interfaces that they describe, and which of them is read (this project's choice).
-use Rattle.std.specs.Prelude.{ℕ, Bool, true, false, ◌||◌, List, [], ◌∷◌, ◌++◌, map, slice_get, Option, Some, None, Result, Ok, Err, nat_lt, ◌==◌, if◌then◌else◌}
+use Rattle.std.specs.Prelude.{ℕ, Bool, true, false, bytes_eq, ◌||◌, List, [], ◌∷◌, ◌++◌, map, slice_get, Option, Some, None, Result, Ok, Err, nat_lt, ◌==◌, if◌then◌else◌}
+use Rattle.std.specs.Option.{option_map}
 use Rattle.pcap_io.specs.declared.layout.ByteOrder.{ByteOrder}
 use Rattle.pcap_io.specs.declared.recording.BadReason.{BadReason}
 use Rattle.pcap_io.specs.declared.recording.BadReason.TheVariants as reasons
-use Rattle.pcapng.specs.Interface.{Described, described_of, has_name, name_bytes, time_of}
+use Rattle.pcapng.specs.Interface.{Described, bytes_of_name, described_of, has_name, name_bytes, time_of}
 use Rattle.pcapng.specs.declared.choice.Choice.{Choice}
 use Rattle.pcapng.specs.declared.choice.Choice.TheVariants.{Any, Number, Name}
+use Rattle.pcapng.specs.declared.section.Met.{Met}
 use Rattle.pcapng.specs.declared.section.Role.{Role}
 use Rattle.pcapng.specs.declared.section.Role.TheVariants as roles
 use Rattle.pcapng.specs.declared.section.Section.{Section}
 use Rattle.pcapng.specs.declared.section.TheConstants.{MAX_INTERFACES}
+
+-- what is remembered of the interface of which packets were taken in earlier sections
+pub record Remembered : Type 0 where
+  -- its number in the last of them that had packets of it
+  pub number : ℕ
+  -- its name, where one of them gave it one: the last
+  pub name : Option (List ℕ)
 
 -- What is known of a recording where a block begins.
 pub record Known : Type 0 where
@@ -18,12 +27,18 @@ pub record Known : Type 0 where
   pub order : ByteOrder
   -- the interfaces that the section has described
   pub interfaces : List Described
-  -- the number of the interface of which a packet was taken last, where one was
+  -- the number of the interface of which the section had the last packet that was taken, where it had one
   pub taken : Option ℕ
+  -- the interface of which packets were taken in earlier sections, where some were
+  pub before : Option Remembered
   -- where a name was chosen: the number of the first interface of this name that the section has described
   pub named : Option ℕ
   -- the chosen interface was described, in this section or an earlier one
   pub described : Bool
+
+-- what is remembered, of an interface that was met
+abbrev pub remembered_of : Met → Remembered
+remembered_of m = record { number = m.number; name = bytes_of_name m.name }
 
 -- what a section knows
 abbrev pub known_of : Section → Known
@@ -32,6 +47,7 @@ known_of s = record {
   order = s.order;
   interfaces = map described_of s.interfaces.items;
   taken = s.taken;
+  before = option_map remembered_of s.met;
   named = s.named;
   described = s.described;
 }
@@ -44,11 +60,33 @@ needs_none (Name name) = false
 
 -- before the first section
 abbrev pub unknown : Choice → ByteOrder → Known
-unknown choice order = record { choice = choice; order = order; interfaces = []; taken = None; named = None; described = needs_none choice }
+unknown choice order = record { choice = choice; order = order; interfaces = []; taken = None; before = None; named = None; described = needs_none choice }
+
+-- an interface's name, or, where it has none, the one that it had before
+abbrev pub name_kept : Option (List ℕ) → Option Remembered → Option (List ℕ)
+name_kept (Some name) before = Some name
+name_kept None None = None
+name_kept None (Some m) = m.name
+
+-- an interface that had packets, as it is remembered
+abbrev pub remembers : ℕ → Option Described → Option Remembered → Option Remembered
+remembers number None before = before
+remembers number (Some i) before = Some (record { number = number; name = name_kept i.name before })
+
+-- after a section, of whose interfaces packets of this one were taken, where it had some
+abbrev pub before_next : Option ℕ → List Described → Option Remembered → Option Remembered
+before_next None interfaces before = before
+before_next (Some number) interfaces before = remembers number (slice_get interfaces number) before
 
 -- a section of this byte order begins, with no interfaces
 abbrev pub in_section : ByteOrder → Known → Known
-in_section order k = record k { order = order; interfaces = []; named = None }
+in_section order k = record k {
+  order = order;
+  interfaces = [];
+  taken = None;
+  before = before_next k.taken k.interfaces k.before;
+  named = None;
+}
 
 -- the number is known, and this one
 abbrev pub is_number : Option ℕ → ℕ → Bool
@@ -83,17 +121,37 @@ with_interface i k = with_named (first_named k.choice k.named i) i k
 
 -- ---- packets
 
+-- two names are equal; where one is missing, what the numbers say
+abbrev pub same_name : Option (List ℕ) → Option (List ℕ) → Bool → Bool
+same_name (Some a) (Some b) same_number = bytes_eq a b
+same_name (Some a) None same_number = same_number
+same_name None b same_number = same_number
+
+-- An interface of a later section is the one of earlier sections: sections count their interfaces anew, so it is known by its name, and by its
+-- number only where one of the two has no name.
+abbrev pub is_same : Remembered → ℕ → Option (List ℕ) → Bool
+is_same m number name = same_name m.name name (m.number == number)
+
+abbrev pub taken_if : Bool → Result Role BadReason
+taken_if true = Ok roles.Taken
+taken_if false = Err reasons.SeveralInterfaces
+
+-- the first packet of a section that is to be taken is of the interface of earlier sections, where there was one
+abbrev pub role_after : Option Remembered → ℕ → Option (List ℕ) → Result Role BadReason
+role_after None number name = Ok roles.Taken
+role_after (Some m) number name = taken_if (is_same m number name)
+
 -- with no choice, packets are of one interface
-abbrev pub role_among : Choice → Option ℕ → ℕ → Result Role BadReason
-role_among Any (Some taken) number = if taken == number then Ok roles.Taken else Err reasons.SeveralInterfaces
-role_among Any None number = Ok roles.Taken
-role_among (Number wanted) taken number = Ok roles.Taken
-role_among (Name wanted) taken number = Ok roles.Taken
+abbrev pub role_among : Choice → Option ℕ → Option Remembered → ℕ → Option (List ℕ) → Result Role BadReason
+role_among Any (Some taken) before number name = taken_if (taken == number)
+role_among Any None before number name = role_after before number name
+role_among (Number wanted) taken before number name = Ok roles.Taken
+role_among (Name wanted) taken before number name = Ok roles.Taken
 
 -- what is done with a packet of this number and interface
 abbrev pub role_with : Known → ℕ → Described → Result Role BadReason
 role_with k number i =
-    if is_chosen k.choice k.named i then (if i.ethernet then role_among k.choice k.taken number else Ok roles.Counted) else Ok roles.Skipped
+    if is_chosen k.choice k.named i then (if i.ethernet then role_among k.choice k.taken k.before number i.name else Ok roles.Counted) else Ok roles.Skipped
 
 abbrev pub role_at : Known → ℕ → Option Described → Result Role BadReason
 role_at k number None = Err reasons.UnknownInterface

@@ -40,7 +40,7 @@ const PACKET_LEN: usize = 32;
 pub const CAPTURED_AT: usize = 28;
 
 /// What a block is.
-#[derive(Clone, Copy, Debug, PartialEq, Eq)]
+#[derive(Clone, Copy, PartialEq, Eq)]
 pub enum BlockKind {
     Section,
     Interface,
@@ -102,7 +102,7 @@ impl BlockKind {
 }
 
 /// The start of a block, in the byte order of its section.
-#[derive(Clone, Copy, Debug)]
+#[derive(Clone, Copy)]
 pub struct BlockStart {
     pub order: ByteOrder,
     pub kind: BlockKind,
@@ -111,7 +111,7 @@ pub struct BlockStart {
 }
 
 /// Why the start of a block can't be read.
-#[derive(Clone, Copy, Debug, PartialEq, Eq)]
+#[derive(Clone, Copy, PartialEq, Eq)]
 pub enum StartFault {
     /// The byte-order magic of a section header is unknown.
     Magic,
@@ -275,7 +275,7 @@ pub fn check_interface_end(order: ByteOrder, block: &[u8]) -> Result<(), BadReas
 }
 
 /// The fields of a packet, before its captured bytes.
-#[derive(Clone, Copy, Debug)]
+#[derive(Clone, Copy)]
 pub struct PacketFields {
     pub interface: u32,
     /// In the unit of its interface.

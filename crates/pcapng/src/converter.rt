@@ -26,7 +26,7 @@ use std::alloc::{AllocError, Global};
 const PIECE_LEN: usize = 65_536;
 
 /// How far a recording was read.
-#[derive(Clone, Copy, Debug, PartialEq, Eq)]
+#[derive(Clone, Copy, PartialEq, Eq)]
 pub enum Stage {
     /// Nothing of it was judged.
     Start,
@@ -52,7 +52,7 @@ pub enum Step {
 }
 
 /// What was read ahead of a recording, and what is given for it.
-#[derive(Debug, Drop)]
+#[derive(Drop)]
 pub struct Converter {
     stage: Stage,
     section: Section,

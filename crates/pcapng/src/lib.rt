@@ -29,6 +29,6 @@ mod text;
 pub use block::MAX_BLOCK_LEN;
 pub use choice::{Choice, InterfaceName, MAX_NAME_LEN};
 pub use interface::{Interface, Offset, Resolution};
-pub use laws::{block_is_read_first, file_is_read, header_fault_is_told};
+pub use laws::{block_is_read_first, bounds_are_documented, file_is_read, header_fault_is_told};
 pub use section::MAX_INTERFACES;
 pub use source::{RecordingSource, Refused};

@@ -1,9 +1,9 @@
 //! A section of a recording: its byte order, its interfaces, and which of them is read.
 ghost use Rattle.std.specs.Prelude.{◌≡◌, ◌≤◌, ◌<◌, ◌*◌, ◌^◌, length, map, vec_capacity, vec_len, Err, IfOk, OnErr, OnOk};
-ghost use Rattle.pcapng.specs.Interface.{described_of};
+ghost use Rattle.pcapng.specs.Interface.{bytes_of_name, described_of};
 ghost use Rattle.pcapng.specs.declared.section.TheConstants.{MAX_INTERFACES};
 
-use crate::choice::Choice;
+use crate::choice::{Choice, InterfaceName};
 use crate::interface::Interface;
 use pcap_io::{BadReason, ByteOrder};
 use std::alloc::{AllocError, Global};
@@ -12,7 +12,7 @@ use std::alloc::{AllocError, Global};
 pub const MAX_INTERFACES: usize = 256;
 
 /// What is done with a whole packet.
-#[derive(Clone, Copy, Debug, PartialEq, Eq)]
+#[derive(Clone, Copy, PartialEq, Eq)]
 pub enum Role {
     /// It is given.
     Taken,
@@ -22,14 +22,41 @@ pub enum Role {
     Skipped,
 }
 
+/// An interface that had packets in earlier sections, which count their interfaces anew.
+#[derive(Clone, Copy, Debug)]
+pub struct Met {
+    /// Its number in the last of them that had packets of it.
+    pub number: u32,
+    /// The name that it had last.
+    pub name: Option<InterfaceName>,
+}
+
+impl Met {
+    ghost use Rattle.pcapng.specs.Section.{is_same, remembered_of};
+
+    /// Whether the interface of this number of a later section is the same: by the names, or, where one of
+    /// the two has none, by the numbers.
+    fn is_same(&self, number: u32, interface: &Interface) -> bool
+        ensures { result ≡ is_same (remembered_of self.now) number
+            (bytes_of_name interface.now.name) }
+    {
+        match (&self.name, &interface.name) {
+            (Some(name), Some(own)) => name.as_bytes() == own.as_bytes(),
+            _ => self.number == number,
+        }
+    }
+}
+
 /// A section, and what is known of the choice.
 #[derive(Debug, Drop)]
 pub struct Section {
     pub choice: Choice,
     pub order: ByteOrder,
     interfaces: Vec<Interface>,
-    /// With no choice: the number of the Ethernet interface that had the first packet.
+    /// The number of the interface of which a packet of this section was given last.
     taken: Option<u32>,
+    /// The interface of which packets of earlier sections were given.
+    met: Option<Met>,
     /// The number of the section's first interface of the chosen name.
     named: Option<u32>,
     /// The chosen interface was described, in this section or an earlier one.
@@ -40,7 +67,10 @@ pub struct Section {
 impl Section {
     ghost use Rattle.pcap_io.specs.declared.layout.ByteOrder.TheVariants.{Little};
     ghost use Rattle.pcapng.specs.Section.{first_named, in_section, is_chosen, known_of, next_number, noted};
-    ghost use Rattle.pcapng.specs.Section.{role_of, stamp_of, unknown, with_interface};
+    ghost use Rattle.pcapng.specs.Section.{before_next, remembered_of, role_among, role_of, stamp_of};
+    ghost use Rattle.pcapng.specs.Section.{taken_if, unknown, with_interface};
+    ghost use Rattle.pcapng.specs.declared.choice.Choice.TheVariants.{Any};
+    ghost use Rattle.std.specs.Option.{option_map};
 
     /// No section yet. Allocates the memory of its interfaces.
     pub fn new(alloc: Global, choice: Choice) -> Result<Section, AllocError>
@@ -51,6 +81,7 @@ impl Section {
             order: ByteOrder::Little,
             interfaces: Vec::with_capacity(alloc, MAX_INTERFACES)?,
             taken: None,
+            met: None,
             named: None,
             described: choice == Choice::Any,
         })
@@ -70,11 +101,31 @@ impl Section {
         self.described
     }
 
+    /// The interface of which packets of this section were given, or of earlier ones.
+    fn met_by_now(&self) -> Option<Met>
+        ensures { option_map remembered_of result ≡ before_next (known_of self.now).taken
+            (known_of self.now).interfaces (known_of self.now).before }
+    {
+        let Some(number) = self.taken else {
+            return self.met;
+        };
+        let Some(interface) = self.interfaces.get(number as usize) else {
+            return self.met;
+        };
+        let name = match (interface.name, self.met) {
+            (None, Some(met)) => met.name,
+            (name, _) => name,
+        };
+        Some(Met { number, name })
+    }
+
     /// A section of this byte order begins, with no interfaces.
     pub fn begin(&mut self, order: ByteOrder)
         ensures { known_of self.new ≡ in_section order (known_of self.old) }
     {
+        self.met = self.met_by_now();
         self.order = order;
+        self.taken = None;
         self.interfaces.clear();
         self.named = None;
     }
@@ -137,6 +188,19 @@ impl Section {
         self.interfaces.push(interface).unwrap();
     }
 
+    /// Whether the interface of this number is the only one so far of which packets were given.
+    #[inline]
+    fn is_only(&self, number: u32, interface: &Interface) -> bool
+        ensures { taken_if result ≡ role_among Any self.now.taken (known_of self.now).before number
+            (bytes_of_name interface.now.name) }
+    {
+        match (self.taken, &self.met) {
+            (Some(taken), _) => taken == number,
+            (None, Some(met)) => met.is_same(number, interface),
+            (None, None) => true,
+        }
+    }
+
     /// What is done with a packet of the interface of this number.
     #[inline]
     pub fn role(&self, number: u32) -> Result<Role, BadReason>
@@ -152,9 +216,10 @@ impl Section {
         if !interface.ethernet {
             return Ok(Role::Counted);
         }
-        match (self.choice, self.taken) {
-            (Choice::Any, Some(taken)) if taken != number => Err(BadReason::SeveralInterfaces),
-            _ => Ok(Role::Taken),
+        if self.choice != Choice::Any || self.is_only(number, interface) {
+            Ok(Role::Taken)
+        } else {
+            Err(BadReason::SeveralInterfaces)
         }
     }
 

@@ -12,7 +12,7 @@ use pcap_io::{DeviceFault, TapSource};
 use std::alloc::Global;
 
 /// A source that nothing was made of, as there was no memory.
-#[derive(Debug, Drop)]
+#[derive(Drop)]
 pub struct Refused<S> {
     pub source: S,
 }
@@ -21,7 +21,7 @@ pub struct Refused<S> {
 ///
 /// A recording that doesn't begin as pcapng is handed on as it is. Of a pcapng recording the packets
 /// of one Ethernet interface are given. It reads its source ahead, at most 64 KiB at a time.
-#[derive(Debug, Drop)]
+#[derive(Drop)]
 pub struct RecordingSource<S> {
     source: S,
     /// How often the source has failed.

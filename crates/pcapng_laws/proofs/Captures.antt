@@ -88,7 +88,7 @@ taken_of true = Some 0
 
 known_one : Bool → Known
 unfolding taken_of
-known_one some = record { choice = Any; order = Little; interfaces = plain 0 None ∷ []; taken = taken_of some; named = None; described = true }
+known_one some = record { choice = Any; order = Little; interfaces = plain 0 None ∷ []; taken = taken_of some; before = None; named = None; described = true }
 
 takes_one : (some : Bool) → Ok roles.Taken ≡ role_of (known_one some) 0
 unfolding taken_of known_one
@@ -112,6 +112,7 @@ known_both number taken = record {
   order = Little;
   interfaces = plain 0 (Some (65 ∷ [])) ∷ plain 1 (Some (66 ∷ [])) ∷ [];
   taken = taken;
+  before = None;
   named = None;
   described = true;
 }
@@ -168,7 +169,7 @@ one_described more =
 
 first_described : ℕ → Bool → Known
 first_described number described =
-    record { choice = Number number; order = Little; interfaces = plain 0 (Some (65 ∷ [])) ∷ []; taken = None; named = None; described = described }
+    record { choice = Number number; order = Little; interfaces = plain 0 (Some (65 ∷ [])) ∷ []; taken = None; before = None; named = None; described = described }
 
 both_described : (number : ℕ) (more : List ℕ) → number < 2
     → given_at (in_section Little (unknown (Number number) Little)) (descriptions_of Networks ++ more) ≡ given_at (known_both number None) more

@@ -7,7 +7,7 @@ pub const MAX_COMMENT_LEN: usize = 65_535;
 
 /// The comment of a packet, the option `opt_comment` of its block. The format has it in UTF-8, without a zero
 /// at the end.
-#[derive(Clone, Copy, Debug)]
+#[derive(Clone, Copy)]
 pub struct Comment<'a> {
     text: &'a [u8],
     ghost short: { length text.now ≤ MAX_COMMENT_LEN },

@@ -5,7 +5,7 @@ ghost use Rattle.pcapng_writer.specs.Blocks.{interface_of};
 use afdx_frame::Network;
 
 /// The interfaces of a capture. Both have link type 1, Ethernet, and timestamps in nanoseconds.
-#[derive(Clone, Copy, Debug, PartialEq, Eq)]
+#[derive(Clone, Copy, PartialEq, Eq)]
 pub enum Interfaces {
     /// One without a name, for the packets of one recording.
     One,

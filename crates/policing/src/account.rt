@@ -15,7 +15,7 @@ use vl_config::Link;
 ///
 /// What it holds is counted in bytes times BAG in nanoseconds, so that no credit is rounded: each
 /// nanosecond credits Smax, up to `Smax * (BAG + jitter)`, and a frame costs its size times BAG.
-#[derive(Debug, Drop)]
+#[derive(Drop)]
 pub struct Account {
     smax: u32,
     bag: u64,

@@ -1,64 +1,53 @@
 //! Recordings of small frames, and what is found in them.
-use afdx_frame::{Network, Stamp};
+
+use crate::recording::push_packet;
+use afdx_frame::{Network, Stamp, TapFrame};
 use frame_finder::{FindFault, FrameFinder};
 use pcap_io::{MemSource, Script};
 use std::alloc::{AllocError, Global};
 use std::process::Abort;
-use std::test::Fail;
+use test_support::{HEADER, SOUND};
 
 /// What is asked for: a second, an index, and the fault.
-type Asked = (u8, u8, Option<FindFault>);
-
-/// A file header of nanosecond pcap, little-endian, for Ethernet.
-const HEADER: [u8; 24] = [
-    0x4d, 0x3c, 0xb2, 0xa1, 2, 0, 4, 0, 0, 0, 0, 0, 0, 0, 0, 0, 0, 0, 4, 0, 1, 0, 0, 0,
-];
-
-/// A source that never fails.
-const SOUND: Script = Script {
-    piece: usize::MAX,
-    most: usize::MAX,
-    miss: None,
-};
+type Asked = (u32, u8, Option<FindFault>);
 
 /// A recording of frames of one byte, their index, at these seconds.
-fn recording(alloc: Global, seconds: &[u8]) -> Result<Vec<u8>, AllocError> {
+fn recording(alloc: Global, seconds: &[u32]) -> Result<Vec<u8>, AllocError> {
     let mut bytes = Vec::from_slice(alloc, &HEADER)?;
     for (index, second) in seconds.iter().enumerate() {
-        let mut packet = [0u8; 17];
-        packet[0] = *second;
-        packet[8] = 1;
-        packet[12] = 1;
-        packet[16] = index.to_le_bytes()[0];
-        bytes.extend_from_slice(&packet)?;
+        push_packet(&mut bytes, [*second, 0, 1, 1], &[(index % 251) as u8])?;
     }
     Ok(bytes)
 }
 
+/// The frame is the one of this stamp and index.
+fn is_frame(rt: &impl Abort, frame: &TapFrame, stamp: Stamp, index: u8) {
+    assert!(rt; frame.number() == u64::from(index));
+    assert!(rt; frame.stamp() == stamp);
+    assert!(rt; matches!(frame.view().bytes(), [byte] if *byte == index));
+}
+
 /// Asks for frames at these seconds and indices, in turn: each has the fault, or the frame of the index.
-fn asks(rt: &impl Abort, alloc: Global, source: MemSource, asked: &[Asked]) -> Result<(), Fail> {
-    let Ok(mut finder) = FrameFinder::open(alloc, source, Network::A) else {
+fn asks(rt: &(impl Abort + AllocGlobal), source: MemSource, asked: &[Asked]) {
+    let Ok(mut finder) = FrameFinder::open(rt.alloc(), source, Network::A) else {
         panic!(rt; "it isn't opened")
     };
     for (second, index, wanted) in asked {
         let stamp = Stamp(u64::from(*second) * 1_000_000_000);
-        match finder.find(alloc, stamp, u64::from(*index)) {
+        match finder.find(rt.alloc(), stamp, u64::from(*index)) {
             Ok(frame) => {
-                assert!(rt; wanted.is_none(), "{second} {index}");
-                assert!(rt; frame.number() == u64::from(*index));
-                assert!(rt; frame.stamp().0 == stamp.0);
-                assert!(rt; frame.view().bytes() == &[*index][..]);
+                assert!(rt; wanted.is_none());
+                is_frame(rt, &frame, stamp, *index);
             }
-            Err(fault) => assert!(rt; *wanted == Some(fault), "{second} {index}"),
+            Err(fault) => assert!(rt; *wanted == Some(fault)),
         }
     }
-    Ok(())
 }
 
 const ABSENT: Option<FindFault> = Some(FindFault::Absent);
 
 /// The seconds of frames, and what is asked for in their recording, whose source never fails.
-const SOUND_ASKED: [(&[u8], &[Asked]); 9] = [
+const SOUND_ASKED: [(&[u32], &[Asked]); 9] = [
     // In order, all and some.
     (
         &[1, 2, 2, 5],
@@ -94,28 +83,16 @@ const SOUND_ASKED: [(&[u8], &[Asked]); 9] = [
 ];
 
 #[test]
-fn frames_by_timestamp_and_index(rt: HostRuntime) -> Result<(), Fail> {
-    let alloc = rt.alloc();
+fn frames_by_timestamp_and_index(rt: HostRuntime) -> Result<(), AllocError> {
     for (seconds, asked) in SOUND_ASKED {
-        let source = MemSource::new(recording(alloc, seconds)?, SOUND);
-        asks(&rt, alloc, source, asked)?;
+        let source = MemSource::new(recording(rt.alloc(), seconds)?, SOUND);
+        asks(&rt, source, asked);
     }
     Ok(())
 }
 
 /// The second frame is truncated.
 const TRUNCATED_ASKED: [Asked; 3] = [(1, 0, None), (2, 1, ABSENT), (3, 1, ABSENT)];
-
-#[test]
-fn a_truncated_recording(rt: HostRuntime) -> Result<(), Fail> {
-    let alloc = rt.alloc();
-    for len in 41..58 {
-        let mut bytes = recording(alloc, &[1, 2])?;
-        bytes.truncate(len);
-        asks(&rt, alloc, MemSource::new(bytes, SOUND), &TRUNCATED_ASKED)?;
-    }
-    Ok(())
-}
 
 /// The source fails within the second frame.
 const FAILING_ASKED: [Asked; 3] = [
@@ -125,13 +102,26 @@ const FAILING_ASKED: [Asked; 3] = [
 ];
 
 #[test]
-fn a_source_that_fails(rt: HostRuntime) -> Result<(), Fail> {
-    let alloc = rt.alloc();
-    // After the file header and the first frame; each later call fails too.
+fn a_truncated_recording(rt: HostRuntime) -> Result<(), AllocError> {
+    // After the file header and the first frame, within the second.
+    for len in 41..58 {
+        let mut bytes = recording(rt.alloc(), &[1, 2])?;
+        bytes.truncate(len);
+        asks(&rt, MemSource::new(bytes, SOUND), &TRUNCATED_ASKED);
+    }
+    Ok(())
+}
+
+#[test]
+fn a_source_that_fails(rt: HostRuntime) -> Result<(), AllocError> {
+    // After the same bytes; each later call fails too.
     for most in 41..58 {
-        let script = Script { most, ..SOUND };
-        let source = MemSource::new(recording(alloc, &[1, 2])?, script);
-        asks(&rt, alloc, source, &FAILING_ASKED)?;
+        let bytes = recording(rt.alloc(), &[1, 2])?;
+        asks(
+            &rt,
+            MemSource::new(bytes, Script { most, ..SOUND }),
+            &FAILING_ASKED,
+        );
     }
     Ok(())
 }

@@ -1,14 +1,14 @@
-//! The one order of both taps' frames: worked examples, the core over many lists of events, and failing
+//! The one order of both taps' frames: worked examples, the core over a list of events, and failing
 //! allocations.
 
-use afdx_frame::{Key, Network, Stamp, TapFrame};
+use afdx_frame::{Network, Stamp, TapFrame};
 use ordered_merge::Merger;
-use std::alloc::{AllocError, Global};
 use std::process::Abort;
 
 mod allocation;
 mod cores;
-mod numbers;
+// further: mod lists;
+// further: mod numbers;
 mod worked;
 
 /// A frame of no captured bytes.
@@ -20,7 +20,7 @@ fn frame_at(
 ) -> TapFrame {
     match TapFrame::new(network, number, Stamp(stamp), 60, Vec::new(rt.alloc())) {
         Ok(frame) => frame,
-        Err(_) => panic!(rt; "number {number}, stamp {stamp}: out of bounds"),
+        Err(_) => panic!(rt; "out of bounds"),
     }
 }
 
@@ -33,7 +33,7 @@ fn fetch(
     stamp: u64,
 ) -> bool {
     let frame = frame_at(rt, network, number, stamp);
-    assert!(rt; merger.can_fetch(&frame), "number {number}, stamp {stamp}");
+    assert!(rt; merger.can_fetch(&frame));
     match merger.fetch(frame) {
         Ok(()) => true,
         Err(frame) => {
@@ -43,19 +43,13 @@ fn fetch(
     }
 }
 
-/// Cuts, and adds the keys of the round to the list.
-fn cut_into(merger: &mut Merger, most: usize, keys: &mut Vec<Key>) -> Result<(), AllocError> {
-    for frame in &merger.cut(most)? {
-        keys.push(frame.key())?;
+/// The frames of a round are these: timestamp, network and number.
+fn is_round(rt: &impl Abort, round: &[TapFrame], expected: &[(u64, Network, u64)]) {
+    assert!(rt; round.len() == expected.len());
+    for (frame, (stamp, network, number)) in round.iter().zip(expected) {
+        let key = frame.key();
+        assert!(rt; key.stamp.0 == *stamp);
+        assert!(rt; key.network == *network);
+        assert!(rt; key.number == *number);
     }
-    Ok(())
-}
-
-/// The timestamp, the network and the number of each key of a list.
-fn parts_of(alloc: Global, keys: &[Key]) -> Result<Vec<(u64, Network, u64)>, AllocError> {
-    let mut parts = Vec::new(alloc);
-    for key in keys {
-        parts.push((key.stamp.0, key.network, key.number))?;
-    }
-    Ok(parts)
 }

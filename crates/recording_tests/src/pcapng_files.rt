@@ -1,12 +1,15 @@
 //! Recordings written out by hand, after the format's draft.
-use afdx_frame::Network;
+
+use afdx_frame::{Network, TapFrame};
 use pcap_io::{
     BadReason, Ending, HeaderFault, Item, MemSource, OpenFault, Script, TapReader, TapSource, fill,
 };
-use pcapng::{Choice, InterfaceName, RecordingSource};
+use pcapng::{Choice, Interface, InterfaceName, RecordingSource};
 use std::alloc::{AllocError, Global};
 use std::process::Abort;
-use std::test::Fail;
+use test_support::SOUND;
+
+// further: mod cuts;
 
 /// A frame: its timestamp in nanoseconds, its length on the wire, and its captured bytes.
 type Wanted<'a> = (u64, u32, &'a [u8]);
@@ -67,47 +70,61 @@ fn joined(alloc: Global, parts: &[&[u8]]) -> Result<Vec<u8>, AllocError> {
     Ok(bytes)
 }
 
-/// A source of these bytes, which passes so many at a time.
-fn source_of(alloc: Global, bytes: &[u8], piece: usize) -> Result<MemSource, AllocError> {
-    let script = Script {
-        piece,
-        most: usize::MAX,
-        miss: None,
-    };
-    Ok(MemSource::new(Vec::from_slice(alloc, bytes)?, script))
+/// What reads a recording of this format.
+type Reader = TapReader<RecordingSource<MemSource>>;
+
+/// A source of these bytes as what they stand for.
+fn source_of(
+    alloc: Global,
+    bytes: &[u8],
+    script: Script,
+    choice: Choice,
+) -> Result<RecordingSource<MemSource>, AllocError> {
+    let source = MemSource::new(Vec::from_slice(alloc, bytes)?, script);
+    match RecordingSource::new(alloc, source, choice) {
+        Ok(source) => Ok(source),
+        Err(_) => Err(AllocError),
+    }
+}
+
+/// The frame is the one that is wanted.
+fn is_wanted(rt: &impl Abort, frame: &TapFrame, wanted: &Wanted<'_>) {
+    let (stamp, whole, bytes) = wanted;
+    assert!(rt; frame.stamp().0 == *stamp);
+    assert!(rt; frame.whole() == *whole);
+    assert!(rt; frame.view().bytes() == *bytes);
+}
+
+/// The reader gives these frames and ends so.
+fn gives(
+    rt: &(impl Abort + AllocGlobal),
+    reader: &mut Reader,
+    wanted: &[Wanted<'_>],
+    ending: Ending,
+) {
+    for wanted in wanted {
+        match reader.next(rt.alloc()) {
+            Ok(Item::Frame(frame)) => is_wanted(rt, &frame, wanted),
+            _ => panic!(rt; "it ends early"),
+        }
+    }
+    assert!(rt; matches!(reader.next(rt.alloc()), Ok(Item::End(end)) if end == ending));
 }
 
 /// The recording of these parts holds these frames and ends so, in whatever pieces it comes.
 fn holds(
-    rt: &impl Abort,
-    alloc: Global,
+    rt: &(impl Abort + AllocGlobal),
     parts: &[&[u8]],
     choice: Choice,
     wanted: &[Wanted<'_>],
     ending: Ending,
-) -> Result<(), Fail> {
-    let bytes = joined(alloc, parts)?;
+) -> Result<(), AllocError> {
+    let bytes = joined(rt.alloc(), parts)?;
     for piece in [usize::MAX, 1, 7] {
-        let source = source_of(alloc, &bytes, piece)?;
-        let Ok(source) = RecordingSource::new(alloc, source, choice) else {
-            return Err(Fail::from(AllocError));
-        };
-        let Ok(mut reader) = TapReader::open(source, Network::A, 1 << 32, 0) else {
-            panic!(rt; "it isn't opened")
-        };
-        for (stamp, whole, bytes) in wanted {
-            match reader.next(alloc)? {
-                Item::Frame(frame) => {
-                    assert!(rt; frame.stamp().0 == *stamp);
-                    assert!(rt; frame.whole() == *whole);
-                    assert!(rt; frame.view().bytes() == *bytes);
-                }
-                Item::End(_) => panic!(rt; "it ends early"),
-            }
-        }
-        match reader.next(alloc)? {
-            Item::Frame(_) => panic!(rt; "a frame too many"),
-            Item::End(end) => assert!(rt; end == ending),
+        let source = source_of(rt.alloc(), &bytes, Script { piece, ..SOUND }, choice)?;
+        match TapReader::open(source, Network::A, 1 << 32, 0) {
+            Ok(mut reader) => gives(rt, &mut reader, wanted, ending),
+            Err(_) => panic!(rt; "it isn't opened"),
         }
     }
     Ok(())
@@ -115,17 +132,13 @@ fn holds(
 
 /// The recording of these parts isn't opened, for this fault.
 fn refuses(
-    rt: &impl Abort,
-    alloc: Global,
+    rt: &(impl Abort + AllocGlobal),
     parts: &[&[u8]],
     fault: HeaderFault,
-) -> Result<(), Fail> {
-    let bytes = joined(alloc, parts)?;
+) -> Result<(), AllocError> {
+    let bytes = joined(rt.alloc(), parts)?;
     for piece in [usize::MAX, 1] {
-        let source = source_of(alloc, &bytes, piece)?;
-        let Ok(source) = RecordingSource::new(alloc, source, Choice::Any) else {
-            return Err(Fail::from(AllocError));
-        };
+        let source = source_of(rt.alloc(), &bytes, Script { piece, ..SOUND }, Choice::Any)?;
         match TapReader::open(source, Network::A, 1 << 32, 0) {
             Ok(_) => panic!(rt; "it is opened"),
             Err(refused) => assert!(rt; refused.fault == OpenFault::Header(fault)),
@@ -154,6 +167,13 @@ const EDITCAP: &[u8] = &[
     0x12, 0x13, 0x14, 0x15, 0x16, 0x17, 0x18, 0x19, 0x1a, 0x1b, 0x1c, 0x1d, 0x1e, 0x1f, 0x20, 0x21,
     0x22, 0x23, 0x24, 0x25, 0x26, 0x27, 0x28, 0x29, 0x2a, 0x2b, 0x2c, 0x2d, 0x2e, 0x2f, 0x30, 0x31,
     0x32, 0x33, 0x34, 0x35, 0x36, 0x37, 0x38, 0x39, 0x3a, 0x3b, 0x3c, 0, 0, 0, 0x60, 0, 0, 0,
+];
+
+/// The bytes of its second frame, and but for the last one of its first.
+const COUNTED: [u8; 61] = [
+    0, 1, 2, 3, 4, 5, 6, 7, 8, 9, 10, 11, 12, 13, 14, 15, 16, 17, 18, 19, 20, 21, 22, 23, 24, 25,
+    26, 27, 28, 29, 30, 31, 32, 33, 34, 35, 36, 37, 38, 39, 40, 41, 42, 43, 44, 45, 46, 47, 48, 49,
+    50, 51, 52, 53, 54, 55, 56, 57, 58, 59, 60,
 ];
 
 /// An interface with the option `if_tsresol`, of microseconds.
@@ -205,44 +225,161 @@ fn changed(alloc: Global, bytes: &[u8], at: usize, value: u8) -> Result<Vec<u8>,
     Ok(copy)
 }
 
-/// Recordings with one frame, in both byte orders, in each block that has a packet, and among blocks
-/// that aren't read.
-const OF_ONE: [&[&[u8]]; 5] = [
-    &[LITTLE, ETHERNET, PACKET],
-    &[BIG, BIG_ETHERNET, BIG_PACKET],
-    &[LITTLE, ETHERNET, OBSOLETE],
-    &[LITTLE, ETHERNET, COMMENTED],
-    &[LITTLE, CUSTOM, NAMED, CUSTOM, PACKET, CUSTOM],
+/// Packets of interface 1 as well as of interface 0, where both are of Ethernet, and where the first isn't.
+const TWO_INTERFACES: &[&[u8]] = &[LITTLE, ETHERNET, NAMED, PACKET, SECOND_PACKET];
+
+const OTHER_FIRST: &[&[u8]] = &[LITTLE, OTHER_LINK, NAMED, PACKET, SECOND_PACKET];
+
+/// Two sections, each in its byte order.
+const BOTH_ORDERS: &[&[u8]] = &[LITTLE, ETHERNET, PACKET, BIG, BIG_ETHERNET, BIG_PACKET];
+
+/// Another interface, whose name differs.
+const RENAMED: &[u8] = &[
+    1, 0, 0, 0, 32, 0, 0, 0, 1, 0, 0, 0, 0, 0, 4, 0, 2, 0, 1, 0, b'x', 0, 0, 0, 0, 0, 0, 0, 32, 0,
+    0, 0,
+];
+
+/// What a recording consists of, which interface is chosen, the frames, and the ending.
+type Recorded = (
+    &'static [&'static [u8]],
+    Choice,
+    &'static [Wanted<'static>],
+    Ending,
+);
+
+const RECORDINGS: [Recorded; 19] = [
+    (&[LITTLE], Choice::Any, NONE, Ending::Clean(0)),
+    // One frame in both byte orders, in each block that has a packet, and among blocks that aren't read.
+    (
+        &[LITTLE, ETHERNET, PACKET],
+        Choice::Any,
+        ONE,
+        Ending::Clean(1),
+    ),
+    (
+        &[BIG, BIG_ETHERNET, BIG_PACKET],
+        Choice::Any,
+        ONE,
+        Ending::Clean(1),
+    ),
+    (
+        &[LITTLE, ETHERNET, OBSOLETE],
+        Choice::Any,
+        ONE,
+        Ending::Clean(1),
+    ),
+    (
+        &[LITTLE, ETHERNET, COMMENTED],
+        Choice::Any,
+        ONE,
+        Ending::Clean(1),
+    ),
+    (
+        &[LITTLE, CUSTOM, NAMED, CUSTOM, PACKET, CUSTOM],
+        Choice::Any,
+        ONE,
+        Ending::Clean(1),
+    ),
+    (BOTH_ORDERS, Choice::Any, TWO, Ending::Clean(2)),
+    (BOTH_ORDERS, Choice::Number(0), TWO, Ending::Clean(2)),
+    // The interfaces of the section before are gone.
+    (
+        &[LITTLE, ETHERNET, PACKET, BIG, BIG_PACKET],
+        Choice::Any,
+        ONE,
+        Ending::Bad(1, BadReason::UnknownInterface),
+    ),
+    (
+        TWO_INTERFACES,
+        Choice::Any,
+        ONE,
+        Ending::Bad(1, BadReason::SeveralInterfaces),
+    ),
+    (TWO_INTERFACES, Choice::Number(0), ONE, Ending::Clean(1)),
+    (TWO_INTERFACES, Choice::Number(1), ONE, Ending::Clean(1)),
+    (
+        TWO_INTERFACES,
+        Choice::Number(2),
+        NONE,
+        Ending::Bad(0, BadReason::NoSuchInterface),
+    ),
+    // An interface of a later section is known by its name, and by its number where a name is missing.
+    (
+        &[LITTLE, NAMED, PACKET, LITTLE, RENAMED, PACKET],
+        Choice::Any,
+        ONE,
+        Ending::Bad(1, BadReason::SeveralInterfaces),
+    ),
+    (
+        &[
+            LITTLE,
+            RENAMED,
+            PACKET,
+            LITTLE,
+            ETHERNET,
+            RENAMED,
+            SECOND_PACKET,
+        ],
+        Choice::Any,
+        TWO,
+        Ending::Clean(2),
+    ),
+    (
+        &[LITTLE, RENAMED, PACKET, LITTLE, ETHERNET, PACKET],
+        Choice::Any,
+        TWO,
+        Ending::Clean(2),
+    ),
+    (
+        &[
+            LITTLE,
+            ETHERNET,
+            PACKET,
+            LITTLE,
+            RENAMED,
+            ETHERNET,
+            SECOND_PACKET,
+        ],
+        Choice::Any,
+        ONE,
+        Ending::Bad(1, BadReason::SeveralInterfaces),
+    ),
+    (OTHER_FIRST, Choice::Any, ONE, Ending::Clean(1)),
+    (OTHER_FIRST, Choice::Number(0), NONE, Ending::Clean(0)),
 ];
 
 #[test]
-fn reads_both_byte_orders(rt: HostRuntime) -> Result<(), Fail> {
-    let (alloc, any) = (rt.alloc(), Choice::Any);
-    for parts in OF_ONE {
-        holds(&rt, alloc, parts, any, ONE, Ending::Clean(1))?;
+fn recordings(rt: HostRuntime) -> Result<(), AllocError> {
+    for (parts, choice, wanted, ending) in RECORDINGS {
+        holds(&rt, parts, choice, wanted, ending)?;
     }
-    holds(&rt, alloc, &[LITTLE], any, NONE, Ending::Clean(0))
+    Ok(())
 }
 
 #[test]
-fn reads_what_editcap_writes(rt: HostRuntime) -> Result<(), Fail> {
-    let alloc = rt.alloc();
-    let mut bytes = [0u8; 61];
-    for (index, byte) in bytes.iter_mut().enumerate() {
-        *byte = index.to_le_bytes()[0];
-    }
+fn what_editcap_writes(rt: HostRuntime) -> Result<(), AllocError> {
     let wanted = [
-        (1_700_000_000_123_456_789, 60, &bytes[..60]),
-        (1_700_000_002_000_000_005, 61, &bytes[..]),
+        (1_700_000_000_123_456_789, 60, &COUNTED[..60]),
+        (1_700_000_002_000_000_005, 61, &COUNTED[..]),
     ];
-    holds(
-        &rt,
-        alloc,
-        &[EDITCAP],
-        Choice::Any,
-        &wanted,
-        Ending::Clean(2),
-    )
+    holds(&rt, &[EDITCAP], Choice::Any, &wanted, Ending::Clean(2))
+}
+
+/// Names of interfaces, how many frames they have of two interfaces, and the ending.
+const NAMES: [(&[u8], &[Wanted<'static>], Ending); 2] = [
+    (b"a0", ONE, Ending::Clean(1)),
+    (b"a1", NONE, Ending::Bad(0, BadReason::NoSuchInterface)),
+];
+
+#[test]
+fn interfaces_by_name(rt: HostRuntime) -> Result<(), AllocError> {
+    for (name, wanted, ending) in NAMES {
+        match InterfaceName::new(name) {
+            Some(name) => holds(&rt, TWO_INTERFACES, Choice::Name(name), wanted, ending)?,
+            None => panic!(rt; "too long a name"),
+        }
+    }
+    Ok(())
 }
 
 /// Values of the option `if_tsresol`, and the timestamp of the packet in nanoseconds.
@@ -259,24 +396,19 @@ const RESOLUTIONS: [(u8, u64); 9] = [
 ];
 
 #[test]
-fn reads_each_resolution(rt: HostRuntime) -> Result<(), Fail> {
-    let alloc = rt.alloc();
+fn resolutions(rt: HostRuntime) -> Result<(), AllocError> {
     for (value, stamp) in RESOLUTIONS {
-        let interface = changed(alloc, RESOLUTION, 20, value)?;
+        let interface = changed(rt.alloc(), RESOLUTION, 20, value)?;
         let parts = [LITTLE, &interface, PACKET];
-        let frame: [Wanted<'_>; 1] = [(stamp, 60, &[7, 8])];
-        holds(&rt, alloc, &parts, Choice::Any, &frame, Ending::Clean(1))?;
+        holds(
+            &rt,
+            &parts,
+            Choice::Any,
+            &[(stamp, 60, &[7, 8])],
+            Ending::Clean(1),
+        )?;
     }
-    let seconds = changed(alloc, RESOLUTION, 20, 0)?;
-    let late = Ending::Bad(0, BadReason::StampRange);
-    holds(
-        &rt,
-        alloc,
-        &[LITTLE, &seconds, PACKET],
-        Choice::Any,
-        NONE,
-        late,
-    )
+    Ok(())
 }
 
 /// Offsets in seconds, and the timestamp of the packet in nanoseconds.
@@ -288,97 +420,80 @@ const OFFSETS: [(i64, u64); 4] = [
 ];
 
 #[test]
-fn adds_the_offset(rt: HostRuntime) -> Result<(), Fail> {
-    let alloc = rt.alloc();
+fn offsets(rt: HostRuntime) -> Result<(), AllocError> {
     for (offset, stamp) in OFFSETS {
-        let interface = with_offset(offset);
-        let parts = [LITTLE, &interface, PACKET];
-        let frame: [Wanted<'_>; 1] = [(stamp, 60, &[7, 8])];
-        holds(&rt, alloc, &parts, Choice::Any, &frame, Ending::Clean(1))?;
+        let parts = [LITTLE, &with_offset(offset), PACKET];
+        holds(
+            &rt,
+            &parts,
+            Choice::Any,
+            &[(stamp, 60, &[7, 8])],
+            Ending::Clean(1),
+        )?;
     }
     for offset in [-4295, 4_294_963_002, i64::MAX, i64::MIN] {
-        let interface = with_offset(offset);
-        let parts = [LITTLE, &interface, PACKET];
+        let parts = [LITTLE, &with_offset(offset), PACKET];
         let bad = Ending::Bad(0, BadReason::StampRange);
-        holds(&rt, alloc, &parts, Choice::Any, NONE, bad)?;
+        holds(&rt, &parts, Choice::Any, NONE, bad)?;
     }
     Ok(())
 }
 
-#[test]
-fn joins_sections(rt: HostRuntime) -> Result<(), Fail> {
-    let both = [LITTLE, ETHERNET, PACKET, BIG, BIG_ETHERNET, BIG_PACKET];
-    // The interfaces of the section before are gone.
-    let second = [LITTLE, ETHERNET, PACKET, BIG, BIG_PACKET];
-    let unknown = Ending::Bad(1, BadReason::UnknownInterface);
-    for (parts, choice, frames, ending) in [
-        (&both[..], Choice::Any, TWO, Ending::Clean(2)),
-        (&both[..], Choice::Number(0), TWO, Ending::Clean(2)),
-        (&second[..], Choice::Any, ONE, unknown),
-    ] {
-        holds(&rt, rt.alloc(), parts, choice, frames, ending)?;
-    }
-    Ok(())
-}
+/// Which interface is chosen, and how many packets are skipped.
+const SKIPPED: [(Choice, u64); 3] = [
+    (Choice::Any, 2),
+    (Choice::Number(0), 2),
+    (Choice::Number(1), 0),
+];
 
 #[test]
-fn chooses_an_interface(rt: HostRuntime) -> Result<(), Fail> {
-    let one = Ending::Clean(1);
-    let several = Ending::Bad(1, BadReason::SeveralInterfaces);
-    let none = Ending::Bad(0, BadReason::NoSuchInterface);
-    let name = |bytes: &[u8]| InterfaceName::new(bytes).map_or(
-        Choice::Any,
-        |name| Choice::Name(name),
-    );
-    let two = [LITTLE, ETHERNET, NAMED, PACKET, SECOND_PACKET];
-    // The first isn't Ethernet.
-    let other = [LITTLE, OTHER_LINK, NAMED, PACKET, SECOND_PACKET];
-    for (parts, choice, frames, ending) in [
-        (&two, Choice::Any, ONE, several),
-        (&two, Choice::Number(0), ONE, one),
-        (&two, Choice::Number(1), ONE, one),
-        (&two, Choice::Number(2), NONE, none),
-        (&two, name(b"a0"), ONE, one),
-        (&two, name(b"a1"), NONE, none),
-        (&other, Choice::Any, ONE, one),
-        (&other, Choice::Number(0), NONE, Ending::Clean(0)),
-    ] {
-        holds(&rt, rt.alloc(), parts, choice, frames, ending)?;
-    }
-    Ok(())
-}
-
-#[test]
-fn counts_what_it_skips(rt: HostRuntime) -> Result<(), Fail> {
-    let alloc = rt.alloc();
-    for (choice, skipped) in [
-        (Choice::Any, 2),
-        (Choice::Number(0), 2),
-        (Choice::Number(1), 0),
-    ] {
-        let bytes = joined(
-            alloc,
-            &[LITTLE, OTHER_LINK, NAMED, PACKET, SECOND_PACKET, PACKET],
-        )?;
-        let source = source_of(alloc, bytes.as_slice(), 5)?;
-        let Ok(mut source) = RecordingSource::new(alloc, source, choice) else {
-            panic!(rt; "no memory")
-        };
-        let mut text = [0u8; 100];
-        let Ok(_) = fill(&mut source, &mut text) else {
-            panic!(rt; "it fails")
-        };
+fn packets_that_are_skipped(rt: HostRuntime) -> Result<(), AllocError> {
+    let parts = [LITTLE, OTHER_LINK, NAMED, PACKET, SECOND_PACKET, PACKET];
+    let bytes = joined(rt.alloc(), &parts)?;
+    for (choice, skipped) in SKIPPED {
+        let script = Script { piece: 5, ..SOUND };
+        let mut source = source_of(rt.alloc(), &bytes, script, choice)?;
+        assert!(rt; fill(&mut source, &mut [0u8; 100]).is_ok());
         assert!(rt; source.skipped() == skipped);
-        let [first, second] = source.interfaces() else {
-            panic!(rt; "two interfaces")
+        are_described(&rt, source.interfaces());
+    }
+    Ok(())
+}
+
+/// The interfaces are one without a name that isn't Ethernet, and `a0`; both have packets.
+fn are_described(rt: &impl Abort, interfaces: &[Interface]) {
+    let [first, second] = interfaces else {
+        panic!(rt; "two interfaces")
+    };
+    assert!(rt; !first.ethernet && second.ethernet);
+    assert!(rt; first.has_packets && second.has_packets);
+    assert!(rt; first.name.is_none() && second.number == 1);
+    match &second.name {
+        Some(name) => assert!(rt; name.as_bytes() == b"a0".as_slice()),
+        None => panic!(rt; "a name"),
+    }
+}
+
+#[test]
+fn a_source_that_fails_once(rt: HostRuntime) -> Result<(), AllocError> {
+    let bytes = joined(rt.alloc(), &[LITTLE, ETHERNET, PACKET, CUSTOM, COMMENTED])?;
+    for call in [0, 3, 50] {
+        let script = Script {
+            piece: 2,
+            miss: Some(call),
+            ..SOUND
         };
-        assert!(rt; !first.ethernet && second.ethernet);
-        assert!(rt; first.has_packets && second.has_packets);
-        assert!(rt; first.name.is_none() && second.number == 1);
-        match &second.name {
-            Some(name) => assert!(rt; name.as_bytes() == &b"a0"[..]),
-            None => panic!(rt; "a name"),
+        let mut source = source_of(rt.alloc(), &bytes, script, Choice::Any)?;
+        let (mut came, mut failures) = (0usize, 0u32);
+        for _ in 0..50 {
+            match source.read(&mut [0; 7]) {
+                Ok(some) => came = came.saturating_add(some),
+                Err(_) => failures = failures.saturating_add(1),
+            }
         }
+        // The file header and two packets of two bytes each, all but once.
+        assert!(rt; came == 24 + 2 * 18);
+        assert!(rt; failures == 1);
     }
     Ok(())
 }
@@ -411,13 +526,18 @@ const HEADER_FAULTS: [(usize, u8, HeaderFault); 7] = [
 ];
 
 #[test]
-fn tells_header_faults(rt: HostRuntime) -> Result<(), Fail> {
-    let alloc = rt.alloc();
+fn header_faults(rt: HostRuntime) -> Result<(), AllocError> {
     for (at, value, fault) in HEADER_FAULTS {
-        refuses(&rt, alloc, &[&changed(alloc, LITTLE, at, value)?], fault)?;
+        let header = changed(rt.alloc(), LITTLE, at, value)?;
+        refuses(&rt, &[&header], fault)?;
     }
+    Ok(())
+}
+
+#[test]
+fn bad_headers(rt: HostRuntime) -> Result<(), AllocError> {
     for (parts, fault) in BAD_HEADERS {
-        refuses(&rt, alloc, parts, fault)?;
+        refuses(&rt, parts, fault)?;
     }
     Ok(())
 }
@@ -435,12 +555,11 @@ const PACKET_REASONS: [(usize, u8, BadReason); 8] = [
 ];
 
 #[test]
-fn tells_reasons_of_packets(rt: HostRuntime) -> Result<(), Fail> {
-    let alloc = rt.alloc();
+fn reasons_of_packets(rt: HostRuntime) -> Result<(), AllocError> {
     for (at, value, reason) in PACKET_REASONS {
-        let packet = changed(alloc, PACKET, at, value)?;
+        let packet = changed(rt.alloc(), PACKET, at, value)?;
         let parts = [LITTLE, ETHERNET, PACKET, &packet, PACKET];
-        holds(&rt, alloc, &parts, Choice::Any, ONE, Ending::Bad(1, reason))?;
+        holds(&rt, &parts, Choice::Any, ONE, Ending::Bad(1, reason))?;
     }
     Ok(())
 }
@@ -448,7 +567,7 @@ fn tells_reasons_of_packets(rt: HostRuntime) -> Result<(), Fail> {
 /// A packet without an interface.
 const SIMPLE: &[u8] = &[3, 0, 0, 0, 16, 0, 0, 0, 0, 0, 0, 0, 16, 0, 0, 0];
 
-/// Blocks behind a section, which of their bytes is another, and the reason.
+/// Blocks behind a section and an interface, which of their bytes is another, and the reason.
 const BAD_BLOCKS: [(&[u8], usize, u8, BadReason); 7] = [
     (LITTLE, 8, 0, BadReason::Section),
     (LITTLE, 12, 2, BadReason::Section),
@@ -461,138 +580,19 @@ const BAD_BLOCKS: [(&[u8], usize, u8, BadReason); 7] = [
 ];
 
 #[test]
-fn tells_reasons_of_other_blocks(rt: HostRuntime) -> Result<(), Fail> {
-    let alloc = rt.alloc();
+fn reasons_of_other_blocks(rt: HostRuntime) -> Result<(), AllocError> {
     for (bytes, at, value, reason) in BAD_BLOCKS {
-        let block = changed(alloc, bytes, at, value)?;
+        let block = changed(rt.alloc(), bytes, at, value)?;
         let parts = [LITTLE, ETHERNET, &block];
-        holds(
-            &rt,
-            alloc,
-            &parts,
-            Choice::Any,
-            NONE,
-            Ending::Bad(0, reason),
-        )?;
+        holds(&rt, &parts, Choice::Any, NONE, Ending::Bad(0, reason))?;
     }
     Ok(())
 }
 
 #[test]
-fn too_many_interfaces(rt: HostRuntime) -> Result<(), Fail> {
-    let alloc = rt.alloc();
-    let mut bytes = joined(alloc, &[LITTLE])?;
-    for _ in 0..256 {
-        bytes.extend_from_slice(ETHERNET)?;
-    }
-    let bad = Ending::Bad(1, BadReason::TooManyInterfaces);
-    for (parts, ending) in [
-        (&[&bytes, PACKET][..], Ending::Clean(1)),
-        (&[&bytes, PACKET, ETHERNET][..], bad),
-    ] {
-        holds(&rt, alloc, parts, Choice::Any, ONE, ending)?;
-    }
-    Ok(())
-}
-
-#[test]
-fn cut_anywhere(rt: HostRuntime) -> Result<(), Fail> {
-    let alloc = rt.alloc();
-    let whole = joined(alloc, &[LITTLE, ETHERNET, PACKET, CUSTOM, PACKET])?;
-    for len in 0..whole.len() + 1 {
-        let cut = [&whole[..len]];
-        let (frames, ending) = match len {
-            0..28 => {
-                refuses(&rt, alloc, &cut, HeaderFault::Short)?;
-                continue;
-            }
-            28 | 48 => (NONE, Ending::Clean(0)),
-            29..84 => (NONE, Ending::Cut(0)),
-            84 | 100 => (ONE, Ending::Clean(1)),
-            85..136 => (ONE, Ending::Cut(1)),
-            _ => (TWO, Ending::Clean(2)),
-        };
-        holds(&rt, alloc, &cut, Choice::Any, frames, ending)?;
-    }
-    Ok(())
-}
-
-/// All that the source gives, in reads of so many bytes, with its failures: up to 300 bytes.
-fn given<S: TapSource>(source: &mut S, size: usize, text: &mut [u8; 300]) -> (usize, u64) {
-    let mut done = 0;
-    let mut failures = 0u64;
-    for _ in 0..1000 {
-        if done >= text.len() {
-            break;
-        }
-        let to = text.len().min(done.saturating_add(size));
-        match source.read(&mut text[done..to]) {
-            Ok(0) => break,
-            Ok(came) => done += came,
-            Err(_) => failures = failures.saturating_add(1),
-        }
-    }
-    (done, failures)
-}
-
-/// The header of the packet in nanosecond pcap.
-const PACKET_HEADER: [u8; 16] = [
-    0xc6, 0x10, 0, 0, 0xd0, 0xcb, 0xa7, 0x39, 2, 0, 0, 0, 60, 0, 0, 0,
-];
-
-#[test]
-fn small_buffers_and_failures(rt: HostRuntime) -> Result<(), Fail> {
-    let alloc = rt.alloc();
-    let bytes = joined(alloc, &[LITTLE, ETHERNET, PACKET, CUSTOM, COMMENTED])?;
-    for size in [1, 15, 16, 17, 300] {
-        for miss in [None, Some(0), Some(3), Some(50)] {
-            let script = Script {
-                piece: 2,
-                most: usize::MAX,
-                miss,
-            };
-            let source = MemSource::new(Vec::from_slice(alloc, &bytes)?, script);
-            let Ok(mut source) = RecordingSource::new(alloc, source, Choice::Any) else {
-                panic!(rt; "no memory")
-            };
-            let mut text = [0u8; 300];
-            let (done, failures) = given(&mut source, size, &mut text);
-            assert!(rt; done == 24 + 2 * 18);
-            assert!(rt; failures == u64::from(miss.is_some()));
-            assert!(rt; &text[24..40] == &PACKET_HEADER[..]);
-            assert!(rt; &text[40..42] == &[7, 8][..]);
-            assert!(rt; &text[58..60] == &[7, 8][..]);
-        }
-    }
-    Ok(())
-}
-
-/// An enhanced packet of interface 0, of 200000 bytes, up to these.
-const LONG_PACKET: [u8; 28] = [
-    6, 0, 0, 0, 0x60, 0x0d, 3, 0, 0, 0, 0, 0, 1, 0, 0, 0, 2, 0, 0, 0, 0x40, 0x0d, 3, 0, 0x40, 0x0d,
-    3, 0,
-];
-
-#[test]
-fn a_long_block(rt: HostRuntime) -> Result<(), Fail> {
-    let alloc = rt.alloc();
-    // A packet of 200000 bytes, and a block of as many that is skipped.
-    for kind in [6, 5] {
-        let mut block = Vec::with_capacity(alloc, 200_032)?;
-        block.push(kind)?;
-        block.extend_from_slice(&LONG_PACKET[1..])?;
-        block.resize(200_028, 9)?;
-        block.extend_from_slice(&[0x60, 0x0d, 3, 0])?;
-        let parts = [LITTLE, ETHERNET, PACKET, block.as_slice(), PACKET];
-        if kind == 6 {
-            let mut body = Vec::with_capacity(alloc, 200_000)?;
-            body.resize(200_000, 9)?;
-            let frames = [FRAME, (FRAME.0, 200_000, body.as_slice()), FRAME];
-            holds(&rt, alloc, &parts, Choice::Any, &frames, Ending::Clean(3))?;
-        } else {
-            let frames = [FRAME, FRAME];
-            holds(&rt, alloc, &parts, Choice::Any, &frames, Ending::Clean(2))?;
-        }
-    }
-    Ok(())
+fn a_resolution_of_seconds(rt: HostRuntime) -> Result<(), AllocError> {
+    let interface = changed(rt.alloc(), RESOLUTION, 20, 0)?;
+    let parts = [LITTLE, &interface, PACKET];
+    let late = Ending::Bad(0, BadReason::StampRange);
+    holds(&rt, &parts, Choice::Any, NONE, late)
 }

@@ -1,14 +1,41 @@
-//! Recordings of the pcap savefile format 2.4: the reader and the writer beside a reference parser of
-//! the whole list of bytes, and over devices of all kinds; packets that were read ahead; and packets made in
-//! memory.
+//! Recordings of the pcap savefile format 2.4: what is read of them and how they end, what is written,
+//! devices that fail, and failing allocations.
 
-mod ahead;
+use afdx_frame::Network;
+use pcap_io::{MemSource, TapReader};
+use std::alloc::AllocError;
+use std::process::Abort;
+
+// further: mod ahead;
 mod allocation;
-mod blocks;
-pub(crate) mod copies;
-mod cuts;
+// further: mod blocks;
+// further: mod copies;
+// further: mod cuts;
 mod devices;
-mod packets;
+// further: mod over_std;
+// further: mod packets;
 mod reader;
-mod reference;
+// further: mod reference;
+// further: mod shared_blocks;
 mod writer;
+
+/// Appends a packet: its second, nanosecond, captured length and length on the wire, and the bytes that are
+/// there.
+pub(crate) fn push_packet(
+    bytes: &mut Vec<u8>,
+    header: [u32; 4],
+    captured: &[u8],
+) -> Result<(), AllocError> {
+    for word in header {
+        bytes.extend_from_slice(&word.to_le_bytes())?;
+    }
+    bytes.extend_from_slice(captured)
+}
+
+/// A reader of network A over a source whose file header is right.
+pub(crate) fn opened(rt: &impl Abort, source: MemSource, late: u64) -> TapReader<MemSource> {
+    match TapReader::open(source, Network::A, 1 << 32, late) {
+        Ok(reader) => reader,
+        Err(_) => panic!(rt; "it isn't opened"),
+    }
+}

@@ -8,7 +8,7 @@ use afdx_frame::{Network, Stamp};
 use std::marker::Model;
 
 /// The delivery of a sequence number: where and when the frame came.
-#[derive(Clone, Copy, Debug)]
+#[derive(Clone, Copy)]
 pub struct Delivery {
     network: Network,
     stamp: Stamp,
@@ -16,7 +16,7 @@ pub struct Delivery {
 
 /// Redundancy management of one virtual link. It keeps the latest delivery of each of the 256
 /// sequence numbers.
-#[derive(Debug, Drop)]
+#[derive(Drop)]
 pub struct Pair {
     latest: [Option<Delivery>; 256],
 }

@@ -1,14 +1,14 @@
 //! Charts: drawings with no text, in whole numbers but for ticks.
 
-use crate::numbers::{quotient, root, share};
+use crate::numbers::{quotient, share};
 use crate::view::View;
+use crate::writer::{Page, Part};
 use afdx_frame::Network;
-use ledger_report::Series;
+use ledger_report::{Series, Sides};
 use std::alloc::{AllocError, Global};
-use std::fmt::Write;
 
 /// How the bins of a column become one number.
-#[derive(Clone, Copy, Debug, PartialEq, Eq)]
+#[derive(Clone, Copy, PartialEq, Eq)]
 pub enum Kind {
     Sum,
     Least,
@@ -43,11 +43,24 @@ pub fn columns(
     Ok(columns)
 }
 
-/// The greatest number, at least 1.
-pub fn peak(first: &[u64], second: &[u64]) -> u64 {
-    let one = first.iter().copied().max().unwrap_or(0);
-    let two = second.iter().copied().max().unwrap_or(0);
-    one.max(two).max(1)
+/// The columns of both networks.
+pub fn both_columns(
+    view: &View<'_>,
+    a: &Series,
+    b: &Series,
+    kind: Kind,
+    per: usize,
+) -> Result<Sides<Vec<u64>>, AllocError> {
+    let a = columns(view.alloc, a, kind, view.used, per)?;
+    let b = columns(view.alloc, b, kind, view.used, per)?;
+    Ok(Sides { a, b })
+}
+
+/// The greatest number of both, at least 1.
+pub fn peak(columns: &Sides<Vec<u64>>) -> u64 {
+    let a = columns.a.iter().copied().max().unwrap_or(0);
+    let b = columns.b.iter().copied().max().unwrap_or(0);
+    a.max(b).max(1)
 }
 
 /// Where a shape of steps stands: the height of its greatest column, its base line, whether it is drawn
@@ -78,53 +91,48 @@ impl Stair {
     }
 }
 
+/// Where a column begins.
+fn column_start(column: usize, per: usize) -> Part<'static> {
+    Part::Number(column.saturating_mul(per) as u64)
+}
+
 /// Appends the path of an area in steps.
-pub fn push_stair(
-    out: &mut String,
-    class: &str,
-    values: &[u64],
-    stair: Stair,
-) -> Result<(), AllocError> {
+pub fn push_stair(page: &mut Page, class: &str, values: &[u64], stair: Stair) {
     if values.iter().all(|value| *value == 0) {
-        return Ok(());
+        return;
     }
-    write!(out, "<path class=\"{class}\" d=\"")?;
-    let base = stair.base;
+    page.fill("<path class=\"@\" d=\"", &[Part::Text(class)]);
+    let base = Part::Number(stair.base);
     let mut height = 0u64;
     for (column, value) in values.iter().enumerate() {
         let next = stair.height_of(*value);
         if next != height {
-            let x = column.saturating_mul(stair.per);
-            let y = stair.edge(next);
+            let (x, y) = (
+                column_start(column, stair.per),
+                Part::Number(stair.edge(next)),
+            );
             if height == 0 {
-                write!(out, "M{x} {base}V{y}")?;
+                page.fill("M@ @V@", &[x, base, y]);
             } else {
-                write!(out, "H{x}V{y}")?;
+                page.fill("H@V@", &[x, y]);
             }
             height = next;
         }
     }
     if height > 0 {
-        let x = values.len().saturating_mul(stair.per);
-        write!(out, "H{x}V{base}")?;
+        page.fill("H@V@", &[column_start(values.len(), stair.per), base]);
     }
-    out.push_str("\"/>")
+    page.text("\"/>");
 }
 
 /// Appends the beginning of a drawing.
-pub fn begin_svg(
-    out: &mut String,
-    view: &View<'_>,
-    height: u64,
-    title: &str,
-) -> Result<(), AllocError> {
-    let used = view.used;
-    write!(out, "<svg class=\"g\" viewBox=\"0 0 {used} {height}\"")?;
-    write!(out, " style=\"--h:{height}px\"")?;
-    write!(
-        out,
-        " preserveAspectRatio=\"none\" role=\"img\"><title>{title}</title>"
-    )
+pub fn begin_svg(page: &mut Page, view: &View<'_>, height: u64, title: &str) {
+    let (used, height) = (Part::Number(view.used as u64), Part::Number(height));
+    page.fill(
+        "<svg class=\"g\" viewBox=\"0 0 @ @\" style=\"--h:@px\" \
+         preserveAspectRatio=\"none\" role=\"img\"><title>@</title>",
+        &[used, height, height, Part::Text(title)],
+    );
 }
 
 /// The distance of two ticks of the axis: 1, 2 or 5 by a power of ten, so that there are at most 12.
@@ -142,127 +150,138 @@ pub fn tick_step(span: u64) -> u64 {
     unit.max(1)
 }
 
-/// Appends a horizontal place in tenths of a bin.
-fn push_place(out: &mut String, view: &View<'_>, since: u64) -> Result<(), AllocError> {
-    let tenths = share(since, 10, view.report.width);
-    let whole = tenths / 10;
-    let rest = tenths % 10;
-    write!(out, "{whole}.{rest}")
+/// A horizontal place in tenths of a bin.
+fn across(view: &View<'_>, since: u64) -> Part<'static> {
+    Part::Tenths(share(since, 10, view.report.width))
 }
 
 /// Appends the grid.
-pub fn push_grid(out: &mut String, view: &View<'_>, height: u64) -> Result<(), AllocError> {
+pub fn push_grid(page: &mut Page, view: &View<'_>, height: u64) {
     let step = tick_step(view.span);
-    out.push_str("<path class=\"gr\" d=\"")?;
+    page.text("<path class=\"gr\" d=\"");
     for tick in 0..13u64 {
         let at = tick.saturating_mul(step);
         if at <= view.span {
-            out.push_str("M")?;
-            push_place(out, view, at)?;
-            write!(out, " 0V{height}")?;
+            page.fill("M@ 0V@", &[across(view, at), Part::Number(height)]);
         }
     }
-    out.push_str("\"/>")
+    page.text("\"/>");
 }
 
-/// Appends a band of time on a network's half.
-fn push_band(
-    out: &mut String,
-    view: &View<'_>,
-    class: &str,
-    times: (u64, u64),
-    half: (u64, u64),
-) -> Result<(), AllocError> {
-    let (from, to) = times;
-    let (y, height) = half;
-    write!(
-        out,
-        "<rect class=\"{class}\" y=\"{y}\" height=\"{height}\" x=\""
-    )?;
-    push_place(out, view, view.since(from))?;
-    out.push_str("\" width=\"")?;
-    push_place(out, view, to.saturating_sub(from))?;
-    out.push_str("\"/>")
+/// A band of time: its class, and its place and height on a network's half.
+#[derive(Clone, Copy)]
+struct Band {
+    class: &'static str,
+    y: u64,
+    height: u64,
+}
+
+/// Appends a band of time.
+fn push_band(page: &mut Page, view: &View<'_>, band: Band, from: u64, to: u64) {
+    page.fill(
+        "<rect class=\"@\" y=\"@\" height=\"@\" x=\"@\" width=\"@\"/>",
+        &[
+            Part::Text(band.class),
+            Part::Number(band.y),
+            Part::Number(band.height),
+            across(view, view.since(from)),
+            across(view, to.saturating_sub(from)),
+        ],
+    );
 }
 
 /// The most silences that a drawing shows on a network.
 const SHOWN_SILENCES: usize = 32;
 
-/// Appends silences, and the times that weren't recorded, on each network's half.
-pub fn push_blind(out: &mut String, view: &View<'_>, height: u64) -> Result<(), AllocError> {
-    let half = height / 2;
-    for (network, y) in [(Network::A, 0), (Network::B, half)] {
-        let side = view.report.networks.of(network);
-        let end = view.report.start.saturating_add(view.span);
-        let width = view.report.width;
-        for silence in side.silences.iter().take(SHOWN_SILENCES) {
-            push_band(out, view, "si", (silence.from, silence.to), (y, half))?;
-        }
-        if side.frames == 0 {
-            push_band(out, view, "nr", (view.report.start, end), (y, half))?;
-            continue;
-        }
-        if view.since(side.first) > width {
-            push_band(out, view, "nr", (view.report.start, side.first), (y, half))?;
-        }
-        if view.report.end.saturating_sub(side.last) > width {
-            push_band(out, view, "nr", (side.last, end), (y, half))?;
-        }
+/// Appends silences, and the times that weren't recorded, on a network's half.
+fn push_blind_half(page: &mut Page, view: &View<'_>, network: Network, y: u64, height: u64) {
+    let (report, side) = (view.report, view.report.networks.of(network));
+    let end = report.start.saturating_add(view.span);
+    let silent = Band {
+        class: "si",
+        y,
+        height,
+    };
+    for silence in side.silences.iter().take(SHOWN_SILENCES) {
+        push_band(page, view, silent, silence.from, silence.to);
     }
-    Ok(())
+    let unrecorded = Band {
+        class: "nr",
+        ..silent
+    };
+    if side.frames == 0 {
+        push_band(page, view, unrecorded, report.start, end);
+        return;
+    }
+    if view.since(side.first) > report.width {
+        push_band(page, view, unrecorded, report.start, side.first);
+    }
+    if report.end.saturating_sub(side.last) > report.width {
+        push_band(page, view, unrecorded, side.last, end);
+    }
 }
 
 /// A drawing with A upwards and B downwards.
 #[derive(Clone, Copy)]
-pub struct Mirror<'a> {
+pub struct Mirror {
     pub height: u64,
     pub top: u64,
     pub per: usize,
-    pub classes: (&'a str, &'a str),
+    pub classes: (&'static str, &'static str),
     /// A dashed line at this number on both sides, if it is above 0.
     pub limit: u64,
-    pub title: &'a str,
+    pub title: &'static str,
 }
 
 /// Appends a drawing with A upwards and B downwards.
-pub fn push_mirror(
-    out: &mut String,
-    view: &View<'_>,
-    a: &[u64],
-    b: &[u64],
-    mirror: Mirror<'_>,
-) -> Result<(), AllocError> {
-    let Mirror {
-        height,
-        top,
-        per,
-        classes,
-        limit,
-        title,
-    } = mirror;
-    let base = height / 2;
-    let stair = Stair {
+fn push_mirror(page: &mut Page, view: &View<'_>, columns: &Sides<Vec<u64>>, mirror: Mirror) {
+    let (base, top) = (mirror.height / 2, mirror.top);
+    let up = Stair {
         top,
         height: base.saturating_sub(1),
         base,
         up: true,
-        per,
+        per: mirror.per,
     };
-    begin_svg(out, view, height, title)?;
-    push_grid(out, view, height)?;
-    push_blind(out, view, height)?;
-    push_stair(out, classes.0, a, stair)?;
-    push_stair(out, classes.1, b, Stair { up: false, ..stair })?;
-    let used = view.used;
-    write!(out, "<path class=\"zl\" d=\"M0 {base}H{used}\"/>")?;
-    if limit > 0 {
-        let high = share(limit.min(top), stair.height, top);
-        let above = base.saturating_sub(high);
-        let below = base.saturating_add(high);
-        write!(out, "<path class=\"lim\" d=\"M0 {above}H{used}")?;
-        write!(out, "M0 {below}H{used}\"/>")?;
+    begin_svg(page, view, mirror.height, mirror.title);
+    push_grid(page, view, mirror.height);
+    push_blind_half(page, view, Network::A, 0, base);
+    push_blind_half(page, view, Network::B, base, base);
+    push_stair(page, mirror.classes.0, &columns.a, up);
+    push_stair(
+        page,
+        mirror.classes.1,
+        &columns.b,
+        Stair { up: false, ..up },
+    );
+    let used = Part::Number(view.used as u64);
+    page.fill(
+        "<path class=\"zl\" d=\"M0 @H@\"/>",
+        &[Part::Number(base), used],
+    );
+    if mirror.limit > 0 {
+        let high = share(mirror.limit.min(top), up.height, top);
+        let above = Part::Number(base.saturating_sub(high));
+        let below = Part::Number(base.saturating_add(high));
+        page.fill(
+            "<path class=\"lim\" d=\"M0 @H@M0 @H@\"/>",
+            &[above, used, below, used],
+        );
     }
-    out.push_str("</svg>")
+    page.text("</svg>");
+}
+
+/// Appends a row's label, its detail and its drawing. What follows is its value.
+pub fn push_row(
+    page: &mut Page,
+    view: &View<'_>,
+    label: (&str, &str),
+    columns: &Sides<Vec<u64>>,
+    mirror: Mirror,
+) {
+    begin_row(page, label.0, label.1);
+    push_mirror(page, view, columns, mirror);
+    page.text("<span class=\"vl\">");
 }
 
 /// Where an interval stands in a band of this height: 0 at the bottom, BAG in the middle, two BAG or more at
@@ -271,8 +290,8 @@ pub fn interval_y(interval: u64, bag: u64, height: u64) -> u64 {
     let half = height / 2;
     let away = interval.abs_diff(bag).min(bag);
     // The root of away / bag in thousandths.
-    let rooted = root(share(away, 1_000_000, bag));
-    let moved = share(rooted, half.saturating_sub(1), 1000);
+    let root = share(away, 1_000_000, bag).isqrt();
+    let moved = share(root, half.saturating_sub(1), 1000);
     if interval > bag {
         half.saturating_sub(moved)
     } else {
@@ -282,72 +301,61 @@ pub fn interval_y(interval: u64, bag: u64, height: u64) -> u64 {
 
 /// Appends the area between the least and the greatest interval of each column, broken where there is none.
 pub fn push_interval_band(
-    out: &mut String,
+    page: &mut Page,
     class: &str,
-    least: &[u64],
-    greatest: &[u64],
+    intervals: &Sides<Vec<u64>>,
     bag: u64,
     place: (u64, usize),
-) -> Result<(), AllocError> {
+) {
     let (height, per) = place;
-    write!(out, "<path class=\"{class}\" d=\"")?;
-    for (column, pair) in least.iter().zip(greatest.iter()).enumerate() {
+    let wide = Part::Number(per as u64);
+    page.fill("<path class=\"@\" d=\"", &[Part::Text(class)]);
+    for (column, pair) in intervals.a.iter().zip(intervals.b.iter()).enumerate() {
         let (low, high) = pair;
         if *low != NOTHING {
-            let x = column.saturating_mul(per);
             let top = interval_y(*high, bag, height);
             let deep = interval_y(*low, bag, height)
                 .max(top.saturating_add(2))
                 .saturating_sub(top);
-            write!(out, "M{x} {top}h{per}v{deep}h-{per}z")?;
+            page.fill(
+                "M@ @h@v@h-@z",
+                &[
+                    column_start(column, per),
+                    Part::Number(top),
+                    wide,
+                    Part::Number(deep),
+                    wide,
+                ],
+            );
         }
     }
-    out.push_str("\"/>")
+    page.text("\"/>");
 }
 
 /// Appends a row: label, drawing and value are three parts of a grid. This one begins it.
-pub fn begin_row(out: &mut String, label: &str, detail: &str) -> Result<(), AllocError> {
-    write!(out, "<div class=\"row\"><span class=\"lb\">{label}")?;
+pub fn begin_row(page: &mut Page, label: &str, detail: &str) {
+    page.fill(
+        "<div class=\"row\"><span class=\"lb\">@",
+        &[Part::Text(label)],
+    );
     if !detail.is_empty() {
-        write!(out, "<small>{detail}</small>")?;
+        page.fill("<small>@</small>", &[Part::Text(detail)]);
     }
-    out.push_str("</span>")
+    page.text("</span>");
 }
 
 /// Appends the axis.
-pub fn push_axis(out: &mut String, view: &View<'_>) -> Result<(), AllocError> {
+pub fn push_axis(page: &mut Page, view: &View<'_>) {
     let step = tick_step(view.span);
-    out.push_str("<div class=\"row axr\"><span></span><div class=\"ax\">")?;
+    page.text("<div class=\"row axr\"><span></span><div class=\"ax\">");
     for tick in 0..13u64 {
         let at = tick.saturating_mul(step);
         let place = share(at, 10_000, view.span);
         if place < 9_850 {
-            let whole = place / 100;
-            let rest = place % 100;
-            write!(out, "<b style=\"left:{whole}.{rest:02}%\">")?;
-            push_tick(out, at)?;
-            if tick == 0 {
-                out.push_str(" s")?;
-            }
-            out.push_str("</b>")?;
+            page.fill("<b style=\"left:@%\">", &[Part::Hundredths(place)]);
+            page.tick(at);
+            page.text(if tick == 0 { " s</b>" } else { "</b>" });
         }
     }
-    out.push_str("</div><span></span></div>")
-}
-
-/// Appends seconds with as many decimals as they need, at most three.
-fn push_tick(out: &mut String, at: u64) -> Result<(), AllocError> {
-    let whole = at / 1_000_000_000;
-    let rest = at / 1_000_000 % 1000;
-    let tenth = rest / 100;
-    let hundredths = rest / 10;
-    if rest == 0 {
-        write!(out, "{whole}")
-    } else if rest % 100 == 0 {
-        write!(out, "{whole}.{tenth}")
-    } else if rest % 10 == 0 {
-        write!(out, "{whole}.{hundredths:02}")
-    } else {
-        write!(out, "{whole}.{rest:03}")
-    }
+    page.text("</div><span></span></div>");
 }

@@ -1,104 +1,199 @@
 //! What to look at first: sentences of fixed forms in a fixed order.
 
-use crate::head::{first_of, has_strip, push_name, push_pair, push_place};
-use crate::numbers::{push_duration, push_number, push_seconds, push_utc};
+use crate::gaps::{
+    end_of, gap_of, is_lower_bound, is_told, missing_between, silent_on_both, stop_of,
+};
+use crate::head::{first_of, has_strip, pair, push_name, push_place};
+use crate::numbers::share;
 use crate::ranks::{Level, is_never_on, level_mark};
 use crate::tiles::{is_clean, push_ending};
 use crate::view::{NETWORKS, SENTENCES, View, counts_of, letter_of, other, sum};
+use crate::writer::{Page, Part, seconds};
 use afdx_frame::{Network, VlId};
-use ledger_report::{LinkReport, STOPPED_LINES, Sign};
-use std::alloc::AllocError;
-use std::fmt::Write;
-use vl_config::Link;
+use ledger_report::{Interval, LinkReport, Place, STOPPED_LINES, Sign, Silence};
 
 /// The sentences so far.
 #[derive(Drop)]
-pub struct Findings<'a> {
-    out: &'a mut String,
+struct Findings<'a> {
+    page: &'a mut Page,
+    /// How many there are, those beyond the last that is shown counted too.
     count: usize,
 }
 
 /// How many links a sentence names.
 const NAMED: usize = 3;
 
-impl<'a> Findings<'a> {
-    /// No sentence yet; they are appended to a page.
-    pub fn new(out: &'a mut String) -> Findings<'a> {
-        Findings { out, count: 0 }
-    }
-
-    /// How many sentences there are, those beyond the last that is shown counted too.
-    pub fn count(&self) -> usize {
-        self.count
-    }
-
+impl Findings<'_> {
     /// Begins a sentence, if there is room for one.
-    fn begin(&mut self, level: Level) -> Result<bool, AllocError> {
+    fn begin(&mut self, level: Level) -> bool {
         self.count = self.count.saturating_add(1);
-        if self.count > SENTENCES {
-            return Ok(false);
+        let shown = self.count <= SENTENCES;
+        if shown {
+            self.page
+                .fill("<li>@<span>", &[Part::Text(level_mark(level))]);
         }
-        let mark = level_mark(level);
-        write!(self.out, "<li>{mark}<span>")?;
-        Ok(true)
+        shown
     }
 
-    fn end(&mut self) -> Result<(), AllocError> {
-        self.out.push_str("</span></li>")
+    fn end(&mut self) {
+        self.page.text("</span></li>");
     }
 
     /// How recordings end.
-    fn endings(&mut self, view: &View<'_>) -> Result<(), AllocError> {
+    fn endings(&mut self, view: &View<'_>) {
         for network in NETWORKS {
-            let letter = letter_of(network);
+            let letter = Part::Text(letter_of(network));
             let ending = view.report.endings.of(network);
-            if !is_clean(ending) && self.begin(Level::Trouble)? {
-                write!(self.out, "<b>Recording {letter} ends: ")?;
-                push_ending(self.out, ending)?;
-                self.out.push_str("</b>")?;
-                self.end()?;
+            if !is_clean(ending) && self.begin(Level::Trouble) {
+                self.page.fill("<b>Recording @ ends: ", &[letter]);
+                push_ending(self.page, ending);
+                self.page.text("</b>");
+                self.end();
             }
-            if view.report.networks.of(network).frames == 0 && self.begin(Level::Trouble)? {
-                write!(self.out, "<b>Recording {letter} has no frame</b>; ")?;
-                self.out.push_str("redundancy can't be judged")?;
-                self.end()?;
+            if view.report.networks.of(network).frames == 0 && self.begin(Level::Trouble) {
+                self.page.fill(
+                    "<b>Recording @ has no frame</b>; redundancy can't be judged",
+                    &[letter],
+                );
+                self.end();
             }
         }
-        Ok(())
+    }
+
+    /// The frames that are nearly all discarded for one reason, which lies in the inputs.
+    fn causes(&mut self, view: &View<'_>) {
+        let frames = view.report.counts.all().frames;
+        for (sign, about) in CAUSES {
+            let count = sum(&view.total(sign));
+            if frames > 0 && count > frames / 2 && self.begin(Level::Trouble) {
+                let tenths = Part::Tenths(share(count, 1000, frames));
+                self.page
+                    .fill("<b>@ % of all frames @", &[tenths, Part::Text(about)]);
+                self.end();
+            }
+        }
+    }
+
+    /// Networks of which a quarter of the frames come too soon or have a number again, as they do where one
+    /// recording holds both networks, or each frame twice.
+    fn doubles(&mut self, view: &View<'_>) {
+        let (excess, repeat) = (view.total(Sign::Excess), view.total(Sign::Repeat));
+        for network in NETWORKS {
+            let frames = view.report.networks.of(network).frames;
+            let count = excess.of(network).saturating_add(*repeat.of(network));
+            if frames > 0 && count > frames / 4 && self.begin(Level::Trouble) {
+                let tenths = Part::Tenths(share(count, 1000, frames));
+                let letter = Part::Text(letter_of(network));
+                self.page.fill(
+                    "<b>@ % of the frames of network @ are excess or have a number again</b>: \
+                     does its recording hold both networks, or each frame twice?",
+                    &[tenths, letter],
+                );
+                self.end();
+            }
+        }
+    }
+
+    /// About how many numbers are missing in a time on a network.
+    fn missing(&mut self, view: &View<'_>, network: Network, interval: Interval) {
+        let (missing, unknown) = missing_between(view.report, network, interval);
+        if missing > 0 {
+            self.page.fill(
+                "; about @ numbers of the links are missing in it",
+                &[Part::Grouped(missing)],
+            );
+        }
+        if unknown > 0 {
+            let links = Part::Number(unknown);
+            self.page
+                .fill("; of @ links the rate isn't known", &[links]);
+        }
+    }
+
+    fn silence(&mut self, view: &View<'_>, network: Network, silence: &Silence) {
+        self.page.fill(
+            "<b>Network @ silent</b> for @, from @ s (@), while @ frames came on @",
+            &[
+                Part::Text(letter_of(network)),
+                Part::Duration(silence.to.saturating_sub(silence.from)),
+                seconds(view.since(silence.from)),
+                Part::Utc(silence.from),
+                Part::Grouped(silence.lines),
+                Part::Text(letter_of(other(network))),
+            ],
+        );
+        let (from, to) = (silence.from, silence.to);
+        self.missing(view, network, Interval { from, to });
+    }
+
+    /// A time in which neither network has a frame.
+    fn silence_of_both(&mut self, view: &View<'_>, both: Interval) {
+        if !self.begin(Level::Trouble) {
+            return;
+        }
+        self.page.fill(
+            "<b>Neither network has a frame</b> for @, from @ s (@): \
+             the recorders stopped, or files are missing",
+            &[
+                Part::Duration(both.time()),
+                seconds(view.since(both.from)),
+                Part::Utc(both.from),
+            ],
+        );
+        self.missing(view, Network::A, both);
+        self.end();
     }
 
     /// The first silences of each network.
-    fn silences(&mut self, view: &View<'_>) -> Result<(), AllocError> {
+    fn silences(&mut self, view: &View<'_>) {
         for network in NETWORKS {
-            for silence in view.report.networks.of(network).silences.iter().take(NAMED) {
-                if !self.begin(Level::Trouble)? {
-                    continue;
+            let side = view.report.networks.of(network);
+            let told = side
+                .silences
+                .iter()
+                .filter(|silence| is_told(side, silence));
+            for silence in told.take(NAMED) {
+                match silent_on_both(view.report, network, silence) {
+                    Some(both) => {
+                        if network == Network::A {
+                            self.silence_of_both(view, both);
+                        }
+                    }
+                    None => {
+                        if self.begin(Level::Trouble) {
+                            self.silence(view, network, silence);
+                            self.end();
+                        }
+                    }
                 }
-                let letter = letter_of(network);
-                write!(self.out, "<b>Network {letter} silent</b> for ")?;
-                push_duration(self.out, silence.to.saturating_sub(silence.from))?;
-                self.out.push_str(", from ")?;
-                push_seconds(self.out, view.since(silence.from))?;
-                self.out.push_str(" s (")?;
-                push_utc(self.out, silence.from)?;
-                self.out.push_str("), while ")?;
-                push_number(self.out, silence.lines)?;
-                let twin = letter_of(other(network));
-                write!(self.out, " frames came on {twin}")?;
-                self.end()?;
             }
         }
-        Ok(())
+    }
+
+    /// Networks that end before the ledger.
+    fn ends(&mut self, view: &View<'_>) {
+        for network in NETWORKS {
+            let Some(end) = end_of(view.report, network) else {
+                continue;
+            };
+            if self.begin(Level::Trouble) {
+                let (letter, others) = (letter_of(network), letter_of(other(network)));
+                self.page.fill(
+                    "<b>Network @ has no frame after</b> @ s, @ before the last one on @",
+                    &[
+                        Part::Text(letter),
+                        seconds(view.since(end.from)),
+                        Part::Duration(end.time()),
+                        Part::Text(others),
+                    ],
+                );
+                self.end();
+            }
+        }
     }
 
     /// A sentence that names the first links for which a test holds, worst first.
-    fn links(
-        &mut self,
-        view: &View<'_>,
-        level: Level,
-        about: &str,
-        which: Which,
-    ) -> Result<(), AllocError> {
+    fn links(&mut self, view: &View<'_>, level: Level, about: &str, which: Which) {
         let mut named = 0usize;
         for (at, rank) in view.ranks.iter().enumerate() {
             let Some((report, link)) = view.link(rank.index) else {
@@ -107,69 +202,70 @@ impl<'a> Findings<'a> {
             if !which.holds(view, report, rank.level) {
                 continue;
             }
-            if named == 0 {
-                if !self.begin(level)? {
-                    return Ok(());
-                }
-                write!(self.out, "<b>{about}:</b> ")?;
+            if named == 0 && !self.begin(level) {
+                return;
             }
             if named < NAMED {
-                if named > 0 {
-                    self.out.push_str("; ")?;
-                }
-                push_name(self.out, link, has_strip(view, rank, at))?;
-                which.push_about(self.out, view, report, link)?;
+                self.before_name(about, named);
+                push_name(self.page, link, has_strip(view, rank, at));
+                which.push_about(self.page, view, report);
             }
             named = named.saturating_add(1);
         }
-        if named == 0 {
-            return Ok(());
-        }
         if named > NAMED {
-            let more = named.saturating_sub(NAMED);
-            write!(self.out, "; and {more} more")?;
+            let more = Part::Number(named.saturating_sub(NAMED) as u64);
+            self.page.fill("; and @ more", &[more]);
         }
-        self.end()
+        if named > 0 {
+            self.end();
+        }
+    }
+
+    /// What stands before the name of a sentence's first link, and of the others.
+    fn before_name(&mut self, about: &str, named: usize) {
+        if named == 0 {
+            self.page.fill("<b>@:</b> ", &[Part::Text(about)]);
+        } else {
+            self.page.text("; ");
+        }
     }
 
     /// Links outside the table.
-    fn outside(&mut self, view: &View<'_>) -> Result<(), AllocError> {
+    fn outside(&mut self, view: &View<'_>) {
         let mut named = 0usize;
         for id in 0..=u16::MAX {
             let Some(link) = view.report.outside_link(VlId(id)) else {
                 continue;
             };
             if named == 0 {
-                if !self.begin(Level::Notice)? {
-                    return Ok(());
+                if !self.begin(Level::Notice) {
+                    return;
                 }
-                self.out
-                    .push_str("<b>Outside the table (unconfigured):</b> ")?;
+                self.page.text("<b>Outside the table (unconfigured):</b> ");
             }
             if named < NAMED {
-                write!(self.out, "<b>link {id}</b>, ")?;
-                push_number(self.out, link.frames)?;
-                self.out.push_str(" frames from ")?;
-                push_place(self.out, view, link.network, link.first)?;
-                self.out.push_str("; ")?;
+                let (id, frames) = (Part::Number(u64::from(id)), Part::Grouped(link.frames));
+                self.page
+                    .fill("<b>link @</b>, @ frames from ", &[id, frames]);
+                push_place(self.page, view, link.network, link.first);
+                self.page.text("; ");
             }
             named = named.saturating_add(1);
         }
-        if named == 0 {
-            return Ok(());
+        if named > 0 {
+            self.page.fill("@ in all", &[Part::Number(named as u64)]);
+            self.end();
         }
-        write!(self.out, "{named} in all")?;
-        self.end()
     }
 
     /// A class that has no link.
-    fn class(&mut self, view: &View<'_>, sign: Sign, about: &str) -> Result<(), AllocError> {
+    fn class(&mut self, view: &View<'_>, sign: Sign, about: &str) {
         let counts = view.total(sign);
-        if sum(&counts) == 0 || !self.begin(Level::Notice)? {
-            return Ok(());
+        if sum(&counts) == 0 || !self.begin(Level::Notice) {
+            return;
         }
-        write!(self.out, "<b>{about}:</b> ")?;
-        push_pair(self.out, &counts)?;
+        self.page
+            .fill("<b>@:</b> @", &[Part::Text(about), pair(&counts)]);
         let a = view.report.networks.a.signs.of(sign).first;
         let b = view.report.networks.b.signs.of(sign).first;
         let first = match (a, b) {
@@ -177,11 +273,16 @@ impl<'a> Findings<'a> {
             (None, Some(b)) => Some((Network::B, b)),
             (None, None) => None,
         };
-        if let Some((network, place)) = first {
-            self.out.push_str(", first at ")?;
-            push_place(self.out, view, network, place)?;
-        }
-        self.end()
+        push_at(self.page, view, ", first at ", first);
+        self.end();
+    }
+}
+
+/// Appends where something was first seen, after these words, if it was seen.
+fn push_at(page: &mut Page, view: &View<'_>, words: &str, first: Option<(Network, Place)>) {
+    if let Some((network, place)) = first {
+        page.text(words);
+        push_place(page, view, network, place);
     }
 }
 
@@ -193,6 +294,31 @@ enum Which {
     Has(Sign),
     LostOnBoth,
     Silent,
+    Gap,
+    Ends,
+}
+
+/// Appends a time of a link without a delivery, beside what is usual.
+fn push_gap(page: &mut Page, view: &View<'_>, report: &LinkReport, gap: Interval) {
+    page.fill(
+        " for @ from @ s (usual @, BAG @)",
+        &[
+            Part::Duration(gap.time()),
+            seconds(view.since(gap.from)),
+            Part::Duration(report.gaps.usual),
+            Part::Duration(report.bag),
+        ],
+    );
+}
+
+/// Appends counts of a link's sign, and that they are a lower bound where they are.
+fn push_signs(page: &mut Page, report: &LinkReport, sign: Sign) {
+    let bound = matches!(sign, Sign::Lost)
+        && (is_lower_bound(report, Network::A) || is_lower_bound(report, Network::B));
+    if bound {
+        page.text(" at least");
+    }
+    page.fill(" @", &[pair(&counts_of(report, sign))]);
 }
 
 impl Which {
@@ -210,127 +336,146 @@ impl Which {
             Which::Has(sign) => sum(&counts_of(report, sign)) > 0,
             Which::LostOnBoth => report.lost_both > 0,
             Which::Silent => level == Level::Silent,
+            Which::Gap => gap_of(report).is_some(),
+            Which::Ends => stop_of(view.report, report).is_some(),
         }
     }
 
     /// Appends what is said of a link beside its name.
-    fn push_about(
-        self,
-        out: &mut String,
-        view: &View<'_>,
-        report: &LinkReport,
-        _link: &Link,
-    ) -> Result<(), AllocError> {
+    fn push_about(self, page: &mut Page, view: &View<'_>, report: &LinkReport) {
         match self {
             Which::NeverOn(network) => {
-                out.push_str(" (")?;
-                push_number(out, report.lanes.of(other(network)).frames)?;
-                let letter = letter_of(other(network));
-                write!(out, " frames on {letter})")
+                let frames = Part::Grouped(report.lanes.of(other(network)).frames);
+                let letter = Part::Text(letter_of(other(network)));
+                page.fill(" (@ frames on @)", &[frames, letter]);
             }
             Which::StoppedOn(network) => {
-                out.push_str(" at ")?;
-                push_seconds(out, view.since(report.lanes.of(network).last))?;
-                out.push_str(" s")
+                let last = seconds(view.since(report.lanes.of(network).last));
+                page.fill(" at @ s", &[last]);
             }
             Which::Has(sign) => {
-                out.push_str(" ")?;
-                push_pair(out, &counts_of(report, sign))?;
-                push_first(out, view, report, sign)
+                push_signs(page, report, sign);
+                push_at(page, view, " from ", first_of(report, sign));
             }
             Which::LostOnBoth => {
-                out.push_str(" ")?;
-                push_number(out, report.lost_both)?;
-                match report.first_lost_both {
-                    Some((network, place)) => {
-                        out.push_str(" from ")?;
-                        push_place(out, view, network, place)
-                    }
-                    None => Ok(()),
+                page.fill(" @", &[Part::Grouped(report.lost_both)]);
+                push_at(page, view, " from ", report.first_lost_both);
+            }
+            Which::Silent => {}
+            Which::Gap => {
+                if let Some(gap) = gap_of(report) {
+                    push_gap(page, view, report, gap);
                 }
             }
-            Which::Silent => Ok(()),
+            Which::Ends => {
+                if let Some(stop) = stop_of(view.report, report) {
+                    push_gap(page, view, report, stop);
+                }
+            }
         }
     }
 }
 
-fn push_first(
-    out: &mut String,
-    view: &View<'_>,
-    report: &LinkReport,
-    sign: Sign,
-) -> Result<(), AllocError> {
-    match first_of(report, sign) {
-        Some((network, place)) => {
-            out.push_str(" from ")?;
-            push_place(out, view, network, place)
-        }
-        None => Ok(()),
-    }
-}
-
-/// The sentences on signs, in their order.
-const SENTENCES_ON_SIGNS: [(Sign, &str); 5] = [
-    (Sign::Excess, "Above its allocation (excess)"),
-    (Sign::TooLong, "Longer than Smax (toolong)"),
+/// The sentences on links, in their order.
+const SENTENCES_ON_LINKS: [(Level, &str, Which); 14] = [
     (
-        Sign::Late,
-        "Second copy beyond SkewMax, delivered twice (late)",
+        Level::Trouble,
+        "Never seen on A",
+        Which::NeverOn(Network::A),
     ),
-    (Sign::Lost, "Numbers missing (lost)"),
-    (Sign::Repeat, "Same number again on one network (repeat)"),
-];
-
-/// The sentences on networks that links aren't seen on.
-fn push_missing(found: &mut Findings<'_>, view: &View<'_>) -> Result<(), AllocError> {
-    for network in NETWORKS {
-        let about = match network {
-            Network::A => "Never seen on A",
-            Network::B => "Never seen on B",
-        };
-        found.links(view, Level::Trouble, about, Which::NeverOn(network))?;
-    }
-    for network in NETWORKS {
-        let about = match network {
-            Network::A => "Stops on A, goes on on B",
-            Network::B => "Stops on B, goes on on A",
-        };
-        found.links(view, Level::Trouble, about, Which::StoppedOn(network))?;
-    }
-    Ok(())
-}
-
-/// Appends the sentences, and says how many there are.
-pub fn push_findings(out: &mut String, view: &View<'_>) -> Result<usize, AllocError> {
-    let mut found = Findings::new(out);
-    found.endings(view)?;
-    found.silences(view)?;
-    push_missing(&mut found, view)?;
-    found.links(
-        view,
+    (
+        Level::Trouble,
+        "Never seen on B",
+        Which::NeverOn(Network::B),
+    ),
+    (
+        Level::Trouble,
+        "Stops on A, goes on on B",
+        Which::StoppedOn(Network::A),
+    ),
+    (
+        Level::Trouble,
+        "Stops on B, goes on on A",
+        Which::StoppedOn(Network::B),
+    ),
+    (
+        Level::Trouble,
+        "Not delivered to the end (gap)",
+        Which::Ends,
+    ),
+    (Level::Trouble, "Not delivered (gap)", Which::Gap),
+    (
         Level::Trouble,
         "Missing on both networks (lost)",
         Which::LostOnBoth,
-    )?;
-    for (sign, about) in SENTENCES_ON_SIGNS {
-        found.links(view, Level::Trouble, about, Which::Has(sign))?;
-    }
-    found.links(
-        view,
+    ),
+    (
+        Level::Trouble,
+        "Above its allocation (excess)",
+        Which::Has(Sign::Excess),
+    ),
+    (
+        Level::Trouble,
+        "Longer than Smax (toolong)",
+        Which::Has(Sign::TooLong),
+    ),
+    (
+        Level::Trouble,
+        "Second copy beyond SkewMax, delivered twice (late)",
+        Which::Has(Sign::Late),
+    ),
+    (
+        Level::Trouble,
+        "Numbers missing (lost)",
+        Which::Has(Sign::Lost),
+    ),
+    (
+        Level::Trouble,
+        "Same number again on one network (repeat)",
+        Which::Has(Sign::Repeat),
+    ),
+    (
         Level::Notice,
         "Sender reset to 0 (reset)",
         Which::Has(Sign::Reset),
-    )?;
-    found.links(
-        view,
-        Level::Silent,
-        "In the table, never seen",
-        Which::Silent,
-    )?;
-    found.outside(view)?;
-    found.class(view, Sign::Foreign, "Foreign (another constant field)")?;
-    found.class(view, Sign::Oversize, "Oversize (above 1514 bytes)")?;
-    found.class(view, Sign::Runt, "Runt (below 60 bytes)")?;
-    found.class(view, Sign::Cut, "Cut (short by the recorder)")?;
-    Ok(found.count())
+    ),
+    (Level::Silent, "In the table, never seen", Which::Silent),
+];
+
+/// The reasons that lie in the inputs, where more than half of all frames have them.
+const CAUSES: [(Sign, &str); 2] = [
+    (
+        Sign::Unconfigured,
+        "are of links outside the table</b>: is it the table of this aircraft?",
+    ),
+    (
+        Sign::Cut,
+        "are cut short by the recorder</b>: what became of them isn't known; record whole frames",
+    ),
+];
+
+/// The sentences on classes that have no link, in their order.
+const SENTENCES_ON_CLASSES: [(Sign, &str); 4] = [
+    (Sign::Foreign, "Foreign (another constant field)"),
+    (Sign::Oversize, "Oversize (above 1514 bytes)"),
+    (Sign::Runt, "Runt (below 60 bytes)"),
+    (Sign::Cut, "Cut (short by the recorder)"),
+];
+
+/// Appends the sentences, and says how many there are.
+pub fn push_findings(page: &mut Page, view: &View<'_>) -> usize {
+    let mut found = Findings { page, count: 0 };
+    found.endings(view);
+    found.causes(view);
+    found.doubles(view);
+    found.silences(view);
+    found.ends(view);
+    for (level, about, which) in SENTENCES_ON_LINKS {
+        found.links(view, level, about, which);
+    }
+    found.outside(view);
+    for (sign, about) in SENTENCES_ON_CLASSES {
+        found.class(view, sign, about);
+    }
+    found.count
 }

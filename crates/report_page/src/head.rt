@@ -1,40 +1,40 @@
 //! The head of the page, and parts of sentences that several sections share.
 
-use crate::numbers::{push_duration, push_number, push_seconds, push_utc};
-use crate::ranks::{Level, Rank};
+use crate::provenance::push_run;
+use crate::ranks::{LEVELS, Level, Rank, count_of};
 use crate::view::{STRIPS, View, letter_of};
+use crate::writer::{Page, Part, seconds};
 use afdx_frame::Network;
 use ledger_report::{LinkReport, Place, Sides, Sign};
-use std::alloc::AllocError;
-use std::fmt::Write;
+use run_manifest::Manifest;
 use vl_config::Link;
 
-/// Appends a pair of counts, A and B.
-pub fn push_pair(out: &mut String, counts: &Sides<u64>) -> Result<(), AllocError> {
-    push_side(out, "a", counts.a)?;
-    out.push_str("<i>/</i>")?;
-    push_side(out, "b", counts.b)
+/// Counts of A and B as a part of a template.
+pub fn pair(counts: &Sides<u64>) -> Part<'static> {
+    Part::Pair(counts.a, counts.b)
 }
 
-fn push_side(out: &mut String, class: &str, count: u64) -> Result<(), AllocError> {
-    let faint = if count == 0 { " z" } else { "" };
-    write!(out, "<span class=\"{class}{faint}\">")?;
-    push_number(out, count)?;
-    out.push_str("</span>")
+/// How many links have each level, the worst first.
+pub fn level_counts(view: &View<'_>) -> [Part<'static>; 4] {
+    let [trouble, notice, silent, clean] = LEVELS;
+    [
+        Part::Number(count_of(&view.ranks, trouble)),
+        Part::Number(count_of(&view.ranks, notice)),
+        Part::Number(count_of(&view.ranks, silent)),
+        Part::Number(count_of(&view.ranks, clean)),
+    ]
 }
 
 /// Appends when and where a frame came.
-pub fn push_place(
-    out: &mut String,
-    view: &View<'_>,
-    network: Network,
-    place: Place,
-) -> Result<(), AllocError> {
-    push_seconds(out, view.since(place.stamp))?;
-    let letter = letter_of(network);
-    write!(out, " s ({letter} #")?;
-    push_number(out, u64::from(place.number))?;
-    out.push_str(")")
+pub fn push_place(page: &mut Page, view: &View<'_>, network: Network, place: Place) {
+    page.fill(
+        "@ s (@ #@)",
+        &[
+            seconds(view.since(place.stamp)),
+            Part::Text(letter_of(network)),
+            Part::Grouped(u64::from(place.number)),
+        ],
+    );
 }
 
 /// Does the link at this place of the order have a strip?
@@ -43,13 +43,13 @@ pub fn has_strip(view: &View<'_>, rank: &Rank, at: usize) -> bool {
 }
 
 /// Appends a link's name, which leads to its strip where it has one.
-pub fn push_name(out: &mut String, link: &Link, strip: bool) -> Result<(), AllocError> {
-    let name = link.name.as_str();
-    let id = link.id.0;
+pub fn push_name(page: &mut Page, link: &Link, strip: bool) {
+    let name = Part::Text(link.name.as_str());
     if strip {
-        write!(out, "<a href=\"#v{id}\">{name}</a>")
+        let id = Part::Number(u64::from(link.id.0));
+        page.fill("<a href=\"#v@\">@</a>", &[id, name]);
     } else {
-        write!(out, "<b>{name}</b>")
+        page.fill("<b>@</b>", &[name]);
     }
 }
 
@@ -71,31 +71,36 @@ pub fn first_of(link: &LinkReport, sign: Sign) -> Option<(Network, Place)> {
     }
 }
 
+/// What the colours mean, and how pairs are written.
+const KEY: &str = "\
+<p class=\"key\"><span class=\"sw a\"></span>A, drawn upwards \
+<span class=\"sw b\"></span>B, drawn downwards \
+<span class=\"sw si\"></span>network silent <span class=\"sw nr\"></span>nothing \
+recorded &#183; pairs of numbers are \
+<span class=\"a\">A</span><i>/</i><span class=\"b\">B</span> &#183; #n is the frame's \
+number in that recording, from 0</p></header>";
+
 /// Appends the head.
-pub fn push_head(out: &mut String, view: &View<'_>) -> Result<(), AllocError> {
+pub fn push_head(page: &mut Page, view: &View<'_>, manifest: Option<&Manifest>) {
     let report = view.report;
-    out.push_str("<header><h1>AFDX recording</h1><p>")?;
-    push_utc(out, report.start)?;
-    out.push_str(" <b>t = 0</b> &#183; ")?;
-    push_duration(out, report.end.saturating_sub(report.start))?;
-    out.push_str(" &#183; ")?;
-    push_number(out, report.links.len() as u64)?;
-    out.push_str(" links &#183; ledger version 2")?;
+    page.fill(
+        "<header><h1>AFDX recording</h1><p>@ <b>t = 0</b> &#183; @ &#183; @ links &#183; ledger version 2",
+        &[
+            Part::Utc(report.start),
+            Part::Duration(report.end.saturating_sub(report.start)),
+            Part::Grouped(report.links.len() as u64),
+        ],
+    );
     let filters = view.config.filters().len().saturating_add(1);
     for (filter, accepted) in report.counts.filters().iter().take(filters).enumerate() {
-        write!(out, " &#183; filter {filter} accepted ")?;
-        push_number(out, *accepted)?;
+        page.fill(
+            " &#183; filter @ accepted @",
+            &[Part::Number(filter as u64), Part::Grouped(*accepted)],
+        );
     }
-    out.push_str(
-        "</p><p class=\"key\"><span class=\"sw a\"></span>A, drawn upwards \
-         <span class=\"sw b\"></span>B, drawn downwards ",
-    )?;
-    out.push_str(
-        "<span class=\"sw si\"></span>network silent <span class=\"sw nr\"></span>nothing \
-         recorded &#183; pairs of numbers are ",
-    )?;
-    out.push_str(
-        "<span class=\"a\">A</span><i>/</i><span class=\"b\">B</span> &#183; #n is the frame's \
-         number in that recording, from 0</p></header>",
-    )
+    page.text("</p>");
+    if let Some(manifest) = manifest {
+        push_run(page, manifest);
+    }
+    page.text(KEY);
 }

@@ -1,12 +1,14 @@
 //! The report as JSON.
 
-use crate::ranks::{level_of, level_word, signs_of};
+use crate::gaps::{gap_of, missing_in_silences, stop_of};
+use crate::ranks::{level_of, level_word, open_signs, signs_of};
 use crate::view::{letter_of, text, word_of};
 use afdx_frame::{Network, VlId};
 use ledger_report::{
-    Absence, Counts, Lane, LinkReport, NetworkReport, Place, Report, Series, Sign, Signs, Silence,
-    TapEnd, TapEnding,
+    Absence, Counts, Gaps, Interval, LinkReport, NetworkReport, Place, Report, Series, Sign, Signs,
+    Silence, TapEnd, TapEnding,
 };
+use run_manifest::Manifest;
 use serde::Serialize;
 use serde_json::Error;
 use std::alloc::{AllocError, Global};
@@ -14,13 +16,13 @@ use std::fmt::Write;
 use vl_config::{Config, Link};
 
 /// A timestamp as a decimal string: it may need more than 53 bits.
-#[derive(Debug, Drop, Serialize)]
+#[derive(Drop, Serialize)]
 struct JsonPlace {
     stamp: String,
     number: u32,
 }
 
-#[derive(Debug, Drop, Serialize)]
+#[derive(Drop, Serialize)]
 struct JsonSign {
     sign: &'static str,
     count: u64,
@@ -28,30 +30,47 @@ struct JsonSign {
     last: Option<JsonPlace>,
 }
 
-#[derive(Debug, Drop, Serialize)]
+#[derive(Drop, Serialize)]
 struct JsonAbsence {
     lines: u64,
     from: String,
     to: String,
 }
 
-#[derive(Debug, Drop, Serialize)]
+#[derive(Drop, Serialize)]
+struct JsonInterval {
+    from: String,
+    to: String,
+}
+
+/// The times between deliveries of a link.
+#[derive(Drop, Serialize)]
+struct JsonGaps {
+    last: Option<String>,
+    count: u64,
+    longest: Option<JsonInterval>,
+    usual: u64,
+    fourth: u64,
+}
+
+#[derive(Drop, Serialize)]
 struct JsonLane {
     frames: u64,
-    bytes: u64,
+    bytes: Option<u64>,
     least: Option<u64>,
     greatest: Option<u64>,
     interval_sum: u64,
     intervals: u64,
     excess_lead: u64,
     lost_after_silence: u64,
+    missing_in_silences: Option<u64>,
     out_after_silence: u64,
     uncovered: u64,
     absence: Option<JsonAbsence>,
     signs: Vec<JsonSign>,
 }
 
-#[derive(Debug, Drop, Serialize)]
+#[derive(Drop, Serialize)]
 struct JsonFates {
     paired: u64,
     late: u64,
@@ -61,7 +80,7 @@ struct JsonFates {
     alone: u64,
 }
 
-#[derive(Debug, Drop, Serialize)]
+#[derive(Drop, Serialize)]
 struct JsonCounts {
     frames: u64,
     accepted: u64,
@@ -77,12 +96,13 @@ struct JsonCounts {
     delivered: u64,
 }
 
-#[derive(Debug, Drop, Serialize)]
+#[derive(Drop, Serialize)]
 struct JsonLink<'a> {
     id: u16,
     name: &'a str,
     level: &'static str,
     signs: u64,
+    open: u64,
     counts: JsonCounts,
     deliveries: u64,
     fates: JsonFates,
@@ -92,11 +112,14 @@ struct JsonLink<'a> {
     skew_median: u64,
     late_greatest: u64,
     lost_both: u64,
+    gaps: JsonGaps,
+    gap: Option<JsonInterval>,
+    stop: Option<JsonInterval>,
     a: JsonLane,
     b: JsonLane,
 }
 
-#[derive(Debug, Drop, Serialize)]
+#[derive(Drop, Serialize)]
 struct JsonSilence {
     after: u64,
     from: String,
@@ -105,34 +128,35 @@ struct JsonSilence {
 }
 
 /// A row of a network's timeline: a number for each bin.
-#[derive(Debug, Drop, Serialize)]
+#[derive(Drop, Serialize)]
 struct JsonRow {
     row: &'static str,
     bins: Vec<u64>,
 }
 
-#[derive(Debug, Drop, Serialize)]
+#[derive(Drop, Serialize)]
 struct JsonEnding<'a> {
     end: &'static str,
     frames: u64,
     reason: &'a str,
 }
 
-#[derive(Debug, Drop, Serialize)]
+#[derive(Drop, Serialize)]
 struct JsonNetwork<'a> {
     frames: u64,
     first: Option<String>,
     last: Option<String>,
-    bytes: u64,
+    bytes: Option<u64>,
     counts: JsonCounts,
     silences: Vec<JsonSilence>,
     more_silences: u64,
+    usual: u64,
     ending: Option<JsonEnding<'a>>,
     signs: Vec<JsonSign>,
     timeline: Vec<JsonRow>,
 }
 
-#[derive(Debug, Drop, Serialize)]
+#[derive(Drop, Serialize)]
 struct JsonOutside {
     id: u16,
     frames: u64,
@@ -140,7 +164,7 @@ struct JsonOutside {
     first: JsonPlace,
 }
 
-#[derive(Debug, Drop, Serialize)]
+#[derive(Drop, Serialize)]
 struct JsonReport<'a> {
     version: u8,
     whole: bool,
@@ -154,6 +178,7 @@ struct JsonReport<'a> {
     b: JsonNetwork<'a>,
     links: Vec<JsonLink<'a>>,
     outside: Vec<JsonOutside>,
+    manifest: Option<&'a Manifest>,
 }
 
 fn stamp_of(alloc: Global, stamp: u64) -> Result<String, AllocError> {
@@ -175,6 +200,9 @@ fn place_if(alloc: Global, place: Option<Place>) -> Result<Option<JsonPlace>, Al
         None => Ok(None),
     }
 }
+
+/// What a network counts of each frame beside what a lane does: preamble, start of frame and least gap.
+const BESIDE: u64 = 20;
 
 /// All signs, in the order in which they are told.
 const SIGNS: [Sign; 14] = [
@@ -222,17 +250,57 @@ fn absence_of(alloc: Global, absence: &Option<Absence>) -> Result<Option<JsonAbs
     }
 }
 
-fn lane_of(alloc: Global, lane: &Lane, absence: &Option<Absence>) -> Result<JsonLane, AllocError> {
+fn interval_of(
+    alloc: Global,
+    interval: Option<Interval>,
+) -> Result<Option<JsonInterval>, AllocError> {
+    match interval {
+        Some(interval) => Ok(Some(JsonInterval {
+            from: stamp_of(alloc, interval.from)?,
+            to: stamp_of(alloc, interval.to)?,
+        })),
+        None => Ok(None),
+    }
+}
+
+fn gaps_of(alloc: Global, gaps: &Gaps) -> Result<JsonGaps, AllocError> {
+    let last = match gaps.last {
+        Some(last) => Some(stamp_of(alloc, last)?),
+        None => None,
+    };
+    Ok(JsonGaps {
+        last,
+        count: gaps.count,
+        longest: interval_of(alloc, gaps.longest)?,
+        usual: gaps.usual,
+        fourth: gaps.fourth,
+    })
+}
+
+/// The number, where it is known.
+fn known(is: bool, number: u64) -> Option<u64> {
+    if is { Some(number) } else { None }
+}
+
+fn lane_of(
+    alloc: Global,
+    report: &Report,
+    link: &LinkReport,
+    network: Network,
+    sizes: bool,
+) -> Result<JsonLane, AllocError> {
+    let (lane, absence) = (link.lanes.of(network), link.absences.of(network));
     let some = lane.intervals > 0;
     Ok(JsonLane {
         frames: lane.frames,
-        bytes: lane.bytes,
-        least: if some { Some(lane.least) } else { None },
-        greatest: if some { Some(lane.greatest) } else { None },
+        bytes: known(sizes, lane.bytes),
+        least: known(some, lane.least),
+        greatest: known(some, lane.greatest),
         interval_sum: lane.interval_sum,
         intervals: lane.intervals,
         excess_lead: lane.excess_lead,
         lost_after_silence: lane.lost_after_silence,
+        missing_in_silences: missing_in_silences(report, link, network),
         out_after_silence: lane.out_after_silence,
         uncovered: lane.uncovered,
         absence: absence_of(alloc, absence)?,
@@ -262,12 +330,14 @@ fn link_of<'a>(
     report: &Report,
     link: &LinkReport,
     configured: &'a Link,
+    sizes: bool,
 ) -> Result<JsonLink<'a>, AllocError> {
     Ok(JsonLink {
         id: configured.id.0,
         name: configured.name.as_str(),
         level: level_word(level_of(report, link)),
         signs: signs_of(link),
+        open: open_signs(report, link),
         counts: counts_of(report.counts.link(configured.id)),
         deliveries: link.deliveries,
         fates: JsonFates {
@@ -284,8 +354,11 @@ fn link_of<'a>(
         skew_median: link.skew_median,
         late_greatest: link.late_greatest,
         lost_both: link.lost_both,
-        a: lane_of(alloc, &link.lanes.a, &link.absences.a)?,
-        b: lane_of(alloc, &link.lanes.b, &link.absences.b)?,
+        gaps: gaps_of(alloc, &link.gaps)?,
+        gap: interval_of(alloc, gap_of(link))?,
+        stop: interval_of(alloc, stop_of(report, link))?,
+        a: lane_of(alloc, report, link, Network::A, sizes)?,
+        b: lane_of(alloc, report, link, Network::B, sizes)?,
     })
 }
 
@@ -338,7 +411,7 @@ fn add_row(
 fn timeline_of(alloc: Global, side: &NetworkReport) -> Result<Vec<JsonRow>, AllocError> {
     let mut rows = Vec::new(alloc);
     add_row(alloc, &mut rows, "frames", &side.lines)?;
-    add_row(alloc, &mut rows, "bytes", &side.loads)?;
+    add_row(alloc, &mut rows, "load", &side.loads)?;
     add_row(alloc, &mut rows, "skew", &side.skews)?;
     for sign in SIGNS {
         add_row(alloc, &mut rows, word_of(sign), &side.signs.of(sign).bins)?;
@@ -351,16 +424,20 @@ fn network_of<'a>(
     report: &'a Report,
     network: Network,
     side: &NetworkReport,
+    sizes: bool,
 ) -> Result<JsonNetwork<'a>, AllocError> {
     let some = side.frames > 0;
+    let counts = report.counts.network(network);
+    let beside = counts.accepted.saturating_mul(BESIDE);
     Ok(JsonNetwork {
         frames: side.frames,
         first: stamp_if(alloc, some, side.first)?,
         last: stamp_if(alloc, some, side.last)?,
-        bytes: side.bytes,
-        counts: counts_of(report.counts.network(network)),
+        bytes: known(sizes, side.bytes.saturating_sub(beside)),
+        counts: counts_of(counts),
         silences: silences_of(alloc, side.silences.as_slice())?,
         more_silences: side.more_silences,
+        usual: side.usual,
         ending: ending_of(report.endings.of(network)),
         signs: signs_in(alloc, &side.signs)?,
         timeline: timeline_of(alloc, side)?,
@@ -394,10 +471,11 @@ fn links_of<'a>(
     alloc: Global,
     report: &Report,
     config: &'a Config,
+    sizes: bool,
 ) -> Result<Vec<JsonLink<'a>>, AllocError> {
     let mut list = Vec::with_capacity(alloc, config.links().len())?;
     for (link, configured) in report.links.iter().zip(config.links().iter()) {
-        list.push(link_of(alloc, report, link, configured)?)?;
+        list.push(link_of(alloc, report, link, configured, sizes)?)?;
     }
     Ok(list)
 }
@@ -407,6 +485,7 @@ fn report_of<'a>(
     report: &'a Report,
     config: &'a Config,
     sizes: bool,
+    manifest: Option<&'a Manifest>,
 ) -> Result<JsonReport<'a>, AllocError> {
     let some = report.counts.all().frames > 0;
     let filters = config.filters().len().saturating_add(1);
@@ -423,14 +502,16 @@ fn report_of<'a>(
         width: report.width,
         counts: counts_of(report.counts.all()),
         filters: accepted,
-        a: network_of(alloc, report, Network::A, &report.networks.a)?,
-        b: network_of(alloc, report, Network::B, &report.networks.b)?,
-        links: links_of(alloc, report, config)?,
+        a: network_of(alloc, report, Network::A, &report.networks.a, sizes)?,
+        b: network_of(alloc, report, Network::B, &report.networks.b, sizes)?,
+        links: links_of(alloc, report, config, sizes)?,
         outside: outside_of(alloc, report)?,
+        manifest,
     })
 }
 
-/// The report's numbers as one JSON object. Timestamps are decimal strings.
+/// The report's numbers as one JSON object, with the manifest of the ledger's run, if it is known. Timestamps
+/// are decimal strings.
 ///
 /// # Errors
 ///
@@ -440,7 +521,8 @@ pub fn json_of(
     report: &Report,
     config: &Config,
     sizes: bool,
+    manifest: Option<&Manifest>,
 ) -> Result<String, Error> {
-    let json = report_of(alloc, report, config, sizes)?;
+    let json = report_of(alloc, report, config, sizes, manifest)?;
     serde_json::to_string(alloc, &json)
 }

@@ -1,7 +1,6 @@
 //! The words of the ledger and of the page, each with its rule and where the rule is from.
 
-use std::alloc::AllocError;
-use std::fmt::Write;
+use crate::writer::{Page, Part};
 
 /// A word, what it says, and where its rule is from.
 type Entry = (&'static str, &'static str, &'static str);
@@ -72,7 +71,7 @@ const JUDGEMENTS: [Entry; 6] = [
     ),
 ];
 
-const READ: [Entry; 7] = [
+const READ: [Entry; 8] = [
     (
         "lost",
         "numbers missing between two frames of a link on one network",
@@ -96,33 +95,42 @@ const READ: [Entry; 7] = [
     ),
     (
         "network silent",
-        "64 or more lines of the other network between two of this one",
+        "64 or more lines of the other network between two, or a second and 8 times what is usual",
+        "",
+    ),
+    (
+        "gap",
+        "not delivered for more than 8 times its BAG and its longest time between deliveries but three",
         "",
     ),
     (
         "trouble",
-        "3 signs or more and one in each 1000 frames, or never seen on a network",
+        "3 signs or more and one in each 1000 frames, a gap, or never seen on a network",
         "",
     ),
 ];
 
-fn push_group(out: &mut String, title: &str, entries: &[Entry]) -> Result<(), AllocError> {
-    write!(out, "<div class=\"lg\"><h4>{title}</h4><dl>")?;
+fn push_group(page: &mut Page, title: &str, entries: &[Entry]) {
+    page.fill("<div class=\"lg\"><h4>@</h4><dl>", &[Part::Text(title)]);
     for (word, says, source) in entries {
-        write!(out, "<dt>{word}</dt><dd>{says}")?;
+        page.fill("<dt>@</dt><dd>@", &[Part::Text(word), Part::Text(says)]);
         if !source.is_empty() {
-            write!(out, " <i>{source}</i>")?;
+            page.fill(" <i>@</i>", &[Part::Text(source)]);
         }
-        out.push_str("</dd>")?;
+        page.text("</dd>");
     }
-    out.push_str("</dl></div>")
+    page.text("</dl></div>");
 }
 
 /// Appends the words.
-pub fn push_legend(out: &mut String) -> Result<(), AllocError> {
-    out.push_str("<section class=\"leg\"><h2>Words and rules</h2><div class=\"lgs\">")?;
-    push_group(out, "Class: the first that fits", &CLASSES)?;
-    push_group(out, "Policing, integrity checking, redundancy", &JUDGEMENTS)?;
-    push_group(out, "Read from the lines (this project's profile)", &READ)?;
-    out.push_str("</div></section>")
+pub fn push_legend(page: &mut Page) {
+    page.text("<section class=\"leg\"><h2>Words and rules</h2><div class=\"lgs\">");
+    push_group(page, "Class: the first that fits", &CLASSES);
+    push_group(
+        page,
+        "Policing, integrity checking, redundancy",
+        &JUDGEMENTS,
+    );
+    push_group(page, "Read from the lines (this project's profile)", &READ);
+    page.text("</div></section>");
 }

@@ -3,16 +3,18 @@
 //! - [`page_of`]: one HTML page with no script and no link out, which prints on A4.
 //! - [`summary_of`]: at most [`SUMMARY_LINES`] lines: what to look at first.
 //! - [`has_sizes`]: whether the ledger tells the sizes of frames.
-//! - [`json_of`]: the same numbers as one JSON object; docs/REPORT-JSON.md has its members.
+//! - [`json_of`]: the same numbers as one JSON object; docs/REPORT.md has its members.
 #![tactic(auto)]
 
 mod charts;
 mod findings;
+mod gaps;
 mod head;
 mod json;
 mod legend;
 mod numbers;
 mod page;
+mod provenance;
 mod ranks;
 mod sizes;
 mod strips;
@@ -22,6 +24,7 @@ mod table;
 mod tiles;
 mod timeline;
 mod view;
+mod writer;
 
 pub use json::json_of;
 pub use page::page_of;

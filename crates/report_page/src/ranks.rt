@@ -1,6 +1,7 @@
 //! How bad each link is.
 
-use crate::view::{counts_of, sum};
+use crate::gaps::{gap_of, stop_of};
+use crate::view::{NETWORKS, counts_of, other, sum};
 use afdx_frame::Network;
 use ledger_report::{LinkReport, Report, Sign};
 use std::alloc::{AllocError, Global};
@@ -11,7 +12,7 @@ pub const TROUBLE_SIGNS: u64 = 3;
 pub const TROUBLE_SHARE: u64 = 1000;
 
 /// How bad a link is, the worst first.
-#[derive(Clone, Copy, Debug, PartialEq, Eq)]
+#[derive(Clone, Copy, PartialEq, Eq)]
 pub enum Level {
     Trouble,
     Notice,
@@ -19,8 +20,11 @@ pub enum Level {
     Clean,
 }
 
+/// All levels.
+pub const LEVELS: [Level; 4] = [Level::Trouble, Level::Notice, Level::Silent, Level::Clean];
+
 /// Where a link stands.
-#[derive(Clone, Copy, Debug)]
+#[derive(Clone, Copy)]
 pub struct Rank {
     pub index: usize,
     pub level: Level,
@@ -51,9 +55,25 @@ pub fn frames_of(link: &LinkReport) -> u64 {
     link.lanes.a.frames.saturating_add(link.lanes.b.frames)
 }
 
-/// Has the link lines, but none on this network, which has some?
+/// How many of a link's signs may be frames cut short by the recorder, whose fate isn't known: as many as
+/// there are on the network where its numbers are lost, or that didn't bring what is alone.
+pub fn open_signs(report: &Report, link: &LinkReport) -> u64 {
+    let mut open = 0u64;
+    for network in NETWORKS {
+        let cut = report.networks.of(network).signs.of(Sign::Cut).count;
+        let lost = link.lanes.of(network).signs.of(Sign::Lost).count;
+        let alone = link.lanes.of(other(network)).signs.of(Sign::Alone).count;
+        open = open
+            .saturating_add(lost.min(cut))
+            .saturating_add(alone.min(cut));
+    }
+    open
+}
+
+/// Is redundancy management on for the link, and has it lines, but none on this network, which has some?
 pub fn is_never_on(report: &Report, link: &LinkReport, network: Network) -> bool {
-    frames_of(link) > 0
+    link.redundancy
+        && frames_of(link) > 0
         && link.lanes.of(network).frames == 0
         && report.networks.of(network).frames > 0
 }
@@ -63,10 +83,12 @@ pub fn level_of(report: &Report, link: &LinkReport) -> Level {
     let frames = frames_of(link);
     let signs = signs_of(link);
     let never = is_never_on(report, link, Network::A) || is_never_on(report, link, Network::B);
-    let many = signs >= TROUBLE_SIGNS && signs.saturating_mul(TROUBLE_SHARE) >= frames;
+    let sure = signs.saturating_sub(open_signs(report, link));
+    let many = sure >= TROUBLE_SIGNS && sure.saturating_mul(TROUBLE_SHARE) >= frames;
+    let gap = gap_of(link).is_some() || stop_of(report, link).is_some();
     if frames == 0 {
         Level::Silent
-    } else if never || many {
+    } else if never || many || gap {
         Level::Trouble
     } else if signs > 0 || sum(&counts_of(link, Sign::Reset)) > 0 {
         Level::Notice

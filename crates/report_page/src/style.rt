@@ -15,6 +15,7 @@ sans-serif;font-variant-numeric:tabular-nums}h1{font-size:24px;margin:0;letter-s
 h2{font-size:17px;margin:28px 0 10px}h2 small,.row small,th small{font-weight:400;color:var(--dim);
 font-size:12px}h3,h4,p{margin:0}a{color:inherit;text-decoration-color:var(--dim);font-weight:600}
 header p{color:var(--dim);margin-top:4px}header p b{color:var(--ink);font-weight:600}
+.of{font-size:12px;overflow-wrap:anywhere}
 i{font-style:normal;color:var(--dim)}.a{color:var(--a)}.b{color:var(--b)}.z{color:var(--ok);
 opacity:.75}.key .sw{display:inline-block;width:18px;height:11px;margin:0 5px 0 10px;
 border-radius:2px;vertical-align:-1px}.key .sw:first-child{margin-left:0}.sw.a{background:var(--a)}
@@ -74,6 +75,7 @@ color:var(--dim)}@media screen and (max-width:1000px){body{padding:16px}
 .tl h4{margin-left:104px}.rl{display:block}td,th{padding:2px 4px}table{font-size:11.5px}
 th{font-size:11px}.spk{width:96px;min-width:80px}.ms{display:none}td.p .a,
 td.p .b{min-width:0!important}td i{padding:0 1px}.ub{display:none}.lgs{columns:1}.pp{margin-left:0}}
+@media screen and (max-width:600px){.ax b:nth-child(even){display:none}}
 @media print{@page{size:A4;margin:11mm}.tl .g{height:calc(var(--h)*.58)}
 .det .g{height:calc(var(--h)*.8)}.sp{height:20px!important}header p{margin-top:1px}
 .tiles{margin-top:8px}.find li{padding:1px 0}.tl h4{margin-top:3px;font-size:9px!important}

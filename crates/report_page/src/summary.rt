@@ -1,11 +1,13 @@
 //! The first part of the report as lines for a terminal.
 
-use crate::numbers::SECOND;
-use crate::ranks::{Level, Rank, count_of, frames_of, level_word, ranks_of};
-use crate::view::{NETWORKS, View, counts_of, letter_of, sum, text};
-use ledger_report::{LinkReport, Report, Sign};
+use crate::gaps::{end_of, gap_of, is_told, silent_on_both, stop_of};
+use crate::head::level_counts;
+use crate::ranks::{Level, Rank, frames_of, level_word, ranks_of};
+use crate::view::{NETWORKS, View, counts_of, letter_of, sum};
+use crate::writer::{Page, Part, seconds};
+use afdx_frame::Network;
+use ledger_report::{Interval, LinkReport, Report, Sign};
 use std::alloc::{AllocError, Global};
-use std::fmt::Write;
 use vl_config::{Config, Link};
 
 /// The most lines.
@@ -15,115 +17,131 @@ const LINKS: usize = 14;
 /// How many are silences, on each network.
 const SILENCES: usize = 2;
 
-/// Appends seconds since the first line, with three decimals.
-fn push_moment(out: &mut String, view: &View<'_>, stamp: u64) -> Result<(), AllocError> {
-    let since = view.since(stamp);
-    let whole = since / SECOND;
-    let rest = since / 1_000_000 % 1000;
-    write!(out, "{whole}.{rest:03} s")
-}
-
-fn push_head(out: &mut String, view: &View<'_>) -> Result<(), AllocError> {
+fn push_head(page: &mut Page, view: &View<'_>) {
     let all = view.report.counts.all();
-    let frames = all.frames;
-    let delivered = all.delivered;
-    let copies = all.copy;
-    out.push_str("length ")?;
-    push_moment(out, view, view.report.end)?;
-    writeln!(
-        out,
-        ", frames {frames}, delivered {delivered}, copies {copies}"
-    )?;
-    let links = view.ranks.len();
-    let trouble = count_of(&view.ranks, Level::Trouble);
-    let notice = count_of(&view.ranks, Level::Notice);
-    let silent = count_of(&view.ranks, Level::Silent);
-    let clean = count_of(&view.ranks, Level::Clean);
-    write!(
-        out,
-        "links {links}: {trouble} in trouble, {notice} notice, "
-    )?;
-    writeln!(out, "{silent} never seen, {clean} clean")?;
+    page.fill(
+        "length @ s, frames @, delivered @, copies @\n",
+        &[
+            seconds(view.since(view.report.end)),
+            Part::Number(all.frames),
+            Part::Number(all.delivered),
+            Part::Number(all.copy),
+        ],
+    );
+    let [trouble, notice, silent, clean] = level_counts(view);
+    page.fill(
+        "links @: @ in trouble, @ notice, @ never seen, @ clean\n",
+        &[
+            Part::Number(view.ranks.len() as u64),
+            trouble,
+            notice,
+            silent,
+            clean,
+        ],
+    );
     if !view.report.whole {
-        out.push_str("the ledger is not whole: it has no line total\n")?;
+        page.text("the ledger is not whole: it has no line total\n");
     }
-    Ok(())
 }
 
-fn push_silences(out: &mut String, view: &View<'_>) -> Result<(), AllocError> {
+fn push_silences(page: &mut Page, view: &View<'_>) {
     for network in NETWORKS {
         let side = view.report.networks.of(network);
-        for silence in side.silences.iter().take(SILENCES) {
-            let letter = letter_of(network);
-            write!(out, "network {letter} silent from ")?;
-            push_moment(out, view, silence.from)?;
-            out.push_str(" to ")?;
-            push_moment(out, view, silence.to)?;
-            out.push_str("\n")?;
+        let told = side
+            .silences
+            .iter()
+            .filter(|silence| is_told(side, silence));
+        for silence in told.take(SILENCES) {
+            let both = silent_on_both(view.report, network, silence).is_some();
+            if both && network == Network::B {
+                continue;
+            }
+            page.fill(
+                "@ silent from @ s to @ s\n",
+                &[
+                    Part::Text(silent_word(network, both)),
+                    seconds(view.since(silence.from)),
+                    seconds(view.since(silence.to)),
+                ],
+            );
+        }
+        if let Some(end) = end_of(view.report, network) {
+            let from = seconds(view.since(end.from));
+            let letter = Part::Text(letter_of(network));
+            page.fill("network @ has no frame after @ s\n", &[letter, from]);
         }
     }
-    Ok(())
 }
 
-fn push_link(
-    out: &mut String,
-    rank: &Rank,
-    report: &LinkReport,
-    link: &Link,
-) -> Result<(), AllocError> {
-    let word = level_word(rank.level);
-    let id = link.id.0;
-    let name = link.name.as_str();
-    let frames = frames_of(report);
-    write!(out, "{word:<8} {id:>5} {name} frames {frames}")?;
-    for (sign, word) in [
-        (Sign::TooLong, "toolong"),
-        (Sign::Excess, "excess"),
-        (Sign::Out, "out"),
-        (Sign::Lost, "lost"),
-        (Sign::Late, "late"),
-        (Sign::Alone, "alone"),
-        (Sign::Reset, "reset"),
-    ] {
+/// What is silent.
+fn silent_word(network: Network, both: bool) -> &'static str {
+    match network {
+        _ if both => "networks A and B",
+        Network::A => "network A",
+        Network::B => "network B",
+    }
+}
+
+/// Appends a time of a link without a delivery.
+fn push_gap(page: &mut Page, view: &View<'_>, gap: Option<Interval>) {
+    if let Some(gap) = gap {
+        let from = seconds(view.since(gap.from));
+        page.fill(" gap @ s from @ s", &[seconds(gap.time()), from]);
+    }
+}
+
+/// The signs of a link's line.
+const SIGNS: [(Sign, &str); 7] = [
+    (Sign::TooLong, "toolong"),
+    (Sign::Excess, "excess"),
+    (Sign::Out, "out"),
+    (Sign::Lost, "lost"),
+    (Sign::Late, "late"),
+    (Sign::Alone, "alone"),
+    (Sign::Reset, "reset"),
+];
+
+fn push_link(page: &mut Page, view: &View<'_>, rank: &Rank, report: &LinkReport, link: &Link) {
+    page.columns(level_word(rank.level), u64::from(link.id.0));
+    page.fill(
+        " @ frames @",
+        &[
+            Part::Text(link.name.as_str()),
+            Part::Number(frames_of(report)),
+        ],
+    );
+    for (sign, word) in SIGNS {
         let counts = counts_of(report, sign);
         if sum(&counts) > 0 {
-            let a = counts.a;
-            let b = counts.b;
-            write!(out, " {word} {a}/{b}")?;
+            let (a, b) = (Part::Number(counts.a), Part::Number(counts.b));
+            page.fill(" @ @/@", &[Part::Text(word), a, b]);
         }
     }
+    push_gap(page, view, gap_of(report));
+    push_gap(page, view, stop_of(view.report, report));
     if report.lost_both > 0 {
-        let both = report.lost_both;
-        write!(out, " lost_both {both}")?;
+        page.fill(" lost_both @", &[Part::Number(report.lost_both)]);
     }
-    out.push_str("\n")
+    page.text("\n");
 }
 
 /// The first part of a report as text: at most [`SUMMARY_LINES`] lines.
 pub fn summary_of(alloc: Global, report: &Report, config: &Config) -> Result<String, AllocError> {
     let ranks = ranks_of(alloc, report)?;
     let view = View::new(alloc, report, config, false, ranks);
-    let mut out = text(alloc)?;
-    push_head(&mut out, &view)?;
-    push_silences(&mut out, &view)?;
-    let mut shown = 0usize;
-    for rank in view.ranks.iter() {
-        if rank.level == Level::Clean || shown >= LINKS {
-            break;
-        }
+    let mut page = Page::new(alloc);
+    push_head(&mut page, &view);
+    push_silences(&mut page, &view);
+    let bad = view.ranks.iter().filter(|rank| rank.level != Level::Clean);
+    let mut more = bad.count();
+    for rank in view.ranks.iter().take(more.min(LINKS)) {
         if let Some((report, link)) = view.link(rank.index) {
-            push_link(&mut out, rank, report, link)?;
-            shown = shown.saturating_add(1);
+            push_link(&mut page, &view, rank, report, link);
+            more = more.saturating_sub(1);
         }
     }
-    let bad = view
-        .ranks
-        .iter()
-        .filter(|rank| rank.level != Level::Clean)
-        .count();
-    if bad > shown {
-        let more = bad.saturating_sub(shown);
-        writeln!(out, "and {more} more links")?;
+    if more > 0 {
+        page.fill("and @ more links\n", &[Part::Number(more as u64)]);
     }
-    Ok(out)
+    page.into_text()
 }

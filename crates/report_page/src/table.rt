@@ -1,14 +1,13 @@
 //! The links, worst first.
 
-use crate::charts::{Kind, Stair, columns, peak, push_stair};
-use crate::head::{has_strip, push_pair};
-use crate::numbers::{push_milliseconds, push_number, push_tenths};
-use crate::ranks::{Level, Rank, TROUBLES, count_of, frames_of, level_mark, level_word};
+use crate::charts::{Kind, Stair, both_columns, columns, peak, push_stair};
+use crate::head::{has_strip, pair};
+use crate::ranks::{LEVELS, Level, Rank, TROUBLES, count_of, frames_of, level_mark, level_word};
 use crate::view::{ROWS, View, counts_of, sum};
+use crate::writer::{Page, Part, millionths};
 use afdx_frame::Network;
 use ledger_report::{Lane, LinkReport, Sides, Sign};
 use std::alloc::AllocError;
-use std::fmt::Write;
 use vl_config::Link;
 
 /// How many links a row of the map has.
@@ -48,197 +47,195 @@ fn marks_of(view: &View<'_>, link: &LinkReport, per: usize) -> Result<Vec<u64>, 
     Ok(marks)
 }
 
+/// The beginning of a drawing of activity.
+const SPARK: &str = "\
+<svg class=\"g sp\" viewBox=\"0 0 @ 28\" style=\"--h:28px\" preserveAspectRatio=\"none\" role=\"img\">";
+
 /// Appends a link's activity: A over B, and a strip under the columns with signs.
-fn push_spark(out: &mut String, view: &View<'_>, link: &LinkReport) -> Result<(), AllocError> {
+fn push_spark(page: &mut Page, view: &View<'_>, link: &LinkReport) -> Result<(), AllocError> {
     let per = view.column(link).max(2);
-    let a = columns(view.alloc, &link.lanes.a.lines, Kind::Sum, view.used, per)?;
-    let b = columns(view.alloc, &link.lanes.b.lines, Kind::Sum, view.used, per)?;
+    let lanes = &link.lanes;
+    let lines = both_columns(view, &lanes.a.lines, &lanes.b.lines, Kind::Sum, per)?;
     let marks = marks_of(view, link, per)?;
-    let used = view.used;
-    write!(out, "<svg class=\"g sp\" viewBox=\"0 0 {used} 28\"")?;
-    out.push_str(" style=\"--h:28px\" preserveAspectRatio=\"none\" role=\"img\">")?;
+    page.fill(SPARK, &[Part::Number(view.used as u64)]);
     let up = Stair {
-        top: peak(&a, &b),
+        top: peak(&lines),
         height: 11,
         base: 11,
         up: true,
         per,
     };
-    push_stair(out, "fa", &a, up)?;
-    push_stair(
-        out,
-        "fb",
-        &b,
-        Stair {
-            base: 12,
-            up: false,
-            ..up
-        },
-    )?;
-    push_stair(
-        out,
-        "mt",
-        &marks,
-        Stair {
-            top: 1,
-            height: 3,
-            base: 28,
-            up: true,
-            per,
-        },
-    )?;
-    out.push_str("</svg>")
+    let down = Stair {
+        base: 12,
+        up: false,
+        ..up
+    };
+    let strip = Stair {
+        top: 1,
+        height: 3,
+        base: 28,
+        ..up
+    };
+    push_stair(page, "fa", &lines.a, up);
+    push_stair(page, "fb", &lines.b, down);
+    push_stair(page, "mt", &marks, strip);
+    page.text("</svg>");
+    Ok(())
 }
 
 /// Appends a cell of a pair of counts.
-fn push_counts(out: &mut String, counts: &Sides<u64>) -> Result<(), AllocError> {
+fn push_counts(page: &mut Page, counts: &Sides<u64>) {
     if sum(counts) == 0 {
-        return out.push_str("<td class=\"p\"><i class=\"z\">&#183;</i></td>");
+        page.text("<td class=\"p\"><i class=\"z\">&#183;</i></td>");
+    } else {
+        page.fill("<td class=\"p\">@</td>", &[pair(counts)]);
     }
-    out.push_str("<td class=\"p\">")?;
-    push_pair(out, counts)?;
-    out.push_str("</td>")
 }
 
 /// Appends a cell of counts, or `off` where the rule is off for the link.
-fn push_counts_if(out: &mut String, on: bool, counts: &Sides<u64>) -> Result<(), AllocError> {
+fn push_counts_if(page: &mut Page, on: bool, counts: &Sides<u64>) {
     if on {
-        push_counts(out, counts)
+        push_counts(page, counts);
     } else {
-        out.push_str("<td class=\"p z\">off</td>")
+        page.text("<td class=\"p z\">off</td>");
     }
+}
+
+/// The class of a cell with a number, which may be wrong.
+fn class_of(wrong: bool) -> Part<'static> {
+    Part::Text(if wrong { "r w" } else { "r" })
 }
 
 /// Appends the cells of a link's intervals.
-fn push_intervals(out: &mut String, link: &LinkReport) -> Result<(), AllocError> {
-    let early = sum(&counts_of(link, Sign::Early)) > 0;
+fn push_intervals(page: &mut Page, link: &LinkReport) {
+    let early = class_of(sum(&counts_of(link, Sign::Early)) > 0);
     let least = link.lanes.a.least.min(link.lanes.b.least);
     let most = link.lanes.a.greatest.max(link.lanes.b.greatest);
-    out.push_str(if early {
-        "<td class=\"r w\">"
-    } else {
-        "<td class=\"r\">"
-    })?;
     if link.lanes.a.intervals == 0 && link.lanes.b.intervals == 0 {
-        return out.push_str("&#8211;</td><td class=\"r ms\">&#8211;</td>");
+        page.fill(
+            "<td class=\"@\">&#8211;</td><td class=\"r ms\">&#8211;</td>",
+            &[early],
+        );
+    } else {
+        page.fill(
+            "<td class=\"@\">@</td><td class=\"r ms\">@</td>",
+            &[early, millionths(least), Part::Milliseconds(most)],
+        );
     }
-    push_milliseconds(out, least)?;
-    out.push_str("</td><td class=\"r ms\">")?;
-    push_number(out, most / 1_000_000)?;
-    out.push_str("</td>")
 }
 
 /// Appends the cells of what was judged.
-fn push_judged(out: &mut String, view: &View<'_>, link: &LinkReport) -> Result<(), AllocError> {
+fn push_judged(page: &mut Page, view: &View<'_>, link: &LinkReport) {
     if sum(&view.total(Sign::TooLong)) > 0 {
-        push_counts(out, &counts_of(link, Sign::TooLong))?;
+        push_counts(page, &counts_of(link, Sign::TooLong));
     }
-    push_counts(out, &counts_of(link, Sign::Excess))?;
-    push_counts(out, &counts_of(link, Sign::Out))?;
-    push_counts_if(out, link.integrity, &counts_of(link, Sign::Lost))?;
-    push_counts_if(out, link.redundancy, &counts_of(link, Sign::Alone))?;
-    push_counts_if(out, link.redundancy, &counts_of(link, Sign::Late))?;
+    push_counts(page, &counts_of(link, Sign::Excess));
+    push_counts(page, &counts_of(link, Sign::Out));
+    push_counts_if(page, link.integrity, &counts_of(link, Sign::Lost));
+    push_counts_if(page, link.redundancy, &counts_of(link, Sign::Alone));
+    push_counts_if(page, link.redundancy, &counts_of(link, Sign::Late));
     let skew = link.skew_greatest.max(link.late_greatest);
-    let wrong = skew > link.skew_max;
-    out.push_str(if wrong {
-        "<td class=\"r w\">"
+    let class = class_of(skew > link.skew_max);
+    let most = if link.copies > 0 || skew > 0 {
+        Part::Grouped(skew / 1_000)
     } else {
-        "<td class=\"r\">"
-    })?;
-    if link.copies > 0 || skew > 0 {
-        push_number(out, skew / 1_000)?;
-    } else {
-        out.push_str("&#8211;")?;
-    }
-    out.push_str("</td>")
+        Part::Text("&#8211;")
+    };
+    page.fill("<td class=\"@\">@</td>", &[class, most]);
 }
 
-/// Appends the row of a link.
-fn push_row(
-    out: &mut String,
-    view: &View<'_>,
-    rank: &Rank,
-    at: usize,
-    link: &LinkReport,
-    configured: &Link,
-) -> Result<(), AllocError> {
-    let level = level_word(rank.level);
-    let mark = level_mark(rank.level);
-    let id = configured.id.0;
-    let name = configured.name.as_str();
-    write!(
-        out,
-        "<tr class=\"{level}\"><td>{mark}</td><td class=\"r id\">{id}</td>"
-    )?;
-    if has_strip(view, rank, at) {
-        write!(out, "<td class=\"nm\"><a href=\"#v{id}\">{name}</a></td>")?;
+/// Appends the cells that say which link it is.
+fn push_link(page: &mut Page, rank: &Rank, strip: bool, link: &Link) {
+    let (id, name) = (
+        Part::Number(u64::from(link.id.0)),
+        Part::Text(link.name.as_str()),
+    );
+    page.fill(
+        "<tr class=\"@\"><td>@</td><td class=\"r id\">@</td>",
+        &[
+            Part::Text(level_word(rank.level)),
+            Part::Text(level_mark(rank.level)),
+            id,
+        ],
+    );
+    if strip {
+        page.fill("<td class=\"nm\"><a href=\"#v@\">@</a></td>", &[id, name]);
     } else {
-        write!(out, "<td class=\"nm\">{name}</td>")?;
+        page.fill("<td class=\"nm\">@</td>", &[name]);
     }
-    out.push_str("<td class=\"spk\">")?;
+}
+
+/// A number of tenths, with the tenth below 10.
+fn short_tenths(tenths: u64) -> Part<'static> {
+    if tenths == 0 || tenths >= 100 {
+        Part::Number(tenths / 10)
+    } else {
+        Part::Tenths(tenths)
+    }
+}
+
+/// Appends the rest of a link's row.
+fn push_cells(page: &mut Page, view: &View<'_>, link: &LinkReport) -> Result<(), AllocError> {
+    page.text("<td class=\"spk\">");
     if frames_of(link) > 0 {
-        push_spark(out, view, link)?;
+        push_spark(page, view, link)?;
     } else {
-        out.push_str("<i class=\"z\">no frame</i>")?;
+        page.text("<i class=\"z\">no frame</i>");
     }
-    out.push_str("</td><td class=\"p\">")?;
-    push_pair(
-        out,
-        &Sides {
-            a: link.lanes.a.frames,
-            b: link.lanes.b.frames,
-        },
-    )?;
-    let bag = link.bag / 1_000_000;
-    write!(out, "</td><td class=\"r\">{bag}</td>")?;
-    push_intervals(out, link)?;
+    page.fill(
+        "</td><td class=\"p\">@</td><td class=\"r\">@</td>",
+        &[
+            Part::Pair(link.lanes.a.frames, link.lanes.b.frames),
+            Part::Number(link.bag / 1_000_000),
+        ],
+    );
+    push_intervals(page, link);
     if view.sizes {
         let a = view.used_tenths(link, Network::A);
         let b = view.used_tenths(link, Network::B);
-        out.push_str("<td class=\"r u\">")?;
-        push_tenths(out, a.max(b))?;
-        out.push_str("</td>")?;
+        page.fill("<td class=\"r u\">@</td>", &[short_tenths(a.max(b))]);
     }
-    push_judged(out, view, link)?;
-    out.push_str("</tr>")
+    push_judged(page, view, link);
+    page.text("</tr>");
+    Ok(())
 }
+
+/// The titles of columns: of all tables, of loads, of frames that are too long, and of all tables.
+const TITLES: &str = "\
+<div class=\"scroll\"><table><thead><tr><th></th><th class=\"r\">id</th><th>link</th>\
+<th>activity<small>A over B, signs under it</small></th>\
+<th class=\"p\">frames</th><th class=\"r\">BAG<small>ms</small></th>\
+<th class=\"r\">least<small>ms apart</small></th>\
+<th class=\"r ms\">most<small>ms apart</small></th>";
+
+const LOAD_TITLE: &str = "<th class=\"r\">used<small>% of Smax/BAG</small></th>";
+
+const TOO_LONG_TITLE: &str = "<th class=\"p\">toolong</th>";
+
+const MORE_TITLES: &str = "\
+<th class=\"p\">excess</th><th class=\"p\">out</th><th class=\"p\">lost</th>\
+<th class=\"p\">alone</th><th class=\"p\">late</th>\
+<th class=\"r\">skew<small>&#181;s, most</small></th></tr></thead><tbody>";
 
 /// Appends the head of the table.
-fn push_titles(out: &mut String, view: &View<'_>) -> Result<(), AllocError> {
-    out.push_str(
-        "<div class=\"scroll\"><table><thead><tr><th></th><th class=\"r\">id</th><th>link</th>",
-    )?;
-    out.push_str("<th>activity<small>A over B, signs under it</small></th>")?;
-    out.push_str("<th class=\"p\">frames</th><th class=\"r\">BAG<small>ms</small></th>")?;
-    out.push_str("<th class=\"r\">least<small>ms apart</small></th>")?;
-    out.push_str("<th class=\"r ms\">most<small>ms apart</small></th>")?;
+fn push_titles(page: &mut Page, view: &View<'_>) {
+    page.text(TITLES);
     if view.sizes {
-        out.push_str("<th class=\"r\">used<small>% of Smax/BAG</small></th>")?;
+        page.text(LOAD_TITLE);
     }
     if sum(&view.total(Sign::TooLong)) > 0 {
-        out.push_str("<th class=\"p\">toolong</th>")?;
+        page.text(TOO_LONG_TITLE);
     }
-    out.push_str("<th class=\"p\">excess</th><th class=\"p\">out</th><th class=\"p\">lost</th>")?;
-    out.push_str("<th class=\"p\">alone</th><th class=\"p\">late</th>")?;
-    out.push_str("<th class=\"r\">skew<small>&#181;s, most</small></th></tr></thead><tbody>")
+    page.text(MORE_TITLES);
 }
 
-/// Place and size of a level's square.
-fn square_of(level: Level) -> (usize, usize) {
+/// The colour of a level's squares on the map, and their place and size.
+fn square_of(level: Level) -> (&'static str, usize, u64) {
     match level {
-        Level::Trouble => (0, 9),
-        Level::Notice | Level::Silent => (2, 6),
-        Level::Clean => (3, 3),
-    }
-}
-
-/// The colour of a level's squares.
-fn colour_of(level: Level) -> &'static str {
-    match level {
-        Level::Trouble => "kt",
-        Level::Notice => "kn",
-        Level::Silent => "ks",
-        Level::Clean => "kc",
+        Level::Trouble => ("kt", 0, 9),
+        Level::Notice => ("kn", 2, 6),
+        Level::Silent => ("ks", 2, 6),
+        Level::Clean => ("kc", 3, 3),
     }
 }
 
@@ -254,92 +251,96 @@ fn levels_of(view: &View<'_>) -> Result<Vec<Level>, AllocError> {
     Ok(levels)
 }
 
+/// A coordinate of a square.
+fn square_at(index: usize, inset: usize) -> Part<'static> {
+    Part::Number(index.saturating_mul(10).saturating_add(inset) as u64)
+}
+
 /// Appends the squares of a level.
-fn push_squares(out: &mut String, levels: &[Level], level: Level) -> Result<(), AllocError> {
-    let class = colour_of(level);
-    let (inset, side) = square_of(level);
-    write!(out, "<path class=\"{class}\" d=\"")?;
+fn push_squares(page: &mut Page, levels: &[Level], level: Level) {
+    let (class, inset, side) = square_of(level);
+    let side = Part::Number(side);
+    page.fill("<path class=\"@\" d=\"", &[Part::Text(class)]);
     for (index, held) in levels.iter().enumerate() {
         if *held == level {
-            let x = (index % MAP_COLUMNS)
-                .saturating_mul(10)
-                .saturating_add(inset);
-            let y = (index / MAP_COLUMNS)
-                .saturating_mul(10)
-                .saturating_add(inset);
-            write!(out, "M{x} {y}h{side}v{side}h-{side}z")?;
+            let x = square_at(index % MAP_COLUMNS, inset);
+            let y = square_at(index / MAP_COLUMNS, inset);
+            page.fill("M@ @h@v@h-@z", &[x, y, side, side, side]);
         }
     }
-    out.push_str("\"/>")
+    page.text("\"/>");
 }
 
 /// Appends the map of all links.
-fn push_map(out: &mut String, view: &View<'_>) -> Result<(), AllocError> {
+fn push_map(page: &mut Page, view: &View<'_>) -> Result<(), AllocError> {
     let levels = levels_of(view)?;
-    out.push_str("<h3 class=\"mh\">All ")?;
-    push_number(out, levels.len() as u64)?;
-    write!(out, " links by rising id, {MAP_COLUMNS} to a row")?;
-    for level in [Level::Trouble, Level::Notice, Level::Silent, Level::Clean] {
-        let mark = level_mark(level);
-        let word = level_word(level);
-        write!(out, ", {mark} ")?;
-        push_number(out, count_of(&view.ranks, level))?;
-        write!(out, " {word}")?;
+    page.fill(
+        "<h3 class=\"mh\">All @ links by rising id, @ to a row",
+        &[
+            Part::Grouped(levels.len() as u64),
+            Part::Number(MAP_COLUMNS as u64),
+        ],
+    );
+    for level in LEVELS {
+        let count = Part::Grouped(count_of(&view.ranks, level));
+        let (mark, word) = (Part::Text(level_mark(level)), Part::Text(level_word(level)));
+        page.fill(", @ @ @", &[mark, count, word]);
     }
-    let width = MAP_COLUMNS * 10;
     let height = levels.len().div_ceil(MAP_COLUMNS).saturating_mul(10);
-    write!(
-        out,
-        "</h3><svg class=\"rest\" viewBox=\"0 0 {width} {height}\">"
-    )?;
-    for level in [Level::Trouble, Level::Notice, Level::Silent, Level::Clean] {
-        push_squares(out, &levels, level)?;
+    page.fill(
+        "</h3><svg class=\"rest\" viewBox=\"0 0 @ @\">",
+        &[
+            Part::Number(MAP_COLUMNS as u64 * 10),
+            Part::Number(height as u64),
+        ],
+    );
+    for level in LEVELS {
+        push_squares(page, &levels, level);
     }
-    out.push_str("</svg>")
+    page.text("</svg>");
+    Ok(())
 }
 
 /// Appends the identifiers of links in trouble that have no row.
-fn push_rest(out: &mut String, view: &View<'_>) -> Result<(), AllocError> {
+fn push_rest(page: &mut Page, view: &View<'_>) {
     let mut named = 0usize;
     for rank in view.ranks.iter().skip(ROWS) {
-        if rank.level == Level::Trouble {
-            if named == 0 {
-                out.push_str(
-                    "<p class=\"ids\">In trouble without a row above, by id, worst first:",
-                )?;
-            }
-            if named < NAMED {
-                if let Some((_, link)) = view.link(rank.index) {
-                    let id = link.id.0;
-                    write!(out, " {id}")?;
-                }
-            }
-            named = named.saturating_add(1);
+        let Some((_, link)) = view.link(rank.index) else {
+            continue;
+        };
+        if rank.level != Level::Trouble {
+            continue;
         }
+        if named == 0 {
+            page.text("<p class=\"ids\">In trouble without a row above, by id, worst first:");
+        }
+        if named < NAMED {
+            page.fill(" @", &[Part::Number(u64::from(link.id.0))]);
+        }
+        named = named.saturating_add(1);
     }
     if named > NAMED {
-        let more = named.saturating_sub(NAMED);
-        write!(out, " and {more} more")?;
+        let more = Part::Number(named.saturating_sub(NAMED) as u64);
+        page.fill(" and @ more", &[more]);
     }
     if named > 0 {
-        out.push_str("</p>")
-    } else {
-        Ok(())
+        page.text("</p>");
     }
 }
 
 /// Appends the table, and a map where it doesn't have all links.
-pub fn push_table(out: &mut String, view: &View<'_>) -> Result<(), AllocError> {
-    push_titles(out, view)?;
+pub fn push_table(page: &mut Page, view: &View<'_>) -> Result<(), AllocError> {
+    push_titles(page, view);
     for (at, rank) in view.ranks.iter().take(ROWS).enumerate() {
         if let Some((report, link)) = view.link(rank.index) {
-            push_row(out, view, rank, at, report, link)?;
+            push_link(page, rank, has_strip(view, rank, at), link);
+            push_cells(page, view, report)?;
         }
     }
-    out.push_str("</tbody></table></div>")?;
+    page.text("</tbody></table></div>");
     if view.ranks.len() > ROWS {
-        push_map(out, view)?;
-        push_rest(out, view)?;
+        push_map(page, view)?;
+        push_rest(page, view);
     }
     Ok(())
 }

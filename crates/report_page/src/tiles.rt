@@ -1,108 +1,176 @@
 //! The eight tiles.
 
-use crate::head::push_pair;
-use crate::numbers::{push_duration, push_number, quotient, share};
+use crate::gaps::{is_lower_bound, missing_in_silences};
+use crate::head::{level_counts, pair};
+use crate::numbers::{quotient, share};
 use crate::ranks::{Level, count_of};
-use crate::view::{DISCARDS, NETWORKS, View, letter_of, sum, word_of};
+use crate::view::{DISCARDS, NETWORKS, View, counts_of, letter_of, sum, word_of};
+use crate::writer::{Page, Part};
+use afdx_frame::Network;
 use ledger_report::{Sides, Sign, TapEnd, TapEnding};
-use std::alloc::AllocError;
-use std::fmt::Write;
+
+/// What stands between the number of a tile and what is said below it, and at its end.
+const MIDDLE: &str = "</p><p class=\"sub\">";
+
+const END: &str = "</p></div>";
 
 /// Begins a tile. A red edge stands where its number is bad.
-fn begin_tile(out: &mut String, name: &str, hot: bool, class: &str) -> Result<(), AllocError> {
+fn begin_tile(page: &mut Page, name: &'static str, hot: bool, class: &'static str) {
     let edge = if hot { " hot" } else { "" };
-    write!(out, "<div class=\"tile{class}{edge}\"><h3>{name}</h3>")?;
-    out.push_str("<p class=\"big\">")
+    page.fill(
+        "<div class=\"tile@@\"><h3>@</h3><p class=\"big\">",
+        &[Part::Text(class), Part::Text(edge), Part::Text(name)],
+    );
 }
 
-fn middle_tile(out: &mut String) -> Result<(), AllocError> {
-    out.push_str("</p><p class=\"sub\">")
+fn push_links(page: &mut Page, view: &View<'_>) {
+    let [trouble, notice, silent, clean] = level_counts(view);
+    let links = Part::Number(view.ranks.len() as u64);
+    begin_tile(page, "Links", count_of(&view.ranks, Level::Trouble) > 0, "");
+    page.fill(
+        "@<small> of @ in trouble</small></p><p class=\"sub\">\
+         @ notice &#183; @ never seen &#183; @ clean</p></div>",
+        &[trouble, links, notice, silent, clean],
+    );
 }
 
-fn end_tile(out: &mut String) -> Result<(), AllocError> {
-    out.push_str("</p></div>")
+fn push_frames(page: &mut Page, view: &View<'_>) {
+    let (networks, all) = (&view.report.networks, view.report.counts.all());
+    begin_tile(page, "Frames", false, "");
+    page.fill(
+        "@</p><p class=\"sub\">@ on A / on B</p></div>",
+        &[
+            Part::Grouped(all.frames),
+            Part::Pair(networks.a.frames, networks.b.frames),
+        ],
+    );
+    begin_tile(page, "Delivered", false, "");
+    page.fill(
+        "@</p><p class=\"sub\">@ copies taken off</p></div>",
+        &[Part::Grouped(all.delivered), Part::Grouped(all.copy)],
+    );
 }
 
-fn push_links(out: &mut String, view: &View<'_>) -> Result<(), AllocError> {
-    let trouble = count_of(&view.ranks, Level::Trouble);
-    let notice = count_of(&view.ranks, Level::Notice);
-    let silent = count_of(&view.ranks, Level::Silent);
-    let clean = count_of(&view.ranks, Level::Clean);
-    let links = view.ranks.len();
-    begin_tile(out, "Links", trouble > 0, "")?;
-    write!(out, "{trouble}<small> of {links} in trouble</small>")?;
-    middle_tile(out)?;
-    write!(
-        out,
-        "{notice} notice &#183; {silent} never seen &#183; {clean} clean"
-    )?;
-    end_tile(out)
-}
-
-fn push_frames(out: &mut String, view: &View<'_>) -> Result<(), AllocError> {
-    let report = view.report;
-    begin_tile(out, "Frames", false, "")?;
-    push_number(out, report.counts.all().frames)?;
-    middle_tile(out)?;
-    push_pair(
-        out,
-        &Sides {
-            a: report.networks.a.frames,
-            b: report.networks.b.frames,
-        },
-    )?;
-    out.push_str(" on A / on B")?;
-    end_tile(out)?;
-    begin_tile(out, "Delivered", false, "")?;
-    push_number(out, report.counts.all().delivered)?;
-    middle_tile(out)?;
-    push_number(out, report.counts.all().copy)?;
-    out.push_str(" copies taken off")?;
-    end_tile(out)
-}
-
-fn push_discards(out: &mut String, view: &View<'_>) -> Result<(), AllocError> {
-    let mut discards = 0u64;
-    for sign in DISCARDS {
-        discards = discards.saturating_add(sum(&view.total(sign)));
-    }
-    begin_tile(out, "Discarded", discards > 0, "")?;
-    push_number(out, discards)?;
-    let tenths = share(discards, 1000, view.report.counts.all().frames.max(1));
-    let whole = tenths / 10;
-    let rest = tenths % 10;
-    write!(out, "<small> = {whole}.{rest} %</small>")?;
-    middle_tile(out)?;
+/// Appends the counts of the reasons for which frames were discarded.
+fn push_reasons(page: &mut Page, view: &View<'_>) {
     let mut shown = false;
     for sign in DISCARDS {
         let count = sum(&view.total(sign));
         if count > 0 {
-            let word = word_of(sign);
             let dot = if shown { " &#183; " } else { "" };
-            write!(out, "{dot}{word} ")?;
-            push_number(out, count)?;
+            page.fill(
+                "@@ @",
+                &[
+                    Part::Text(dot),
+                    Part::Text(word_of(sign)),
+                    Part::Grouped(count),
+                ],
+            );
             shown = true;
         }
     }
     if !shown {
-        out.push_str("none")?;
+        page.text("none");
     }
-    end_tile(out)
 }
 
-fn push_sign(
-    out: &mut String,
-    view: &View<'_>,
-    name: &str,
-    sign: Sign,
-    about: &str,
-) -> Result<(), AllocError> {
-    let counts = view.total(sign);
-    begin_tile(out, name, sum(&counts) > 0, "")?;
-    push_pair(out, &counts)?;
-    middle_tile(out)?;
-    out.push_str(about)?;
-    end_tile(out)
+fn push_discards(page: &mut Page, view: &View<'_>) {
+    let mut discards = 0u64;
+    for sign in DISCARDS {
+        discards = discards.saturating_add(sum(&view.total(sign)));
+    }
+    let tenths = share(discards, 1000, view.report.counts.all().frames.max(1));
+    begin_tile(page, "Discarded", discards > 0, "");
+    page.fill(
+        "@<small> = @ %</small>",
+        &[Part::Grouped(discards), Part::Tenths(tenths)],
+    );
+    page.text(MIDDLE);
+    push_reasons(page, view);
+    page.text(END);
+}
+
+/// Of these counts those that may be frames cut short on the same or on the other network.
+fn open_of(view: &View<'_>, counts: &Sides<u64>, same: bool) -> Sides<u64> {
+    let cut = view.total(Sign::Cut);
+    let (a, b) = if same { (cut.a, cut.b) } else { (cut.b, cut.a) };
+    Sides {
+        a: counts.a.min(a),
+        b: counts.b.min(b),
+    }
+}
+
+/// Ends the tile of counts of which so many may be frames cut short.
+fn end_open(page: &mut Page, open: &Sides<u64>) {
+    if sum(open) > 0 {
+        page.fill(
+            " &#183; up to @ of them may be frames cut short",
+            &[pair(open)],
+        );
+    }
+    page.text(END);
+}
+
+/// What is missing in the silences of both networks: about so many where a link's rate is known, and at least
+/// so many where it isn't.
+fn missing_of(view: &View<'_>) -> (Sides<u64>, Sides<u64>) {
+    let mut about = Sides { a: 0u64, b: 0u64 };
+    let mut least = Sides { a: 0u64, b: 0u64 };
+    for link in view.report.links.iter() {
+        for network in NETWORKS {
+            match missing_in_silences(view.report, link, network) {
+                Some(missing) => {
+                    let held = about.of_mut(network);
+                    *held = held.saturating_add(missing);
+                }
+                None => {
+                    let held = least.of_mut(network);
+                    *held = held.saturating_add(link.lanes.of(network).lost_after_silence);
+                }
+            }
+        }
+    }
+    (about, least)
+}
+
+/// Is there a lane whose losses are a lower bound?
+fn has_lower_bound(view: &View<'_>) -> bool {
+    view.report.links.iter().any(|link| {
+        let lost = counts_of(link, Sign::Lost);
+        (lost.a > 0 && is_lower_bound(link, Network::A))
+            || (lost.b > 0 && is_lower_bound(link, Network::B))
+    })
+}
+
+fn push_lost(page: &mut Page, view: &View<'_>) {
+    let lost = view.total(Sign::Lost);
+    let (about, least) = missing_of(view);
+    let hot = sum(&lost) > 0 || sum(&about) > 0 || sum(&least) > 0;
+    begin_tile(page, "Lost numbers", hot, "");
+    if has_lower_bound(view) {
+        page.text("<small>at least </small>");
+    }
+    page.fill(
+        "@</p><p class=\"sub\">missing in the links' count, outside silences",
+        &[pair(&lost)],
+    );
+    if sum(&about) > 0 {
+        page.fill(" &#183; in them about @", &[pair(&about)]);
+    }
+    if sum(&least) > 0 {
+        page.fill(" &#183; in them at least @", &[pair(&least)]);
+    }
+    end_open(page, &open_of(view, &lost, true));
+}
+
+fn push_alone(page: &mut Page, view: &View<'_>) {
+    let alone = view.total(Sign::Alone);
+    begin_tile(page, "Alone", sum(&alone) > 0, "");
+    page.fill(
+        "@</p><p class=\"sub\">came on this network only, the other being alive",
+        &[pair(&alone)],
+    );
+    end_open(page, &open_of(view, &alone, false));
 }
 
 /// The link whose skew is the greatest in ratio to SkewMax, and that skew.
@@ -120,26 +188,24 @@ fn worst_skew(view: &View<'_>) -> Option<(usize, u64)> {
     worst
 }
 
-fn push_skew(out: &mut String, view: &View<'_>) -> Result<(), AllocError> {
-    let late = view.total(Sign::Late);
-    begin_tile(out, "Skew, greatest", sum(&late) > 0, "")?;
+fn push_skew(page: &mut Page, view: &View<'_>) {
+    let late = sum(&view.total(Sign::Late));
+    begin_tile(page, "Skew, greatest", late > 0, "");
     let Some((index, skew)) = worst_skew(view) else {
-        out.push_str("&#8211;")?;
-        middle_tile(out)?;
-        out.push_str("no pair of copies")?;
-        return end_tile(out);
+        page.text("&#8211;</p><p class=\"sub\">no pair of copies</p></div>");
+        return;
     };
-    push_duration(out, skew)?;
-    middle_tile(out)?;
+    page.fill("@</p><p class=\"sub\">", &[Part::Duration(skew)]);
     if let Some((report, link)) = view.link(index) {
-        let name = link.name.as_str();
-        write!(out, "{name}, SkewMax ")?;
-        push_duration(out, report.skew_max)?;
+        page.fill(
+            "@, SkewMax @",
+            &[
+                Part::Text(link.name.as_str()),
+                Part::Duration(report.skew_max),
+            ],
+        );
     }
-    out.push_str(" &#183; ")?;
-    push_number(out, sum(&late))?;
-    out.push_str(" late")?;
-    end_tile(out)
+    page.fill(" &#183; @ late</p></div>", &[Part::Grouped(late)]);
 }
 
 /// Is the recording read to its end, and whole?
@@ -151,68 +217,53 @@ pub fn is_clean(ending: &Option<TapEnding>) -> bool {
 }
 
 /// Appends how a recording ends.
-pub fn push_ending(out: &mut String, ending: &Option<TapEnding>) -> Result<(), AllocError> {
+pub fn push_ending(page: &mut Page, ending: &Option<TapEnding>) {
     let Some(ending) = ending else {
-        return out.push_str("not told");
+        page.text("not told");
+        return;
     };
-    out.push_str(match ending.end {
-        TapEnd::Clean => "clean ",
-        TapEnd::Cut => "cut ",
-        TapEnd::Bad => "bad ",
-    })?;
-    push_number(out, ending.frames)?;
+    let word = match ending.end {
+        TapEnd::Clean => "clean",
+        TapEnd::Cut => "cut",
+        TapEnd::Bad => "bad",
+    };
+    page.fill("@ @", &[Part::Text(word), Part::Grouped(ending.frames)]);
     if ending.end == TapEnd::Bad {
-        let reason = ending.reason.as_str();
-        write!(out, " {reason}")?;
+        page.fill(" @", &[Part::Text(ending.reason.as_str())]);
     }
-    Ok(())
 }
 
-fn push_recordings(out: &mut String, view: &View<'_>) -> Result<(), AllocError> {
+fn push_recordings(page: &mut Page, view: &View<'_>) {
     let endings = &view.report.endings;
     let hot = !is_clean(&endings.a) || !is_clean(&endings.b);
-    begin_tile(out, "Recordings", hot, " taps")?;
-    out.push_str("<span class=\"tap a\"><b>A</b> ")?;
-    push_ending(out, &endings.a)?;
-    out.push_str("</span><span class=\"tap b\"><b>B</b> ")?;
-    push_ending(out, &endings.b)?;
-    out.push_str("</span>")?;
-    middle_tile(out)?;
-    out.push_str("silent ")?;
+    begin_tile(page, "Recordings", hot, " taps");
+    page.text("<span class=\"tap a\"><b>A</b> ");
+    push_ending(page, &endings.a);
+    page.text("</span><span class=\"tap b\"><b>B</b> ");
+    push_ending(page, &endings.b);
+    page.text("</span></p><p class=\"sub\">silent ");
     for network in NETWORKS {
         let mut silent = 0u64;
         for silence in view.report.networks.of(network).silences.iter() {
             silent = silent.saturating_add(silence.to.saturating_sub(silence.from));
         }
-        let letter = letter_of(network);
-        write!(out, "{letter} ")?;
-        push_duration(out, silent)?;
-        out.push_str(" ")?;
+        page.fill(
+            "@ @ ",
+            &[Part::Text(letter_of(network)), Part::Duration(silent)],
+        );
     }
-    end_tile(out)
+    page.text(END);
 }
 
 /// Appends the tiles.
-pub fn push_tiles(out: &mut String, view: &View<'_>) -> Result<(), AllocError> {
-    out.push_str("<div class=\"tiles\">")?;
-    push_links(out, view)?;
-    push_frames(out, view)?;
-    push_discards(out, view)?;
-    push_sign(
-        out,
-        view,
-        "Lost numbers",
-        Sign::Lost,
-        "missing in the links' count, outside silences",
-    )?;
-    push_sign(
-        out,
-        view,
-        "Alone",
-        Sign::Alone,
-        "came on this network only, the other being alive",
-    )?;
-    push_skew(out, view)?;
-    push_recordings(out, view)?;
-    out.push_str("</div>")
+pub fn push_tiles(page: &mut Page, view: &View<'_>) {
+    page.text("<div class=\"tiles\">");
+    push_links(page, view);
+    push_frames(page, view);
+    push_discards(page, view);
+    push_lost(page, view);
+    push_alone(page, view);
+    push_skew(page, view);
+    push_recordings(page, view);
+    page.text("</div>");
 }

@@ -1,12 +1,12 @@
 //! The timeline: a row for each number that occurs.
 
-use crate::charts::{Kind, Mirror, begin_row, columns, peak, push_axis, push_mirror};
-use crate::head::push_pair;
-use crate::numbers::{push_duration, push_number, share};
+use crate::charts::{Kind, Mirror, both_columns, peak, push_axis, push_row};
+use crate::head::pair;
+use crate::numbers::share;
 use crate::view::{DISCARDS, View, sum, word_of};
-use ledger_report::{Sides, Sign};
+use crate::writer::{Page, Part, millionths};
+use ledger_report::Sign;
 use std::alloc::AllocError;
-use std::fmt::Write;
 
 /// The counts that aren't discards.
 const LOSSES: [Sign; 5] = [
@@ -17,192 +17,158 @@ const LOSSES: [Sign; 5] = [
     Sign::Late,
 ];
 
-fn push_frames(out: &mut String, view: &View<'_>) -> Result<(), AllocError> {
+/// The value of a row: a pair, and the peak of its columns.
+const PAIR_AND_PEAK: &str = "@<small>peak @</small></span></div>";
+
+/// Ends a row with a pair of counts and its peak.
+pub fn end_row(page: &mut Page, counts: Part<'_>, top: u64) {
+    page.fill(PAIR_AND_PEAK, &[counts, Part::Grouped(top)]);
+}
+
+/// A drawing of a bin a column, without a limit.
+fn drawing(height: u64, top: u64, title: &'static str) -> Mirror {
+    Mirror {
+        height,
+        top,
+        per: 1,
+        classes: ("fa", "fb"),
+        limit: 0,
+        title,
+    }
+}
+
+fn push_frames(page: &mut Page, view: &View<'_>) -> Result<(), AllocError> {
     let networks = &view.report.networks;
-    let a = columns(view.alloc, &networks.a.lines, Kind::Sum, view.used, 1)?;
-    let b = columns(view.alloc, &networks.b.lines, Kind::Sum, view.used, 1)?;
-    let top = peak(&a, &b);
-    begin_row(out, "frames", "")?;
-    push_mirror(
-        out,
-        view,
-        &a,
-        &b,
-        Mirror {
-            height: 64,
-            top,
-            per: 1,
-            classes: ("fa", "fb"),
-            limit: 0,
-            title: "frames per column, A above, B below",
-        },
-    )?;
-    out.push_str("<span class=\"vl\">")?;
-    push_pair(
-        out,
-        &Sides {
-            a: networks.a.frames,
-            b: networks.b.frames,
-        },
-    )?;
-    end_value(out, top)
+    let columns = both_columns(view, &networks.a.lines, &networks.b.lines, Kind::Sum, 1)?;
+    let top = peak(&columns);
+    let mirror = drawing(64, top, "frames per column, A above, B below");
+    push_row(page, view, ("frames", ""), &columns, mirror);
+    let frames = Part::Pair(networks.a.frames, networks.b.frames);
+    end_row(page, frames, top);
+    Ok(())
 }
 
-/// Ends a row's value with its peak.
-pub fn end_value(out: &mut String, top: u64) -> Result<(), AllocError> {
-    out.push_str("<small>peak ")?;
-    push_number(out, top)?;
-    out.push_str("</small></span></div>")
+/// Bytes in a time as megabits a second.
+fn megabits(bytes: u64, time: u64) -> Part<'static> {
+    millionths(share(bytes, 8_000_000_000, time))
 }
 
-/// Appends bits a second as megabits with two decimals.
-fn push_megabits(out: &mut String, bits: u64) -> Result<(), AllocError> {
-    let whole = bits / 1_000_000;
-    let rest = bits / 10_000 % 100;
-    write!(out, "{whole}.{rest:02}")
-}
-
-fn push_load(out: &mut String, view: &View<'_>) -> Result<(), AllocError> {
+fn push_load(page: &mut Page, view: &View<'_>) -> Result<(), AllocError> {
     let networks = &view.report.networks;
-    let a = columns(view.alloc, &networks.a.loads, Kind::Sum, view.used, 1)?;
-    let b = columns(view.alloc, &networks.b.loads, Kind::Sum, view.used, 1)?;
-    let top = peak(&a, &b);
+    let columns = both_columns(view, &networks.a.loads, &networks.b.loads, Kind::Sum, 1)?;
+    let top = peak(&columns);
     let length = view.report.end.saturating_sub(view.report.start).max(1);
-    begin_row(out, "load", "")?;
-    push_mirror(
-        out,
-        view,
-        &a,
-        &b,
-        Mirror {
-            height: 40,
-            top,
-            per: 1,
-            classes: ("fa", "fb"),
-            limit: 0,
-            title: "bits on the wire, A above, B below",
-        },
-    )?;
-    out.push_str("<span class=\"vl\"><span class=\"a\">")?;
-    push_megabits(out, share(networks.a.bytes, 8_000_000_000, length))?;
-    out.push_str("</span><i>/</i><span class=\"b\">")?;
-    push_megabits(out, share(networks.b.bytes, 8_000_000_000, length))?;
-    out.push_str("</span><small>Mbit/s, peak ")?;
-    push_megabits(out, share(top, 8_000_000_000, view.report.width))?;
-    out.push_str("</small></span></div>")
+    let mirror = drawing(40, top, "bits on the wire, A above, B below");
+    push_row(page, view, ("load", ""), &columns, mirror);
+    page.fill(
+        "<span class=\"a\">@</span><i>/</i><span class=\"b\">@</span>\
+         <small>Mbit/s, peak @</small></span></div>",
+        &[
+            megabits(networks.a.bytes, length),
+            megabits(networks.b.bytes, length),
+            megabits(top, view.report.width),
+        ],
+    );
+    Ok(())
 }
 
 /// Appends the row of a sign.
 fn push_sign(
-    out: &mut String,
+    page: &mut Page,
     view: &View<'_>,
     sign: Sign,
-    classes: (&str, &str),
+    classes: (&'static str, &'static str),
 ) -> Result<(), AllocError> {
     let networks = &view.report.networks;
-    let a = columns(
-        view.alloc,
-        &networks.a.signs.of(sign).bins,
-        Kind::Sum,
-        view.used,
-        1,
-    )?;
-    let b = columns(
-        view.alloc,
-        &networks.b.signs.of(sign).bins,
-        Kind::Sum,
-        view.used,
-        1,
-    )?;
-    let top = peak(&a, &b);
-    begin_row(out, word_of(sign), "")?;
-    push_mirror(
-        out,
-        view,
-        &a,
-        &b,
-        Mirror {
-            height: 26,
-            top,
-            per: 1,
-            classes,
-            limit: 0,
-            title: "per column, A above, B below",
-        },
-    )?;
-    out.push_str("<span class=\"vl\">")?;
-    push_pair(out, &view.total(sign))?;
-    end_value(out, top)
+    let (a, b) = (networks.a.signs.of(sign), networks.b.signs.of(sign));
+    let columns = both_columns(view, &a.bins, &b.bins, Kind::Sum, 1)?;
+    let top = peak(&columns);
+    let mirror = Mirror {
+        classes,
+        ..drawing(26, top, "per column, A above, B below")
+    };
+    push_row(page, view, (word_of(sign), ""), &columns, mirror);
+    end_row(page, pair(&view.total(sign)), top);
+    Ok(())
+}
+
+/// Appends a line that names the signs that don't occur.
+fn push_absent_signs(page: &mut Page, view: &View<'_>, signs: &[Sign]) {
+    let mut none = false;
+    for sign in signs {
+        if sum(&view.total(*sign)) == 0 {
+            let before = if none {
+                ", "
+            } else {
+                "<p class=\"none\">none: "
+            };
+            page.text(before);
+            page.text(word_of(*sign));
+            none = true;
+        }
+    }
+    if none {
+        page.text("</p>");
+    }
 }
 
 /// Appends the rows of signs, and a line that names those that don't occur.
 fn push_signs(
-    out: &mut String,
+    page: &mut Page,
     view: &View<'_>,
     signs: &[Sign],
-    classes: (&str, &str),
+    classes: (&'static str, &'static str),
 ) -> Result<(), AllocError> {
     for sign in signs {
         if sum(&view.total(*sign)) > 0 {
-            push_sign(out, view, *sign, classes)?;
+            push_sign(page, view, *sign, classes)?;
         }
     }
-    let mut none = false;
-    for sign in signs {
-        if sum(&view.total(*sign)) == 0 {
-            out.push_str(if none {
-                ", "
-            } else {
-                "<p class=\"none\">none: "
-            })?;
-            out.push_str(word_of(*sign))?;
-            none = true;
-        }
-    }
-    if none { out.push_str("</p>") } else { Ok(()) }
+    push_absent_signs(page, view, signs);
+    Ok(())
 }
 
-fn push_skews(out: &mut String, view: &View<'_>) -> Result<(), AllocError> {
+fn push_skews(page: &mut Page, view: &View<'_>) -> Result<(), AllocError> {
     let networks = &view.report.networks;
-    let a = columns(view.alloc, &networks.a.skews, Kind::Greatest, view.used, 1)?;
-    let b = columns(view.alloc, &networks.b.skews, Kind::Greatest, view.used, 1)?;
-    let top = peak(&a, &b);
-    begin_row(out, "skew of copies", "")?;
-    push_mirror(
-        out,
+    let columns = both_columns(
         view,
-        &a,
-        &b,
-        Mirror {
-            height: 34,
-            top,
-            per: 1,
-            classes: ("ka", "kb"),
-            limit: 0,
-            title: "greatest skew of a copy: above, the copy came on A; below, on B",
-        },
+        &networks.a.skews,
+        &networks.b.skews,
+        Kind::Greatest,
+        1,
     )?;
-    out.push_str("<span class=\"vl\"><small>greatest</small>")?;
-    push_duration(out, top)?;
-    out.push_str("</span></div>")
+    let top = peak(&columns);
+    let title = "greatest skew of a copy: above, the copy came on A; below, on B";
+    let mirror = Mirror {
+        classes: ("ka", "kb"),
+        ..drawing(34, top, title)
+    };
+    push_row(page, view, ("skew of copies", ""), &columns, mirror);
+    page.fill(
+        "<small>greatest</small>@</span></div>",
+        &[Part::Duration(top)],
+    );
+    Ok(())
 }
 
 /// Appends the timeline.
-pub fn push_timeline(out: &mut String, view: &View<'_>) -> Result<(), AllocError> {
-    out.push_str("<section class=\"tl\"><h2>Timeline <small>a column is ")?;
-    push_duration(out, view.report.width)?;
-    out.push_str("; each row has its own scale</small></h2>")?;
-    push_frames(out, view)?;
+pub fn push_timeline(page: &mut Page, view: &View<'_>) -> Result<(), AllocError> {
+    page.fill(
+        "<section class=\"tl\"><h2>Timeline <small>a column is @; each row has its own scale</small></h2>",
+        &[Part::Duration(view.report.width)],
+    );
+    push_frames(page, view)?;
     if view.sizes {
-        push_load(out, view)?;
+        push_load(page, view)?;
     }
-    out.push_str("<h4>Discards, in the order of judgement</h4>")?;
-    push_signs(out, view, &DISCARDS, ("xa", "xb"))?;
-    out.push_str("<h4>Loss and redundancy</h4>")?;
-    push_signs(out, view, &LOSSES, ("fa", "fb"))?;
+    page.text("<h4>Discards, in the order of judgement</h4>");
+    push_signs(page, view, &DISCARDS, ("xa", "xb"))?;
+    page.text("<h4>Loss and redundancy</h4>");
+    push_signs(page, view, &LOSSES, ("fa", "fb"))?;
     if view.report.counts.all().copy > 0 {
-        push_skews(out, view)?;
+        push_skews(page, view)?;
     }
-    push_axis(out, view)?;
-    out.push_str("</section>")
+    push_axis(page, view);
+    page.text("</section>");
+    Ok(())
 }

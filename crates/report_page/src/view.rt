@@ -138,6 +138,11 @@ impl<'a> View<'a> {
         )
     }
 
+    /// How long a column of so many bins is.
+    pub fn long(&self, per: usize) -> u64 {
+        self.report.width.saturating_mul(per as u64)
+    }
+
     /// How many bins make a column of a link's strip: the least power of two that is at least four BAG long.
     pub fn column(&self, link: &LinkReport) -> usize {
         let mut column = 1usize;

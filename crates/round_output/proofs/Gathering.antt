@@ -4,10 +4,9 @@ use Rattle.std.proofs.lemmas.List.{length-map, length-take-le, map-append, take-
 use Rattle.std.proofs.Math.Seq.{take-append-add}
 use Rattle.std.proofs.lemmas.List.Concat.{flat_map-append}
 use Rattle.afdx_frame.specs.Frame.{Frame}
-use Rattle.bpf_isa.specs.declared.packed.Packed.{Packed}
 use Rattle.filter_workers.specs.Filters.{mask_by}
 use Rattle.round_output.specs.Entries.{AreEntries, AreJoined, AreNone}
-use Rattle.round_output.specs.Filters.{keep_by, kept_record, packets_by}
+use Rattle.round_output.specs.Filters.{Making, entry_packet, keep_by, packets_of}
 use Rattle.round_output.specs.Shared.{AreChunks, IsChunk}
 use Rattle.round_output.specs.declared.entries.Entries.{Entries}
 use Rattle.round_output.specs.declared.shared.ChunkEntries.{ChunkEntries}
@@ -18,7 +17,7 @@ use Rattle.vl_judge.specs.Judgement.{Judgement}
 use Rattle.worker_pool.specs.Chunks.{AreBatches, chunk_end}
 
 -- nothing is written of no frames
-pub none_written : (ps : List (List Packed)) (entries : Entries) → AreNone entries → AreEntries ps [] [] entries
+pub none_written : (ps : Making) (entries : Entries) → AreNone entries → AreEntries ps [] [] entries
 none_written ps entries none = record {
   keeps_are = none.keeps_are;
   masks_are = none.masks_are;
@@ -27,23 +26,27 @@ none_written ps entries none = record {
 }
 
 -- what is written of some frames, and then of more
-pub both_written : (ps : List (List Packed)) (fs gs : List Frame) (vs ws : List Judgement) (first more both : Entries) → length vs ≡ length fs →
+pub both_written : (ps : Making) (fs gs : List Frame) (vs ws : List Judgement) (first more both : Entries) → length vs ≡ length fs →
     AreEntries ps fs vs first → AreEntries ps gs ws more → AreJoined first more both → AreEntries ps (fs ++ gs) (vs ++ ws) both
 both_written ps fs gs vs ws first more both judged one two joined =
-    let keeps = ap length one.keeps_are ∙ length-map fs (keep_by ps) in
-    let masks = ap length one.masks_are ∙ length-map fs (mask_by ps) in
+    let keeps = ap length one.keeps_are ∙ length-map fs (keep_by ps.filters) in
+    let masks = ap length one.masks_are ∙ length-map fs (mask_by ps.filters) in
+    let whole = sym (entries_append fs gs vs ws first.keeps.items more.keeps.items first.masks.items more.masks.items judged keeps masks)
+    ∙ (ap (λ ks. entries_of (fs ++ gs) (vs ++ ws) ks (first.masks.items ++ more.masks.items)) (sym joined.keeps_are)
+    ∙ ap (λ ms. entries_of (fs ++ gs) (vs ++ ws) both.keeps.items ms) (sym joined.masks_are)) in
     record {
-      keeps_are = joined.keeps_are ∙ (ap (λ l. l ++ more.keeps.items) one.keeps_are ∙ (ap (λ l. map (keep_by ps) fs ++ l) two.keeps_are ∙ sym (map-append (keep_by ps) fs gs)));
-      masks_are = joined.masks_are ∙ (ap (λ l. l ++ more.masks.items) one.masks_are ∙ (ap (λ l. map (mask_by ps) fs ++ l) two.masks_are ∙ sym (map-append (mask_by ps) fs gs)));
-      packets_are = joined.packets_are ∙ (ap (λ l. l ++ more.packets.items) one.packets_are ∙ (ap (λ l. packets_by ps fs ++ l) two.packets_are
-          ∙ sym (flat_map-append (λ f. kept_record f (keep_by ps f)) fs gs)));
+      keeps_are = joined.keeps_are ∙ (ap (λ l. l ++ more.keeps.items) one.keeps_are ∙ (ap (λ l. map (keep_by ps.filters) fs ++ l) two.keeps_are ∙ sym (map-append (keep_by ps.filters) fs gs)));
+      masks_are = joined.masks_are ∙ (ap (λ l. l ++ more.masks.items) one.masks_are ∙ (ap (λ l. map (mask_by ps.filters) fs ++ l) two.masks_are ∙ sym (map-append (mask_by ps.filters) fs gs)));
+      packets_are = joined.packets_are
+          ∙ (ap (λ l. l ++ more.packets.items) one.packets_are
+          ∙ (ap (λ l. packets_of ps.format (entries_of fs vs first.keeps.items first.masks.items) ++ l) two.packets_are
+          ∙ (sym (flat_map-append (entry_packet ps.format) (entries_of fs vs first.keeps.items first.masks.items) (entries_of gs ws more.keeps.items more.masks.items))
+          ∙ ap (packets_of ps.format) whole)));
       lines_are = joined.lines_are
           ∙ (ap (λ l. l ++ more.lines.items) one.lines_are
           ∙ (ap (λ l. lines_text (entries_of fs vs first.keeps.items first.masks.items) ++ l) two.lines_are
           ∙ (sym (flat_map-append line_text (entries_of fs vs first.keeps.items first.masks.items) (entries_of gs ws more.keeps.items more.masks.items))
-          ∙ (ap lines_text (sym (entries_append fs gs vs ws first.keeps.items more.keeps.items first.masks.items more.masks.items judged keeps masks))
-          ∙ (ap (λ ks. lines_text (entries_of (fs ++ gs) (vs ++ ws) ks (first.masks.items ++ more.masks.items))) (sym joined.keeps_are)
-          ∙ ap (λ ms. lines_text (entries_of (fs ++ gs) (vs ++ ws) both.keeps.items ms)) (sym joined.masks_are))))));
+          ∙ ap lines_text whole)));
     }
 
 -- a list up to one index, and on up to another
@@ -56,13 +59,13 @@ longer_front from to xs le within =
     ∙ take-append-add front (drop from xs) (to - from)))
 
 -- This is what is written of the frames before a number, and the rest of the chunks begins there.
-pub record IsGathered (ps : List (List Packed)) (frames : List Frame) (verdicts : List Judgement) (size : ℕ) (rest : List ChunkEntries) (entries : Entries) : Type 0 where
+pub record IsGathered (ps : Making) (frames : List Frame) (verdicts : List Judgement) (size : ℕ) (rest : List ChunkEntries) (entries : Entries) : Type 0 where
   pub from : ℕ
   pub within : from ≤ length frames
   pub written : AreEntries ps (take from frames) (take from verdicts) entries
   pub chunks : AreBatches (IsChunk ps frames verdicts) size (length frames) from rest
 
-pub gathers_none : (ps : List (List Packed)) (frames : List Frame) (verdicts : List Judgement) (size : ℕ) (chunks : List ChunkEntries) (entries : Entries) →
+pub gathers_none : (ps : Making) (frames : List Frame) (verdicts : List Judgement) (size : ℕ) (chunks : List ChunkEntries) (entries : Entries) →
     AreChunks ps frames verdicts size chunks → AreNone entries → IsGathered ps frames verdicts size chunks entries
 gathers_none ps frames verdicts size chunks entries are none = record {
   from = 0;
@@ -71,7 +74,7 @@ gathers_none ps frames verdicts size chunks entries are none = record {
   chunks = are.are;
 }
 
-pub gathers_more : (ps : List (List Packed)) (frames : List Frame) (verdicts : List Judgement) (size : ℕ) (rest after : List ChunkEntries) (chunk : ChunkEntries) (old new : Entries) →
+pub gathers_more : (ps : Making) (frames : List Frame) (verdicts : List Judgement) (size : ℕ) (rest after : List ChunkEntries) (chunk : ChunkEntries) (old new : Entries) →
     length verdicts ≡ length frames → rest ≡ chunk ∷ after → chunk.complete ≡ true → AreJoined old chunk.entries new →
     IsGathered ps frames verdicts size rest old → IsGathered ps frames verdicts size after new
 gathers_more ps frames verdicts size rest after chunk old new judged same complete joined h =
@@ -88,7 +91,7 @@ gathers_more ps frames verdicts size rest after chunk old new judged same comple
       chunks = others;
     }
 
-pub gathers_all : (ps : List (List Packed)) (frames : List Frame) (verdicts : List Judgement) (size : ℕ) (rest : List ChunkEntries) (entries : Entries) →
+pub gathers_all : (ps : Making) (frames : List Frame) (verdicts : List Judgement) (size : ℕ) (rest : List ChunkEntries) (entries : Entries) →
     length verdicts ≡ length frames → rest ≡ [] → IsGathered ps frames verdicts size rest entries → AreEntries ps frames verdicts entries
 gathers_all ps frames verdicts size rest entries judged none h =
     let all : h.from ≡ length frames = rw none at h.chunks in

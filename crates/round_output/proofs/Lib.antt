@@ -1,3 +1,4 @@
+pub mod Accepted
 pub mod Gathering
 pub mod Rounds
 pub mod Sharing

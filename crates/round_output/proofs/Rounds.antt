@@ -13,6 +13,9 @@ pub longer : {X : Type 0} (before xs : List X) (n : ℕ) (x : X) → n < length 
 longer before xs n x less is =
     ap (λ y. (before ++ take n xs) ++ y ∷ []) is ∙ append_assoc before (take n xs) (get_or xs n x ∷ []) ∙ ap (λ more. before ++ more) (sym (take_next xs n x less))
 
+pub taken_next : {X : Type 0} (xs : List X) (n : ℕ) (x : X) → n < length xs → x ≡ get_or xs n x → take n xs ++ x ∷ [] ≡ take (n + 1) xs
+taken_next xs n x less is = longer [] xs n x less is
+
 -- the frame at the index follows on, and then the others
 pub next_follows : (last : Option Key) (round : List Frame) (n : ℕ) (f : Frame) → n < length round → f ≡ get_or round n f → FollowsOn last (drop n round) →
     ForSome last (λ key. key_cmp key (key_of f) ≡ Less) × FollowsOn (Some (key_of f)) (drop (n + 1) round)

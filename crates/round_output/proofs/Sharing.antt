@@ -1,13 +1,12 @@
 -- A round that workers are at, and what was written before it.
-use Rattle.std.proofs.Common.{◌≡◌, List, [], ◌++◌, Option, Some, None, refl, sym, subst, ap, ◌∙◌, append-nil, append_assoc}
+use Rattle.std.proofs.Common.{◌≡◌, List, ◌++◌, Option, Some, None, sym, subst, ap, ◌∙◌, append-nil, append_assoc}
 use Rattle.std.specs.Prelude.{IfSome}
 use Rattle.afdx_frame.specs.Frame.{Frame}
-use Rattle.bpf_isa.specs.declared.packed.Packed.{Packed}
+use Rattle.round_output.specs.Filters.{Making, capture_by, lines_by}
 use Rattle.pcap_io.specs.Writer.{sink_of}
 use Rattle.pcap_io.specs.declared.writer.CaptureWriter.{CaptureWriter}
 use Rattle.round_output.specs.Entries.{AreVerdicts}
-use Rattle.round_output.specs.Filters.{capture_by, lines_by}
-use Rattle.round_output.specs.Outputs.{HasPackets, HasShared, HasWritten, SinkFails, StopsWriting, frames_at, outputs_of}
+use Rattle.round_output.specs.Outputs.{HasPackets, HasPacketsFirst, HasShared, HasWritten, SinkFails, StopsWriting, frames_at, outputs_of}
 use Rattle.round_output.specs.declared.outputs.Outputs.{Outputs}
 use Rattle.round_output.specs.declared.shared.JudgedRound.{JudgedRound}
 use Rattle.run_outcome.specs.Device.{AppendsSome, SinkMembers, SinkView, sink_at}
@@ -17,19 +16,20 @@ use Rattle.verdict_ledger.specs.declared.ledger.Ledger.{Ledger}
 use Rattle.vl_config.specs.Document.{VlTable}
 use Rattle.vl_judge.specs.Lanes.{LanesState, StandsAfter}
 use Rattle.worker_pool.specs.Chunks.{Posted}
-use Rattle.round_output.proofs.Writing.{capture_longer, capture_some, lines_longer, lines_some, packets_first, packets_longer, where_ledger, where_ledger_map}
+use Rattle.round_output.proofs.Writing.{capture_longer, capture_some, first_longer, first_whole, lines_longer, lines_some, packets_first, packets_longer, where_ledger, where_ledger_map}
 
 -- writing stopped, and more frames would have followed
-pub stops_longer : (fault : WatchFault) (ps : List (List Packed)) (vl_table : VlTable) (capture ledger capture' ledger' : SinkView) (fs gs : List Frame) →
+pub stops_longer : (fault : WatchFault) (ps : Making) (vl_table : VlTable) (capture ledger capture' ledger' : SinkView) (fs gs : List Frame) →
     StopsWriting fault ps vl_table capture ledger capture' ledger' fs → StopsWriting fault ps vl_table capture ledger capture' ledger' (fs ++ gs)
 stops_longer fault ps vl_table capture ledger capture' ledger' fs gs s = record {
-  packets = capture_longer ps fs gs capture.contents capture'.contents s.packets;
+  packets = capture_longer ps vl_table fs gs capture.contents capture'.contents s.packets;
   lines = lines_longer ps vl_table fs gs ledger.contents ledger'.contents s.lines;
-  whole = where_ledger_map (HasPackets ps fs capture capture') (HasPackets ps (fs ++ gs) capture capture') fault (packets_longer ps fs gs capture capture') s.whole;
+  packets_first = first_longer ps vl_table fs gs capture.contents capture'.contents ledger.contents ledger'.contents s.packets_first;
+  whole = where_ledger_map (HasPackets ps vl_table fs capture capture') (HasPackets ps vl_table (fs ++ gs) capture capture') fault (packets_longer ps vl_table fs gs capture capture') s.whole;
   fails = s.fails;
 }
 
-of_lanes : {W L : Type 0} (w : SinkMembers W) (l : SinkMembers L) (ps : List (List Packed)) (vl_table : VlTable) (capture ledger : SinkView) (fs : List Frame)
+of_lanes : {W L : Type 0} (w : SinkMembers W) (l : SinkMembers L) (ps : Making) (vl_table : VlTable) (capture ledger : SinkView) (fs : List Frame)
     (before after : LanesState) (c : CaptureWriter W) (g : Ledger L) → HasWritten w l ps vl_table capture ledger fs (outputs_of before c g) → StandsAfter after vl_table fs →
     HasWritten w l ps vl_table capture ledger fs (outputs_of after c g)
 of_lanes w l ps vl_table capture ledger fs before after c g h stands = record {
@@ -41,7 +41,7 @@ of_lanes w l ps vl_table capture ledger fs before after c g h stands = record {
   ledger_failures = h.ledger_failures;
 }
 
-module _ {W L T : Type 0} (w : SinkMembers W) (l : SinkMembers L) (ps : List (List Packed)) (vl_table : VlTable) (capture ledger : SinkView) where
+module _ {W L T : Type 0} (w : SinkMembers W) (l : SinkMembers L) (ps : Making) (vl_table : VlTable) (capture ledger : SinkView) where
   -- a round more would have followed those that workers are at
   pub shared_stops : (fault : WatchFault) (frames round : List Frame) (outputs : Outputs W L) (flight : Option (Posted T JudgedRound)) →
       HasShared w l ps vl_table capture ledger frames outputs flight →
@@ -51,13 +51,15 @@ module _ {W L T : Type 0} (w : SinkMembers W) (l : SinkMembers L) (ps : List (Li
       let whole : frames ++ round ≡ h.first ++ (frames_at flight ++ round) =
       ap (λ (fs : List Frame). fs ++ round) h.all ∙ append_assoc h.first (frames_at flight) round in
       record {
-        packets = subst (λ (fs : List Frame). AppendsSome capture.contents (w.contents (sink_of outputs.capture)) (capture_by ps fs)) (sym whole)
-            (capture_some ps h.first (frames_at flight ++ round) _ _ h.written.packets);
+        packets = subst (λ (fs : List Frame). AppendsSome capture.contents (w.contents (sink_of outputs.capture)) (capture_by ps vl_table fs)) (sym whole)
+            (capture_some ps vl_table h.first (frames_at flight ++ round) _ _ h.written.packets);
         lines = subst (λ (fs : List Frame). AppendsSome ledger.contents (l.contents (ledger_sink outputs.ledger)) (lines_by ps vl_table fs)) (sym whole)
             (lines_some ps vl_table h.first (frames_at flight ++ round) _ _ h.written.lines);
-        whole = where_ledger (HasPackets ps (frames ++ round) capture (sink_at w (sink_of outputs.capture))) fault
-            (subst (λ (fs : List Frame). HasPackets ps fs capture (sink_at w (sink_of outputs.capture))) (sym whole)
-            (packets_first ps h.first (frames_at flight ++ round) capture (sink_at w (sink_of outputs.capture)) h.written.packets));
+        packets_first = subst (λ (fs : List Frame). HasPacketsFirst ps vl_table fs capture.contents (w.contents (sink_of outputs.capture)) ledger.contents (l.contents (ledger_sink outputs.ledger))) (sym whole)
+            (first_whole ps vl_table h.first (frames_at flight ++ round) _ _ _ _ h.written.packets h.written.lines);
+        whole = where_ledger (HasPackets ps vl_table (frames ++ round) capture (sink_at w (sink_of outputs.capture))) fault
+            (subst (λ (fs : List Frame). HasPackets ps vl_table fs capture (sink_at w (sink_of outputs.capture))) (sym whole)
+            (packets_first ps vl_table h.first (frames_at flight ++ round) capture (sink_at w (sink_of outputs.capture)) h.written.packets));
         fails = fails;
       }
 

@@ -5,8 +5,7 @@ use Rattle.std.proofs.lemmas.List.Concat.{flat_map-append}
 use Rattle.std.proofs.KnownBytes.{Appends-trans}
 use Rattle.std.specs.Io.KnownBytes.{Appends}
 use Rattle.afdx_frame.specs.Frame.{Frame}
-use Rattle.bpf_isa.specs.declared.packed.Packed.{Packed}
-use Rattle.pcap_io.specs.Capture.{capture_header}
+use Rattle.packet_format.specs.Packets.{Format, head_by}
 use Rattle.pcap_io.specs.Device.{AppendsPrefix, CountsFailure}
 use Rattle.verdict_ledger.specs.Entry.{Entry, entries_of, entry_with}
 use Rattle.verdict_ledger.specs.Text.{ledger_head, line_text, lines_text}
@@ -15,8 +14,10 @@ use Rattle.vl_judge.specs.Judgement.{Judgement}
 use Rattle.vl_judge.specs.Verdicts.{Judged, judged_frames, judged_frames_after, verdict_of, verdicts}
 use Rattle.vl_judge.proofs.Judging.{verdicts-append}
 use Rattle.filter_workers.specs.Filters.{mask_by}
-use Rattle.round_output.specs.Filters.{capture_by, entries_by, keep_by, kept_record, packets_by}
-use Rattle.round_output.specs.Outputs.{HasPackets, SinkFails, StopsWriting, WhereLedgerFailed, effect_of, ledger_fault}
+use Rattle.round_output.specs.Filters.{Making, capture_by, entries_by, entry_packet, keep_by, lines_by, packets_of}
+use Rattle.round_output.specs.Entries.{AreEntries, AreVerdicts}
+use Rattle.round_output.specs.declared.entries.Entries.{Entries}
+use Rattle.round_output.specs.Outputs.{AppendsAll, HasPackets, HasPacketsFirst, SinkFails, StopsWriting, WhereLedgerFailed, effect_of, ledger_fault}
 use Rattle.verdict_ledger.specs.Writing.{IsAppended}
 use Rattle.verdict_ledger.specs.declared.fault.LedgerFault.{LedgerFault}
 use Rattle.verdict_ledger.specs.declared.fault.LedgerFault.TheVariants as ledger_faults
@@ -24,15 +25,7 @@ use Rattle.run_outcome.specs.Device.{AppendsSome, SinkView}
 use Rattle.run_outcome.specs.declared.fault.WatchFault.{WatchFault}
 use Rattle.run_outcome.specs.declared.fault.Output.TheVariants as output
 use Rattle.run_outcome.specs.declared.fault.WatchFault.TheVariants as watch
-use Rattle.round_output.specs.Filters.{lines_by}
 use Rattle.run_outcome.proofs.Written.{take_past}
-
--- ---- the packets
-
-pub capture_more : (ps : List (List Packed)) (fs gs : List Frame) → capture_by ps (fs ++ gs) ≡ capture_by ps fs ++ packets_by ps gs
-capture_more ps fs gs =
-    ap (λ (l : List ℕ). capture_header ++ l) (flat_map-append (λ f. kept_record f (keep_by ps f)) fs gs)
-    ∙ sym (append_assoc capture_header (packets_by ps fs) (packets_by ps gs))
 
 -- ---- the lines
 
@@ -58,28 +51,48 @@ judged_length vl_table earlier (f ∷ fs) =
     counted : (n m k : ℕ) → n ≡ m + 1 → n + k ≡ m + suc k
     counted n m k e = omega (arith, e)
 
-verdicts_length : (vl_table : VlTable) (fs : List Frame) → length (verdicts vl_table fs) ≡ length fs
+pub verdicts_length : (vl_table : VlTable) (fs : List Frame) → length (verdicts vl_table fs) ≡ length fs
 verdicts_length vl_table fs = length-map (judged_frames_after vl_table [] fs) (λ j. j.verdict) ∙ judged_length vl_table [] fs ∙ zero_and (length fs)
   where
     zero_and : (n : ℕ) → 0 + n ≡ n
     zero_and n = omega arith
 
-pub entries_more : (ps : List (List Packed)) (vl_table : VlTable) (fs gs : List Frame) (said : List Judgement) →
+pub entries_more : (ps : Making) (vl_table : VlTable) (fs gs : List Frame) (said : List Judgement) →
     verdicts vl_table (fs ++ gs) ≡ verdicts vl_table fs ++ said →
-    entries_by ps vl_table (fs ++ gs) ≡ entries_by ps vl_table fs ++ entries_of gs said (map (keep_by ps) gs) (map (mask_by ps) gs)
+    entries_by ps vl_table (fs ++ gs) ≡ entries_by ps vl_table fs ++ entries_of gs said (map (keep_by ps.filters) gs) (map (mask_by ps.filters) gs)
 entries_more ps vl_table fs gs said e =
-    ap (λ (vs : List Judgement). entries_of (fs ++ gs) vs (map (keep_by ps) (fs ++ gs)) (map (mask_by ps) (fs ++ gs))) e
-    ∙ ap (λ (ks : List (Option ℕ)). entries_of (fs ++ gs) (verdicts vl_table fs ++ said) ks (map (mask_by ps) (fs ++ gs))) (map-append (keep_by ps) fs gs)
-    ∙ ap (λ (ms : List ℕ). entries_of (fs ++ gs) (verdicts vl_table fs ++ said) (map (keep_by ps) fs ++ map (keep_by ps) gs) ms) (map-append (mask_by ps) fs gs)
-    ∙ entries_append fs gs (verdicts vl_table fs) said (map (keep_by ps) fs) (map (keep_by ps) gs) (map (mask_by ps) fs) (map (mask_by ps) gs)
-    (verdicts_length vl_table fs) (length-map fs (keep_by ps)) (length-map fs (mask_by ps))
+    ap (λ (vs : List Judgement). entries_of (fs ++ gs) vs (map (keep_by ps.filters) (fs ++ gs)) (map (mask_by ps.filters) (fs ++ gs))) e
+    ∙ ap (λ (ks : List (Option ℕ)). entries_of (fs ++ gs) (verdicts vl_table fs ++ said) ks (map (mask_by ps.filters) (fs ++ gs))) (map-append (keep_by ps.filters) fs gs)
+    ∙ ap (λ (ms : List ℕ). entries_of (fs ++ gs) (verdicts vl_table fs ++ said) (map (keep_by ps.filters) fs ++ map (keep_by ps.filters) gs) ms) (map-append (mask_by ps.filters) fs gs)
+    ∙ entries_append fs gs (verdicts vl_table fs) said (map (keep_by ps.filters) fs) (map (keep_by ps.filters) gs) (map (mask_by ps.filters) fs) (map (mask_by ps.filters) gs)
+    (verdicts_length vl_table fs) (length-map fs (keep_by ps.filters)) (length-map fs (mask_by ps.filters))
 
-pub lines_more : (ps : List (List Packed)) (vl_table : VlTable) (fs gs : List Frame) (more : List Entry) →
+pub lines_more : (ps : Making) (vl_table : VlTable) (fs gs : List Frame) (more : List Entry) →
     entries_by ps vl_table (fs ++ gs) ≡ entries_by ps vl_table fs ++ more → lines_by ps vl_table (fs ++ gs) ≡ lines_by ps vl_table fs ++ lines_text more
 lines_more ps vl_table fs gs more e =
     ap (λ (es : List Entry). ledger_head ++ lines_text es) e
     ∙ ap (λ (l : List ℕ). ledger_head ++ l) (flat_map-append line_text (entries_by ps vl_table fs) more)
     ∙ sym (append_assoc ledger_head (lines_text (entries_by ps vl_table fs)) (lines_text more))
+
+-- ---- the packets
+
+pub capture_more : (ps : Making) (vl_table : VlTable) (fs gs : List Frame) (more : List Entry) →
+    entries_by ps vl_table (fs ++ gs) ≡ entries_by ps vl_table fs ++ more → capture_by ps vl_table (fs ++ gs) ≡ capture_by ps vl_table fs ++ packets_of ps.format more
+capture_more ps vl_table fs gs more e =
+    ap (λ (es : List Entry). head_by ps.format ++ packets_of ps.format es) e
+    ∙ ap (λ (l : List ℕ). head_by ps.format ++ l) (flat_map-append (entry_packet ps.format) (entries_by ps vl_table fs) more)
+    ∙ sym (append_assoc (head_by ps.format) (packets_of ps.format (entries_by ps vl_table fs)) (packets_of ps.format more))
+
+-- the packet of one more frame
+pub packet_added : (format : Format) (fs : List Frame) (vs : List Judgement) (ks : List (Option ℕ)) (ms packets : List ℕ) (f : Frame) (v : Judgement) (k : Option ℕ) (m : ℕ) →
+    length vs ≡ length fs → length ks ≡ length fs → length ms ≡ length fs → packets ≡ packets_of format (entries_of fs vs ks ms) →
+    packets ++ entry_packet format (entry_with f v k m) ≡ packets_of format (entries_of (fs ++ f ∷ []) (vs ++ v ∷ []) (ks ++ k ∷ []) (ms ++ m ∷ []))
+packet_added format fs vs ks ms packets f v k m judged kept masked are =
+    let e = entry_with f v k m in
+    ap (λ (l : List ℕ). l ++ entry_packet format e) are
+    ∙ ap (λ (l : List ℕ). packets_of format (entries_of fs vs ks ms) ++ l) (sym (append-nil (entry_packet format e)))
+    ∙ sym (flat_map-append (entry_packet format) (entries_of fs vs ks ms) (e ∷ []))
+    ∙ ap (packets_of format) (sym (entries_append fs (f ∷ []) vs (v ∷ []) ks (k ∷ []) ms (m ∷ []) judged kept masked))
 
 -- ---- a prefix
 
@@ -104,21 +117,29 @@ verdicts_some vl_table fs (g ∷ gs) =
           ∙ ap (λ (l : List Judgement). l ++ rest.0) (verdicts-append vl_table fs g v refl) ∙ append_assoc (verdicts vl_table fs) (v ∷ []) rest.0,
     )
 
-pub capture_some : (ps : List (List Packed)) (fs gs : List Frame) (a b : Option (List ℕ)) → Appends a b (capture_by ps fs) → AppendsSome a b (capture_by ps (fs ++ gs))
-capture_some ps fs gs a b appended = some_of a b (capture_by ps fs) (packets_by ps gs) (capture_by ps (fs ++ gs)) appended (capture_more ps fs gs)
+-- further frames have further entries
+entries_some : (ps : Making) (vl_table : VlTable) (fs gs : List Frame) → (more : List Entry) × (entries_by ps vl_table (fs ++ gs) ≡ entries_by ps vl_table fs ++ more)
+entries_some ps vl_table fs gs =
+    let s = verdicts_some vl_table fs gs in
+    (entries_of gs s.0 (map (keep_by ps.filters) gs) (map (mask_by ps.filters) gs), entries_more ps vl_table fs gs s.0 s.1)
 
-pub lines_some : (ps : List (List Packed)) (vl_table : VlTable) (fs gs : List Frame) (a b : Option (List ℕ)) → Appends a b (lines_by ps vl_table fs) →
+pub capture_some : (ps : Making) (vl_table : VlTable) (fs gs : List Frame) (a b : Option (List ℕ)) → Appends a b (capture_by ps vl_table fs) →
+    AppendsSome a b (capture_by ps vl_table (fs ++ gs))
+capture_some ps vl_table fs gs a b appended =
+    let s = entries_some ps vl_table fs gs in
+    some_of a b (capture_by ps vl_table fs) (packets_of ps.format s.0) (capture_by ps vl_table (fs ++ gs)) appended (capture_more ps vl_table fs gs s.0 s.1)
+
+pub lines_some : (ps : Making) (vl_table : VlTable) (fs gs : List Frame) (a b : Option (List ℕ)) → Appends a b (lines_by ps vl_table fs) →
     AppendsSome a b (lines_by ps vl_table (fs ++ gs))
 lines_some ps vl_table fs gs a b appended =
-    let s = verdicts_some vl_table fs gs in
-    let more : List Entry = entries_of gs s.0 (map (keep_by ps) gs) (map (mask_by ps) gs) in
-    some_of a b (lines_by ps vl_table fs) (lines_text more) (lines_by ps vl_table (fs ++ gs)) appended
-    (lines_more ps vl_table fs gs more (entries_more ps vl_table fs gs s.0 s.1))
+    let s = entries_some ps vl_table fs gs in
+    some_of a b (lines_by ps vl_table fs) (lines_text s.0) (lines_by ps vl_table (fs ++ gs)) appended (lines_more ps vl_table fs gs s.0 s.1)
 
-pub capture_all : (ps : List (List Packed)) (fs : List Frame) (a b : Option (List ℕ)) → Appends a b (capture_by ps fs) → AppendsSome a b (capture_by ps fs)
-capture_all ps fs a b appended = some_of a b (capture_by ps fs) [] (capture_by ps fs) appended (sym (append-nil (capture_by ps fs)))
+pub capture_all : (ps : Making) (vl_table : VlTable) (fs : List Frame) (a b : Option (List ℕ)) → Appends a b (capture_by ps vl_table fs) →
+    AppendsSome a b (capture_by ps vl_table fs)
+capture_all ps vl_table fs a b appended = some_of a b (capture_by ps vl_table fs) [] (capture_by ps vl_table fs) appended (sym (append-nil (capture_by ps vl_table fs)))
 
-pub lines_all : (ps : List (List Packed)) (vl_table : VlTable) (fs : List Frame) (a b : Option (List ℕ)) → Appends a b (lines_by ps vl_table fs) → AppendsSome a b (lines_by ps vl_table fs)
+pub lines_all : (ps : Making) (vl_table : VlTable) (fs : List Frame) (a b : Option (List ℕ)) → Appends a b (lines_by ps vl_table fs) → AppendsSome a b (lines_by ps vl_table fs)
 lines_all ps vl_table fs a b appended = some_of a b (lines_by ps vl_table fs) [] (lines_by ps vl_table fs) appended (sym (append-nil (lines_by ps vl_table fs)))
 
 -- a prefix of a list is one of a longer list
@@ -131,36 +152,79 @@ pub some_longer : (a b : Option (List ℕ)) (bytes rest all : List ℕ) → Appe
 some_longer a b bytes rest all (n, appended) e =
     let p = prefix_of_longer n bytes rest in (p.0, subst (Appends a b) (sym (ap (take p.0) e ∙ p.1)) appended)
 
-pub capture_longer : (ps : List (List Packed)) (fs gs : List Frame) (a b : Option (List ℕ)) → AppendsSome a b (capture_by ps fs) → AppendsSome a b (capture_by ps (fs ++ gs))
-capture_longer ps fs gs a b some = some_longer a b (capture_by ps fs) (packets_by ps gs) (capture_by ps (fs ++ gs)) some (capture_more ps fs gs)
+pub capture_longer : (ps : Making) (vl_table : VlTable) (fs gs : List Frame) (a b : Option (List ℕ)) → AppendsSome a b (capture_by ps vl_table fs) →
+    AppendsSome a b (capture_by ps vl_table (fs ++ gs))
+capture_longer ps vl_table fs gs a b some =
+    let s = entries_some ps vl_table fs gs in
+    some_longer a b (capture_by ps vl_table fs) (packets_of ps.format s.0) (capture_by ps vl_table (fs ++ gs)) some (capture_more ps vl_table fs gs s.0 s.1)
 
-pub lines_longer : (ps : List (List Packed)) (vl_table : VlTable) (fs gs : List Frame) (a b : Option (List ℕ)) → AppendsSome a b (lines_by ps vl_table fs) →
+pub lines_longer : (ps : Making) (vl_table : VlTable) (fs gs : List Frame) (a b : Option (List ℕ)) → AppendsSome a b (lines_by ps vl_table fs) →
     AppendsSome a b (lines_by ps vl_table (fs ++ gs))
 lines_longer ps vl_table fs gs a b some =
-    let s = verdicts_some vl_table fs gs in
-    let more : List Entry = entries_of gs s.0 (map (keep_by ps) gs) (map (mask_by ps) gs) in
-    some_longer a b (lines_by ps vl_table fs) (lines_text more) (lines_by ps vl_table (fs ++ gs)) some
-    (lines_more ps vl_table fs gs more (entries_more ps vl_table fs gs s.0 s.1))
+    let s = entries_some ps vl_table fs gs in
+    some_longer a b (lines_by ps vl_table fs) (lines_text s.0) (lines_by ps vl_table (fs ++ gs)) some (lines_more ps vl_table fs gs s.0 s.1)
 
 -- ---- whole packets
 
 take_front : (fs gs : List Frame) → take (length fs) (fs ++ gs) ≡ fs
 take_front fs gs = take-append-le (length fs) fs gs (omega arith) ∙ take_all (length fs) fs (omega arith)
 
-pub packets_first : (ps : List (List Packed)) (fs gs : List Frame) (capture capture' : SinkView) → Appends capture.contents capture'.contents (capture_by ps fs) →
-    HasPackets ps (fs ++ gs) capture capture'
-packets_first ps fs gs capture capture' h =
-    (length fs, subst (λ (l : List Frame). Appends capture.contents capture'.contents (capture_by ps l)) (sym (take_front fs gs)) h)
+pub packets_first : (ps : Making) (vl_table : VlTable) (fs gs : List Frame) (capture capture' : SinkView) → Appends capture.contents capture'.contents (capture_by ps vl_table fs) →
+    HasPackets ps vl_table (fs ++ gs) capture capture'
+packets_first ps vl_table fs gs capture capture' h =
+    (length fs, subst (λ (l : List Frame). Appends capture.contents capture'.contents (capture_by ps vl_table l)) (sym (take_front fs gs)) h)
 
-pub packets_all : (ps : List (List Packed)) (fs : List Frame) (capture capture' : SinkView) → Appends capture.contents capture'.contents (capture_by ps fs) →
-    HasPackets ps fs capture capture'
-packets_all ps fs capture capture' h =
-    (length fs, subst (λ (l : List Frame). Appends capture.contents capture'.contents (capture_by ps l)) (sym (take_all (length fs) fs (omega arith))) h)
+pub packets_all : (ps : Making) (vl_table : VlTable) (fs : List Frame) (capture capture' : SinkView) → Appends capture.contents capture'.contents (capture_by ps vl_table fs) →
+    HasPackets ps vl_table fs capture capture'
+packets_all ps vl_table fs capture capture' h =
+    (length fs, subst (λ (l : List Frame). Appends capture.contents capture'.contents (capture_by ps vl_table l)) (sym (take_all (length fs) fs (omega arith))) h)
 
-pub packets_longer : (ps : List (List Packed)) (fs gs : List Frame) (capture capture' : SinkView) → HasPackets ps fs capture capture' → HasPackets ps (fs ++ gs) capture capture'
-packets_longer ps fs gs capture capture' (n, h) =
+pub packets_longer : (ps : Making) (vl_table : VlTable) (fs gs : List Frame) (capture capture' : SinkView) → HasPackets ps vl_table fs capture capture' → HasPackets ps vl_table (fs ++ gs) capture capture'
+packets_longer ps vl_table fs gs capture capture' (n, h) =
     let p = prefix_of_longer n fs gs in
-    (p.0, subst (λ (l : List Frame). Appends capture.contents capture'.contents (capture_by ps l)) (sym p.1) h)
+    (p.0, subst (λ (l : List Frame). Appends capture.contents capture'.contents (capture_by ps vl_table l)) (sym p.1) h)
+
+-- ---- packets before lines
+
+pub all_of : (a b : Option (List ℕ)) (bytes : List ℕ) → Appends a b bytes → AppendsAll a b bytes
+all_of a b bytes h = ([], subst (Appends a b) (sym (append-nil bytes)) h)
+
+pub all_after : (a b c : Option (List ℕ)) (bytes next : List ℕ) → Appends a b bytes → AppendsPrefix b c next → AppendsAll a c bytes
+all_after a b c bytes next first (n, within, appended) = (take n next, Appends-trans a b c bytes (take n next) first appended)
+
+-- the packets of the first frames are whole, and the lines are within theirs
+pub first_packets : (ps : Making) (vl_table : VlTable) (fs gs : List Frame) (c c' l l' : Option (List ℕ)) →
+    AppendsAll c c' (capture_by ps vl_table fs) → AppendsSome l l' (lines_by ps vl_table fs) → HasPacketsFirst ps vl_table (fs ++ gs) c c' l l'
+first_packets ps vl_table fs gs c c' l l' packets lines =
+    inr (
+      length fs,
+      subst (λ (xs : List Frame). AppendsAll c c' (capture_by ps vl_table xs)) (sym (take_front fs gs)) packets,
+      subst (λ (xs : List Frame). AppendsSome l l' (lines_by ps vl_table xs)) (sym (take_front fs gs)) lines,
+    )
+
+-- all packets are whole, and the lines are within theirs
+pub first_all : (ps : Making) (vl_table : VlTable) (fs : List Frame) (c c' l l' : Option (List ℕ)) →
+    Appends c c' (capture_by ps vl_table fs) → AppendsSome l l' (lines_by ps vl_table fs) → HasPacketsFirst ps vl_table fs c c' l l'
+first_all ps vl_table fs c c' l l' packets lines =
+    subst (λ (xs : List Frame). HasPacketsFirst ps vl_table xs c c' l l') (append-nil fs)
+    (first_packets ps vl_table fs [] c c' l l' (all_of c c' (capture_by ps vl_table fs) packets) lines)
+
+-- both have what belongs to the first frames, and no more
+pub first_whole : (ps : Making) (vl_table : VlTable) (fs gs : List Frame) (c c' l l' : Option (List ℕ)) →
+    Appends c c' (capture_by ps vl_table fs) → Appends l l' (lines_by ps vl_table fs) → HasPacketsFirst ps vl_table (fs ++ gs) c c' l l'
+first_whole ps vl_table fs gs c c' l l' packets lines =
+    first_packets ps vl_table fs gs c c' l l' (all_of c c' (capture_by ps vl_table fs) packets) (lines_all ps vl_table fs l l' lines)
+
+pub first_longer : (ps : Making) (vl_table : VlTable) (fs gs : List Frame) (c c' l l' : Option (List ℕ)) →
+    HasPacketsFirst ps vl_table fs c c' l l' → HasPacketsFirst ps vl_table (fs ++ gs) c c' l l'
+first_longer ps vl_table fs gs c c' l l' (inl none) = inl none
+first_longer ps vl_table fs gs c c' l l' (inr (m, packets, lines)) =
+    let p = prefix_of_longer m fs gs in
+    inr (
+      p.0,
+      subst (λ (xs : List Frame). AppendsAll c c' (capture_by ps vl_table xs)) (sym p.1) packets,
+      subst (λ (xs : List Frame). AppendsSome l l' (lines_by ps vl_table xs)) (sym p.1) lines,
+    )
 
 -- what always holds, where the ledger can't be written
 pub where_ledger : (P : Type 0) (fault : WatchFault) → P → WhereLedgerFailed fault P
@@ -194,19 +258,25 @@ zipped_length (f ∷ fs) (x ∷ vs) [] ms v k m = absurd (omega (arith, k))
 zipped_length (f ∷ fs) (x ∷ vs) (y ∷ ks) [] v k m = absurd (omega (arith, m))
 zipped_length (f ∷ fs) (x ∷ vs) (y ∷ ks) (z ∷ ms) v k m = ap suc (zipped_length fs vs ks ms (omega (arith, v)) (omega (arith, k)) (omega (arith, m)))
 
-pub entries_length : (ps : List (List Packed)) (vl_table : VlTable) (fs : List Frame) → length (entries_by ps vl_table fs) ≡ length fs
+pub entries_length : (ps : Making) (vl_table : VlTable) (fs : List Frame) → length (entries_by ps vl_table fs) ≡ length fs
 entries_length ps vl_table fs =
-    zipped_length fs (verdicts vl_table fs) (map (keep_by ps) fs) (map (mask_by ps) fs) (verdicts_length vl_table fs) (length-map fs (keep_by ps)) (length-map fs (mask_by ps))
+    zipped_length fs (verdicts vl_table fs) (map (keep_by ps.filters) fs) (map (mask_by ps.filters) fs) (verdicts_length vl_table fs) (length-map fs (keep_by ps.filters)) (length-map fs (mask_by ps.filters))
 
 -- the entries of a round, by what was said of it
-pub entries_told : (ps : List (List Packed)) (vl_table : VlTable) (fs gs : List Frame) (said vs : List Judgement) (ks : List (Option ℕ)) (ms : List ℕ) →
-    verdicts vl_table (fs ++ gs) ≡ verdicts vl_table fs ++ said → vs ≡ said → ks ≡ map (keep_by ps) gs → ms ≡ map (mask_by ps) gs →
+pub entries_told : (ps : Making) (vl_table : VlTable) (fs gs : List Frame) (said vs : List Judgement) (ks : List (Option ℕ)) (ms : List ℕ) →
+    verdicts vl_table (fs ++ gs) ≡ verdicts vl_table fs ++ said → vs ≡ said → ks ≡ map (keep_by ps.filters) gs → ms ≡ map (mask_by ps.filters) gs →
     entries_by ps vl_table (fs ++ gs) ≡ entries_by ps vl_table fs ++ entries_of gs vs ks ms
 entries_told ps vl_table fs gs said vs ks ms e is_vs is_ks is_ms =
     entries_more ps vl_table fs gs said e
-    ∙ ap (λ (l : List Judgement). entries_by ps vl_table fs ++ entries_of gs l (map (keep_by ps) gs) (map (mask_by ps) gs)) (sym is_vs)
-    ∙ ap (λ (l : List (Option ℕ)). entries_by ps vl_table fs ++ entries_of gs vs l (map (mask_by ps) gs)) (sym is_ks)
+    ∙ ap (λ (l : List Judgement). entries_by ps vl_table fs ++ entries_of gs l (map (keep_by ps.filters) gs) (map (mask_by ps.filters) gs)) (sym is_vs)
+    ∙ ap (λ (l : List (Option ℕ)). entries_by ps vl_table fs ++ entries_of gs vs l (map (mask_by ps.filters) gs)) (sym is_ks)
     ∙ ap (λ (l : List ℕ). entries_by ps vl_table fs ++ entries_of gs vs ks l) (sym is_ms)
+
+-- the entries of a round, by what is written of it
+pub round_told : (ps : Making) (vl_table : VlTable) (fs gs : List Frame) (vs : List Judgement) (entries : Entries) → AreVerdicts vl_table fs gs vs → AreEntries ps gs vs entries →
+    entries_by ps vl_table (fs ++ gs) ≡ entries_by ps vl_table fs ++ entries_of gs vs entries.keeps.items entries.masks.items
+round_told ps vl_table fs gs vs entries said are =
+    entries_told ps vl_table fs gs vs vs entries.keeps.items entries.masks.items said refl are.keeps_are are.masks_are
 
 pub ledger_stops : (fault : LedgerFault) (a b d : Option (List ℕ)) (front next all : List ℕ) (c c' l before after : ℕ) → Appends a b front → all ≡ front ++ next →
     c' ≡ c → before ≡ l → IsAppended (Some fault) b d before after next → AppendsSome a d all × SinkFails (ledger_fault fault) c c' l after
@@ -217,15 +287,19 @@ ledger_stops ledger_faults.Memory a b d front next all c c' l before after first
 ledger_stops ledger_faults.Failed a b d front next all c c' l before after first e same is wrong = absurd wrong
 
 -- the packets of further frames, whole or in part
-pub packets_whole : (ps : List (List Packed)) (fs gs : List Frame) (a b c : Option (List ℕ)) (packets : List ℕ) → packets ≡ packets_by ps gs →
-    Appends a b (capture_by ps fs) → Appends b c packets → Appends a c (capture_by ps (fs ++ gs))
-packets_whole ps fs gs a b c packets are first more =
-    subst (Appends a c) (ap (λ (l : List ℕ). capture_by ps fs ++ l) are ∙ sym (capture_more ps fs gs)) (Appends-trans a b c (capture_by ps fs) packets first more)
+pub packets_whole : (ps : Making) (vl_table : VlTable) (fs gs : List Frame) (more : List Entry) (a b c : Option (List ℕ)) (packets : List ℕ) →
+    entries_by ps vl_table (fs ++ gs) ≡ entries_by ps vl_table fs ++ more → packets ≡ packets_of ps.format more →
+    Appends a b (capture_by ps vl_table fs) → Appends b c packets → Appends a c (capture_by ps vl_table (fs ++ gs))
+packets_whole ps vl_table fs gs more a b c packets told are first next =
+    subst (Appends a c) (ap (λ (l : List ℕ). capture_by ps vl_table fs ++ l) are ∙ sym (capture_more ps vl_table fs gs more told))
+    (Appends-trans a b c (capture_by ps vl_table fs) packets first next)
 
-pub packets_some : (ps : List (List Packed)) (fs gs : List Frame) (a b c : Option (List ℕ)) (packets : List ℕ) → packets ≡ packets_by ps gs →
-    Appends a b (capture_by ps fs) → AppendsPrefix b c packets → AppendsSome a c (capture_by ps (fs ++ gs))
-packets_some ps fs gs a b c packets are first more =
-    some_after a b c (capture_by ps fs) packets _ first more (capture_more ps fs gs ∙ ap (λ (l : List ℕ). capture_by ps fs ++ l) (sym are))
+pub packets_some : (ps : Making) (vl_table : VlTable) (fs gs : List Frame) (more : List Entry) (a b c : Option (List ℕ)) (packets : List ℕ) →
+    entries_by ps vl_table (fs ++ gs) ≡ entries_by ps vl_table fs ++ more → packets ≡ packets_of ps.format more →
+    Appends a b (capture_by ps vl_table fs) → AppendsPrefix b c packets → AppendsSome a c (capture_by ps vl_table (fs ++ gs))
+packets_some ps vl_table fs gs more a b c packets told are first next =
+    some_after a b c (capture_by ps vl_table fs) packets _ first next
+    (capture_more ps vl_table fs gs more told ∙ ap (λ (l : List ℕ). capture_by ps vl_table fs ++ l) (sym are))
 
 -- a fault of a pool leaves what no memory leaves
 pub no_sink_fails : (fault : WatchFault) (c c' l l' : ℕ) → (fault ≡ watch.Memory) ⊎ (fault ≡ watch.RingLost) → c' ≡ c → l' ≡ l → SinkFails (effect_of fault) c c' l l'
@@ -234,7 +308,7 @@ no_sink_fails fault c c' l l' is same also = elim is [
   | inr e ↦ subst (λ (f : WatchFault). SinkFails (effect_of f) c c' l l') (sym e) (same, also)
 ]
 
-pub same_effect : (fault : WatchFault) (ps : List (List Packed)) (vl_table : VlTable) (capture ledger capture' ledger' : SinkView) (frames : List Frame) →
+pub same_effect : (fault : WatchFault) (ps : Making) (vl_table : VlTable) (capture ledger capture' ledger' : SinkView) (frames : List Frame) →
     StopsWriting fault ps vl_table capture ledger capture' ledger' frames → StopsWriting (effect_of fault) ps vl_table capture ledger capture' ledger' frames
 same_effect watch.Memory ps vl_table capture ledger capture' ledger' frames s = s
 same_effect (watch.Write out) ps vl_table capture ledger capture' ledger' frames s = s

@@ -1,9 +1,8 @@
 -- What is written of frames.
 use Rattle.std.specs.Prelude.{◌≡◌, List, [], ◌++◌, map}
 use Rattle.afdx_frame.specs.Frame.{Frame}
-use Rattle.bpf_isa.specs.declared.packed.Packed.{Packed}
+use Rattle.round_output.specs.Filters.{Making, keep_by, packets_of}
 use Rattle.filter_workers.specs.Filters.{mask_by}
-use Rattle.round_output.specs.Filters.{keep_by, packets_by}
 use Rattle.round_output.specs.declared.entries.Entries.{Entries}
 use Rattle.verdict_ledger.specs.Entry.{entries_of}
 use Rattle.verdict_ledger.specs.Text.{lines_text}
@@ -23,10 +22,10 @@ pub record AreNone (entries : Entries) : Type 0 where
   pub lines_are : entries.lines.items ≡ []
 
 -- what is written of these frames, of which these are the verdicts
-pub record AreEntries (ps : List (List Packed)) (frames : List Frame) (verdicts : List Judgement) (entries : Entries) : Type 0 where
-  pub keeps_are : entries.keeps.items ≡ map (keep_by ps) frames
-  pub masks_are : entries.masks.items ≡ map (mask_by ps) frames
-  pub packets_are : entries.packets.items ≡ packets_by ps frames
+pub record AreEntries (ps : Making) (frames : List Frame) (verdicts : List Judgement) (entries : Entries) : Type 0 where
+  pub keeps_are : entries.keeps.items ≡ map (keep_by ps.filters) frames
+  pub masks_are : entries.masks.items ≡ map (mask_by ps.filters) frames
+  pub packets_are : entries.packets.items ≡ packets_of ps.format (entries_of frames verdicts entries.keeps.items entries.masks.items)
   pub lines_are : entries.lines.items ≡ lines_text (entries_of frames verdicts entries.keeps.items entries.masks.items)
 
 -- the first ones, and then more

@@ -1,6 +1,6 @@
 -- How many filters and workers a run has (this project's profile).
-use Rattle.std.specs.Prelude.{ℕ, ◌≤◌, List, length}
-use Rattle.bpf_isa.specs.declared.packed.Packed.{Packed}
+use Rattle.std.specs.Prelude.{ℕ, ◌≤◌, length}
+use Rattle.round_output.specs.Filters.{Making}
 use Rattle.filter_workers.specs.declared.decision.TheConstants.{MAX_FILTERS}
 use Rattle.filter_workers.specs.declared.round.TheConstants.{MAX_WORKERS}
 
@@ -12,5 +12,5 @@ abbrev pub IsWorkerCount : ℕ → Type 0
 IsWorkerCount n = (1 ≤ n) × (n ≤ MAX_WORKERS)
 
 -- 1 to 8 filters run on 1 to 8 workers
-abbrev pub CanRun : List (List Packed) → ℕ → Type 0
-CanRun ps workers = IsFilterCount (length ps) × IsWorkerCount workers
+abbrev pub CanRun : Making → ℕ → Type 0
+CanRun ps workers = IsFilterCount (length ps.filters) × IsWorkerCount workers

@@ -4,18 +4,19 @@ ghost use Rattle.std.specs.Prelude.{◌≡◌, ◌≤◌, ◌++◌, ◌∷◌, [
 ghost use Rattle.filter_workers.specs.Filters.{mask_by};
 ghost use Rattle.filter_workers.specs.declared.decision.TheConstants.{MAX_FILTERS};
 ghost use Rattle.round_output.specs.Entries.{AreEntries, AreJoined, AreNone};
-ghost use Rattle.round_output.specs.Filters.{keep_by, keep_of, kept_record, packets_by};
+ghost use Rattle.round_output.specs.Filters.{entry_packet, keep_by, keep_of, making_of, packets_of};
+ghost use Rattle.verdict_ledger.specs.Entry.{entries_of, entry_with};
 
+use crate::plan::Plan;
 use afdx_frame::TapFrame;
-use bpf_loader::Program;
 use filter_workers::filter_frame;
-use pcap_io::append_packet;
+use ledger_text::FrameLine;
 use std::alloc::{AllocError, Global};
 use verdict_ledger::append_lines;
 use vl_judge::Verdict;
 
 /// What is written of frames, in their order.
-#[derive(Debug, Drop)]
+#[derive(Drop)]
 pub struct Entries {
     /// How many bytes are kept of each frame. None: it is rejected.
     pub keeps: Vec<Option<u32>>,
@@ -25,6 +26,8 @@ pub struct Entries {
     pub packets: Vec<u8>,
     /// The lines of all frames.
     pub lines: Vec<u8>,
+    /// Memory for the comment of a packet.
+    pub comment: Vec<u8>,
 }
 
 /// How many bytes are kept of a frame, by the greatest return value. None: it is rejected.
@@ -48,6 +51,7 @@ impl Entries {
             masks: Vec::new(alloc),
             packets: Vec::new(alloc),
             lines: Vec::new(alloc),
+            comment: Vec::new(alloc),
         }
     }
 
@@ -63,37 +67,58 @@ impl Entries {
 
     /// Runs the filters on a frame, and adds what they say of it and its packet.
     #[inline]
-    fn add_frame(&mut self, programs: &[Program], frame: &TapFrame) -> Result<(), AllocError>
-        requires { length programs.now ≤ MAX_FILTERS }
+    fn add_frame(
+        &mut self,
+        plan: &Plan<'_>,
+        frame: &TapFrame,
+        verdict: &Verdict,
+    ) -> Result<(), AllocError>
+        requires { length plan.now.programs.now ≤ MAX_FILTERS }
         ensures keeps { OnOk result (self.new.keeps.items
-            ≡ self.old.keeps.items ++ keep_by programs.now frame.now ∷ []) }
+            ≡ self.old.keeps.items ++ keep_by plan.now.programs.now frame.now ∷ []) }
         ensures masks { OnOk result (self.new.masks.items
-            ≡ self.old.masks.items ++ mask_by programs.now frame.now ∷ []) }
-        ensures packets { OnOk result (self.new.packets.items
-            ≡ self.old.packets.items ++ kept_record frame.now (keep_by programs.now frame.now)) }
+            ≡ self.old.masks.items ++ mask_by plan.now.programs.now frame.now ∷ []) }
+        ensures packets { OnOk result (self.new.packets.items ≡ self.old.packets.items
+            ++ entry_packet (making_of plan.now).format (entry_with frame.now verdict.now
+            (keep_by plan.now.programs.now frame.now) (mask_by plan.now.programs.now frame.now))) }
         ensures lines { self.new.lines ≡ self.old.lines }
     {
-        let decision = filter_frame(programs, frame);
+        let decision = filter_frame(plan.programs, frame);
         let keep = keep_of(decision.answer, frame);
         self.keeps.push(keep)?;
         self.masks.push(decision.mask)?;
-        match keep {
-            Some(keep) => append_packet(&mut self.packets, frame, keep),
-            None => Ok(()),
-        }
+        let Some(kept) = keep else {
+            return Ok(());
+        };
+        let frame = frame.lent();
+        let line = FrameLine::of(&frame, verdict, keep, decision.mask);
+        let Entries {
+            packets,
+            comment,
+            ..
+        } = self;
+        plan.format
+            .append_packet(packets, comment, &frame, kept, Some(&line))
     }
 
     /// Runs the filters on frames, and adds what they say of them and their packets.
-    fn add_frames(&mut self, programs: &[Program], frames: &[TapFrame]) -> Result<(), AllocError>
-        requires few { length programs.now ≤ MAX_FILTERS }
+    fn add_frames(
+        &mut self,
+        plan: &Plan<'_>,
+        frames: &[TapFrame],
+        verdicts: &[Verdict],
+    ) -> Result<(), AllocError>
+        requires few { length plan.now.programs.now ≤ MAX_FILTERS }
+        requires verdicts { length verdicts.now ≡ length frames.now }
         requires none { AreNone self.old }
-        ensures keeps { OnOk result (self.new.keeps.items ≡ map (keep_by programs.now) frames.now) }
-        ensures masks { OnOk result (self.new.masks.items ≡ map (mask_by programs.now) frames.now) }
-        ensures packets { OnOk result (self.new.packets.items ≡ packets_by programs.now frames.now) }
+        ensures keeps { OnOk result (self.new.keeps.items ≡ map (keep_by plan.now.programs.now) frames.now) }
+        ensures masks { OnOk result (self.new.masks.items ≡ map (mask_by plan.now.programs.now) frames.now) }
+        ensures packets { OnOk result (self.new.packets.items ≡ packets_of (making_of plan.now).format
+            (entries_of frames.now verdicts.now self.new.keeps.items self.new.masks.items)) }
         ensures lines { self.new.lines ≡ self.old.lines }
     {
-        for frame in frames {
-            self.add_frame(programs, frame)?;
+        for index in 0..frames.len() {
+            self.add_frame(plan, &frames[index], &verdicts[index])?;
         }
         Ok(())
     }
@@ -105,16 +130,16 @@ impl Entries {
     /// There is no memory for it.
     pub fn fill(
         &mut self,
-        programs: &[Program],
+        plan: &Plan<'_>,
         frames: &[TapFrame],
         verdicts: &[Verdict],
     ) -> Result<(), AllocError>
-        requires few { length programs.now ≤ MAX_FILTERS }
+        requires few { length plan.now.programs.now ≤ MAX_FILTERS }
         requires verdicts { length verdicts.now ≡ length frames.now }
-        ensures { OnOk result (AreEntries programs.now frames.now verdicts.now self.new) }
+        ensures { OnOk result (AreEntries (making_of plan.now) frames.now verdicts.now self.new) }
     {
         self.clear();
-        self.add_frames(programs, frames)?;
+        self.add_frames(plan, frames, verdicts)?;
         append_lines(&mut self.lines, frames, verdicts, &self.keeps, &self.masks)
     }
 

@@ -3,9 +3,13 @@
 #![tactic(auto)]
 
 mod entries;
+mod laws;
 mod outputs;
+mod plan;
 mod shared;
 
 pub use entries::Entries;
+pub use laws::pcap_has_accepted_frames;
 pub use outputs::{Outputs, Unwritten};
+pub use plan::Plan;
 pub use shared::{ChunkEntries, Formatting, JudgedRound};

@@ -1,11 +1,12 @@
 //! The outputs of a run: the capture and the ledger of rounds of frames.
 ghost use Rattle.std.specs.Prelude.{◌≡◌, ◌⊎◌, ◌+◌, ◌≤◌, ◌++◌, [], List, None, length, IfErr, IfOk, IfSome, OnOk, false};
 ghost use Rattle.afdx_frame.specs.Frame.{Frame};
-ghost use Rattle.bpf_isa.specs.declared.packed.Packed.{Packed};
 ghost use Rattle.filter_workers.specs.declared.decision.TheConstants.{MAX_FILTERS};
+ghost use Rattle.packet_format.specs.Packets.{format_of, head_by};
 ghost use Rattle.pcap_io.specs.Device.{Writes};
 ghost use Rattle.pcap_io.specs.Writer.{has_failed, sink_of};
 ghost use Rattle.round_output.specs.Entries.{AreEntries, AreVerdicts};
+ghost use Rattle.round_output.specs.Filters.{Making, making_of};
 ghost use Rattle.round_output.specs.Outputs.{HasShared, HasWritten, IsFinished, StopsFinishing, StopsWriting, effect_of, frames_at, ledger_fault, outputs_of};
 ghost use Rattle.run_outcome.specs.Device.{SinkView, sink_at};
 ghost use Rattle.verdict_ledger.specs.Ledger.{has_failed as ledger_has_failed, totals_in};
@@ -15,10 +16,11 @@ ghost use Rattle.vl_config.specs.Document.{VlTable};
 ghost use Rattle.vl_judge.specs.Lanes.{FollowsOn, LanesState, StandsAfter};
 
 use crate::entries::Entries;
+use crate::plan::Plan;
 use crate::shared::{Formatting, JudgedRound};
 use afdx_frame::TapFrame;
-use bpf_loader::Program;
 use filter_workers::RunGate;
+use packet_format::PacketFormat;
 use pcap_io::{CaptureWriter, Ending, OutSink};
 use run_outcome::{CAPTURE_FAILED, Output, WatchFault};
 use std::alloc::{AllocError, Global};
@@ -53,11 +55,11 @@ fn write_entries<W: OutSink, L: OutSink>(
     entries: &Entries,
 ) -> Result<(), WatchFault>
     requires verdicts { length verdicts.now ≡ length round.now }
-    requires entries { (ps : List (List Packed)) × AreEntries ps round.now verdicts.now entries.now }
+    requires entries { (ps : Making) × AreEntries ps round.now verdicts.now entries.now }
     requires room { (totals_in ledger.old).frames + length round.now ≤ MAX_LINES }
     requires capture_going { has_failed capture.old ≡ false }
     requires ledger_going { ledger_has_failed ledger.old ≡ false }
-    ensures written { OnOk result ((ps : List (List Packed)) (vl_table : VlTable)
+    ensures written { OnOk result ((ps : Making) (vl_table : VlTable)
         (capture_view ledger_view : SinkView) (frames : List Frame) (before after : LanesState)
         → HasWritten W.OutSink L.OutSink
         ps vl_table capture_view ledger_view frames (outputs_of before capture.old ledger.old)
@@ -69,7 +71,7 @@ fn write_entries<W: OutSink, L: OutSink>(
         (outputs_of after capture.new ledger.new)) }
     ensures capture_going { OnOk result (has_failed capture.new ≡ false) }
     ensures ledger_going { OnOk result (ledger_has_failed ledger.new ≡ false) }
-    ensures stopped { IfErr result (λ fault. (ps : List (List Packed)) (vl_table : VlTable)
+    ensures stopped { IfErr result (λ fault. (ps : Making) (vl_table : VlTable)
         (capture_view ledger_view : SinkView) (frames : List Frame) (before : LanesState)
         → HasWritten W.OutSink L.OutSink
         ps vl_table capture_view ledger_view frames (outputs_of before capture.old ledger.old)
@@ -90,6 +92,21 @@ fn write_entries<W: OutSink, L: OutSink>(
         Ok(()) => Ok(()),
         Err(fault) => Err(fault_of_ledger(fault)),
     }
+}
+
+/// The lanes of a table, and what a capture begins with.
+fn lanes_and_head(
+    alloc: Global,
+    config: &Config,
+    format: PacketFormat<'_>,
+) -> Result<(Lanes, Vec<u8>), AllocError>
+    ensures lanes { IfOk result (λ made. StandsAfter made.0 config.now []) }
+    ensures head { IfOk result (λ made. made.1.items ≡ head_by (format_of format.entry)) }
+{
+    let lanes = Lanes::new(alloc, config)?;
+    let mut head = Vec::new(alloc);
+    format.append_head(&mut head)?;
+    Ok((lanes, head))
 }
 
 /// The lanes, the capture and the ledger of a run.
@@ -125,7 +142,7 @@ fn gather<'a, R: Wait, G: RunGate + Sync>(
 ) -> Result<JudgedRound, WatchFault>
     ensures pool { pool.new ≡ pool.old }
     ensures round { IfOk result (λ back. back ≡ flight.entry.round) }
-    ensures entries { OnOk result (AreEntries flight.entry.task.programs.now
+    ensures entries { OnOk result (AreEntries (making_of flight.entry.task.plan)
         flight.entry.round.frames.items flight.entry.round.verdicts.items entries.new) }
     ensures fault { IfErr result (λ fault. (fault ≡ WatchFault.Memory) ⊎ (fault ≡ WatchFault.RingLost)) }
 {
@@ -158,12 +175,12 @@ fn write_flight<'a, R: Wait, W: OutSink, L: OutSink, G: RunGate + Sync>(
     ensures written { OnOk result ((vl_table : VlTable)
         (capture_view ledger_view : SinkView) (frames : List Frame) (before after : LanesState)
         → HasWritten W.OutSink L.OutSink
-        flight.entry.task.programs.now vl_table capture_view ledger_view frames
+        (making_of flight.entry.task.plan) vl_table capture_view ledger_view frames
         (outputs_of before capture.old ledger.old)
         → AreVerdicts vl_table frames flight.entry.round.frames.items flight.entry.round.verdicts.items
         → StandsAfter after vl_table (frames ++ flight.entry.round.frames.items)
         → HasWritten W.OutSink L.OutSink
-        flight.entry.task.programs.now vl_table capture_view ledger_view
+        (making_of flight.entry.task.plan) vl_table capture_view ledger_view
         (frames ++ flight.entry.round.frames.items)
         (outputs_of after capture.new ledger.new)) }
     ensures capture_going { OnOk result (has_failed capture.new ≡ false) }
@@ -171,10 +188,10 @@ fn write_flight<'a, R: Wait, W: OutSink, L: OutSink, G: RunGate + Sync>(
     ensures stopped { IfErr result (λ fault. (vl_table : VlTable)
         (capture_view ledger_view : SinkView) (frames : List Frame) (before : LanesState)
         → HasWritten W.OutSink L.OutSink
-        flight.entry.task.programs.now vl_table capture_view ledger_view frames
+        (making_of flight.entry.task.plan) vl_table capture_view ledger_view frames
         (outputs_of before capture.old ledger.old)
         → AreVerdicts vl_table frames flight.entry.round.frames.items flight.entry.round.verdicts.items
-        → StopsWriting (effect_of fault) flight.entry.task.programs.now vl_table capture_view ledger_view
+        → StopsWriting (effect_of fault) (making_of flight.entry.task.plan) vl_table capture_view ledger_view
         (sink_at W.OutSink (sink_of capture.new))
         (sink_at L.OutSink (ledger_sink ledger.new)) (frames ++ flight.entry.round.frames.items)) }
 {
@@ -217,31 +234,28 @@ impl<W: OutSink, L: OutSink> Unwritten<W, L> {
 }
 
 impl<W: OutSink, L: OutSink> Outputs<W, L> {
-    /// Begins the capture, and then the ledger of a table, for 1 to 8 filters. A refusal gives both
-    /// sinks back.
+    /// Begins the capture, and then the ledger of a table, for the 1 to 8 filters of a plan. A refusal gives
+    /// both sinks back.
     pub fn begin(
         alloc: Global,
         config: &Config,
-        filters: u32,
+        plan: &Plan<'_>,
         capture: W,
         ledger: L,
     ) -> Result<Outputs<W, L>, Unwritten<W, L>>
-        requires some { 1 ≤ filters }
-        requires few { filters ≤ MAX_FILTERS }
-        ensures written { IfOk result (λ outputs. (ps : List (List Packed)) → length ps ≡ filters
-            → HasWritten W.OutSink L.OutSink ps config.now
-            (sink_at W.OutSink capture) (sink_at L.OutSink ledger)
-            [] outputs) }
+        requires some { 1 ≤ length plan.now.programs.now }
+        requires few { length plan.now.programs.now ≤ MAX_FILTERS }
+        ensures written { IfOk result (HasWritten W.OutSink L.OutSink (making_of plan.now) config.now
+            (sink_at W.OutSink capture) (sink_at L.OutSink ledger) []) }
         ensures capture_going { IfOk result (λ outputs. has_failed outputs.capture ≡ false) }
         ensures ledger_going { IfOk result (λ outputs. ledger_has_failed outputs.ledger ≡ false) }
-        ensures stopped { IfErr result (λ e. (ps : List (List Packed))
-            → StopsWriting e.fault ps config.now
+        ensures stopped { IfErr result (λ e. StopsWriting e.fault (making_of plan.now) config.now
             (sink_at W.OutSink capture) (sink_at L.OutSink ledger)
             (sink_at W.OutSink e.capture)
             (sink_at L.OutSink e.ledger) []) }
     {
-        let lanes = match Lanes::new(alloc, config) {
-            Ok(lanes) => lanes,
+        let (lanes, head) = match lanes_and_head(alloc, config, plan.format) {
+            Ok(made) => made,
             Err(AllocError) => {
                 return Err(Unwritten {
                     fault: WatchFault::Memory,
@@ -250,7 +264,7 @@ impl<W: OutSink, L: OutSink> Outputs<W, L> {
                 });
             }
         };
-        let capture = match CaptureWriter::begin(capture) {
+        let capture = match CaptureWriter::begin_with(capture, &head) {
             Ok(writer) => writer,
             Err(capture) => {
                 return Err(Unwritten {
@@ -260,7 +274,7 @@ impl<W: OutSink, L: OutSink> Outputs<W, L> {
                 });
             }
         };
-        match Ledger::begin(alloc, config, filters, ledger) {
+        match Ledger::begin(alloc, config, plan.programs.len() as u32, ledger) {
             Ok(ledger) => Ok(Outputs {
                 lanes,
                 capture,
@@ -277,13 +291,13 @@ impl<W: OutSink, L: OutSink> Outputs<W, L> {
     /// Writes the rest of the ledger, by how both recordings ended, and gives the sinks and the counts.
     pub fn finish(self, a: Ending, b: Ending) -> Result<(W, L, Totals), Unwritten<W, L>>
         requires going { ledger_has_failed self.ledger ≡ false }
-        ensures finished { IfOk result (λ done. (ps : List (List Packed)) (vl_table : VlTable)
+        ensures finished { IfOk result (λ done. (ps : Making) (vl_table : VlTable)
             (capture ledger : SinkView) (frames : List Frame)
             → HasWritten W.OutSink L.OutSink
             ps vl_table capture ledger frames self
             → IsFinished ps vl_table capture ledger (sink_at W.OutSink done.0)
             (sink_at L.OutSink done.1) frames a b done.2) }
-        ensures stopped { IfErr result (λ e. (ps : List (List Packed)) (vl_table : VlTable)
+        ensures stopped { IfErr result (λ e. (ps : Making) (vl_table : VlTable)
             (capture ledger : SinkView) (frames : List Frame)
             → HasWritten W.OutSink L.OutSink
             ps vl_table capture ledger frames self
@@ -339,11 +353,11 @@ impl<W: OutSink, L: OutSink> Outputs<W, L> {
     /// their lines, by the memory of an earlier round's.
     pub fn write_round(
         &mut self,
-        programs: &[Program],
+        plan: &Plan<'_>,
         round: &[TapFrame],
         entries: &mut Entries,
     ) -> Result<(), WatchFault>
-        requires few { length programs.now ≤ MAX_FILTERS }
+        requires few { length plan.now.programs.now ≤ MAX_FILTERS }
         requires follows { FollowsOn self.old.lanes.last round.now }
         requires room { (totals_in self.old.ledger).frames + length round.now ≤ MAX_LINES }
         requires capture_going { has_failed self.old.capture ≡ false }
@@ -351,22 +365,22 @@ impl<W: OutSink, L: OutSink> Outputs<W, L> {
         ensures written { OnOk result ((vl_table : VlTable) (capture ledger : SinkView)
             (frames : List Frame)
             → HasWritten W.OutSink L.OutSink
-            programs.now vl_table capture ledger frames self.old
+            (making_of plan.now) vl_table capture ledger frames self.old
             → HasWritten W.OutSink L.OutSink
-            programs.now vl_table capture ledger (frames ++ round.now) self.new) }
+            (making_of plan.now) vl_table capture ledger (frames ++ round.now) self.new) }
         ensures capture_going { OnOk result (has_failed self.new.capture ≡ false) }
         ensures ledger_going { OnOk result (ledger_has_failed self.new.ledger ≡ false) }
         ensures stopped { IfErr result (λ fault. (vl_table : VlTable) (capture ledger : SinkView)
             (frames : List Frame)
             → HasWritten W.OutSink L.OutSink
-            programs.now vl_table capture ledger frames self.old
-            → StopsWriting fault programs.now vl_table capture ledger
+            (making_of plan.now) vl_table capture ledger frames self.old
+            → StopsWriting fault (making_of plan.now) vl_table capture ledger
             (sink_at W.OutSink (sink_of self.new.capture))
             (sink_at L.OutSink (ledger_sink self.new.ledger))
             (frames ++ round.now)) }
     {
         let verdicts = self.lanes.judge_frames(round)?;
-        entries.fill(programs, round, &verdicts)?;
+        entries.fill(plan, round, &verdicts)?;
         write_entries(
             &mut self.capture,
             &mut self.ledger,
@@ -400,16 +414,16 @@ impl<W: OutSink, L: OutSink> Outputs<W, L> {
         ensures written { OnOk result ((vl_table : VlTable) (capture ledger : SinkView)
             (frames : List Frame)
             → HasShared W.OutSink L.OutSink
-            pool.old.task.programs.now vl_table capture ledger frames self.old flight.old
+            (making_of pool.old.task.plan) vl_table capture ledger frames self.old flight.old
             → HasShared W.OutSink L.OutSink
-            pool.old.task.programs.now vl_table capture ledger (frames ++ round.items) self.new flight.new) }
+            (making_of pool.old.task.plan) vl_table capture ledger (frames ++ round.items) self.new flight.new) }
         ensures capture_going { OnOk result (has_failed self.new.capture ≡ false) }
         ensures ledger_going { OnOk result (ledger_has_failed self.new.ledger ≡ false) }
         ensures stopped { IfErr result (λ fault. (vl_table : VlTable) (capture ledger : SinkView)
             (frames : List Frame)
             → HasShared W.OutSink L.OutSink
-            pool.old.task.programs.now vl_table capture ledger frames self.old flight.old
-            → StopsWriting (effect_of fault) pool.old.task.programs.now vl_table capture ledger
+            (making_of pool.old.task.plan) vl_table capture ledger frames self.old flight.old
+            → StopsWriting (effect_of fault) (making_of pool.old.task.plan) vl_table capture ledger
             (sink_at W.OutSink (sink_of self.new.capture))
             (sink_at L.OutSink (ledger_sink self.new.ledger))
             (frames ++ round.items)) }
@@ -451,19 +465,19 @@ impl<W: OutSink, L: OutSink> Outputs<W, L> {
         ensures written { OnOk result ((vl_table : VlTable) (capture ledger : SinkView)
             (frames : List Frame) (after : LanesState)
             → HasShared W.OutSink L.OutSink
-            pool.old.task.programs.now vl_table capture ledger frames
+            (making_of pool.old.task.plan) vl_table capture ledger frames
             (outputs_of after self.old.capture self.old.ledger) flight.old
             → HasWritten W.OutSink L.OutSink
-            pool.old.task.programs.now vl_table capture ledger frames
+            (making_of pool.old.task.plan) vl_table capture ledger frames
             (outputs_of after self.new.capture self.new.ledger)) }
         ensures capture_going { OnOk result (has_failed self.new.capture ≡ false) }
         ensures ledger_going { OnOk result (ledger_has_failed self.new.ledger ≡ false) }
         ensures stopped { IfErr result (λ fault. (vl_table : VlTable) (capture ledger : SinkView)
             (frames : List Frame) (after : LanesState)
             → HasShared W.OutSink L.OutSink
-            pool.old.task.programs.now vl_table capture ledger frames
+            (making_of pool.old.task.plan) vl_table capture ledger frames
             (outputs_of after self.old.capture self.old.ledger) flight.old
-            → StopsWriting (effect_of fault) pool.old.task.programs.now vl_table capture ledger
+            → StopsWriting (effect_of fault) (making_of pool.old.task.plan) vl_table capture ledger
             (sink_at W.OutSink (sink_of self.new.capture))
             (sink_at L.OutSink (ledger_sink self.new.ledger)) frames) }
     {

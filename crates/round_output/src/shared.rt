@@ -1,22 +1,22 @@
 //! A round whose chunks are filtered and formatted by the workers of a pool.
 ghost use Rattle.std.specs.Prelude.{◌≡◌, ◌≤◌, ℕ, List, length, OnOk};
 ghost use Rattle.afdx_frame.specs.Frame.{Frame};
-ghost use Rattle.bpf_isa.specs.declared.packed.Packed.{Packed};
 ghost use Rattle.filter_workers.specs.declared.decision.TheConstants.{MAX_FILTERS};
 ghost use Rattle.round_output.specs.Entries.{AreEntries};
+ghost use Rattle.round_output.specs.Filters.{Making, making_of};
 ghost use Rattle.round_output.specs.Shared.{AreChunks};
 ghost use Rattle.vl_judge.specs.Judgement.{Judgement};
 
 use crate::entries::Entries;
+use crate::plan::Plan;
 use afdx_frame::TapFrame;
-use bpf_loader::Program;
 use filter_workers::RunGate;
 use std::alloc::{AllocError, Global};
 use vl_judge::Verdict;
 use worker_pool::Task;
 
 /// A round of frames with their verdicts.
-#[derive(Debug, Drop)]
+#[derive(Drop)]
 pub struct JudgedRound {
     pub frames: Vec<TapFrame>,
     pub verdicts: Vec<Verdict>,
@@ -24,7 +24,7 @@ pub struct JudgedRound {
 }
 
 /// What is written of a chunk of a round.
-#[derive(Debug, Drop)]
+#[derive(Drop)]
 pub struct ChunkEntries {
     pub entries: Entries,
     /// There was memory for it.
@@ -36,9 +36,9 @@ pub struct ChunkEntries {
 #[derive(Drop)]
 pub struct Formatting<'a, G> {
     pub alloc: Global,
-    pub programs: &'a [Program],
+    pub plan: Plan<'a>,
     pub gate: &'a G,
-    ghost few: { length programs.now ≤ MAX_FILTERS },
+    ghost few: { length plan.programs.now ≤ MAX_FILTERS },
 }
 
 impl<'a, G: RunGate + Sync> Task for Formatting<'a, G> {
@@ -52,7 +52,7 @@ impl<'a, G: RunGate + Sync> Task for Formatting<'a, G> {
     ghost len = { λ task round. length round.frames.items };
 
     ghost is_batch = { λ task round from to batch.
-        IsChunk task.programs.now round.frames.items round.verdicts.items from to batch };
+        IsChunk (making_of task.plan) round.frames.items round.verdicts.items from to batch };
 
     fn len(&self, round: &JudgedRound) -> usize {
         round.frames.len()
@@ -77,7 +77,7 @@ impl<'a, G: RunGate + Sync> Task for Formatting<'a, G> {
         }
         let mut entries = spare.entries;
         let filled = entries.fill(
-            self.programs,
+            &self.plan,
             &round.frames[from..to],
             &round.verdicts[from..to],
         );
@@ -95,7 +95,7 @@ impl Entries {
     ///
     /// There is no memory for it, or there was none for that of a chunk.
     pub fn gather(&mut self, chunks: &[ChunkEntries]) -> Result<(), AllocError>
-        ensures { OnOk result ((ps : List (List Packed)) (frames : List Frame)
+        ensures { OnOk result ((ps : Making) (frames : List Frame)
             (verdicts : List Judgement) (size : ℕ)
             → AreChunks ps frames verdicts size chunks.now
             → AreEntries ps frames verdicts self.new) }

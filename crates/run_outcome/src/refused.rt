@@ -5,7 +5,7 @@ use crate::fault::WatchFault;
 
 /// An analysis that was aborted, with the devices that it was given: its sources, where they could
 /// be had back, and its sinks.
-#[derive(Debug, Drop)]
+#[derive(Drop)]
 pub struct WatchRefused<S, T, W, L> {
     /// Why.
     pub fault: WatchFault,

@@ -1,3 +1,5 @@
+//! The pool of workers: rounds of many sizes, each put before the one before is taken.
+
 use std::alloc::Global;
 use std::process::Abort;
 use std::sync::Wait;
@@ -121,24 +123,27 @@ fn run<R: Threads + Wait + Abort + Sync>(
     )
 }
 
-#[test]
-fn rounds_of_every_size_on_one_to_eight_workers(rt: HostRuntime) -> Result<(), Fail> {
-    for workers in 0..9u32 {
-        let most = run(
-            &rt,
-            rt.alloc(),
-            workers,
-            &[0, 1, 255, 256, 257, 2048, 3, 0, 5000],
-        )
-        .expect(&rt, "rounds");
-        assert!(rt; most >= 1);
-    }
-    Ok(())
-}
+/// The number of workers, the rounds, and how often a batch's memory was used at least.
+const ROUNDS: [(u32, &[usize], u32); 10] = [
+    (0, &SIZES, 1),
+    (1, &SIZES, 1),
+    (2, &SIZES, 1),
+    (3, &SIZES, 1),
+    (4, &SIZES, 1),
+    (5, &SIZES, 1),
+    (6, &SIZES, 1),
+    (7, &SIZES, 1),
+    (8, &SIZES, 1),
+    (3, &[700; 60], 4),
+];
+
+const SIZES: [usize; 9] = [0, 1, 255, 256, 257, 2048, 3, 0, 5000];
 
 #[test]
-fn many_rounds_in_a_row_use_the_memory_again(rt: HostRuntime) -> Result<(), Fail> {
-    let most = run(&rt, rt.alloc(), 3, &[700; 60]).expect(&rt, "rounds");
-    assert!(rt; most > 3, "the most used batch was used {most} times");
+fn rounds_on_one_to_eight_workers(rt: HostRuntime) -> Result<(), Fail> {
+    for (workers, sizes, least) in &ROUNDS {
+        let most = run(&rt, rt.alloc(), *workers, sizes)?;
+        assert!(rt; most >= *least, "{workers} workers");
+    }
     Ok(())
 }

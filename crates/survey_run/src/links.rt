@@ -13,7 +13,7 @@ pub const MAX_LINKS: usize = 4096;
 const NO_LINK: u16 = u16::MAX;
 
 /// What the frames of one link say of it.
-#[derive(Debug, Drop)]
+#[derive(Drop)]
 pub struct LinkSurvey {
     pub id: VlId,
     /// On network A.
@@ -25,7 +25,7 @@ pub struct LinkSurvey {
 }
 
 /// The links of one constant field, by their identifiers.
-#[derive(Debug, Drop)]
+#[derive(Drop)]
 pub struct Links {
     /// The place of each identifier's link.
     places: Vec<u16>,

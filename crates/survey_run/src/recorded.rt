@@ -12,7 +12,7 @@ use run_outcome::MAX_FRAMES;
 const LATE: u64 = 1_000_000_000;
 
 /// How far recordings are read.
-#[derive(Clone, Copy, Debug)]
+#[derive(Clone, Copy)]
 pub struct Extent {
     /// The most frames that are read of each.
     pub frames: u64,
@@ -33,14 +33,14 @@ impl Extent {
 }
 
 /// The timestamps of a recording, in nanoseconds since 1970.
-#[derive(Clone, Copy, Debug)]
+#[derive(Clone, Copy)]
 pub struct Span {
     pub least: u64,
     pub greatest: u64,
 }
 
 /// How a recording was read.
-#[derive(Clone, Copy, Debug)]
+#[derive(Clone, Copy)]
 pub struct Recorded {
     /// The ending. Of a recording that wasn't read whole: clean, after the frames that were read.
     pub ending: Ending,
@@ -53,7 +53,7 @@ pub struct Recorded {
 }
 
 /// The timestamps of the frames of a recording that were read so far.
-#[derive(Clone, Copy, Debug)]
+#[derive(Clone, Copy)]
 pub(crate) struct Times {
     pub(crate) span: Option<Span>,
     /// How far one lies below the greatest one before it, at most.

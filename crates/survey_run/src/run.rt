@@ -22,7 +22,7 @@ use std::num::NonZeroUsize;
 use tap_merge::{ROUND, Unopened};
 
 /// A pass that has ended, with the sources that it was given.
-#[derive(Debug, Drop)]
+#[derive(Drop)]
 pub struct Pass<S, T> {
     /// How the recordings of networks A and B were read, or why the pass was aborted.
     pub outcome: Result<(Recorded, Recorded), WatchFault>,
@@ -33,7 +33,7 @@ pub struct Pass<S, T> {
 }
 
 /// A survey that has ended, with the sources that it was given.
-#[derive(Debug, Drop)]
+#[derive(Drop)]
 pub struct SurveyRun<S, T> {
     /// What was seen, and how the recordings of networks A and B were read, or why the survey was aborted.
     pub outcome: Result<(Survey, Recorded, Recorded), WatchFault>,

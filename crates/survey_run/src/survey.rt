@@ -31,7 +31,7 @@ pub(crate) fn is_ethernet(frame: &TapFrame) -> bool
 }
 
 /// The frames of one constant field.
-#[derive(Debug, Drop)]
+#[derive(Drop)]
 pub struct Field {
     pub constant: u32,
     pub frames: u64,
@@ -39,7 +39,7 @@ pub struct Field {
 }
 
 /// What was seen of a network.
-#[derive(Debug, Drop)]
+#[derive(Drop)]
 pub struct Survey {
     wanted: Option<u32>,
     fields: Vec<Field>,

@@ -8,7 +8,7 @@ use std::marker::Model;
 use vl_config::{ConfigFault, Key};
 
 /// A fault of a table, and the key that it is about.
-#[derive(Debug, Drop)]
+#[derive(Drop)]
 pub struct TableFault {
     /// The fault, with the index of its link.
     pub fault: ConfigFault,

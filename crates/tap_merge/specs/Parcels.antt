@@ -1,5 +1,5 @@
 -- What goes to a tap's thread.
-use Rattle.std.specs.Prelude.{◌≡◌, List, [], ◌∷◌, ⊤}
+use Rattle.std.specs.Prelude.{◌≡◌, List, [], ◌∷◌}
 use Rattle.pcap_io.specs.declared.reader.TapReader.{TapReader}
 use Rattle.tap_queue.specs.Ring.{put_items}
 use Rattle.tap_queue.specs.declared.feeding.Fed.{Fed}
@@ -16,10 +16,14 @@ module _ {S : Type 0} where
   Promises (Promised promise ∷ rest) reader put = (promise.reader.value ≡ reader) × (promise.put.value ≡ put)
   Promises (Delivered reader' put' ∷ rest) reader put = ⊥
 
-  -- what is delivered was promised first, and nothing was put into that ring
+  -- a promise comes first, and once; what is delivered was promised, and nothing was put into that ring
   abbrev pub Brings : List (Parcel S) → Parcel S → Type 0
-  Brings before (Promised promise) = ⊤
+  Brings before (Promised promise) = before ≡ []
   Brings before (Delivered reader put) = (put_items put ≡ []) × Promises before reader put
+
+  -- something was promised
+  abbrev pub HasPromise : List (Parcel S) → Type 0
+  HasPromise parcels = (reader : TapReader S) × (put : TapPut) × Promises parcels reader put
 
   -- the reader that was promised was read into its ring
   abbrev pub KeepsPromise : SourceMembers S → List (Parcel S) → Fed S → Type 0

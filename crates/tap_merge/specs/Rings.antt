@@ -5,10 +5,10 @@ use Rattle.std.specs.Option.{ForSome}
 use Rattle.afdx_frame.specs.Frame.{Frame}
 use Rattle.afdx_frame.specs.declared.key.Network.{Network}
 use Rattle.afdx_frame.specs.declared.key.Network.TheVariants.{A, B}
-use Rattle.ordered_merge.specs.Merge.{CanFetch, Follows, MergerState, Tap, ended, fetched, tap_of}
+use Rattle.ordered_merge.specs.Merge.{CanFetchAll, Follows, MergerState, Tap, ended, fetched_all, tap_of}
 use Rattle.pcap_io.specs.declared.item.ReadFault.TheVariants.{Device, Failed as HasFailed}
 use Rattle.pcap_io.specs.declared.recording.Ending.{Ending}
-use Rattle.tap_queue.specs.Items.{frames_in, is_over}
+use Rattle.tap_queue.specs.Items.{frame_items, frames_in, is_over}
 use Rattle.tap_queue.specs.Ring.{SameEnd, has_lost, late_of, network_of, taken_items}
 use Rattle.tap_queue.specs.declared.end.TapEnd.{TapEnd}
 use Rattle.tap_queue.specs.declared.item.TapItem.{TapItem}
@@ -38,18 +38,29 @@ pub record AgreesWith (network : Network) (end : TapEnd) (m : MergerState) : Typ
   pub high : (bound : ℕ) → AllByRecursion (λ (g : Frame). g.stamp ≤ bound) (frames_in (taken_items end)) →
       ForSome (tap_of m network).high (λ high. high ≤ bound)
 
--- an item was taken and merged: a frame, or the recording's ending
+-- frames were taken and merged
+abbrev pub MergesFrames : Network → TapEnd → TapEnd → MergerState → MergerState → Type 0
+MergesFrames network old new m m' =
+    (fs : List Frame) × (taken_items new ≡ taken_items old ++ frame_items fs) × CanFetchAll network m fs × (m' ≡ fetched_all m fs)
+
+-- items were taken and merged: frames, or the recording's ending
 abbrev pub MergesItem : Network → Option Ending → TapEnd → TapEnd → MergerState → MergerState → Type 0
-MergesItem network None old new m m' =
-    (f : Frame) × (taken_items new ≡ taken_items old ++ items.Frame f ∷ []) × (f.network ≡ network) × CanFetch m f × (m' ≡ fetched m f)
+MergesItem network None old new m m' = MergesFrames network old new m m'
 MergesItem network (Some ending) old new m m' = (taken_items new ≡ taken_items old ++ items.End ending ∷ []) × (m' ≡ ended m network)
 
--- what a fault says of the items of a network: a source that failed gave the last of them
+-- what a fault says of the items of a network: a source that failed gave the last of them; a ring is lost where an item was, or where more was asked
+-- for after its ending or a fault
 abbrev pub TapFault : Network → WatchFault → TapEnd → Type 0
 TapFault network (watch.Read failed) end = (failed ≡ network) × (has_lost end ≡ false) × EndsWith (items.Failed Device) (taken_items end)
 TapFault network watch.Memory end = ⊤
-TapFault network watch.RingLost end = ⊤
+TapFault network watch.RingLost end = (has_lost end ≡ true) ⊎ (is_over (taken_items end) ≡ true)
 TapFault network fault end = ⊥
+
+-- what a fault says of frames that came together: there was no memory for them, or one was lost
+abbrev pub StopsTogether : WatchFault → TapEnd → Type 0
+StopsTogether watch.Memory end = is_over (taken_items end) ≡ false
+StopsTogether watch.RingLost end = has_lost end ≡ true
+StopsTogether fault end = ⊥
 
 -- the last item isn't a source's failure
 abbrev pub IsNotFailed : List TapItem → Type 0

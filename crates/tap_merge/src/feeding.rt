@@ -1,5 +1,5 @@
 //! What is promised of a tap that is read into a ring.
-ghost use Rattle.std.specs.Prelude.{◌≡◌, IfSome};
+ghost use Rattle.std.specs.Prelude.{◌≡◌};
 ghost use Rattle.tap_merge.specs.Reads.{IsReadInto};
 
 use pcap_io::{TapReader, TapSource};
@@ -27,6 +27,6 @@ impl<S> Feeding<S> {
     }
 }
 
-impl<S: TapSource> Promise<Option<Fed<S>>> for Feeding<S> {
-    ghost kept_by = { λ p fed. IfSome fed (IsReadInto S.TapSource p.reader.value p.put.value) };
+impl<S: TapSource> Promise<Fed<S>> for Feeding<S> {
+    ghost kept_by = { λ p fed. IsReadInto S.TapSource p.reader.value p.put.value fed };
 }

@@ -1,9 +1,9 @@
 //! How a tap's reader gets to its thread: through a ring, so that it isn't lost where no thread can be
 //! started. Both ends of the ring know from the beginning which reader it will be.
-ghost use Rattle.std.specs.Prelude.{◌≡◌, ◌<◌, [], IfOk, IfSome};
+ghost use Rattle.std.specs.Prelude.{◌≡◌, ◌<◌, [], IfOk};
 ghost use Rattle.rtrb.specs.Ring.{known_free, received, sent};
 ghost use Rattle.tap_queue.specs.Ring.{put_items};
-ghost use Rattle.tap_merge.specs.Parcels.{Brings, Promises};
+ghost use Rattle.tap_merge.specs.Parcels.{Brings, HasPromise, Promises};
 
 use crate::feeding::Feeding;
 use pcap_io::TapReader;
@@ -52,24 +52,19 @@ pub(crate) fn parcel_ring<S: Drop>(
     Ok((sender, receiver))
 }
 
-/// Waits for what is delivered. None: nothing is, and the other end is gone.
-pub(crate) fn receive<R: Wait, S: Drop>(
-    rt: &R,
-    receiver: Receiver<S>,
-) -> Option<(TapReader<S>, TapPut)>
-    ensures new { IfSome result (λ ends. put_items ends.1 ≡ []) }
-    ensures kept { IfSome result (λ ends. Promises (received receiver) ends.0 ends.1) }
+/// Waits for what is delivered.
+pub(crate) fn receive<R: Wait, S: Drop>(rt: &R, receiver: Receiver<S>) -> (TapReader<S>, TapPut)
+    requires { HasPromise (received receiver) }
+    ensures new { put_items result.1 ≡ [] }
+    ensures kept { Promises (received receiver) result.0 result.1 }
 {
     let mut receiver = receiver;
     for _ in rt.forever() {
         if let Ok(parcel) = receiver.pop() {
             return match parcel {
-                Parcel::Delivered(reader, put) => Some((reader, put)),
-                Parcel::Promised(_promise) => None,
+                Parcel::Delivered(reader, put) => (reader, put),
+                Parcel::Promised(_promise) => unreachable!(),
             };
-        }
-        if receiver.is_abandoned() && receiver.is_empty() {
-            return None;
         }
         yield_now();
     }

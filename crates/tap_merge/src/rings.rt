@@ -2,10 +2,10 @@
 ghost use Rattle.std.specs.Prelude.{◌≡◌, ◌++◌, ◌^◌, ◌≤◌, ℕ, List, [], length, true, false, Ok, Err, None, IfErr, IfOk, OnErr, OnOk};
 ghost use Rattle.std.specs.Option.{option_map_or};
 ghost use Rattle.afdx_frame.specs.Frame.{Frame};
-ghost use Rattle.tap_queue.specs.Items.{frames_in};
+ghost use Rattle.tap_queue.specs.Items.{frames_in, is_over};
 ghost use Rattle.tap_queue.specs.Ring.{taken_items};
 ghost use Rattle.std.specs.NonZero.{non_zero_usize_get};
-ghost use Rattle.tap_merge.specs.Rings.{AgreesWith, IsLost, IsNotFailed, MergesItem, TakesFailure, TakesOn, TapFault};
+ghost use Rattle.tap_merge.specs.Rings.{AgreesWith, IsLost, IsNotFailed, MergesFrames, MergesItem, StopsTogether, TakesFailure, TakesOn, TapFault, WhereFailed};
 
 use afdx_frame::{Network, TapFrame};
 use ordered_merge::Merger;
@@ -14,10 +14,29 @@ use run_outcome::WatchFault;
 use std::alloc::AllocError;
 use std::num::NonZeroUsize;
 use std::sync::Wait;
-use tap_queue::{TapEnd, TapItem};
+use tap_queue::{RingLost, TapEnd, TapItem};
 
-/// Takes the next item of a network's ring and merges it: a frame, or the recording's ending, which it
-/// returns.
+/// Takes the frames that came together with what was taken before, and merges them.
+fn merge_together(network: Network, end: &mut TapEnd, merger: &mut Merger) -> Result<(), WatchFault>
+    requires agrees { AgreesWith network end.old merger.old }
+    requires going { is_over (taken_items end.old) ≡ false }
+    ensures takes { TakesOn end.old end.new }
+    ensures merged { OnOk result (MergesFrames network end.old end.new merger.old merger.new) }
+    ensures few { OnOk result (length (frames_in (taken_items end.new)) ≤ 2 ^ 32) }
+    ensures stopped { IfErr result (λ fault. StopsTogether fault end.new) }
+{
+    let mut frames = match end.take_together() {
+        Ok(frames) => frames,
+        Err(RingLost) => return Err(WatchFault::RingLost),
+    };
+    match merger.fetch_all(network, &mut frames) {
+        Ok(()) => Ok(()),
+        Err(AllocError) => Err(WatchFault::Memory),
+    }
+}
+
+/// Takes the next item of a network's ring and merges it: a frame, with those that came together with it, or
+/// the recording's ending, which it returns.
 fn merge_item<R: Wait>(
     rt: &R,
     network: Network,
@@ -28,7 +47,7 @@ fn merge_item<R: Wait>(
     ensures takes { TakesOn end.old end.new }
     ensures merged { IfOk result (λ ending. MergesItem network ending end.old end.new merger.old merger.new) }
     ensures few { OnOk result (length (frames_in (taken_items end.new)) ≤ 2 ^ 32) }
-    ensures unchanged { OnErr result (merger.new ≡ merger.old) }
+    ensures unchanged { IfErr result (λ fault. WhereFailed fault (merger.new ≡ merger.old)) }
     ensures fault { IfErr result (λ fault. TapFault network fault end.new) }
     ensures failed { IfErr result (λ fault. TakesFailure fault end.old end.new) }
     ensures not_failed { result ≡ Err WatchFault.Memory → IsNotFailed (taken_items end.new) }
@@ -39,7 +58,10 @@ fn merge_item<R: Wait>(
             if merger.fetch(frame).is_err() {
                 return Err(WatchFault::Memory);
             }
-            Ok(None)
+            match merge_together(network, end, merger) {
+                Ok(()) => Ok(None),
+                Err(fault) => Err(fault),
+            }
         }
         TapItem::End(ending) => {
             merger.end(network);
@@ -50,6 +72,12 @@ fn merge_item<R: Wait>(
         // No thread puts it: a reader fails once, by one of the others.
         TapItem::Failed(ReadFault::Failed) => Err(WatchFault::RingLost),
     }
+}
+
+/// Whether a round's frames are there, after some were merged, or will be with as many more as came last.
+fn is_enough(most: usize, before: usize, last: usize, pending: usize) -> bool {
+    let merged = pending.saturating_sub(before);
+    merged.saturating_add(pending.saturating_sub(last)) > most
 }
 
 /// The rings of both networks, the merger of their frames, the endings that were met, and the fault of a
@@ -68,7 +96,7 @@ impl Rings {
     ghost use Rattle.std.specs.Prelude.{is_some};
     ghost use Rattle.ordered_merge.specs.Merge.{safe_frames};
     ghost use Rattle.tap_queue.specs.Ring.{SameEnd};
-    ghost use Rattle.tap_merge.specs.Rings.{HasTaken, RingsFault, StopsTaking, WhereFailed};
+    ghost use Rattle.tap_merge.specs.Rings.{HasTaken, RingsFault, StopsTaking};
 
     /// Whether the next item can be taken without waiting for it. No clause says so.
     fn is_ready(&mut self) -> bool
@@ -103,7 +131,7 @@ impl Rings {
         }
     }
 
-    /// Merges the next item of the network whose turn it is. False: both have ended.
+    /// Merges the next items of the network whose turn it is. False: both have ended.
     fn merge_one<R: Wait>(&mut self, rt: &R) -> Result<bool, WatchFault>
         requires none { self.old.fault ≡ None }
         requires taken { (late : ℕ) × (cut : List Frame) × HasTaken late cut self.old }
@@ -132,8 +160,8 @@ impl Rings {
         Ok(true)
     }
 
-    /// Merges up to `most` items: one, which it waits for, and those after it that are there. False: both
-    /// have ended.
+    /// Merges items: those that it waits for, and those after them that are there, up to some `most` in all.
+    /// False: both have ended.
     fn merge_some<R: Wait>(&mut self, rt: &R, most: usize) -> Result<bool, WatchFault>
         requires none { self.old.fault ≡ None }
         requires taken { (late : ℕ) × (cut : List Frame) × HasTaken late cut self.old }
@@ -150,19 +178,24 @@ impl Rings {
             → HasTaken late cut self.old → StopsTaking late cut self.new.a self.new.b) }
         ensures fault { IfErr result (λ fault. RingsFault fault self.new.a self.new.b) }
     {
+        let before = self.merger.count_pending();
+        let mut last = before;
         for _item in 0..most {
             if !self.merge_one(rt)? {
                 return Ok(false);
             }
+            let pending = self.merger.count_pending();
             // What is safe is given before this thread waits.
-            if !self.is_ready() {
+            if !self.is_ready() || is_enough(most, before, last, pending) {
                 break;
             }
+            last = pending;
         }
         Ok(true)
     }
 
-    /// Merges up to `most` items more, unless a source has failed, and keeps the fault of one that fails.
+    /// Merges `most` items more, unless a source has failed or so many frames are safe, and keeps the
+    /// fault of a source that fails.
     /// False: both have ended, or a source has failed.
     fn merge_more<R: Wait>(&mut self, rt: &R, most: usize) -> Result<bool, WatchFault>
         requires { (late : ℕ) × (cut : List Frame) × HasTaken late cut self.old }
@@ -180,6 +213,10 @@ impl Rings {
     {
         if self.fault.is_some() {
             return Ok(false);
+        }
+        // A batch may have brought the frames of several rounds: what is safe doesn't wait for more.
+        if self.merger.has_round(1) {
+            return Ok(true);
         }
         match self.merge_some(rt, most) {
             Ok(more) => Ok(more),

@@ -1,9 +1,9 @@
 //! How a tap is read into its ring: by a thread of its own, or, where none can be had, by the thread that
 //! takes from the ring.
-ghost use Rattle.std.specs.Prelude.{◌≡◌, [], IfSome, IsSome};
+ghost use Rattle.std.specs.Prelude.{◌≡◌, [], IfSome, IsSome, None, true};
 ghost use Rattle.rtrb.specs.Ring.{received};
-ghost use Rattle.tap_queue.specs.Ring.{IsRing, put_items};
-ghost use Rattle.tap_merge.specs.Parcels.{KeepsPromise, Promises};
+ghost use Rattle.tap_queue.specs.Ring.{IsRing, has_lost, put_items};
+ghost use Rattle.tap_merge.specs.Parcels.{HasPromise, KeepsPromise, Promises};
 ghost use Rattle.tap_merge.specs.Reads.{IsReadInto};
 ghost use Rattle.tap_merge.specs.Threads.{FeedsOn, IsFeeding, IsLeft, IsSettled, KeepsFeeding, promise_of};
 
@@ -16,8 +16,8 @@ use std::sync::Wait;
 use std::thread::{PromisedHandle, Scope, Threads};
 use tap_queue::{Fed, RingLost, TapEnd, TapGate, TapPut, feed};
 
-/// A tap's thread. None: the reader didn't get to it.
-pub type TapThread<S> = PromisedHandle<Option<Fed<S>>, Feeding<S>>;
+/// A tap's thread.
+pub type TapThread<S> = PromisedHandle<Fed<S>, Feeding<S>>;
 
 /// How a tap is read.
 #[derive(Drop)]
@@ -56,17 +56,18 @@ pub fn start_tap<'s, E, R: Wait + Sync, S: TapSource + Drop + Send + 's, G: TapG
     }
 }
 
-/// Waits for a tap's reader, and reads it into its ring. None: nothing was delivered.
+/// Waits for a tap's reader, and reads it into its ring.
 fn read_delivered<R: Wait, S: TapSource + Drop, G: TapGate>(
     rt: &R,
     alloc: Global,
     gate: &G,
     receiver: Receiver<S>,
-) -> Option<Fed<S>>
-    ensures { IfSome result (KeepsPromise S.TapSource (received receiver)) }
+) -> Fed<S>
+    requires { HasPromise (received receiver) }
+    ensures { KeepsPromise S.TapSource (received receiver) result }
 {
-    let (reader, put) = receive(rt, receiver)?;
-    Some(feed(rt, alloc, reader, put, gate))
+    let (reader, put) = receive(rt, receiver);
+    feed(rt, alloc, reader, put, gate)
 }
 
 /// Starts a thread that waits for a tap's reader. None: it couldn't be started.
@@ -83,10 +84,9 @@ fn start_thread<'s, E, R: Wait + Sync, S: TapSource + Drop + Send + 's, G: TapGa
 {
     // The closure takes its end out of an option, as what it ensures names what it began with.
     let mut slot = Some(receiver);
-    let read = move || -> Option<Fed<S>>
-        requires { IsSome slot }
-        ensures { IfSome slot.entry (λ receiver.
-            IfSome result (KeepsPromise S.TapSource (received receiver))) }
+    let read = move || -> Fed<S>
+        requires { IsSome slot × IfSome slot (λ receiver. HasPromise (received receiver)) }
+        ensures { IfSome slot.entry (λ receiver. KeepsPromise S.TapSource (received receiver) result) }
     { read_delivered(rt, alloc, gate, slot.take().unwrap()) };
     scope.spawn_with(promise, read).ok()
 }
@@ -104,15 +104,15 @@ impl<S: TapSource + Drop> TapFeed<S> {
         }
     }
 
-    /// Waits for the thread, where there is one. None: its reader was lost.
-    fn join<R: Threads>(self, rt: &R) -> Option<Fed<S>>
+    /// Waits for the thread, where there is one.
+    fn join<R: Threads>(self, rt: &R) -> Fed<S>
         requires { IsFeeding S.TapSource self }
-        ensures { IfSome result
-            (IsReadInto S.TapSource (promise_of self).reader.value (promise_of self).put.value) }
+        ensures { IsReadInto S.TapSource
+            (promise_of self).reader.value (promise_of self).put.value result }
     {
         match self {
             TapFeed::Thread(thread) => thread.join(rt),
-            TapFeed::Local(tap) => Some(tap.fed),
+            TapFeed::Local(tap) => tap.fed,
         }
     }
 }
@@ -127,14 +127,14 @@ pub fn settle_tap<R: Threads, S: TapSource + Drop>(
     requires ring { IsRing (promise_of feed).put.value end }
     ensures { IfSome result (IsSettled S.TapSource (promise_of feed).reader.value end) }
 {
-    match end.settle(feed.join(rt)?) {
+    match end.settle(feed.join(rt)) {
         Ok(source) => Some(source),
         Err(RingLost) => None,
     }
 }
 
 /// Waits for a tap's thread, which [`TapEnd::stop`] has come to its end, and gives the source back, whatever
-/// is left in its ring. None: items were lost, and the source with them.
+/// is left in its ring. None: an item was lost, and the source with it.
 pub fn leave_tap<R: Threads, S: TapSource + Drop>(
     rt: &R,
     end: TapEnd,
@@ -142,9 +142,10 @@ pub fn leave_tap<R: Threads, S: TapSource + Drop>(
 ) -> Option<S>
     requires feeding { IsFeeding S.TapSource feed }
     requires ring { IsRing (promise_of feed).put.value end }
-    ensures { IfSome result (IsLeft S.TapSource (promise_of feed).reader.value end) }
+    ensures left { IfSome result (IsLeft S.TapSource (promise_of feed).reader.value end) }
+    ensures lost { result ≡ None → has_lost end ≡ true }
 {
-    match end.leave(feed.join(rt)?) {
+    match end.leave(feed.join(rt)) {
         Ok(source) => Some(source),
         Err(RingLost) => None,
     }

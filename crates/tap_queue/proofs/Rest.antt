@@ -2,7 +2,9 @@
 use Rattle.std.proofs.Common.{◌≡◌, ◌≢◌, ◌+◌, ◌-◌, ◌<◌, ◌≤◌, List, [], ◌∷◌, ◌++◌, length, refl, sym, ap, ◌∙◌, append_assoc, arith}
 use Rattle.std.proofs.lemmas.List.{append-nil, length-append, take_at}
 use Rattle.std.proofs.lemmas.Grind.{flat_map-append}
-use Rattle.tap_queue.specs.Batches.{IsRest, batch_items, items_in, taken_of}
+use Rattle.afdx_frame.specs.Frame.{Frame}
+use Rattle.tap_queue.specs.Items.{frame_items}
+use Rattle.tap_queue.specs.Batches.{IsRest, batch_items, items_in, rest_items, taken_of}
 use Rattle.tap_queue.specs.declared.item.Batch.{Batch}
 use Rattle.tap_queue.specs.declared.item.TapItem.{TapItem}
 
@@ -21,14 +23,21 @@ pub all_but_one : (batches : List Batch) (old new : List TapItem) (item : TapIte
 all_but_one batches old new item same kept =
     kept ∙ ap (λ (l : List TapItem). taken_of batches old ++ l) same ∙ sym (append_assoc (taken_of batches old) (item ∷ []) new)
 
+-- the frames of the rest are taken
+pub all_frames : (batches : List Batch) (old new : List TapItem) (fs : List Frame) (last : List TapItem) → old ≡ frame_items fs ++ last → new ≡ last
+    → IsRest batches old → items_in batches ≡ (taken_of batches old ++ frame_items fs) ++ new
+all_frames batches old new fs last was is kept =
+    kept ∙ ap (λ (l : List TapItem). taken_of batches old ++ l) (was ∙ ap (λ (l : List TapItem). frame_items fs ++ l) (sym is))
+    ∙ sym (append_assoc (taken_of batches old) (frame_items fs) new)
+
 -- the first item of a further batch is taken, where nothing was left
 pub one_of_more : (batches after : List Batch) (old : List TapItem) (batch : Batch) → old ≡ [] → after ≡ batches ++ batch ∷ [] → IsRest batches old
-    → items_in after ≡ (taken_of batches old ++ batch.first ∷ []) ++ batch.more.items
+    → items_in after ≡ (taken_of batches old ++ batch.first ∷ []) ++ rest_items batch.rest
 one_of_more batches after old batch none more kept =
     ap items_in more ∙ flat_map-append batch_items batches (batch ∷ [])
     ∙ ap (λ (l : List TapItem). l ++ items_in (batch ∷ [])) (kept ∙ ap (λ (l : List TapItem). taken_of batches old ++ l) none ∙ append-nil (taken_of batches old))
     ∙ ap (λ (l : List TapItem). taken_of batches old ++ l) (append-nil (batch_items batch))
-    ∙ sym (append_assoc (taken_of batches old) (batch.first ∷ []) batch.more.items)
+    ∙ sym (append_assoc (taken_of batches old) (batch.first ∷ []) (rest_items batch.rest))
 
 -- each batch has an item
 at_least : (batches : List Batch) → length batches ≤ length (items_in batches)

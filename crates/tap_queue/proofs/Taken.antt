@@ -1,12 +1,14 @@
 -- An item after those that were taken, by the count of their frames and their greatest stamp.
-use Rattle.std.proofs.Common.{◌≡◌, ◌⊎◌, ℕ, ◌+◌, ◌≤◌, max, true, false, List, [], ◌∷◌, ◌++◌, length, refl, sym, ap, ◌∙◌, subst, inl, inr, arith}
+use Rattle.std.proofs.Common.{◌≡◌, ◌⊎◌, ℕ, ◌+◌, ◌≤◌, max, true, false, List, [], ◌∷◌, ◌++◌, length, refl, sym, ap, ◌∙◌, subst, inl, inr, arith, append_assoc, append-nil}
 use Rattle.std.proofs.lemmas.List.{length-append}
 use Rattle.std.specs.List.{AllByRecursion}
 use Rattle.afdx_frame.specs.Frame.{Frame}
 use Rattle.afdx_frame.specs.declared.key.Network.{Network}
 use Rattle.pcap_io.specs.declared.recording.Ending.{Ending}
 use Rattle.pcap_io.specs.declared.item.ReadFault.{ReadFault}
-use Rattle.tap_queue.specs.Items.{Follows, IsNextFrame, IsNextItem, frames_in, high_of, is_last, is_over}
+use Rattle.tap_queue.specs.Items.{AreNextFrames, Follows, IsNextFrame, frame_items, IsNextItem, frames_in, high_of, is_last, is_over}
+use Rattle.tap_queue.specs.Passing.{PassesAll}
+use Rattle.tap_queue.specs.declared.next_frame.NextFrame.{NextFrame}
 use Rattle.tap_queue.specs.declared.item.TapItem.{TapItem}
 use Rattle.tap_queue.specs.declared.item.TapItem.TheVariants.{Frame as frame, End, Failed}
 
@@ -84,3 +86,50 @@ pub frame_refused : (network : Network) (late number high : ℕ) (items : List T
     → number ≡ length (frames_in items) → high ≡ high_of (frames_in items) → ¬ Follows network late number high f → ¬ IsNextItem network late items item
 frame_refused network late number high items f item same counted highest refused next =
     refused (follows_from_next network late number high (frames_in items) f counted highest (subst (IsNextItem network late items) same next).1)
+
+-- ---- frames one after another
+
+pub are_next_more : (network : Network) (late : ℕ) (before xs : List Frame) (f : Frame) → AreNextFrames network late before xs → IsNextFrame network late (before ++ xs) f
+    → AreNextFrames network late before (xs ++ f ∷ [])
+are_next_more network late before [] f are next = (subst (λ (l : List Frame). IsNextFrame network late l f) (append-nil before) next, tt)
+are_next_more network late before (g ∷ xs) f are next = (
+  are.0,
+  are_next_more network late (before ++ g ∷ []) xs f are.1 (subst (λ (l : List Frame). IsNextFrame network late l f) (sym (append_assoc before (g ∷ []) xs)) next),
+)
+
+pub high_of_both : (xs ys : List Frame) (f : Frame) → high_of (xs ++ (ys ++ f ∷ [])) ≡ max (high_of (xs ++ ys)) f.stamp
+high_of_both xs ys f = ap high_of (sym (append_assoc xs ys (f ∷ []))) ∙ high_of_more (xs ++ ys) f
+
+pub passes_none : (before : List Frame) (n : NextFrame) → n.number ≡ length before → n.high ≡ high_of before → PassesAll before [] n n
+passes_none before n counted highest = record {
+  next = tt;
+  number = counted ∙ ap length (sym (append-nil before));
+  high = highest ∙ ap high_of (sym (append-nil before));
+  network_is = refl;
+  late_is = refl;
+}
+
+pub passes_more : (before xs ys : List Frame) (f : Frame) (old mid new : NextFrame) → ys ≡ xs ++ f ∷ [] → PassesAll before xs old mid
+    → Follows mid.network mid.late mid.number mid.high f → new ≡ record mid { number = mid.number + 1; high = max mid.high f.stamp } → PassesAll before ys old new
+passes_more before xs ys f old mid new more passes follows is =
+    let next : IsNextFrame old.network old.late (before ++ xs) f =
+    subst (λ (n : Network). IsNextFrame n old.late (before ++ xs) f) passes.network_is
+    (subst (λ (late : ℕ). IsNextFrame mid.network late (before ++ xs) f) passes.late_is
+    (next_from_follows mid.network mid.late mid.number mid.high (before ++ xs) f passes.number passes.high follows)) in
+    let counted : length (before ++ (xs ++ f ∷ [])) ≡ length (before ++ xs) + 1 =
+    (let a = length-append before (xs ++ f ∷ []) in let b = length-append xs (f ∷ []) in let d = length-append before xs in omega arith) in
+    record {
+      next = subst (AreNextFrames old.network old.late before) (sym more) (are_next_more old.network old.late before xs f passes.next next);
+      number = ap (λ (n : NextFrame). n.number) is ∙ ap (λ (k : ℕ). k + 1) passes.number ∙ sym counted ∙ ap (λ (l : List Frame). length (before ++ l)) (sym more);
+      high = ap (λ (n : NextFrame). n.high) is ∙ ap (λ (k : ℕ). max k f.stamp) passes.high ∙ sym (high_of_both before xs f)
+          ∙ ap (λ (l : List Frame). high_of (before ++ l)) (sym more);
+      network_is = ap (λ (n : NextFrame). n.network) is ∙ passes.network_is;
+      late_is = ap (λ (n : NextFrame). n.late) is ∙ passes.late_is;
+    }
+
+pub frames_all : (items : List TapItem) (fs : List Frame) → frames_in (items ++ frame_items fs) ≡ frames_in items ++ fs
+frames_all [] [] = refl
+frames_all [] (f ∷ fs) = ap (λ (l : List Frame). f ∷ l) (frames_all [] fs)
+frames_all (frame g ∷ items) fs = ap (λ (l : List Frame). g ∷ l) (frames_all items fs)
+frames_all (End e ∷ items) fs = frames_all items fs
+frames_all (Failed fault ∷ items) fs = frames_all items fs

@@ -1,12 +1,19 @@
 -- Batches of items, which go through a ring one after another.
 use Rattle.std.specs.Prelude.{◌≡◌, ◌-◌, List, ◌∷◌, ◌++◌, length, take}
+use Rattle.std.specs.Option.{option_to_list}
 use Rattle.std.specs.List.{flat_map}
+use Rattle.tap_queue.specs.Items.{frame_items}
 use Rattle.tap_queue.specs.declared.item.Batch.{Batch}
+use Rattle.tap_queue.specs.declared.item.Rest.{Rest}
 use Rattle.tap_queue.specs.declared.item.TapItem.{TapItem}
+
+-- frames, and then an ending or a fault, where there is one
+abbrev pub rest_items : Rest → List TapItem
+rest_items rest = frame_items rest.frames.items ++ option_to_list rest.last
 
 -- the items of a batch, in order
 abbrev pub batch_items : Batch → List TapItem
-batch_items batch = batch.first ∷ batch.more.items
+batch_items batch = batch.first ∷ rest_items batch.rest
 
 -- the items of batches, one after another
 abbrev pub items_in : List Batch → List TapItem

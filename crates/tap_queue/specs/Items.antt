@@ -1,5 +1,5 @@
 -- The items of a recording: what a reader gives, call by call, up to its ending or a fault (this project's profile).
-use Rattle.std.specs.Prelude.{◌≡◌, ◌⊎◌, ℕ, ◌+◌, ◌≤◌, max, Bool, true, false, List, [], ◌∷◌, ◌++◌, length, Ok, Err, if◌then◌else◌}
+use Rattle.std.specs.Prelude.{◌≡◌, ◌⊎◌, ℕ, ◌+◌, ◌≤◌, max, Bool, true, false, List, [], ◌∷◌, ◌++◌, length, Ok, Err, if◌then◌else◌, ⊤}
 use Rattle.std.specs.List.{AllByRecursion}
 use Rattle.afdx_frame.specs.Frame.{Frame}
 use Rattle.afdx_frame.specs.declared.key.Network.{Network}
@@ -49,11 +49,21 @@ frames_in (frame f ∷ items) = f ∷ frames_in items
 frames_in (End e ∷ items) = frames_in items
 frames_in (Failed fault ∷ items) = frames_in items
 
+-- frames as items
+abbrev pub frame_items : List Frame → List TapItem
+frame_items [] = []
+frame_items (f ∷ fs) = frame f ∷ frame_items fs
+
 -- The frame may follow these of a network: its number counts them, and its stamp lies no further below any of theirs than it may.
 pub record IsNextFrame (network : Network) (late : ℕ) (before : List Frame) (f : Frame) : Type 0 where
   pub network_is : f.network ≡ network
   pub number : f.number ≡ length before
   pub in_time : AllByRecursion (λ (g : Frame). g.stamp ≤ f.stamp + late) before
+
+-- the frames may follow these of a network, one after another
+abbrev pub AreNextFrames : Network → ℕ → List Frame → List Frame → Type 0
+AreNextFrames network late before [] = ⊤
+AreNextFrames network late before (f ∷ fs) = IsNextFrame network late before f × AreNextFrames network late (before ++ f ∷ []) fs
 
 -- the item may follow these of a network: they have not come to an end, and a frame is the next
 abbrev pub IsNextItem : Network → ℕ → List TapItem → TapItem → Type 0

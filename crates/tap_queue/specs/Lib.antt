@@ -1,3 +1,4 @@
 pub mod Batches
 pub mod Items
+pub mod Passing
 pub mod Ring

@@ -4,7 +4,7 @@ use Rattle.rtrb.specs.Ring.{IsPair, SameConsumer, SameProducer, known_free, rece
 use Rattle.afdx_frame.specs.declared.key.Network.{Network}
 use Rattle.pcap_io.specs.declared.reader.TapReader.{TapReader}
 use Rattle.pcap_io.specs.Position.{Reading}
-use Rattle.tap_queue.specs.Batches.{items_in, taken_of}
+use Rattle.tap_queue.specs.Batches.{items_in, rest_items, taken_of}
 use Rattle.tap_queue.specs.Items.{Gives, is_over}
 use Rattle.tap_queue.specs.declared.item.TapItem.{TapItem}
 use Rattle.tap_queue.specs.declared.ring.TapPut.{TapPut}
@@ -17,7 +17,7 @@ put_items put = items_in (sent put.producer)
 
 -- all items that were taken, the oldest first
 abbrev pub taken_items : TapEnd → List TapItem
-taken_items end = taken_of (received end.consumer) end.rest.items
+taken_items end = taken_of (received end.consumer) (rest_items end.rest)
 
 -- the network whose items are put
 abbrev pub tap_of : TapPut → Network

@@ -2,19 +2,20 @@
 ghost use Rattle.std.specs.Prelude.{◌≡◌, ◌++◌, ◌∷◌, ◌^◌, ◌≤◌, [], length, false, MatchOption};
 ghost use Rattle.rtrb.specs.Ring.{SameConsumer, received};
 ghost use Rattle.tap_queue.specs.Items.{frames_in, high_of, is_over};
-ghost use Rattle.tap_queue.specs.Batches.{IsRest, taken_of};
+ghost use Rattle.tap_queue.specs.Batches.{IsRest, rest_items, taken_of};
 
 use crate::bell::{Bell, Bells};
 use crate::feeding::Fed;
-use crate::item::{Batch, RingLost, TapItem};
+use crate::item::{Batch, Rest, RingLost, TapItem};
 use crate::next_frame::NextFrame;
 use crate::ring::TapPut;
-use afdx_frame::Network;
+use afdx_frame::{Network, TapFrame};
 use pcap_io::TapSource;
 use rtrb::Consumer;
 use std::alloc::Global;
 use std::collections::VecDeque;
 use std::hint::spin_loop;
+use std::mem;
 use std::sync::{Arc, Wait};
 
 /// How often a thread that takes looks again before it sleeps: some microseconds, in which a frame is
@@ -27,7 +28,8 @@ pub struct TapEnd {
     next: NextFrame,
     consumer: Consumer<Batch>,
     /// What is left of the batch that came last.
-    rest: VecDeque<TapItem>,
+    rest: Rest,
+    alloc: Global,
     bells: Arc<Bells, Global>,
     /// An ending or a fault was taken.
     over: bool,
@@ -35,11 +37,11 @@ pub struct TapEnd {
     lost: bool,
     ghost bounded: { lost ≡ false → next.number ≤ 2 ^ 32 },
     ghost counted: { lost ≡ false
-        → next.number ≡ length (frames_in (taken_of (received consumer) rest.items)) },
+        → next.number ≡ length (frames_in (taken_of (received consumer) (rest_items rest))) },
     ghost highest: { lost ≡ false
-        → next.high ≡ high_of (frames_in (taken_of (received consumer) rest.items)) },
-    ghost ended: { lost ≡ false → over ≡ is_over (taken_of (received consumer) rest.items) },
-    ghost kept: { IsRest (received consumer) rest.items },
+        → next.high ≡ high_of (frames_in (taken_of (received consumer) (rest_items rest))) },
+    ghost ended: { lost ≡ false → over ≡ is_over (taken_of (received consumer) (rest_items rest)) },
+    ghost kept: { IsRest (received consumer) (rest_items rest) },
 }
 
 /// Waits until a batch was put, or the ring was left.
@@ -84,22 +86,23 @@ fn pop<R: Wait>(rt: &R, consumer: &mut Consumer<Batch>, bells: &Bells) -> Option
 #[inline]
 fn next_item<R: Wait>(
     rt: &R,
-    rest: &mut VecDeque<TapItem>,
+    rest: &mut Rest,
     consumer: &mut Consumer<Batch>,
     bells: &Bells,
 ) -> Option<TapItem>
-    requires { IsRest (received consumer.old) rest.old.items }
+    requires { IsRest (received consumer.old) (rest_items rest.old) }
     ensures ring { SameConsumer consumer.old consumer.new }
-    ensures kept { IsRest (received consumer.new) rest.new.items }
+    ensures kept { IsRest (received consumer.new) (rest_items rest.new) }
     ensures taken { MatchOption result
-        (taken_of (received consumer.new) rest.new.items ≡ taken_of (received consumer.old) rest.old.items)
-        (λ item. taken_of (received consumer.new) rest.new.items
-        ≡ taken_of (received consumer.old) rest.old.items ++ item ∷ []) }
+        (taken_of (received consumer.new) (rest_items rest.new)
+        ≡ taken_of (received consumer.old) (rest_items rest.old))
+        (λ item. taken_of (received consumer.new) (rest_items rest.new)
+        ≡ taken_of (received consumer.old) (rest_items rest.old) ++ item ∷ []) }
 {
-    if let Some(item) = rest.pop_front() {
+    if let Some(item) = rest.pop() {
         return Some(item);
     }
-    let Batch { first, more } = pop(rt, consumer, bells)?;
+    let Batch { first, rest: more } = pop(rt, consumer, bells)?;
     *rest = more;
     Some(first)
 }
@@ -108,7 +111,7 @@ impl TapEnd {
     ghost use Rattle.std.specs.Prelude.{◌≢◌, ◌⊎◌, ◌↔◌, true, Err, IfOk, IsTrue, List, OnErr};
     ghost use Rattle.afdx_frame.specs.declared.bounds.TheConstants.{MAX_SNAPLEN};
     ghost use Rattle.pcap_io.specs.Reader.{source_of, unread_of};
-    ghost use Rattle.tap_queue.specs.Items.{IsLoss, IsNextItem, ring_lost};
+    ghost use Rattle.tap_queue.specs.Items.{AreNextFrames, IsLoss, IsNextItem, frame_items, ring_lost};
     ghost use Rattle.tap_queue.specs.Ring.{IsRing, SameEnd, has_lost, late_of, network_of};
     ghost use Rattle.tap_queue.specs.Ring.{Looks, put_items, put_of, reader_of, taken_items};
     ghost use Rattle.tap_queue.specs.declared.item.TapItem.{TapItem};
@@ -130,7 +133,8 @@ impl TapEnd {
         TapEnd {
             next: NextFrame::first(network, late),
             consumer,
-            rest: VecDeque::new(alloc),
+            rest: Rest::none(alloc),
+            alloc,
             bells,
             over: false,
             lost: false,
@@ -216,6 +220,40 @@ impl TapEnd {
         Ok(item)
     }
 
+    /// Takes the frames that came together with what was taken before, and waits for none. Each is the
+    /// network's next, as a frame that [`take`](TapEnd::take) gives.
+    ///
+    /// # Errors
+    ///
+    /// Those of [`take`](TapEnd::take). Nothing is taken.
+    pub fn take_together(&mut self) -> Result<VecDeque<TapFrame>, RingLost>
+        ensures ring { SameEnd self.old self.new }
+        ensures taken { IfOk result (λ frames.
+            taken_items self.new ≡ taken_items self.old ++ frame_items frames.items) }
+        ensures next { IfOk result (λ frames. AreNextFrames (network_of self.old) (late_of self.old)
+            (frames_in (taken_items self.old)) frames.items) }
+        ensures bounded { IfOk result (λ _. length (frames_in (taken_items self.new)) ≤ 2 ^ 32) }
+        ensures going { IfOk result (λ _. has_lost self.old ≡ false × has_lost self.new ≡ false) }
+        ensures unended { IfOk result (λ _. is_over (taken_items self.old) ≡ false) }
+        ensures stays { OnErr result (taken_items self.new ≡ taken_items self.old) }
+        ensures over { is_over (taken_items self.old) ≡ true
+            → (result ≡ Err ring_lost) × (self.new ≡ self.old) }
+        ensures stays_lost { has_lost self.old ≡ true
+            → (result ≡ Err ring_lost) × (self.new ≡ self.old) }
+        ensures lost { is_over (taken_items self.old) ≡ false
+            → OnErr result (has_lost self.new ≡ true) }
+    {
+        if !self.is_going() {
+            return Err(RingLost);
+        }
+        if !self.next.pass_all(&self.rest.frames) {
+            self.lost = true;
+            return Err(RingLost);
+        }
+        let none = VecDeque::new(self.alloc);
+        Ok(mem::replace(&mut self.rest.frames, none))
+    }
+
     /// Shows that all was taken that was put, up to the recording's ending or a fault, and gives
     /// the source back. What was read ahead of the last item is lost, at most 262144 bytes.
     ///
@@ -238,6 +276,7 @@ impl TapEnd {
             next: _,
             mut consumer,
             rest,
+            alloc: _,
             bells: _,
             over,
             lost,
@@ -273,6 +312,7 @@ impl TapEnd {
             next: _,
             mut consumer,
             rest: _,
+            alloc: _,
             bells: _,
             over: _,
             lost,

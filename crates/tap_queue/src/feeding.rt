@@ -1,12 +1,12 @@
 //! The thread that reads a recording into a ring.
-ghost use Rattle.std.specs.Prelude.{◌≡◌, [], false};
+ghost use Rattle.std.specs.Prelude.{◌≡◌, [], false, is_some};
 ghost use Rattle.pcap_io.specs.Reader.{reading_of};
 ghost use Rattle.tap_queue.specs.Items.{Gives, GivesOne, IsFed, is_over};
-ghost use Rattle.tap_queue.specs.Batches.{batch_items};
+ghost use Rattle.tap_queue.specs.Batches.{batch_items, rest_items};
 ghost use Rattle.tap_queue.specs.Ring.{Fills, PutsMore, SamePut, put_items, put_of, reader_of};
 
 use crate::gate::TapGate;
-use crate::item::{Batch, TapItem};
+use crate::item::{Batch, Rest, TapItem};
 use crate::ring::TapPut;
 use pcap_io::{Item, TapReader, TapSource};
 use std::alloc::Global;
@@ -86,19 +86,37 @@ fn next_batch<S: TapSource>(alloc: Global, reader: &mut TapReader<S>, most: usiz
     ensures last { result.1 ≡ is_over (batch_items result.0) }
 {
     let first = next_item(alloc, reader);
-    let mut last = first.is_last();
-    // Without memory for more, a batch is one item.
-    let room = most.saturating_sub(1);
-    let mut more = VecDeque::with_capacity(alloc, room).unwrap_or(VecDeque::new(alloc));
-    for _ in 0..room {
-        if last || more.len() == more.capacity() || !reader.holds_packet() {
+    if first.is_last() {
+        let rest = Rest::none(alloc);
+        return (Batch { first, rest }, true);
+    }
+    let rest = read_on(alloc, reader, most.saturating_sub(1));
+    let over = rest.last.is_some();
+    (Batch { first, rest }, over)
+}
+
+/// The items that were read ahead already, at most so many, and none where there is no memory for them.
+fn read_on<S: TapSource>(alloc: Global, reader: &mut TapReader<S>, most: usize) -> Rest
+    ensures given { Gives (reading_of S.remaining S.failures reader.old) (rest_items result)
+        (reading_of S.remaining S.failures reader.new) }
+    ensures last { is_some result.last ≡ is_over (rest_items result) }
+{
+    let mut frames = VecDeque::with_capacity(alloc, most).unwrap_or(VecDeque::new(alloc));
+    for _ in 0..most {
+        if frames.len() == frames.capacity() || !reader.holds_packet() {
             break;
         }
-        let item = next_item(alloc, reader);
-        last = item.is_last();
-        more.push_back_reserved(item);
+        match next_item(alloc, reader) {
+            TapItem::Frame(frame) => frames.push_back_reserved(frame),
+            last => {
+                return Rest {
+                    frames,
+                    last: Some(last),
+                };
+            }
+        }
     }
-    (Batch { first, more }, last)
+    Rest { frames, last: None }
 }
 
 /// What the reader gives next.

@@ -3,9 +3,10 @@ ghost use Rattle.std.specs.Prelude.{◌≡◌, ◌+◌, ◌^◌, ◌≤◌, max,
 ghost use Rattle.tap_queue.specs.Items.{Follows};
 
 use afdx_frame::{Network, TapFrame};
+use std::collections::VecDeque;
 
 /// What is required of a network's next frame.
-#[derive(Clone, Copy, Debug)]
+#[derive(Clone, Copy)]
 pub(crate) struct NextFrame {
     pub(crate) network: Network,
     /// By how many nanoseconds its timestamp may lie below the greatest one before it.
@@ -17,6 +18,11 @@ pub(crate) struct NextFrame {
 }
 
 impl NextFrame {
+    ghost use Rattle.std.specs.Prelude.{List, length};
+    ghost use Rattle.afdx_frame.specs.Frame.{Frame};
+    ghost use Rattle.tap_queue.specs.Items.{high_of};
+    ghost use Rattle.tap_queue.specs.Passing.{PassesAll};
+
     /// The first frame of a recording.
     pub(crate) fn first(network: Network, late: u64) -> NextFrame
         ensures { result ≡ record { network = network; late = late; number = 0; high = 0 } }
@@ -50,5 +56,23 @@ impl NextFrame {
             self.high = self.high.max(stamp);
         }
         is_next
+    }
+
+    /// Are the frames the next ones, one after another? If they are, the frame after them is required from
+    /// now on.
+    pub(crate) fn pass_all(&mut self, frames: &VecDeque<TapFrame>) -> bool
+        ensures next { IsTrue result → (before : List Frame) → self.old.number ≡ length before
+            → self.old.high ≡ high_of before → PassesAll before frames.now.items self.old self.new }
+        ensures bounded { IsTrue result → self.old.number ≤ 2 ^ 32 → self.new.number ≤ 2 ^ 32 }
+        ensures kept { IsFalse result → self.new ≡ self.old }
+    {
+        let mut next = *self;
+        for index in 0..frames.len() {
+            if !next.pass(&frames[index]) {
+                return false;
+            }
+        }
+        *self = next;
+        true
     }
 }

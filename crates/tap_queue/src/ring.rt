@@ -21,7 +21,7 @@ pub const RING_LEN: usize = 4;
 pub const BATCH_LEN: usize = 512;
 
 /// How much a ring holds. What is put and taken is the same for any; a run of a program has the default.
-#[derive(Clone, Copy, Debug)]
+#[derive(Clone, Copy)]
 pub struct RingSizes {
     /// How many batches of items a ring holds, at least one.
     pub batches: usize,

@@ -41,7 +41,7 @@ impl From<AllocError> for LedgerFault {
 }
 
 /// A ledger that wasn't begun, or not finished: its sink, and why.
-#[derive(Debug, Drop)]
+#[derive(Drop)]
 pub struct LedgerRefused<W> {
     /// What the ledger writes to.
     pub sink: W,

@@ -1,10 +1,10 @@
-//! The table of virtual links and the judgements, by the worked examples of the rules, and the
-//! reader of the table beside a reference reader.
+//! The table of virtual links and the judgements, by the worked examples of the rules.
 
 mod allocation;
-mod cuts;
+// further: mod cuts;
 mod lanes;
-mod reference;
+// further: mod many;
+// further: mod reference;
 mod rounds;
 mod rules;
 mod tables;

@@ -5,6 +5,8 @@
 #![tactic(auto)]
 
 #[cfg(test)]
+mod frames;
+#[cfg(test)]
 mod judges;
 #[cfg(test)]
 mod ledger;

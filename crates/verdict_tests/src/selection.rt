@@ -1,5 +1,20 @@
 //! Which lines of a ledger are taken: by words, moments and masks, by links, and with their neighbours.
 
 mod choices;
+mod devices;
 mod link_lists;
 mod neighbours;
+
+use line_selection::Selection;
+
+/// Every line is taken.
+pub fn everything() -> Selection {
+    Selection {
+        links: None,
+        network: None,
+        words: None,
+        from: None,
+        to: None,
+        filters: None,
+    }
+}

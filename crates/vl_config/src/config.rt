@@ -26,7 +26,7 @@ pub const MAX_TABLE_FILTERS: usize = 7;
 
 /// The table of virtual links: the constant field of the system's addresses, its links, and what the
 /// analyser is told beside them.
-#[derive(Debug, Drop)]
+#[derive(Drop)]
 pub struct Config {
     constant: u32,
     links: Vec<Link>,
@@ -107,6 +107,16 @@ impl Config {
         ensures bound { result ≤ 1000000000 }
     {
         self.late
+    }
+
+    /// The same table with another window for late timestamps, in nanoseconds: at most 1 s.
+    pub fn with_late(self, late: u64) -> Config
+        requires { late ≤ 1000000000 }
+        ensures { result ≡ record self { late = late } }
+    {
+        let mut config = self;
+        config.late = late;
+        config
     }
 
     /// The table's filters in the numeric form, at most [`MAX_TABLE_FILTERS`]. None of them is read here.

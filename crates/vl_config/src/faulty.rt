@@ -10,7 +10,7 @@ use crate::tables::{is_missing, is_other_kind, is_out_of_range, is_unknown};
 use toml::Table;
 
 /// What a fault of a table is about: one of its keys, or a name that is none of them.
-#[derive(Clone, Copy, Debug)]
+#[derive(Clone, Copy)]
 pub enum FaultyKey<'a> {
     Known(Key),
     Unknown(&'a str),

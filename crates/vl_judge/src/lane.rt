@@ -22,7 +22,7 @@ use std::marker::Model;
 use vl_config::{CHECK_LENGTH, Class, Link, class_by};
 
 /// What policing and integrity checking keep of one virtual link on one network.
-#[derive(Debug, Drop)]
+#[derive(Drop)]
 pub struct Side {
     account: Account,
     check: Check,
@@ -75,7 +75,7 @@ impl Side {
 }
 
 /// The lane of one virtual link.
-#[derive(Debug, Drop)]
+#[derive(Drop)]
 pub struct Lane {
     id: VlId,
     smax: u32,
@@ -145,7 +145,7 @@ impl Lane {
 }
 
 /// A lane in memory of its own, so that a move of it is a pointer's. A lane has kilobytes.
-#[derive(Debug, Drop)]
+#[derive(Drop)]
 pub struct LaneBox(Box<Lane>);
 
 impl Model for LaneBox {

@@ -27,7 +27,7 @@ pub const MAX_WORKERS: u32 = 8;
 ///
 /// A frame's lane is found by an index of all identifiers, so that a frame costs the same whatever
 /// the number of links.
-#[derive(Debug, Drop)]
+#[derive(Drop)]
 pub struct Lanes {
     alloc: Global,
     constant: u32,

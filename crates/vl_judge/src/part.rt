@@ -17,7 +17,7 @@ pub(crate) struct Part {
 }
 
 /// The verdict of the round's frame of this number.
-#[derive(Clone, Copy, Debug)]
+#[derive(Clone, Copy)]
 pub(crate) struct Numbered {
     pub(crate) number: usize,
     pub(crate) verdict: Verdict,

@@ -14,7 +14,7 @@ use vl_config::Class;
 /// The order is this project's profile: policing sees the frames of the class `Regular`, integrity
 /// checking those within the account, and redundancy management those that integrity checking found
 /// valid. The type keeps that: no other combination can be made.
-#[derive(Clone, Copy, Debug, PartialEq, Eq)]
+#[derive(Clone, Copy, PartialEq, Eq)]
 pub struct Verdict {
     /// The class.
     pub class: Class,

@@ -5,7 +5,7 @@ use Rattle.std.specs.Io.KnownBytes.{Appends}
 use Rattle.afdx_frame.specs.Frame.{Frame}
 use Rattle.afdx_frame.specs.declared.key.Network.{Network}
 use Rattle.afdx_frame.specs.declared.key.Network.TheVariants.{A, B}
-use Rattle.bpf_isa.specs.declared.packed.Packed.{Packed}
+use Rattle.round_output.specs.Filters.{Making, capture_by, lines_by}
 use Rattle.ordered_merge.specs.Merge.{AreOfTap, Tap, new_tap, tap_after}
 use Rattle.ordered_merge.specs.Order.{IsOrder}
 use Rattle.ordered_merge.specs.Recording.{IsRecording as IsTapRecording}
@@ -24,8 +24,7 @@ use Rattle.tap_queue.specs.declared.end.TapEnd.{TapEnd}
 use Rattle.tap_queue.specs.declared.item.TapItem.TheVariants as items
 use Rattle.vl_config.specs.Document.{VlTable}
 use Rattle.run_outcome.specs.Recording.{IsRecording, LeavesUnread}
-use Rattle.round_output.specs.Filters.{capture_by}
-use Rattle.round_output.specs.Outputs.{SinkFails, StopsWriting, effect_of}
+use Rattle.round_output.specs.Outputs.{HasPacketsFirst, SinkFails, StopsWriting, effect_of}
 use Rattle.tap_merge.specs.Rings.{AreFirst, EndsWith, RingsFault, StopsTaking, WhereFailed}
 use Rattle.watch_run.specs.Running.{AbortsBegun, AbortsRunning, FailsAmong, HasCutSafe, HasMergedFailed, HasWholeRounds, LosesRing, StopsRunning, WroteSafe}
 use Rattle.tap_merge.specs.Threads.{IsLeft, IsSettled, IsStarted}
@@ -35,7 +34,6 @@ use Rattle.run_outcome.specs.Device.{SourceMembers, AppendsSome, SinkView, Sourc
 use Rattle.run_outcome.specs.Recording.{IsReadPart, most_frames}
 use Rattle.watch_run.specs.Watch.{HasWholes, IsRunFault, StopsRun}
 use Rattle.run_outcome.specs.Opening.{WatchDevices, watch_devices}
-use Rattle.round_output.specs.Filters.{lines_by}
 use Rattle.run_outcome.specs.declared.fault.Output.TheVariants as output
 use Rattle.run_outcome.specs.declared.fault.WatchFault.{WatchFault}
 use Rattle.run_outcome.specs.declared.fault.WatchFault.TheVariants as watch
@@ -45,7 +43,7 @@ use Rattle.tap_queue.specs.declared.item.TapItem.{TapItem}
 use Rattle.tap_merge.proofs.TwoTaps.{high_after, in_time}
 use Rattle.watch_run.proofs.Watching.{first_of_all, wholes_before}
 use Rattle.watch_run.proofs.WholeOrder.{IsFirst, goes_on, recorded}
-use Rattle.round_output.proofs.Writing.{capture_all, capture_longer, lines_all, lines_longer, packets_longer}
+use Rattle.round_output.proofs.Writing.{capture_all, capture_longer, first_all, first_longer, lines_all, lines_longer, packets_longer}
 
 -- ---- a tap whose source came back
 
@@ -224,16 +222,16 @@ stopped_so late cut before_a before_b after_a after_b a b more_a more_b settled_
 
 -- ---- the outputs
 
-some_packets : (fault : WatchFault) (ps : List (List Packed)) (vl_table : VlTable) (capture ledger capture' ledger' : SinkView) (a b : TapEnd)
-    (s : StopsRunning fault ps vl_table capture ledger a b capture' ledger') → AppendsSome capture.contents capture'.contents (capture_by ps s.cut)
+some_packets : (fault : WatchFault) (ps : Making) (vl_table : VlTable) (capture ledger capture' ledger' : SinkView) (a b : TapEnd)
+    (s : StopsRunning fault ps vl_table capture ledger a b capture' ledger') → AppendsSome capture.contents capture'.contents (capture_by ps vl_table s.cut)
 some_packets fault ps vl_table capture ledger capture' ledger' a b s = by s.why
   where
     by : ((RingsFault fault a b × HasWholeRounds ps vl_table s.cut capture ledger capture' ledger') ⊎ StopsWriting (effect_of fault) ps vl_table capture ledger capture' ledger' s.cut) →
-        AppendsSome capture.contents capture'.contents (capture_by ps s.cut)
-    by (inl (rings, whole)) = capture_all ps s.cut capture.contents capture'.contents whole.packets
+        AppendsSome capture.contents capture'.contents (capture_by ps vl_table s.cut)
+    by (inl (rings, whole)) = capture_all ps vl_table s.cut capture.contents capture'.contents whole.packets
     by (inr w) = w.packets
 
-some_lines : (fault : WatchFault) (ps : List (List Packed)) (vl_table : VlTable) (capture ledger capture' ledger' : SinkView) (a b : TapEnd)
+some_lines : (fault : WatchFault) (ps : Making) (vl_table : VlTable) (capture ledger capture' ledger' : SinkView) (a b : TapEnd)
     (s : StopsRunning fault ps vl_table capture ledger a b capture' ledger') → AppendsSome ledger.contents ledger'.contents (lines_by ps vl_table s.cut)
 some_lines fault ps vl_table capture ledger capture' ledger' a b s = by s.why
   where
@@ -241,6 +239,17 @@ some_lines fault ps vl_table capture ledger capture' ledger' a b s = by s.why
         AppendsSome ledger.contents ledger'.contents (lines_by ps vl_table s.cut)
     by (inl (rings, whole)) = lines_all ps vl_table s.cut ledger.contents ledger'.contents whole.lines
     by (inr w) = w.lines
+
+some_first : (fault : WatchFault) (ps : Making) (vl_table : VlTable) (capture ledger capture' ledger' : SinkView) (a b : TapEnd)
+    (s : StopsRunning fault ps vl_table capture ledger a b capture' ledger') →
+    HasPacketsFirst ps vl_table s.cut capture.contents capture'.contents ledger.contents ledger'.contents
+some_first fault ps vl_table capture ledger capture' ledger' a b s = by s.why
+  where
+    by : ((RingsFault fault a b × HasWholeRounds ps vl_table s.cut capture ledger capture' ledger') ⊎ StopsWriting (effect_of fault) ps vl_table capture ledger capture' ledger' s.cut) →
+        HasPacketsFirst ps vl_table s.cut capture.contents capture'.contents ledger.contents ledger'.contents
+    by (inl (rings, whole)) = first_all ps vl_table s.cut capture.contents capture'.contents ledger.contents ledger'.contents whole.packets
+        (lines_all ps vl_table s.cut ledger.contents ledger'.contents whole.lines)
+    by (inr w) = w.packets_first
 
 one_fails : (fault : WatchFault) (c c' l l' : ℕ) → SinkFails fault c c' l l' → MayFail c c' × MayFail l l'
 one_fails (watch.Write output.Capture) c c' l l' (counts, same) = (inr counts, inl same)
@@ -253,7 +262,7 @@ one_fails watch.Workers c c' l l' h = absurd h
 one_fails (watch.Header n f) c c' l l' h = absurd h
 one_fails watch.Filters c c' l l' h = absurd h
 
-sinks_may_fail : (fault : WatchFault) (ps : List (List Packed)) (vl_table : VlTable) (capture ledger capture' ledger' : SinkView) (a b : TapEnd) →
+sinks_may_fail : (fault : WatchFault) (ps : Making) (vl_table : VlTable) (capture ledger capture' ledger' : SinkView) (a b : TapEnd) →
     StopsRunning fault ps vl_table capture ledger a b capture' ledger' → MayFail capture.failures capture'.failures × MayFail ledger.failures ledger'.failures
 sinks_may_fail fault ps vl_table capture ledger capture' ledger' a b s = by s.why
   where
@@ -264,7 +273,7 @@ sinks_may_fail fault ps vl_table capture ledger capture' ledger' a b s = by s.wh
 
 -- ---- a ring was lost
 
-pub loses_ring : (fault : WatchFault) (ps : List (List Packed)) (vl_table : VlTable) (before : WatchDevices) (a b : TapEnd) (capture ledger : SinkView) →
+pub loses_ring : (fault : WatchFault) (ps : Making) (vl_table : VlTable) (before : WatchDevices) (a b : TapEnd) (capture ledger : SinkView) →
     StopsRunning fault ps vl_table before.capture before.ledger a b capture ledger → LosesRing ps vl_table before capture ledger
 loses_ring fault ps vl_table before a b capture ledger s =
     let m = s.taken.merger in
@@ -275,17 +284,19 @@ loses_ring fault ps vl_table before a b capture ledger s =
       tap_a = subst (λ n. IsTapRecording A n s.taken.frames_a) s.taken.late_is (m.a, s.taken.follows.a);
       tap_b = subst (λ n. IsTapRecording B n s.taken.frames_b) s.taken.late_is (m.b, s.taken.follows.b);
       order = s.taken.follows.order;
-      packets = capture_longer ps s.cut m.pending before.capture.contents capture.contents
+      packets = capture_longer ps vl_table s.cut m.pending before.capture.contents capture.contents
           (some_packets fault ps vl_table before.capture before.ledger capture ledger a b s);
       lines = lines_longer ps vl_table s.cut m.pending before.ledger.contents ledger.contents
           (some_lines fault ps vl_table before.capture before.ledger capture ledger a b s);
+      packets_first = first_longer ps vl_table s.cut m.pending before.capture.contents capture.contents before.ledger.contents ledger.contents
+          (some_first fault ps vl_table before.capture before.ledger capture ledger a b s);
       capture_failures = (sinks_may_fail fault ps vl_table before.capture before.ledger capture ledger a b s).0;
       ledger_failures = (sinks_may_fail fault ps vl_table before.capture before.ledger capture ledger a b s).1;
     }
 
 -- ---- both sources came back
 
-pub running_aborts : (fault : WatchFault) (ps : List (List Packed)) (vl_table : VlTable) (before : WatchDevices) (a b : TapEnd) (after_a after_b : SourceView) (capture ledger : SinkView)
+pub running_aborts : (fault : WatchFault) (ps : Making) (vl_table : VlTable) (before : WatchDevices) (a b : TapEnd) (after_a after_b : SourceView) (capture ledger : SinkView)
     (more_a more_b : List TapItem) →
     IsTapBack A vl_table.late before.a (taken_items a ++ more_a) after_a → IsTapBack B vl_table.late before.b (taken_items b ++ more_b) after_b →
     has_lost a ≡ false → has_lost b ≡ false →
@@ -302,7 +313,7 @@ running_aborts fault ps vl_table before a b after_a after_b capture ledger more_
     stopped : IsStopped vl_table.late s.cut before.a before.b given_a given_b
     stopped = stopped_so vl_table.late s.cut before.a before.b after_a after_b a b more_a more_b settled_a settled_b sound_a sound_b s.taken
 
-    packets : AppendsSome before.capture.contents capture.contents (capture_by ps s.cut)
+    packets : AppendsSome before.capture.contents capture.contents (capture_by ps vl_table s.cut)
     packets = some_packets fault ps vl_table before.capture before.ledger capture ledger a b s
 
     lines : AppendsSome before.ledger.contents ledger.contents (lines_by ps vl_table s.cut)
@@ -317,18 +328,22 @@ running_aborts fault ps vl_table before a b after_a after_b capture ledger more_
       read_a = part_back A vl_table.late before.a after_a given_a settled_a;
       read_b = part_back B vl_table.late before.b after_b given_b settled_b;
       order = stopped.order;
-      capture = capture_longer ps s.cut stopped.rest before.capture.contents capture.contents packets;
-      ledger = inl (lines_longer ps vl_table s.cut stopped.rest before.ledger.contents ledger.contents lines);
+      capture = capture_longer ps vl_table s.cut stopped.rest before.capture.contents capture.contents packets;
+      ledger = inl (
+        lines_longer ps vl_table s.cut stopped.rest before.ledger.contents ledger.contents lines,
+        first_longer ps vl_table s.cut stopped.rest before.capture.contents capture.contents before.ledger.contents ledger.contents
+            (some_first fault ps vl_table before.capture before.ledger capture ledger a b s),
+      );
       wholes = wholes;
       first = first_of_all ps vl_table before s.cut capture ledger stopped.first packets lines;
     }
 
     whole : HasWholeRounds ps vl_table s.cut before.capture before.ledger capture ledger →
-        (n : ℕ) × Appends before.capture.contents capture.contents (capture_by ps (take n (s.cut ++ stopped.rest)))
+        (n : ℕ) × Appends before.capture.contents capture.contents (capture_by ps vl_table (take n (s.cut ++ stopped.rest)))
         × Appends before.ledger.contents ledger.contents (lines_by ps vl_table (take n (s.cut ++ stopped.rest)))
     whole w = (
       length s.cut,
-      subst (λ (l : List Frame). Appends before.capture.contents capture.contents (capture_by ps l)) (sym (wholes_before s.cut stopped.rest)) w.packets,
+      subst (λ (l : List Frame). Appends before.capture.contents capture.contents (capture_by ps vl_table l)) (sym (wholes_before s.cut stopped.rest)) w.packets,
       subst (λ (l : List Frame). Appends before.ledger.contents ledger.contents (lines_by ps vl_table l)) (sym (wholes_before s.cut stopped.rest)) w.lines,
     )
 
@@ -399,7 +414,7 @@ running_aborts fault ps vl_table before a b after_a after_b capture ledger more_
     by watch.Filters (inl ((B, h), w)) other safe = absurd h
     by (watch.Write output.Capture) (inr w) other safe = aborts (watch.Write output.Capture) (back_a, back_b, w.fails.0, w.fails.1) tt tt tt
     by (watch.Write output.Ledger) (inr w) other safe =
-        aborts (watch.Write output.Ledger) (back_a, back_b, w.fails.0, w.fails.1) tt (packets_longer ps s.cut stopped.rest before.capture capture w.whole) tt
+        aborts (watch.Write output.Ledger) (back_a, back_b, w.fails.0, w.fails.1) tt (packets_longer ps vl_table s.cut stopped.rest before.capture capture w.whole) tt
     by watch.Memory (inr w) other safe = aborts watch.Memory (back_a, back_b, w.fails.0, w.fails.1) tt tt tt
     by watch.Spawn (inr w) other safe = absurd w.fails
     by (watch.Read n) (inr w) other safe = absurd w.fails
@@ -410,7 +425,7 @@ running_aborts fault ps vl_table before a b after_a after_b capture ledger more_
 
 -- ---- a run that was aborted
 
-pub begun_aborts : (fault : WatchFault) (ps : List (List Packed)) (vl_table : VlTable) (before : WatchDevices) (a b : TapEnd) (after_a after_b : SourceView) (capture ledger : SinkView)
+pub begun_aborts : (fault : WatchFault) (ps : Making) (vl_table : VlTable) (before : WatchDevices) (a b : TapEnd) (after_a after_b : SourceView) (capture ledger : SinkView)
     (more_a more_b : List TapItem) → IsTapBack A vl_table.late before.a (taken_items a ++ more_a) after_a → IsTapBack B vl_table.late before.b (taken_items b ++ more_b) after_b →
     has_lost a ≡ false → has_lost b ≡ false → StopsRunning fault ps vl_table before.capture before.ledger a b capture ledger → AbortsBegun fault ps vl_table before (Some after_a) (Some after_b) capture ledger
 begun_aborts watch.RingLost ps vl_table before a b after_a after_b capture ledger more_a more_b settled_a settled_b sound_a sound_b s =
@@ -430,6 +445,6 @@ begun_aborts (watch.Header n f) ps vl_table before a b after_a after_b capture l
 begun_aborts watch.Filters ps vl_table before a b after_a after_b capture ledger more_a more_b settled_a settled_b sound_a sound_b s =
     inl (running_aborts watch.Filters ps vl_table before a b after_a after_b capture ledger more_a more_b settled_a settled_b sound_a sound_b s (λ is. (let wrong : ⊥ = cc is in absurd wrong)))
 
-pub begun_loses : (fault : WatchFault) (ps : List (List Packed)) (vl_table : VlTable) (before : WatchDevices) (a b : TapEnd) (back_a back_b : Option SourceView) (capture ledger : SinkView) →
+pub begun_loses : (fault : WatchFault) (ps : Making) (vl_table : VlTable) (before : WatchDevices) (a b : TapEnd) (back_a back_b : Option SourceView) (capture ledger : SinkView) →
     StopsRunning fault ps vl_table before.capture before.ledger a b capture ledger → AbortsBegun watch.RingLost ps vl_table before back_a back_b capture ledger
 begun_loses fault ps vl_table before a b back_a back_b capture ledger s = inr (refl, loses_ring fault ps vl_table before a b capture ledger s)

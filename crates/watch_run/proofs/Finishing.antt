@@ -1,9 +1,9 @@
 -- A run whose recordings have ended, once both rings are settled.
-use Rattle.std.proofs.Common.{◌≡◌, inl, ◌∷◌, [], ℕ, List, Option, Some, length, subst, Result, Ok, Err}
+use Rattle.std.proofs.Common.{◌≡◌, inl, inr, ◌∷◌, [], ℕ, List, Option, Some, length, subst, Result, Ok, Err}
 use Rattle.std.specs.Prelude.{IfErr, IfOk}
 use Rattle.afdx_frame.specs.Frame.{Frame}
 use Rattle.afdx_frame.specs.declared.key.Network.TheVariants.{A, B}
-use Rattle.bpf_isa.specs.declared.packed.Packed.{Packed}
+use Rattle.round_output.specs.Filters.{Making}
 use Rattle.ordered_merge.specs.Merge.{Tap}
 use Rattle.pcap_io.specs.declared.recording.Ending.{Ending}
 use Rattle.pcap_io.specs.Writer.{sink_of}
@@ -21,6 +21,7 @@ use Rattle.run_outcome.specs.Device.{SinkMembers, SinkView, SourceView, sink_at}
 use Rattle.run_outcome.specs.Opening.{FailsOnly, WatchDevices, watch_devices}
 use Rattle.watch_run.specs.Watch.{IsRunFault, IsWatched}
 use Rattle.round_output.specs.Round.{IsFilterCount}
+use Rattle.round_output.proofs.Writing.{capture_all, first_all, lines_all}
 use Rattle.run_outcome.specs.declared.fault.Output.TheVariants as output
 use Rattle.run_outcome.specs.declared.fault.WatchFault.{WatchFault}
 use Rattle.run_outcome.specs.declared.fault.WatchFault.TheVariants as watch
@@ -54,10 +55,10 @@ settled_return late before after rings settled_a settled_b = record {
   b_failures = settled_b.same_failures;
 }
 
-pub finishes : (ps : List (List Packed)) (vl_table : VlTable) (before after : WatchDevices) (rings : Rings) (cut : List Frame) (end_a end_b : Ending) (totals : Totals) →
+pub finishes : (ps : Making) (vl_table : VlTable) (before after : WatchDevices) (rings : Rings) (cut : List Frame) (end_a end_b : Ending) (totals : Totals) →
     IsTapBack A vl_table.late before.a (taken_items rings.a) after.a → IsTapBack B vl_table.late before.b (taken_items rings.b) after.b → HasTaken vl_table.late cut rings →
     rings.end_a ≡ Some end_a → rings.end_b ≡ Some end_b → rings.merger.pending ≡ [] →
-    IsFinished ps vl_table before.capture before.ledger after.capture after.ledger cut end_a end_b totals → IsFilterCount (length ps) →
+    IsFinished ps vl_table before.capture before.ledger after.capture after.ledger cut end_a end_b totals → IsFilterCount (length ps.filters) →
     IsWatched ps vl_table (end_a ∷ end_b ∷ []) totals before after
 finishes ps vl_table before after rings cut end_a end_b totals settled_a settled_b h is_a is_b none f number =
     watched ps vl_table before after (frames_in (taken_items rings.a)) (frames_in (taken_items rings.b)) cut end_a end_b totals rings.merger settled_a.reading settled_b.reading
@@ -88,7 +89,7 @@ no_read P c c' l l' (watch.Header network fault) fails = tt
 no_read P c c' l l' watch.Spawn fails = tt
 no_read P c c' l l' watch.Filters fails = tt
 
-pub finish_aborts : (fault : WatchFault) (ps : List (List Packed)) (vl_table : VlTable) (before : WatchDevices) (rings : Rings) (a b : SourceView) (capture ledger : SinkView)
+pub finish_aborts : (fault : WatchFault) (ps : Making) (vl_table : VlTable) (before : WatchDevices) (rings : Rings) (a b : SourceView) (capture ledger : SinkView)
     (cut : List Frame) (end_a end_b : Ending) →
     IsTapBack A vl_table.late before.a (taken_items rings.a) a → IsTapBack B vl_table.late before.b (taken_items rings.b) b → HasTaken vl_table.late cut rings →
     rings.end_a ≡ Some end_a → rings.end_b ≡ Some end_b → rings.merger.pending ≡ [] →
@@ -106,20 +107,20 @@ finish_aborts fault ps vl_table before rings a b capture ledger cut end_a end_b 
 -- ---- a ring was lost at the end
 
 pub lost_at_end : {W L : Type 0} (w : SinkMembers W) (l : SinkMembers L)
-    (ps : List (List Packed)) (vl_table : VlTable) (capture ledger : SinkView) (rings : Rings) (outputs : Outputs W L) →
+    (ps : Making) (vl_table : VlTable) (capture ledger : SinkView) (rings : Rings) (outputs : Outputs W L) →
     IsRunning w l ps vl_table capture ledger rings outputs →
     StopsRunning watch.RingLost ps vl_table capture ledger rings.a rings.b (sink_at w (sink_of outputs.capture)) (sink_at l (ledger_sink outputs.ledger))
 lost_at_end w l ps vl_table capture ledger rings outputs running = record {
   cut = running.cut;
   taken = stops_with vl_table.late running.cut rings rings.a rings.b running.taken (takes_none rings.a) (takes_none rings.b);
-  why = inl (
-    (A, tt),
-    record {
-      packets = running.written.packets;
-      lines = running.written.lines;
-      capture_failures = running.written.capture_failures;
-      ledger_failures = running.written.ledger_failures;
-    },
-  );
+  why = inr (record {
+    packets = capture_all ps vl_table running.cut capture.contents (w.contents (sink_of outputs.capture)) running.written.packets;
+    lines = lines_all ps vl_table running.cut ledger.contents (l.contents (ledger_sink outputs.ledger)) running.written.lines;
+    packets_first = first_all ps vl_table running.cut capture.contents (w.contents (sink_of outputs.capture)) ledger.contents
+        (l.contents (ledger_sink outputs.ledger)) running.written.packets
+        (lines_all ps vl_table running.cut ledger.contents (l.contents (ledger_sink outputs.ledger)) running.written.lines);
+    whole = tt;
+    fails = (running.written.capture_failures, running.written.ledger_failures);
+  });
   safe = tt;
 }

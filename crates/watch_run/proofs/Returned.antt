@@ -5,7 +5,7 @@ use Rattle.std.specs.Prelude.{IfSome}
 use Rattle.afdx_frame.specs.Frame.{Frame}
 use Rattle.afdx_frame.specs.declared.key.Network.{Network}
 use Rattle.afdx_frame.specs.declared.key.Network.TheVariants as networks
-use Rattle.bpf_isa.specs.declared.packed.Packed.{Packed}
+use Rattle.round_output.specs.Filters.{Making, capture_by, ledger_by}
 use Rattle.ordered_merge.specs.Merge.{Follows, MergerState}
 use Rattle.ordered_merge.specs.Order.{IsOrder}
 use Rattle.ordered_merge.proofs.Following.{follows_order, one_order}
@@ -18,12 +18,10 @@ use Rattle.run_outcome.specs.Recording.{IsRecording, LeavesUnread}
 use Rattle.round_output.specs.Outputs.{IsFinished, SinkFails, StopsFinishing}
 use Rattle.watch_run.specs.Run.{StopsWatching, reading_view}
 use Rattle.tap_merge.specs.Taps.{HasRead, ReadsPart}
-use Rattle.round_output.specs.Filters.{capture_by}
 use Rattle.run_outcome.specs.Device.{AppendsSome, SourceView}
 use Rattle.run_outcome.specs.Recording.{IsReadPart, IsReadWhole}
 use Rattle.watch_run.specs.Watch.{AbortsRun, HasFirstOfAll, HasLines, IsRunFault, StopsRun, IsWatched}
 use Rattle.run_outcome.specs.Opening.{FailsOnly, WatchDevices, watch_devices}
-use Rattle.round_output.specs.Filters.{ledger_by}
 use Rattle.round_output.specs.Round.{IsFilterCount}
 use Rattle.run_outcome.specs.declared.fault.Output.TheVariants as output
 use Rattle.run_outcome.specs.declared.fault.WatchFault.{WatchFault}
@@ -95,7 +93,7 @@ pub record Returned (a b : Reading) (unread_a unread_b : List ℕ) (after : Watc
   pub a_failures : after.a.failures ≡ a.failures
   pub b_failures : after.b.failures ≡ b.failures
 
-pub aborted : (fault : WatchFault) (ps : List (List Packed)) (vl_table : VlTable) (before after : WatchDevices) (a b : Reading) (unread_a unread_b : List ℕ) →
+pub aborted : (fault : WatchFault) (ps : Making) (vl_table : VlTable) (before after : WatchDevices) (a b : Reading) (unread_a unread_b : List ℕ) →
     Returned a b unread_a unread_b after → StopsWatching fault ps vl_table before a b after.capture after.ledger → AbortsRun fault ps vl_table before after
 aborted fault ps vl_table before after a b unread_a unread_b r s = (
   fails_given fault before (watch_devices (reading_view a) (reading_view b) after.capture after.ledger) after s.fails r.a_failures r.b_failures refl refl,
@@ -114,10 +112,10 @@ aborted fault ps vl_table before after a b unread_a unread_b r s = (
   },
 )
 
-pub watched : (ps : List (List Packed)) (vl_table : VlTable) (before after : WatchDevices) (fa fb cut : List Frame) (end_a end_b : Ending) (totals : Totals)
+pub watched : (ps : Making) (vl_table : VlTable) (before after : WatchDevices) (fa fb cut : List Frame) (end_a end_b : Ending) (totals : Totals)
     (m : MergerState) (a b : Reading) (unread_a unread_b : List ℕ) → Returned a b unread_a unread_b after →
     HasRead networks.A vl_table.late before.a fa (Some end_a) a → HasRead networks.B vl_table.late before.b fb (Some end_b) b → Follows m fa fb cut → m.pending ≡ [] →
-    IsFinished ps vl_table before.capture before.ledger after.capture after.ledger cut end_a end_b totals → IsFilterCount (length ps) →
+    IsFinished ps vl_table before.capture before.ledger after.capture after.ledger cut end_a end_b totals → IsFilterCount (length ps.filters) →
     IsWatched ps vl_table (end_a ∷ end_b ∷ []) totals before after
 watched ps vl_table before after fa fb cut end_a end_b totals m a b unread_a unread_b r read_a read_b follows none f number = record {
   filters = number;
@@ -138,14 +136,14 @@ watched ps vl_table before after fa fb cut end_a end_b totals m a b unread_a unr
 }
 
 -- why a run was aborted at the end of its ledger: all frames of both recordings had been read
-pub record StopsAtEnd (fault : WatchFault) (ps : List (List Packed)) (vl_table : VlTable) (before after : WatchDevices) (end_a end_b : Ending) : Type 0 where
+pub record StopsAtEnd (fault : WatchFault) (ps : Making) (vl_table : VlTable) (before after : WatchDevices) (end_a end_b : Ending) : Type 0 where
   pub fails : FailsOnly fault before after
   pub run : IsRunFault fault
   pub stops : StopsRun fault ps vl_table before after
   pub whole_a : IsReadWhole networks.A vl_table.late before.a after.a stops.frames_a end_a
   pub whole_b : IsReadWhole networks.B vl_table.late before.b after.b stops.frames_b end_b
 
-pub stopped_at_the_end : (fault : WatchFault) (ps : List (List Packed)) (vl_table : VlTable) (before after : WatchDevices) (fa fb cut : List Frame) (end_a end_b : Ending)
+pub stopped_at_the_end : (fault : WatchFault) (ps : Making) (vl_table : VlTable) (before after : WatchDevices) (fa fb cut : List Frame) (end_a end_b : Ending)
     (m : MergerState) (a b : Reading) (unread_a unread_b : List ℕ) → Returned a b unread_a unread_b after →
     HasRead networks.A vl_table.late before.a fa (Some end_a) a → HasRead networks.B vl_table.late before.b fb (Some end_b) b → Follows m fa fb cut → m.pending ≡ [] →
     StopsFinishing fault ps vl_table before.capture before.ledger after.capture after.ledger cut end_a end_b →
@@ -158,8 +156,8 @@ stopped_at_the_end fault ps vl_table before after fa fb cut end_a end_b m a b un
     sound_b : after.b.failures ≡ before.b.failures
     sound_b = r.b_failures ∙ read_b.failures
 
-    some : AppendsSome before.capture.contents after.capture.contents (capture_by ps cut)
-    some = capture_all ps cut before.capture.contents after.capture.contents s.packets
+    some : AppendsSome before.capture.contents after.capture.contents (capture_by ps vl_table cut)
+    some = capture_all ps vl_table cut before.capture.contents after.capture.contents s.packets
 
     -- the recordings are known, so they are those that were read
     first : HasFirstOfAll ps vl_table before after.capture after.ledger
@@ -172,7 +170,7 @@ stopped_at_the_end fault ps vl_table before after fa fb cut end_a end_b m a b un
         let ends_b : end_b ≡ y = cc (on_b.ended refl).1 in
         let same : cut ≡ frames = one_order fa fb cut frames (follows_order m fa fb cut follows none)
         (subst (λ (l : List Frame). IsOrder l fb frames) same_a (subst (λ (l : List Frame). IsOrder frames_a l frames) same_b order)) in (
-          subst (λ (l : List Frame). AppendsSome before.capture.contents after.capture.contents (capture_by ps l)) same some,
+          subst (λ (l : List Frame). AppendsSome before.capture.contents after.capture.contents (capture_by ps vl_table l)) same some,
           subst (λ (l : List Frame). AppendsSome before.ledger.contents after.ledger.contents (ledger_by ps vl_table l x y)) same
               (subst (λ (e : Ending). AppendsSome before.ledger.contents after.ledger.contents (ledger_by ps vl_table cut e y)) ends_a
               (subst (λ (e : Ending). AppendsSome before.ledger.contents after.ledger.contents (ledger_by ps vl_table cut end_a e)) ends_b s.text)),
@@ -221,7 +219,7 @@ stopped_at_the_end fault ps vl_table before after fa fb cut end_a end_b m a b un
         order = follows_order m fa fb cut follows none;
         capture = some;
         ledger = lines;
-        wholes = packets_all ps cut before.capture after.capture s.packets;
+        wholes = packets_all ps vl_table cut before.capture after.capture s.packets;
         first = first;
       };
       whole_a = whole_given networks.A vl_table.late before.a after.a fa end_a a unread_a read_a r.a_left r.a_failures;

@@ -13,9 +13,8 @@ use Rattle.ordered_merge.proofs.Following.{one_order}
 use Rattle.ordered_merge.specs.Order.{IsOrder}
 use Rattle.run_outcome.specs.Recording.{IsRecording, most_frames}
 use Rattle.verdict_ledger.specs.Tally.{totals_of}
-use Rattle.round_output.specs.Filters.{capture_by, entries_by}
+use Rattle.round_output.specs.Filters.{capture_by, entries_by, ledger_by}
 use Rattle.watch_run.specs.Laws.{SameBytesInSameBytesOut}
-use Rattle.round_output.specs.Filters.{ledger_by}
 use Rattle.afdx_frame.specs.declared.key.Network.TheVariants.{A, B}
 
 -- bytes are a recording in one way
@@ -56,7 +55,7 @@ same_bytes_out ps vl_table endings endings' totals totals' before before' after 
     let frames : w.frames ≡ v.frames = one_order v.frames_a v.frames_b w.frames v.frames order v.order in
     record {
       capture = one_sink before.capture.contents before'.capture.contents after.capture.contents after'.capture.contents same.capture
-          (capture_by ps w.frames) (capture_by ps v.frames) same.one_capture same.other_capture w.capture v.capture (ap (capture_by ps) frames);
+          (capture_by ps vl_table w.frames) (capture_by ps vl_table v.frames) same.one_capture same.other_capture w.capture v.capture (ap (capture_by ps vl_table) frames);
       ledger = one_sink before.ledger.contents before'.ledger.contents after.ledger.contents after'.ledger.contents same.ledger
           (ledger_by ps vl_table w.frames w.a w.b) (ledger_by ps vl_table v.frames v.a v.b) same.one_ledger same.other_ledger w.ledger v.ledger
           (ap (λ (fs : List Frame). ledger_by ps vl_table fs w.a w.b) frames

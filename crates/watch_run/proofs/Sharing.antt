@@ -4,7 +4,7 @@ use Rattle.ordered_merge.specs.Merge.{safe_frames}
 use Rattle.run_outcome.specs.declared.fault.WatchFault.{WatchFault}
 use Rattle.run_outcome.specs.declared.fault.WatchFault.TheVariants as watch
 use Rattle.afdx_frame.specs.Frame.{Frame}
-use Rattle.bpf_isa.specs.declared.packed.Packed.{Packed}
+use Rattle.round_output.specs.Filters.{Making}
 use Rattle.pcap_io.specs.Writer.{sink_of}
 use Rattle.round_output.specs.Outputs.{HasShared, HasWritten, StopsWriting, effect_of, frames_at, outputs_of}
 use Rattle.round_output.specs.declared.outputs.Outputs.{Outputs}
@@ -22,7 +22,7 @@ use Rattle.watch_run.specs.Running.{HasCutSafe, HasWholeRounds, IsSharing}
 use Rattle.watch_run.proofs.RoundsTaken.{taken_follows, taken_room}
 use Rattle.watch_run.proofs.Watching.{frames_counted}
 
-module _ {W L T : Type 0} (w : SinkMembers W) (l : SinkMembers L) (ps : List (List Packed)) where
+module _ {W L T : Type 0} (w : SinkMembers W) (l : SinkMembers L) (ps : Making) where
   -- the ledger has room for the round that workers are at
   pub shared_room : (vl_table : VlTable) (capture ledger : SinkView) (rings : Rings) (outputs : Outputs W L) (flight : Option (Posted T JudgedRound)) →
       IsSharing w l ps vl_table capture ledger rings outputs flight → (totals_in outputs.ledger).frames + length (frames_at flight) ≤ MAX_LINES
@@ -45,7 +45,7 @@ module _ {W L T : Type 0} (w : SinkMembers W) (l : SinkMembers L) (ps : List (Li
       (none_shared w l ps vl_table capture ledger cut outputs
       (subst (λ (s : LanesState). HasWritten w l ps vl_table capture ledger cut (outputs_of s outputs.capture outputs.ledger)) (sym same) h))
 
-pub whole_rounds : {W L : Type 0} (w : SinkMembers W) (l : SinkMembers L) (ps : List (List Packed)) (vl_table : VlTable) (capture ledger : SinkView) (cut : List Frame)
+pub whole_rounds : {W L : Type 0} (w : SinkMembers W) (l : SinkMembers L) (ps : Making) (vl_table : VlTable) (capture ledger : SinkView) (cut : List Frame)
     (outputs : Outputs W L) (lanes : LanesState) → HasWritten w l ps vl_table capture ledger cut (outputs_of lanes outputs.capture outputs.ledger) →
     HasWholeRounds ps vl_table cut capture ledger (sink_at w (sink_of outputs.capture)) (sink_at l (ledger_sink outputs.ledger))
 whole_rounds w l ps vl_table capture ledger cut outputs lanes h = record {
@@ -56,7 +56,7 @@ whole_rounds w l ps vl_table capture ledger cut outputs lanes h = record {
 }
 
 -- a fault of writing is no source's
-pub no_source : (P : Type 0) (fault : WatchFault) (ps : List (List Packed)) (vl_table : VlTable) (capture ledger capture' ledger' : SinkView) (cut : List Frame) →
+pub no_source : (P : Type 0) (fault : WatchFault) (ps : Making) (vl_table : VlTable) (capture ledger capture' ledger' : SinkView) (cut : List Frame) →
     StopsWriting (effect_of fault) ps vl_table capture ledger capture' ledger' cut → WhereFailed fault P
 no_source P (watch.Read network) ps vl_table capture ledger capture' ledger' cut s = absurd s.fails
 no_source P watch.Memory ps vl_table capture ledger capture' ledger' cut s = tt

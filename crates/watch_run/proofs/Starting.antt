@@ -5,7 +5,7 @@ use Rattle.std.specs.Io.KnownBytes.{prepend_known}
 use Rattle.afdx_frame.specs.declared.key.Network.{Network}
 use Rattle.afdx_frame.specs.declared.key.Network.TheVariants.{A, B}
 use Rattle.ordered_merge.specs.Merge.{Follows, MergerState, new_state}
-use Rattle.bpf_isa.specs.declared.packed.Packed.{Packed}
+use Rattle.round_output.specs.Filters.{Making}
 use Rattle.pcap_io.specs.Position.{Opens, Reading}
 use Rattle.pcap_io.specs.Reader.{position_of, reading_of, unread_of}
 use Rattle.pcap_io.specs.Writer.{has_failed}
@@ -48,7 +48,7 @@ still_opened network late before after end reading ahead has none empty left =
 
 pub ready_runs : {S T W L : Type 0} (s : SourceMembers S) (t : SourceMembers T)
     (w : SinkMembers W) (l : SinkMembers L)
-    (ps : List (List Packed)) (vl_table : VlTable) (before : WatchDevices) (ready : Ready S T W L) → IsReady s t w l ps vl_table before ready →
+    (ps : Making) (vl_table : VlTable) (before : WatchDevices) (ready : Ready S T W L) → IsReady s t w l ps vl_table before ready →
     IsRunning w l ps vl_table before.capture before.ledger ready.rings ready.outputs
 ready_runs s t w l ps vl_table before ready h = record {
   cut = [];
@@ -67,7 +67,7 @@ pub same_start : {S : Type 0} (s : SourceMembers S) (network : Network) (late : 
     IsStarted network late before (reading_of s.remaining s.failures reader) → IsStarted network late before (reading_of s.remaining s.failures there)
 same_start {S = S} s network late before reader there same h = subst (λ (r : TapReader S). IsStarted network late before (reading_of s.remaining s.failures r)) (sym same) h
 
-pub same_run : {W L : Type 0} (w : SinkMembers W) (l : SinkMembers L) (ps : List (List Packed)) (vl_table : VlTable)
+pub same_run : {W L : Type 0} (w : SinkMembers W) (l : SinkMembers L) (ps : Making) (vl_table : VlTable)
     (capture ledger : SinkView) (rings rings' : Rings) (outputs outputs' : Outputs W L) → rings' ≡ rings → outputs' ≡ outputs →
     IsRunning w l ps vl_table capture ledger rings outputs → IsRunning w l ps vl_table capture ledger rings' outputs'
 same_run {W = W} {L = L} w l ps vl_table capture ledger rings rings' outputs outputs' same same_outputs h =
@@ -93,7 +93,7 @@ none_are_few taken none = subst (λ (l : List TapItem). length (frames_in l) ≤
 
 pub ready_made : {S T W L : Type 0} (s : SourceMembers S) (t : SourceMembers T)
     (w : SinkMembers W) (l : SinkMembers L)
-    (ps : List (List Packed)) (vl_table : VlTable) (before : WatchDevices) (ends : (TapPut × TapEnd) × (TapPut × TapEnd)) (taps : Taps S T) (outputs : Outputs W L) (late : ℕ) →
+    (ps : Making) (vl_table : VlTable) (before : WatchDevices) (ends : (TapPut × TapEnd) × (TapPut × TapEnd)) (taps : Taps S T) (outputs : Outputs W L) (late : ℕ) →
     late ≡ vl_table.late → HasMerged s t late before.a before.b [] [] [] taps → Agree taps → taps.merger ≡ new_state late → (taps.end_a ≡ None) × (taps.end_b ≡ None) →
     (unread_of taps.a ≡ []) × (unread_of taps.b ≡ []) → AreTwoRings late ends → HasWritten w l ps vl_table before.capture before.ledger [] outputs → has_failed outputs.capture ≡ false →
     ledger_has_failed outputs.ledger ≡ false → IsReady s t w l ps vl_table before (ready_of ends.0.0 ends.0.1 ends.1.0 ends.1.1 taps outputs)

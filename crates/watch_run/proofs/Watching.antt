@@ -11,7 +11,7 @@ use Rattle.afdx_frame.specs.Frame.{Frame, key_cmp, key_of}
 use Rattle.afdx_frame.specs.declared.key.Key.{Key}
 use Rattle.afdx_frame.specs.declared.key.Network.{Network}
 use Rattle.afdx_frame.specs.declared.key.Network.TheVariants as networks
-use Rattle.bpf_isa.specs.declared.packed.Packed.{Packed}
+use Rattle.round_output.specs.Filters.{Making, capture_by, entries_by, ledger_by, lines_by}
 use Rattle.ordered_merge.specs.Order.{IsOrder, IsRising}
 use Rattle.pcap_io.specs.Position.{Reading, Reads, after_frame, start_at}
 use Rattle.pcap_io.specs.declared.position.Position.{Position}
@@ -21,7 +21,6 @@ use Rattle.verdict_ledger.specs.Tally.{totals_of}
 use Rattle.verdict_ledger.specs.declared.totals.Totals.{Totals}
 use Rattle.vl_config.specs.Document.{VlTable}
 use Rattle.vl_judge.specs.Lanes.{last_key}
-use Rattle.round_output.specs.Filters.{capture_by, entries_by}
 use Rattle.round_output.specs.Outputs.{HasPackets, HasWritten, SinkFails, StopsWriting, WhereLedgerFailed}
 use Rattle.vl_judge.specs.Lanes.{FollowsOn}
 use Rattle.watch_run.specs.Run.{IsWatching, StopsWatching}
@@ -30,15 +29,14 @@ use Rattle.round_output.specs.declared.outputs.Outputs.{Outputs}
 use Rattle.tap_merge.specs.Taps.{Agree, HasMerged, ReadsPart, SourceFails, StopsMerging}
 use Rattle.run_outcome.specs.Device.{SourceMembers, SinkMembers, AppendsSome, SinkView, SourceView}
 use Rattle.run_outcome.specs.Recording.{HasReadTap, most_frames}
-use Rattle.watch_run.specs.Watch.{HasFirstOfAll}
+use Rattle.watch_run.specs.Watch.{HasFirstOfAll, HasLines}
 use Rattle.run_outcome.specs.Opening.{WatchDevices}
-use Rattle.round_output.specs.Filters.{ledger_by, lines_by}
 use Rattle.run_outcome.specs.declared.fault.Output.TheVariants as output
 use Rattle.run_outcome.specs.declared.fault.WatchFault.{WatchFault}
 use Rattle.run_outcome.specs.declared.fault.WatchFault.TheVariants as watch
 use Rattle.watch_run.proofs.WholeOrder.{IsFirst}
 use Rattle.verdict_ledger.specs.Text.{ledger_head, lines_text, rest_text}
-use Rattle.round_output.proofs.Writing.{capture_all, lines_all, some_longer, capture_longer, capture_some, entries_length, lines_longer, lines_some, packets_longer}
+use Rattle.round_output.proofs.Writing.{capture_all, lines_all, some_longer, capture_longer, capture_some, entries_length, first_longer, first_whole, lines_longer, lines_some, packets_longer}
 
 -- ---- the number of filters
 
@@ -50,7 +48,7 @@ some_filters (suc n) empty e is = omega arith
 
 pub has_begun : {S T W L : Type 0} (s : SourceMembers S) (t : SourceMembers T)
     (w : SinkMembers W) (l : SinkMembers L)
-    (ps : List (List Packed)) (vl_table : VlTable) (before : WatchDevices) (taps : Taps S T) (outputs : Outputs W L) (late : ℕ) → late ≡ vl_table.late →
+    (ps : Making) (vl_table : VlTable) (before : WatchDevices) (taps : Taps S T) (outputs : Outputs W L) (late : ℕ) → late ≡ vl_table.late →
     HasMerged s t late before.a before.b [] [] [] taps → HasWritten w l ps vl_table before.capture before.ledger [] outputs →
     Agree taps → has_failed outputs.capture ≡ false → ledger_has_failed outputs.ledger ≡ false →
     IsWatching s t w l ps vl_table before taps outputs
@@ -124,7 +122,7 @@ few_read network late bytes frames position left read =
     bound : (n m : ℕ) → n ≡ 0 + m → n ≤ most_frames → m ≤ most_frames
     bound n m e within = omega (arith, e, within)
 
-pub frames_counted : (ps : List (List Packed)) (vl_table : VlTable) (frames : List Frame) (totals : Totals) → totals ≡ totals_of (entries_by ps vl_table frames) →
+pub frames_counted : (ps : Making) (vl_table : VlTable) (frames : List Frame) (totals : Totals) → totals ≡ totals_of (entries_by ps vl_table frames) →
     totals.frames ≡ length frames
 unfolding totals_of
 frames_counted ps vl_table frames totals is = ap (λ (t : Totals). t.frames) is ∙ entries_length ps vl_table frames
@@ -146,8 +144,8 @@ room_left late a b fa fb cut round rest position_a position_b left_a left_b coun
 
 -- ---- of recordings that are known
 
-pub first_of_all : (ps : List (List Packed)) (vl_table : VlTable) (before : WatchDevices) (cut : List Frame) (capture ledger : SinkView) → IsFirst vl_table.late before.a before.b cut →
-    AppendsSome before.capture.contents capture.contents (capture_by ps cut) → AppendsSome before.ledger.contents ledger.contents (lines_by ps vl_table cut) →
+pub first_of_all : (ps : Making) (vl_table : VlTable) (before : WatchDevices) (cut : List Frame) (capture ledger : SinkView) → IsFirst vl_table.late before.a before.b cut →
+    AppendsSome before.capture.contents capture.contents (capture_by ps vl_table cut) → AppendsSome before.ledger.contents ledger.contents (lines_by ps vl_table cut) →
     HasFirstOfAll ps vl_table before capture ledger
 first_of_all ps vl_table before cut capture ledger first packets lines =
     λ bytes_a bytes_b frames_a frames_b frames a b known_a known_b r_a r_b order.
@@ -155,11 +153,11 @@ first_of_all ps vl_table before cut capture ledger first packets lines =
     let all : AppendsSome before.ledger.contents ledger.contents (lines_by ps vl_table frames) =
     subst (λ (l : List Frame). AppendsSome before.ledger.contents ledger.contents (lines_by ps vl_table l)) (sym rest.1)
     (lines_longer ps vl_table cut rest.0 before.ledger.contents ledger.contents lines) in (
-      subst (λ (l : List Frame). AppendsSome before.capture.contents capture.contents (capture_by ps l)) (sym rest.1)
-          (capture_longer ps cut rest.0 before.capture.contents capture.contents packets),
-      some_longer before.ledger.contents ledger.contents (lines_by ps vl_table frames) (rest_text vl_table (length ps) (entries_by ps vl_table frames) a b)
+      subst (λ (l : List Frame). AppendsSome before.capture.contents capture.contents (capture_by ps vl_table l)) (sym rest.1)
+          (capture_longer ps vl_table cut rest.0 before.capture.contents capture.contents packets),
+      some_longer before.ledger.contents ledger.contents (lines_by ps vl_table frames) (rest_text vl_table (length ps.filters) (entries_by ps vl_table frames) a b)
           (ledger_by ps vl_table frames a b) all
-          (sym (append_assoc ledger_head (lines_text (entries_by ps vl_table frames)) (rest_text vl_table (length ps) (entries_by ps vl_table frames) a b))),
+          (sym (append_assoc ledger_head (lines_text (entries_by ps vl_table frames)) (rest_text vl_table (length ps.filters) (entries_by ps vl_table frames) a b))),
     ))
 
 pub none_first : (late : ℕ) (a b : SourceView) → IsFirst late a b []
@@ -170,23 +168,29 @@ none_first late a b = λ bytes_a bytes_b frames_a frames_b frames x y known_a kn
 pub wholes_before : (cut rest : List Frame) → take (length cut) (cut ++ rest) ≡ cut
 wholes_before cut rest = take-append-le (length cut) cut rest (omega arith) ∙ take_all (length cut) cut (omega arith)
 
-pub stops_by_merging : (fault : WatchFault) (ps : List (List Packed)) (vl_table : VlTable) (before : WatchDevices) (cut : List Frame) (a b : Reading) (capture ledger : SinkView) →
+pub stops_by_merging : (fault : WatchFault) (ps : Making) (vl_table : VlTable) (before : WatchDevices) (cut : List Frame) (a b : Reading) (capture ledger : SinkView) →
     IsFirst vl_table.late before.a before.b cut → StopsMerging fault vl_table.late before.a before.b cut a b →
-    Appends before.capture.contents capture.contents (capture_by ps cut) → Appends before.ledger.contents ledger.contents (lines_by ps vl_table cut) →
+    Appends before.capture.contents capture.contents (capture_by ps vl_table cut) → Appends before.ledger.contents ledger.contents (lines_by ps vl_table cut) →
     capture.failures ≡ before.capture.failures → ledger.failures ≡ before.ledger.failures →
     StopsWatching fault ps vl_table before a b capture ledger
 stops_by_merging fault ps vl_table before cut a b capture ledger is_first s packets lines sound_c sound_l = by fault s.fails
   where
     first : HasFirstOfAll ps vl_table before capture ledger
-    first = first_of_all ps vl_table before cut capture ledger is_first (capture_all ps cut before.capture.contents capture.contents packets)
+    first = first_of_all ps vl_table before cut capture ledger is_first (capture_all ps vl_table cut before.capture.contents capture.contents packets)
         (lines_all ps vl_table cut before.ledger.contents ledger.contents lines)
 
-    whole : (n : ℕ) × Appends before.capture.contents capture.contents (capture_by ps (take n (cut ++ s.rest)))
+    whole : (n : ℕ) × Appends before.capture.contents capture.contents (capture_by ps vl_table (take n (cut ++ s.rest)))
         × Appends before.ledger.contents ledger.contents (lines_by ps vl_table (take n (cut ++ s.rest)))
     whole = (
       length cut,
-      subst (λ (l : List Frame). Appends before.capture.contents capture.contents (capture_by ps l)) (sym (wholes_before cut s.rest)) packets,
+      subst (λ (l : List Frame). Appends before.capture.contents capture.contents (capture_by ps vl_table l)) (sym (wholes_before cut s.rest)) packets,
       subst (λ (l : List Frame). Appends before.ledger.contents ledger.contents (lines_by ps vl_table l)) (sym (wholes_before cut s.rest)) lines,
+    )
+
+    of_cut : HasLines ps vl_table before s.frames_a s.frames_b (cut ++ s.rest) capture ledger
+    of_cut = inl (
+      lines_some ps vl_table cut s.rest before.ledger.contents ledger.contents lines,
+      first_whole ps vl_table cut s.rest before.capture.contents capture.contents before.ledger.contents ledger.contents packets lines,
     )
 
     by : (f : WatchFault) → SourceFails f before.a.failures a.failures before.b.failures b.failures → StopsWatching f ps vl_table before a b capture ledger
@@ -197,8 +201,8 @@ stops_by_merging fault ps vl_table before cut a b capture ledger is_first s pack
       read_a = s.read_a;
       read_b = s.read_b;
       order = s.order;
-      packets = capture_some ps cut s.rest before.capture.contents capture.contents packets;
-      lines = inl (lines_some ps vl_table cut s.rest before.ledger.contents ledger.contents lines);
+      packets = capture_some ps vl_table cut s.rest before.capture.contents capture.contents packets;
+      lines = of_cut;
       wholes = whole;
       first = first;
       fails = (fails.0, fails.1, sound_c, sound_l);
@@ -211,8 +215,8 @@ stops_by_merging fault ps vl_table before cut a b capture ledger is_first s pack
       read_a = s.read_a;
       read_b = s.read_b;
       order = s.order;
-      packets = capture_some ps cut s.rest before.capture.contents capture.contents packets;
-      lines = inl (lines_some ps vl_table cut s.rest before.ledger.contents ledger.contents lines);
+      packets = capture_some ps vl_table cut s.rest before.capture.contents capture.contents packets;
+      lines = of_cut;
       wholes = whole;
       first = first;
       fails = (fails.0, fails.1, sound_c, sound_l);
@@ -225,8 +229,8 @@ stops_by_merging fault ps vl_table before cut a b capture ledger is_first s pack
       read_a = s.read_a;
       read_b = s.read_b;
       order = s.order;
-      packets = capture_some ps cut s.rest before.capture.contents capture.contents packets;
-      lines = inl (lines_some ps vl_table cut s.rest before.ledger.contents ledger.contents lines);
+      packets = capture_some ps vl_table cut s.rest before.capture.contents capture.contents packets;
+      lines = of_cut;
       wholes = tt;
       first = first;
       fails = (fails.0, fails.1, sound_c, sound_l);
@@ -241,7 +245,7 @@ stops_by_merging fault ps vl_table before cut a b capture ledger is_first s pack
 
 -- ---- where writing stops
 
-pub stops_by_writing : (fault : WatchFault) (ps : List (List Packed)) (vl_table : VlTable) (before : WatchDevices) (fa fb cut rest : List Frame) (a b : Reading) (capture ledger : SinkView) →
+pub stops_by_writing : (fault : WatchFault) (ps : Making) (vl_table : VlTable) (before : WatchDevices) (fa fb cut rest : List Frame) (a b : Reading) (capture ledger : SinkView) →
     IsFirst vl_table.late before.a before.b cut → ReadsPart networks.A vl_table.late before.a fa a → ReadsPart networks.B vl_table.late before.b fb b → IsOrder fa fb (cut ++ rest) →
     a.failures ≡ before.a.failures → b.failures ≡ before.b.failures →
     StopsWriting fault ps vl_table before.capture before.ledger capture ledger cut →
@@ -251,8 +255,14 @@ stops_by_writing fault ps vl_table before fa fb cut rest a b capture ledger is_f
     first : HasFirstOfAll ps vl_table before capture ledger
     first = first_of_all ps vl_table before cut capture ledger is_first s.packets s.lines
 
+    of_cut : HasLines ps vl_table before fa fb (cut ++ rest) capture ledger
+    of_cut = inl (
+      lines_longer ps vl_table cut rest before.ledger.contents ledger.contents s.lines,
+      first_longer ps vl_table cut rest before.capture.contents capture.contents before.ledger.contents ledger.contents s.packets_first,
+    )
+
     by : (f : WatchFault) → SinkFails f before.capture.failures capture.failures before.ledger.failures ledger.failures →
-        WhereLedgerFailed f (HasPackets ps cut before.capture capture) → StopsWatching f ps vl_table before a b capture ledger
+        WhereLedgerFailed f (HasPackets ps vl_table cut before.capture capture) → StopsWatching f ps vl_table before a b capture ledger
     by (watch.Write output.Capture) fails whole = record {
       frames_a = fa;
       frames_b = fb;
@@ -260,8 +270,8 @@ stops_by_writing fault ps vl_table before fa fb cut rest a b capture ledger is_f
       read_a = read_a;
       read_b = read_b;
       order = order;
-      packets = capture_longer ps cut rest before.capture.contents capture.contents s.packets;
-      lines = inl (lines_longer ps vl_table cut rest before.ledger.contents ledger.contents s.lines);
+      packets = capture_longer ps vl_table cut rest before.capture.contents capture.contents s.packets;
+      lines = of_cut;
       wholes = tt;
       first = first;
       fails = (sound_a, sound_b, fails.0, fails.1);
@@ -274,9 +284,9 @@ stops_by_writing fault ps vl_table before fa fb cut rest a b capture ledger is_f
       read_a = read_a;
       read_b = read_b;
       order = order;
-      packets = capture_longer ps cut rest before.capture.contents capture.contents s.packets;
-      lines = inl (lines_longer ps vl_table cut rest before.ledger.contents ledger.contents s.lines);
-      wholes = packets_longer ps cut rest before.capture capture whole;
+      packets = capture_longer ps vl_table cut rest before.capture.contents capture.contents s.packets;
+      lines = of_cut;
+      wholes = packets_longer ps vl_table cut rest before.capture capture whole;
       first = first;
       fails = (sound_a, sound_b, fails.0, fails.1);
       run = tt;
@@ -288,8 +298,8 @@ stops_by_writing fault ps vl_table before fa fb cut rest a b capture ledger is_f
       read_a = read_a;
       read_b = read_b;
       order = order;
-      packets = capture_longer ps cut rest before.capture.contents capture.contents s.packets;
-      lines = inl (lines_longer ps vl_table cut rest before.ledger.contents ledger.contents s.lines);
+      packets = capture_longer ps vl_table cut rest before.capture.contents capture.contents s.packets;
+      lines = of_cut;
       wholes = tt;
       first = first;
       fails = (sound_a, sound_b, fails.0, fails.1);

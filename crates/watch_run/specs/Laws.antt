@@ -1,6 +1,6 @@
 -- What is said of any two runs over the same bytes.
 use Rattle.std.specs.Prelude.{◌≡◌, ℕ, List, Some}
-use Rattle.bpf_isa.specs.declared.packed.Packed.{Packed}
+use Rattle.round_output.specs.Filters.{Making}
 use Rattle.pcap_io.specs.declared.recording.Ending.{Ending}
 use Rattle.verdict_ledger.specs.declared.totals.Totals.{Totals}
 use Rattle.vl_config.specs.Document.{VlTable}
@@ -33,6 +33,6 @@ pub record WroteSame (endings endings' : List Ending) (totals totals' : Totals) 
 -- of workers, however these run.
 abbrev pub SameBytesInSameBytesOut : Type 0
 SameBytesInSameBytesOut =
-    (ps : List (List Packed)) (vl_table : VlTable) (endings endings' : List Ending) (totals totals' : Totals) (before before' after after' : WatchDevices)
+    (ps : Making) (vl_table : VlTable) (endings endings' : List Ending) (totals totals' : Totals) (before before' after after' : WatchDevices)
     → HoldSameBytes before before' → IsWatched ps vl_table endings totals before after → IsWatched ps vl_table endings' totals' before' after'
     → WroteSame endings endings' totals totals' after after'

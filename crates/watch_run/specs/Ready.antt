@@ -1,8 +1,8 @@
 -- A run that is ready to start its threads, and what it comes to.
-use Rattle.std.specs.Prelude.{◌≡◌, ℕ, false, List, [], length, None, Result, MatchResult}
+use Rattle.std.specs.Prelude.{◌≡◌, ℕ, false, [], length, None, Result, MatchResult}
 use Rattle.std.specs.Option.{option_map}
 use Rattle.afdx_frame.specs.declared.key.Network.TheVariants.{A, B}
-use Rattle.bpf_isa.specs.declared.packed.Packed.{Packed}
+use Rattle.round_output.specs.Filters.{Making}
 use Rattle.pcap_io.specs.Reader.{reading_of}
 use Rattle.pcap_io.specs.Writer.{has_failed}
 use Rattle.tap_queue.specs.Ring.{IsRing, late_of, network_of, put_items, taken_items}
@@ -35,7 +35,7 @@ pub record AreNew {S T W L : Type 0} (ready : Ready S T W L) : Type 0 where
 -- Both recordings were opened and both outputs begun; no frame was read.
 pub record IsReady {S T W L : Type 0} (s : SourceMembers S) (t : SourceMembers T)
     (w : SinkMembers W) (l : SinkMembers L)
-    (ps : List (List Packed)) (vl_table : VlTable) (before : WatchDevices) (ready : Ready S T W L) : Type 0 where
+    (ps : Making) (vl_table : VlTable) (before : WatchDevices) (ready : Ready S T W L) : Type 0 where
   pub a : IsStarted A vl_table.late before.a (reading_of s.remaining s.failures ready.a)
   pub b : IsStarted B vl_table.late before.b (reading_of t.remaining t.failures ready.b)
   pub taken : HasTaken vl_table.late [] ready.rings
@@ -54,9 +54,9 @@ pub record IsStartedOf {S T W L : Type 0} (ready : Ready S T W L) (running : Run
 -- what a run that was ready comes to
 abbrev pub Runs : {S T W L : Type 0} → SourceMembers S → SourceMembers T
     → SinkMembers W → SinkMembers L
-    → List (List Packed) → Ready S T W L → Result (Watched S T W L) (WatchRefused S T W L) → Type 0
+    → Making → Ready S T W L → Result (Watched S T W L) (WatchRefused S T W L) → Type 0
 Runs s t w l ps ready result =
-    (vl_table : VlTable) (before : WatchDevices) → IsFilterCount (length ps)
+    (vl_table : VlTable) (before : WatchDevices) → IsFilterCount (length ps.filters)
     → IsReady s t w l ps vl_table before ready
     → MatchResult result
     (λ done. IsWatched ps vl_table done.endings done.totals before

@@ -3,7 +3,7 @@ use Rattle.std.specs.Prelude.{◌≡◌, ◌⊎◌, ℕ, List, [], ◌∷◌, le
 use Rattle.std.specs.Io.KnownBytes.{Appends}
 use Rattle.afdx_frame.specs.Frame.{Frame}
 use Rattle.afdx_frame.specs.declared.key.Network.TheVariants.{A, B}
-use Rattle.bpf_isa.specs.declared.packed.Packed.{Packed}
+use Rattle.round_output.specs.Filters.{Making, capture_by, entries_by, ledger_by, lines_by}
 use Rattle.ordered_merge.specs.Order.{IsOrder}
 use Rattle.pcap_io.specs.declared.recording.Ending.{Ending}
 use Rattle.verdict_ledger.specs.Tally.{totals_of}
@@ -15,8 +15,7 @@ use Rattle.run_outcome.specs.declared.fault.Output.TheVariants as output
 use Rattle.run_outcome.specs.declared.fault.WatchFault.TheVariants as watch
 use Rattle.run_outcome.specs.Device.{AppendsSome, SinkView}
 use Rattle.run_outcome.specs.Recording.{IsReadPart, IsReadWhole}
-use Rattle.round_output.specs.Filters.{capture_by, entries_by, ledger_by, lines_by}
-use Rattle.round_output.specs.Outputs.{HasPackets}
+use Rattle.round_output.specs.Outputs.{HasPackets, HasPacketsFirst}
 use Rattle.round_output.specs.Round.{IsFilterCount}
 use Rattle.run_outcome.specs.Opening.{AbortsAtOpening, FailsOnly, WatchDevices}
 
@@ -24,8 +23,8 @@ use Rattle.run_outcome.specs.Opening.{AbortsAtOpening, FailsOnly, WatchDevices}
 
 -- Both recordings were read to their endings. The capture is that of all their frames in the one order, the ledger has a line for
 -- each, with the verdicts along that order, and the totals count them.
-pub record IsWatched (ps : List (List Packed)) (vl_table : VlTable) (endings : List Ending) (totals : Totals) (before after : WatchDevices) : Type 0 where
-  pub filters : IsFilterCount (length ps)
+pub record IsWatched (ps : Making) (vl_table : VlTable) (endings : List Ending) (totals : Totals) (before after : WatchDevices) : Type 0 where
+  pub filters : IsFilterCount (length ps.filters)
   pub a : Ending
   pub b : Ending
   pub endings_are : endings ≡ a ∷ b ∷ []
@@ -35,7 +34,7 @@ pub record IsWatched (ps : List (List Packed)) (vl_table : VlTable) (endings : L
   pub read_a : IsReadWhole A vl_table.late before.a after.a frames_a a
   pub read_b : IsReadWhole B vl_table.late before.b after.b frames_b b
   pub order : IsOrder frames_a frames_b frames
-  pub capture : Appends before.capture.contents after.capture.contents (capture_by ps frames)
+  pub capture : Appends before.capture.contents after.capture.contents (capture_by ps vl_table frames)
   pub ledger : Appends before.ledger.contents after.ledger.contents (ledger_by ps vl_table frames a b)
   pub totals_are : totals ≡ totals_of (entries_by ps vl_table frames)
   pub capture_failures : after.capture.failures ≡ before.capture.failures
@@ -48,39 +47,40 @@ pub record HaveEnded (late : ℕ) (before : WatchDevices) (frames_a frames_b : L
   pub a_complete : IfSome before.a.remaining (λ bytes. IsRecording A late bytes frames_a a)
   pub b_complete : IfSome before.b.remaining (λ bytes. IsRecording B late bytes frames_b b)
 
--- The ledger has a prefix of the frames' lines; or, where both recordings had ended and the capture is complete, of its whole text.
-abbrev pub HasLines : List (List Packed) → VlTable → WatchDevices → List Frame → List Frame → List Frame → SinkView → SinkView → Type 0
+-- The ledger has a prefix of the frames' lines, and no line whose packet the capture lacks; or, where both recordings had ended and the capture is complete, of its whole text.
+abbrev pub HasLines : Making → VlTable → WatchDevices → List Frame → List Frame → List Frame → SinkView → SinkView → Type 0
 HasLines ps vl_table before frames_a frames_b frames capture ledger =
-    AppendsSome before.ledger.contents ledger.contents (lines_by ps vl_table frames)
-    ⊎ ((a b : Ending) × HaveEnded vl_table.late before frames_a frames_b a b × Appends before.capture.contents capture.contents (capture_by ps frames)
+    (AppendsSome before.ledger.contents ledger.contents (lines_by ps vl_table frames)
+    × HasPacketsFirst ps vl_table frames before.capture.contents capture.contents before.ledger.contents ledger.contents)
+    ⊎ ((a b : Ending) × HaveEnded vl_table.late before frames_a frames_b a b × Appends before.capture.contents capture.contents (capture_by ps vl_table frames)
     × AppendsSome before.ledger.contents ledger.contents (ledger_by ps vl_table frames a b))
 
 -- Where a recording's source failed, the outputs have all that belongs to the first so many frames, and no part of a packet or a line. Where the
 -- ledger can't be written, the capture has whole packets, and at least its file header: it is begun first.
-abbrev pub HasWholes : WatchFault → List (List Packed) → VlTable → List Frame → SinkView → SinkView → SinkView → SinkView → Type 0
+abbrev pub HasWholes : WatchFault → Making → VlTable → List Frame → SinkView → SinkView → SinkView → SinkView → Type 0
 HasWholes (watch.Read network) ps vl_table frames capture ledger capture' ledger' =
-    (n : ℕ) × Appends capture.contents capture'.contents (capture_by ps (take n frames))
+    (n : ℕ) × Appends capture.contents capture'.contents (capture_by ps vl_table (take n frames))
     × Appends ledger.contents ledger'.contents (lines_by ps vl_table (take n frames))
-HasWholes (watch.Write output.Ledger) ps vl_table frames capture ledger capture' ledger' = HasPackets ps frames capture capture'
+HasWholes (watch.Write output.Ledger) ps vl_table frames capture ledger capture' ledger' = HasPackets ps vl_table frames capture capture'
 HasWholes fault ps vl_table frames capture ledger capture' ledger' = ⊤
 
 -- Of recordings whose bytes are known, whatever was read: each output has a prefix of what belongs to all their frames.
-abbrev pub HasFirstOfAll : List (List Packed) → VlTable → WatchDevices → SinkView → SinkView → Type 0
+abbrev pub HasFirstOfAll : Making → VlTable → WatchDevices → SinkView → SinkView → Type 0
 HasFirstOfAll ps vl_table before capture ledger =
     (bytes_a bytes_b : List ℕ) (frames_a frames_b frames : List Frame) (a b : Ending) → before.a.remaining ≡ Some bytes_a → before.b.remaining ≡ Some bytes_b →
     IsRecording A vl_table.late bytes_a frames_a a → IsRecording B vl_table.late bytes_b frames_b b → IsOrder frames_a frames_b frames →
-    AppendsSome before.capture.contents capture.contents (capture_by ps frames)
+    AppendsSome before.capture.contents capture.contents (capture_by ps vl_table frames)
     × AppendsSome before.ledger.contents ledger.contents (ledger_by ps vl_table frames a b)
 
 -- The run stopped after these frames. Each output has a prefix of what belongs to them.
-pub record StopsRun (fault : WatchFault) (ps : List (List Packed)) (vl_table : VlTable) (before after : WatchDevices) : Type 0 where
+pub record StopsRun (fault : WatchFault) (ps : Making) (vl_table : VlTable) (before after : WatchDevices) : Type 0 where
   pub frames_a : List Frame
   pub frames_b : List Frame
   pub frames : List Frame
   pub read_a : IsReadPart A vl_table.late before.a after.a frames_a
   pub read_b : IsReadPart B vl_table.late before.b after.b frames_b
   pub order : IsOrder frames_a frames_b frames
-  pub capture : AppendsSome before.capture.contents after.capture.contents (capture_by ps frames)
+  pub capture : AppendsSome before.capture.contents after.capture.contents (capture_by ps vl_table frames)
   pub ledger : HasLines ps vl_table before frames_a frames_b frames after.capture after.ledger
   pub wholes : HasWholes fault ps vl_table frames before.capture before.ledger after.capture after.ledger
   pub first : HasFirstOfAll ps vl_table before after.capture after.ledger
@@ -93,11 +93,11 @@ IsRunFault watch.Memory = ⊤
 IsRunFault fault = ⊥
 
 -- why a run that had begun was aborted, and what it leaves
-abbrev pub AbortsRun : WatchFault → List (List Packed) → VlTable → WatchDevices → WatchDevices → Type 0
+abbrev pub AbortsRun : WatchFault → Making → VlTable → WatchDevices → WatchDevices → Type 0
 AbortsRun fault ps vl_table before after = FailsOnly fault before after × IsRunFault fault × StopsRun fault ps vl_table before after
 
 -- why a run was aborted, and what it leaves: the number of filters is the first thing that is looked at
-abbrev pub IsWatchAborted : List (List Packed) → VlTable → WatchFault → WatchDevices → WatchDevices → Type 0
+abbrev pub IsWatchAborted : Making → VlTable → WatchFault → WatchDevices → WatchDevices → Type 0
 IsWatchAborted ps vl_table fault before after =
-    ((fault ≡ watch.Filters) × (IsFilterCount (length ps) → ⊥) × (after ≡ before))
-    ⊎ (IsFilterCount (length ps) × (AbortsAtOpening fault before after ⊎ AbortsRun fault ps vl_table before after))
+    ((fault ≡ watch.Filters) × (IsFilterCount (length ps.filters) → ⊥) × (after ≡ before))
+    ⊎ (IsFilterCount (length ps.filters) × (AbortsAtOpening fault before after ⊎ AbortsRun fault ps vl_table before after))

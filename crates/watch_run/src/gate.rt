@@ -16,7 +16,7 @@ pub trait RunObserver {
 }
 
 /// A gate of both kinds that lets all through: what a run is told that no test watches.
-#[derive(Clone, Copy, Debug)]
+#[derive(Clone, Copy)]
 pub struct OpenGate;
 
 impl RunGate for OpenGate {

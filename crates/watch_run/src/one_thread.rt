@@ -2,7 +2,6 @@
 //! ledger of all verdicts.
 ghost use Rattle.std.specs.Prelude.{◌≡◌, ◌≤◌, IfErr, IfOk, IfSome, IsSome, List, OnOk, false, length, map, [], Some};
 ghost use Rattle.vl_config.specs.Document.{VlTable};
-ghost use Rattle.bpf_isa.specs.declared.packed.Packed.{Packed};
 ghost use Rattle.pcap_io.specs.Reader.{reading_of};
 ghost use Rattle.pcap_io.specs.Writer.{sink_of};
 ghost use Rattle.verdict_ledger.specs.Ledger.{has_failed as ledger_has_failed, sink_of as ledger_sink};
@@ -12,13 +11,14 @@ ghost use Rattle.run_outcome.specs.Device.{sink_at, source_at};
 ghost use Rattle.watch_run.specs.Sized.{HasAborted, HasWatched};
 ghost use Rattle.watch_run.specs.Watch.{AbortsRun, IsWatchAborted, IsWatched};
 ghost use Rattle.run_outcome.specs.Opening.{WatchDevices, devices_at, watch_devices};
+ghost use Rattle.round_output.specs.Filters.{Making, making_of, pcap_of};
 ghost use Rattle.round_output.specs.Round.{IsFilterCount};
 
 use crate::sizes::RunSizes;
 use bpf_loader::Program;
 use filter_workers::MAX_FILTERS;
 use pcap_io::{Ending, OutSink, TapSource};
-use round_output::{Entries, Outputs, Unwritten};
+use round_output::{Entries, Outputs, Plan, Unwritten};
 use run_outcome::{WatchFault, WatchRefused};
 use std::alloc::Global;
 use std::num::NonZeroUsize;
@@ -27,7 +27,7 @@ use verdict_ledger::Totals;
 use vl_config::Config;
 
 /// A whole analysis of two recordings, with the devices that it was given.
-#[derive(Debug, Drop)]
+#[derive(Drop)]
 pub struct Watched<S, T, W, L> {
     /// How the recordings of networks A and B ended.
     pub endings: [Ending; 2],
@@ -47,24 +47,24 @@ pub struct Watched<S, T, W, L> {
 fn write_rounds<S: TapSource, T: TapSource, W: OutSink, L: OutSink>(
     alloc: Global,
     round_len: NonZeroUsize,
-    programs: &[Program],
+    plan: &Plan<'_>,
     taps: &mut Taps<S, T>,
     outputs: &mut Outputs<W, L>,
 ) -> Result<(), WatchFault>
-    requires few { length programs.now ≤ 8 }
+    requires few { length plan.now.programs.now ≤ 8 }
     requires begun { (vl_table : VlTable) × (before : WatchDevices)
         × IsWatching S.TapSource T.TapSource W.OutSink L.OutSink
-        programs.now vl_table before taps.old outputs.old }
+        (making_of plan.now) vl_table before taps.old outputs.old }
     ensures watching { OnOk result ((vl_table : VlTable) (before : WatchDevices)
         → IsWatching S.TapSource T.TapSource W.OutSink L.OutSink
-        programs.now vl_table before taps.old outputs.old
+        (making_of plan.now) vl_table before taps.old outputs.old
         → IsWatching S.TapSource T.TapSource W.OutSink L.OutSink
-        programs.now vl_table before taps.new outputs.new) }
+        (making_of plan.now) vl_table before taps.new outputs.new) }
     ensures ended { OnOk result (HasEnded taps.new × (taps.new.merger.pending ≡ [])) }
     ensures stopped { IfErr result (λ fault. (vl_table : VlTable) (before : WatchDevices)
         → IsWatching S.TapSource T.TapSource W.OutSink L.OutSink
-        programs.now vl_table before taps.old outputs.old
-        → StopsWatching fault programs.now vl_table before
+        (making_of plan.now) vl_table before taps.old outputs.old
+        → StopsWatching fault (making_of plan.now) vl_table before
         (reading_of S.remaining S.failures taps.new.a)
         (reading_of T.remaining T.failures taps.new.b)
         (sink_at W.OutSink (sink_of outputs.new.capture))
@@ -72,7 +72,7 @@ fn write_rounds<S: TapSource, T: TapSource, W: OutSink, L: OutSink>(
 {
     let mut entries = Entries::new(alloc);
     while let Some(round) = taps.next_round(alloc, round_len)? {
-        outputs.write_round(programs, &round, &mut entries)?;
+        outputs.write_round(plan, &round, &mut entries)?;
     }
     Ok(())
 }
@@ -84,7 +84,7 @@ fn stopped<S: TapSource, T: TapSource, W: OutSink, L: OutSink>(
     outputs: Outputs<W, L>,
 ) -> WatchRefused<S, T, W, L>
     ensures aborted { IfSome result.a (λ a. IfSome result.b (λ b.
-        (ps : List (List Packed)) (vl_table : VlTable) (before : WatchDevices)
+        (ps : Making) (vl_table : VlTable) (before : WatchDevices)
         → StopsWatching fault ps vl_table before
         (reading_of S.remaining S.failures taps.a)
         (reading_of T.remaining T.failures taps.b)
@@ -109,13 +109,13 @@ fn finish<S: TapSource, T: TapSource, W: OutSink, L: OutSink>(
     requires all { taps.merger.pending ≡ [] }
     requires going { ledger_has_failed outputs.ledger ≡ false }
     ensures watched { IfOk result (λ done.
-        (ps : List (List Packed)) (vl_table : VlTable) (before : WatchDevices)
+        (ps : Making) (vl_table : VlTable) (before : WatchDevices)
         → IsWatching S.TapSource T.TapSource W.OutSink L.OutSink ps vl_table before taps outputs
-        → IsFilterCount (length ps) → IsWatched ps vl_table done.endings done.totals before
+        → IsFilterCount (length ps.filters) → IsWatched ps vl_table done.endings done.totals before
         (devices_at S.TapSource T.TapSource W.OutSink L.OutSink
         done.a done.b done.capture done.ledger)) }
     ensures aborted { IfErr result (λ refused. IfSome refused.a (λ a. IfSome refused.b (λ b.
-        (ps : List (List Packed)) (vl_table : VlTable) (before : WatchDevices)
+        (ps : Making) (vl_table : VlTable) (before : WatchDevices)
         → IsWatching S.TapSource T.TapSource W.OutSink L.OutSink ps vl_table before taps outputs
         → AbortsRun refused.fault ps vl_table before
         (devices_at S.TapSource T.TapSource W.OutSink L.OutSink
@@ -169,23 +169,25 @@ pub fn watch_whole<S: TapSource, T: TapSource, W: OutSink, L: OutSink>(
     capture: W,
     ledger: L,
 ) -> Result<Watched<S, T, W, L>, WatchRefused<S, T, W, L>>
-    ensures watched { IfOk result (λ done. IsWatched programs.now config.now
+    ensures watched { IfOk result (λ done. IsWatched (pcap_of programs.now) config.now
         done.endings done.totals
         (devices_at S.TapSource T.TapSource W.OutSink L.OutSink a b capture ledger)
         (devices_at S.TapSource T.TapSource W.OutSink L.OutSink
         done.a done.b done.capture done.ledger)) }
     ensures aborted { IfErr result (λ refused. IfSome refused.a (λ a'. IfSome refused.b (λ b'.
-        IsWatchAborted programs.now config.now refused.fault
+        IsWatchAborted (pcap_of programs.now) config.now refused.fault
         (devices_at S.TapSource T.TapSource W.OutSink L.OutSink a b capture ledger)
         (devices_at S.TapSource T.TapSource W.OutSink L.OutSink
         a' b' refused.capture refused.ledger)))) }
     ensures back { IfErr result (λ refused. IsSome refused.a × IsSome refused.b) }
 {
     let sizes = RunSizes::default();
-    sized_watch_whole(alloc, sizes, config, programs, a, b, capture, ledger)
+    let plan = Plan::pcap(programs);
+    sized_watch_whole(alloc, sizes, config, &plan, a, b, capture, ledger)
 }
 
-/// [`watch_whole`] with these sizes. Of them it takes those of blocks and of rounds.
+/// [`watch_whole`] with these sizes, by a plan: a capture in its format. Of the sizes it takes those of
+/// blocks and of rounds.
 ///
 /// # Errors
 ///
@@ -194,19 +196,19 @@ pub fn sized_watch_whole<S: TapSource, T: TapSource, W: OutSink, L: OutSink>(
     alloc: Global,
     sizes: RunSizes,
     config: &Config,
-    programs: &[Program],
+    plan: &Plan<'_>,
     a: S,
     b: T,
     capture: W,
     ledger: L,
 ) -> Result<Watched<S, T, W, L>, WatchRefused<S, T, W, L>>
     ensures watched { IfOk result (HasWatched S.TapSource T.TapSource W.OutSink L.OutSink
-        programs.now config.now a b capture ledger) }
+        (making_of plan.now) config.now a b capture ledger) }
     ensures aborted { IfErr result (HasAborted S.TapSource T.TapSource W.OutSink L.OutSink
-        programs.now config.now a b capture ledger) }
+        (making_of plan.now) config.now a b capture ledger) }
     ensures back { IfErr result (λ refused. IsSome refused.a × IsSome refused.b) }
 {
-    if programs.is_empty() || programs.len() > MAX_FILTERS {
+    if plan.programs.is_empty() || plan.programs.len() > MAX_FILTERS {
         return Err(WatchRefused::new(WatchFault::Filters, a, b, capture, ledger));
     }
     let mut taps = match Taps::open(alloc, config.late(), sizes.block, a, b) {
@@ -215,8 +217,7 @@ pub fn sized_watch_whole<S: TapSource, T: TapSource, W: OutSink, L: OutSink>(
             return Err(WatchRefused::new(fault, a, b, capture, ledger));
         }
     };
-    let filters = programs.len() as u32;
-    let mut outputs = match Outputs::begin(alloc, config, filters, capture, ledger) {
+    let mut outputs = match Outputs::begin(alloc, config, plan, capture, ledger) {
         Ok(outputs) => outputs,
         Err(
             Unwritten {
@@ -229,7 +230,7 @@ pub fn sized_watch_whole<S: TapSource, T: TapSource, W: OutSink, L: OutSink>(
             return Err(WatchRefused::new(fault, a, b, capture, ledger));
         }
     };
-    match write_rounds(alloc, sizes.round, programs, &mut taps, &mut outputs) {
+    match write_rounds(alloc, sizes.round, plan, &mut taps, &mut outputs) {
         Ok(()) => finish(taps, outputs),
         Err(fault) => Err(stopped(fault, taps, outputs)),
     }

@@ -1,7 +1,6 @@
 //! A run whose taps are read into rings, by threads of their own where they can be had.
 ghost use Rattle.std.specs.Prelude.{◌≡◌, ◌∷◌, List, Some, false, length, true, [], is_some, IfErr, IfOk, IfSome, OnOk};
 ghost use Rattle.std.specs.Option.{option_map};
-ghost use Rattle.bpf_isa.specs.declared.packed.Packed.{Packed};
 ghost use Rattle.pcap_io.specs.Reader.{reading_of};
 ghost use Rattle.pcap_io.specs.Writer.{sink_of};
 ghost use Rattle.tap_queue.specs.Ring.{SameEnd};
@@ -11,6 +10,7 @@ ghost use Rattle.watch_run.specs.Running.{AbortsBegun, GoesOn, IsRunning, IsShar
 ghost use Rattle.tap_merge.specs.Threads.{IsStarted, promise_of};
 ghost use Rattle.round_output.specs.Outputs.{HasWritten, IsFinished, StopsFinishing};
 ghost use Rattle.run_outcome.specs.Device.{SinkView};
+ghost use Rattle.round_output.specs.Filters.{Making, making_of};
 ghost use Rattle.round_output.specs.Round.{IsFilterCount};
 ghost use Rattle.watch_run.specs.Watch.{IsWatched};
 ghost use Rattle.run_outcome.specs.Opening.{WatchDevices, devices_at};
@@ -46,7 +46,7 @@ fn settle_idle<'a, R: Wait, W: OutSink, L: OutSink, G: RunGate + RunObserver + S
 ) -> Result<(), WatchFault>
     requires begun { (vl_table : VlTable) × (capture : SinkView) × (ledger : SinkView)
         × IsSharing W.OutSink L.OutSink
-        pool.old.task.programs.now vl_table capture ledger rings.old outputs.old flight.old }
+        (making_of pool.old.task.plan) vl_table capture ledger rings.old outputs.old flight.old }
     requires task { IfSome flight.old (λ p. p.task ≡ pool.old.task) }
     ensures pool { pool.new ≡ pool.old }
     ensures task { IfSome flight.new (λ p. p.task ≡ pool.old.task) }
@@ -54,13 +54,13 @@ fn settle_idle<'a, R: Wait, W: OutSink, L: OutSink, G: RunGate + RunObserver + S
     ensures b { SameEnd rings.old.b rings.new.b }
     ensures sharing { OnOk result ((vl_table : VlTable) (capture ledger : SinkView)
         → IsSharing W.OutSink L.OutSink
-        pool.old.task.programs.now vl_table capture ledger rings.old outputs.old flight.old
+        (making_of pool.old.task.plan) vl_table capture ledger rings.old outputs.old flight.old
         → IsSharing W.OutSink L.OutSink
-        pool.old.task.programs.now vl_table capture ledger rings.new outputs.new flight.new) }
+        (making_of pool.old.task.plan) vl_table capture ledger rings.new outputs.new flight.new) }
     ensures stopped { IfErr result (λ fault. (vl_table : VlTable) (capture ledger : SinkView)
         → IsSharing W.OutSink L.OutSink
-        pool.old.task.programs.now vl_table capture ledger rings.old outputs.old flight.old
-        → StopsRunning fault pool.old.task.programs.now vl_table capture ledger rings.new.a rings.new.b
+        (making_of pool.old.task.plan) vl_table capture ledger rings.old outputs.old flight.old
+        → StopsRunning fault (making_of pool.old.task.plan) vl_table capture ledger rings.new.a rings.new.b
         (sink_at W.OutSink (sink_of outputs.new.capture))
         (sink_at L.OutSink (ledger_sink outputs.new.ledger))) }
 {
@@ -85,11 +85,11 @@ fn write_next<'a, R: Wait, W: OutSink, L: OutSink, G: RunGate + Sync>(
 ) -> Result<bool, WatchFault>
     requires begun { (vl_table : VlTable) × (capture : SinkView) × (ledger : SinkView)
         × IsSharing W.OutSink L.OutSink
-        pool.old.task.programs.now vl_table capture ledger rings.old outputs.old flight.old }
+        (making_of pool.old.task.plan) vl_table capture ledger rings.old outputs.old flight.old }
     requires task { IfSome flight.old (λ p. p.task ≡ pool.old.task) }
     ensures pool { pool.new ≡ pool.old }
     ensures task { IfSome flight.new (λ p. p.task ≡ pool.old.task) }
-    ensures stepped { Steps W.OutSink L.OutSink pool.old.task.programs.now
+    ensures stepped { Steps W.OutSink L.OutSink (making_of pool.old.task.plan)
         rings.old outputs.old flight.old rings.new outputs.new flight.new result }
 {
     match rings.next_round(rt, round_len) {
@@ -126,11 +126,11 @@ where
     requires feeding { AreFeeding S.TapSource T.TapSource feeds.old }
     requires begun { (vl_table : VlTable) × (capture : SinkView) × (ledger : SinkView)
         × IsRunning W.OutSink L.OutSink
-        pool.old.task.programs.now vl_table capture ledger rings.old outputs }
+        (making_of pool.old.task.plan) vl_table capture ledger rings.old outputs }
     ensures pool { pool.new ≡ pool.old }
     ensures feeding { KeepFeeding S.TapSource T.TapSource feeds.old feeds.new }
     ensures written { GoesOn W.OutSink L.OutSink
-        pool.old.task.programs.now rings.old outputs rings.new result }
+        (making_of pool.old.task.plan) rings.old outputs rings.new result }
 {
     let mut outputs = outputs;
     let mut entries = Entries::new(alloc);
@@ -186,10 +186,10 @@ where
     requires feeding { AreFeeding S.TapSource T.TapSource feeds.old }
     requires begun { (vl_table : VlTable) × (capture : SinkView) × (ledger : SinkView)
         × IsRunning W.OutSink L.OutSink
-        task.programs.now vl_table capture ledger rings.old outputs }
+        (making_of task.plan) vl_table capture ledger rings.old outputs }
     ensures feeding { KeepFeeding S.TapSource T.TapSource feeds.old feeds.new }
     ensures written { GoesOn W.OutSink L.OutSink
-        task.entry.programs.now rings.old outputs rings.new result }
+        (making_of task.entry.plan) rings.old outputs rings.new result }
 {
     let gate = task.gate;
     let mut pool = match Pool::start(scope, rt, alloc, task, workers) {
@@ -214,13 +214,13 @@ fn finish_outputs<S, T, W: OutSink, L: OutSink>(
     ensures endings { IfOk result (λ done. done.endings ≡ end_a ∷ end_b ∷ []) }
     ensures sources { IfOk result (λ done. (done.a ≡ a) × (done.b ≡ b)) }
     ensures back { IfErr result (λ refused. (refused.a ≡ Some a) × (refused.b ≡ Some b)) }
-    ensures finished { IfOk result (λ done. (ps : List (List Packed)) (vl_table : VlTable)
+    ensures finished { IfOk result (λ done. (ps : Making) (vl_table : VlTable)
         (capture ledger : SinkView) (frames : List Frame)
         → HasWritten W.OutSink L.OutSink
         ps vl_table capture ledger frames outputs
         → IsFinished ps vl_table capture ledger (sink_at W.OutSink done.capture)
         (sink_at L.OutSink done.ledger) frames end_a end_b done.totals) }
-    ensures stopped { IfErr result (λ refused. (ps : List (List Packed)) (vl_table : VlTable)
+    ensures stopped { IfErr result (λ refused. (ps : Making) (vl_table : VlTable)
         (capture ledger : SinkView) (frames : List Frame)
         → HasWritten W.OutSink L.OutSink
         ps vl_table capture ledger frames outputs
@@ -274,7 +274,8 @@ pub struct Running<S: TapSource, T: TapSource> {
 }
 
 impl<S: TapSource + Drop, T: TapSource + Drop> Running<S, T> {
-    ghost use Rattle.tap_queue.specs.Ring.{IsRing};
+    ghost use Rattle.tap_queue.specs.Ring.{IsRing, has_lost};
+    ghost use Rattle.watch_run.specs.Running.{ComesBack, fault_told};
 
     /// Settles both rings of a run whose recordings have ended, and writes what follows the lines of
     /// frames.
@@ -290,18 +291,18 @@ impl<S: TapSource + Drop, T: TapSource + Drop> Running<S, T> {
         requires all { self.rings.merger.pending ≡ [] }
         requires going { ledger_has_failed outputs.ledger ≡ false }
         ensures watched { IfOk result (λ done.
-            (ps : List (List Packed)) (vl_table : VlTable) (before : WatchDevices)
+            (ps : Making) (vl_table : VlTable) (before : WatchDevices)
             → IsStarted Network.A vl_table.late before.a
             (reading_of S.remaining S.failures (promise_of self.feeds.a).reader.value)
             → IsStarted Network.B vl_table.late before.b
             (reading_of T.remaining T.failures (promise_of self.feeds.b).reader.value)
             → IsRunning W.OutSink L.OutSink
             ps vl_table before.capture before.ledger self.rings outputs
-            → IsFilterCount (length ps) → IsWatched ps vl_table done.endings done.totals before
+            → IsFilterCount (length ps.filters) → IsWatched ps vl_table done.endings done.totals before
             (devices_at S.TapSource T.TapSource W.OutSink L.OutSink
             done.a done.b done.capture done.ledger)) }
         ensures aborted { IfErr result (λ refused.
-            (ps : List (List Packed)) (vl_table : VlTable) (before : WatchDevices)
+            (ps : Making) (vl_table : VlTable) (before : WatchDevices)
             → IsStarted Network.A vl_table.late before.a
             (reading_of S.remaining S.failures (promise_of self.feeds.a).reader.value)
             → IsStarted Network.B vl_table.late before.b
@@ -351,7 +352,11 @@ impl<S: TapSource + Drop, T: TapSource + Drop> Running<S, T> {
         requires feeding { AreFeeding S.TapSource T.TapSource self.feeds }
         requires ring_a { IsRing (promise_of self.feeds.a).put.value self.rings.a }
         requires ring_b { IsRing (promise_of self.feeds.b).put.value self.rings.b }
-        ensures { (ps : List (List Packed)) (vl_table : VlTable) (before : WatchDevices)
+        ensures back_a { ComesBack self.rings.a result.a }
+        ensures back_b { ComesBack self.rings.b result.b }
+        ensures told { result.fault
+            ≡ fault_told (has_lost self.rings.a) (has_lost self.rings.b) unwritten.fault }
+        ensures aborted { (ps : Making) (vl_table : VlTable) (before : WatchDevices)
             → IsStarted Network.A vl_table.late before.a
             (reading_of S.remaining S.failures (promise_of self.feeds.a).reader.value)
             → IsStarted Network.B vl_table.late before.b

@@ -10,7 +10,7 @@ const BLOCK_LEN: usize = 65_536;
 
 /// How much of two recordings a run takes at a time. No contract depends on it: what is written is the
 /// same for any sizes. A program runs with the default, and tests with others.
-#[derive(Clone, Copy, Debug)]
+#[derive(Clone, Copy)]
 pub struct RunSizes {
     /// The bytes of a block of a recording, at most 262144. A longer packet still has its room.
     pub block: usize,

@@ -2,7 +2,6 @@
 //! frames is shared among workers.
 ghost use Rattle.std.specs.Prelude.{◌≡◌, ◌≤◌, List, None, length, is_some, IfErr, IfOk, IfSome, IsSome, if◌then◌else◌};
 ghost use Rattle.std.specs.Option.{option_map};
-ghost use Rattle.bpf_isa.specs.declared.packed.Packed.{Packed};
 ghost use Rattle.pcap_io.specs.Writer.{sink_of};
 ghost use Rattle.verdict_ledger.specs.Ledger.{sink_of as ledger_sink};
 ghost use Rattle.vl_config.specs.Document.{VlTable};
@@ -10,6 +9,7 @@ ghost use Rattle.watch_run.specs.Feeds.{AreFeeding};
 ghost use Rattle.watch_run.specs.Ready.{AreNew, AreTwoRings, IsReady, IsStartedOf, Runs, ready_of};
 ghost use Rattle.watch_run.specs.Running.{IsNotBegun, IsRunningAborted};
 ghost use Rattle.filter_workers.specs.declared.decision.TheConstants.{MAX_FILTERS};
+ghost use Rattle.round_output.specs.Filters.{making_of, pcap_of};
 ghost use Rattle.round_output.specs.Round.{IsFilterCount, IsWorkerCount};
 ghost use Rattle.watch_run.specs.Sized.{HasRun, HasStopped};
 ghost use Rattle.watch_run.specs.Watch.{IsWatched};
@@ -25,7 +25,7 @@ use afdx_frame::Network;
 use bpf_loader::Program;
 use filter_workers::{MAX_FILTERS, MAX_WORKERS, RunGate};
 use pcap_io::{OutSink, TapReader, TapSource};
-use round_output::{Formatting, Outputs, Unwritten};
+use round_output::{Formatting, Outputs, Plan, Unwritten};
 use run_outcome::{WatchFault, WatchRefused};
 use std::alloc::{AllocError, Global};
 use std::sync::Wait;
@@ -105,8 +105,8 @@ where
     requires new { AreNew ready }
     requires ready { (vl_table : VlTable) × (before : WatchDevices)
         × IsReady S.TapSource T.TapSource W.OutSink L.OutSink
-        task.programs.now vl_table before ready }
-    ensures { Runs S.TapSource T.TapSource W.OutSink L.OutSink task.entry.programs.now ready result }
+        (making_of task.plan) vl_table before ready }
+    ensures { Runs S.TapSource T.TapSource W.OutSink L.OutSink (making_of task.entry.plan) ready result }
 {
     let gate = task.gate;
     let (mut running, outputs) = ready.start(scope, rt, alloc, gate);
@@ -127,18 +127,18 @@ fn prepare<S: TapSource, T: TapSource, W: OutSink, L: OutSink>(
     alloc: Global,
     sizes: RunSizes,
     config: &Config,
-    programs: &[Program],
+    plan: &Plan<'_>,
     a: S,
     b: T,
     capture: W,
     ledger: L,
 ) -> Result<Ready<S, T, W, L>, WatchRefused<S, T, W, L>>
-    requires number { IsFilterCount (length programs.now) }
+    requires number { IsFilterCount (length plan.now.programs.now) }
     ensures new { IfOk result AreNew }
-    ensures ready { IfOk result (IsReady S.TapSource T.TapSource W.OutSink L.OutSink programs.now config.now
+    ensures ready { IfOk result (IsReady S.TapSource T.TapSource W.OutSink L.OutSink (making_of plan.now) config.now
         (devices_at S.TapSource T.TapSource W.OutSink L.OutSink a b capture ledger)) }
     ensures refused { IfErr result (λ refused. IfSome refused.a (λ a'. IfSome refused.b (λ b'.
-        IsNotBegun programs.now config.now refused.fault
+        IsNotBegun (making_of plan.now) config.now refused.fault
         (devices_at S.TapSource T.TapSource W.OutSink L.OutSink a b capture ledger)
         (devices_at S.TapSource T.TapSource W.OutSink L.OutSink
         a' b' refused.capture refused.ledger)))) }
@@ -151,8 +151,7 @@ fn prepare<S: TapSource, T: TapSource, W: OutSink, L: OutSink>(
             return Err(WatchRefused::new(fault, a, b, capture, ledger));
         }
     };
-    let filters = programs.len() as u32;
-    let outputs = match Outputs::begin(alloc, config, filters, capture, ledger) {
+    let outputs = match Outputs::begin(alloc, config, plan, capture, ledger) {
         Ok(outputs) => outputs,
         Err(
             Unwritten {
@@ -264,13 +263,13 @@ where
     W: OutSink + Drop,
     L: OutSink + Drop,
     G: RunGate + TapGate + RunObserver + Sync,
-    ensures watched { IfOk result (λ done. IsWorkerCount workers × IsWatched programs.now config.now
+    ensures watched { IfOk result (λ done. IsWorkerCount workers × IsWatched (pcap_of programs.now) config.now
         done.endings done.totals
         (devices_at S.TapSource T.TapSource W.OutSink L.OutSink a b capture ledger)
         (devices_at S.TapSource T.TapSource W.OutSink L.OutSink
         done.a done.b done.capture done.ledger)) }
     ensures aborted { IfErr result (λ refused.
-        IsRunningAborted workers programs.now config.now refused.fault
+        IsRunningAborted workers (pcap_of programs.now) config.now refused.fault
         (devices_at S.TapSource T.TapSource W.OutSink L.OutSink a b capture ledger)
         (option_map (source_at S.TapSource) refused.a)
         (option_map (source_at T.TapSource) refused.b)
@@ -278,12 +277,13 @@ where
         (sink_at L.OutSink refused.ledger)) }
 {
     let sizes = RunSizes::default();
+    let plan = Plan::pcap(programs);
     sized_watch(
-        rt, alloc, sizes, config, programs, workers, a, b, capture, ledger, gate,
+        rt, alloc, sizes, config, plan, workers, a, b, capture, ledger, gate,
     )
 }
 
-/// [`watch`] with these sizes.
+/// [`watch`] with these sizes, by a plan: a capture in its format.
 ///
 /// # Errors
 ///
@@ -293,7 +293,7 @@ pub fn sized_watch<R, S, T, W, L, G>(
     alloc: Global,
     sizes: RunSizes,
     config: &Config,
-    programs: &[Program],
+    plan: Plan<'_>,
     workers: u32,
     a: S,
     b: T,
@@ -309,28 +309,28 @@ where
     L: OutSink + Drop,
     G: RunGate + TapGate + RunObserver + Sync,
     ensures watched { IfOk result (HasRun S.TapSource T.TapSource W.OutSink L.OutSink
-        workers programs.now config.now a b capture ledger) }
+        workers (making_of plan.entry) config.now a b capture ledger) }
     ensures aborted { IfErr result (HasStopped S.TapSource T.TapSource W.OutSink L.OutSink
-        workers programs.now config.now a b capture ledger) }
+        workers (making_of plan.entry) config.now a b capture ledger) }
 {
     if workers == 0 || workers > MAX_WORKERS {
         return Err(WatchRefused::new(WatchFault::Workers, a, b, capture, ledger));
     }
-    if programs.is_empty() || programs.len() > MAX_FILTERS {
+    if plan.programs.is_empty() || plan.programs.len() > MAX_FILTERS {
         return Err(WatchRefused::new(WatchFault::Filters, a, b, capture, ledger));
     }
-    let ready = match prepare(alloc, sizes, config, programs, a, b, capture, ledger) {
+    let ready = match prepare(alloc, sizes, config, &plan, a, b, capture, ledger) {
         Ok(ready) => ready,
         Err(refused) => return Err(refused),
     };
-    run_threads(rt, alloc, programs, workers, sizes, gate, ready)
+    run_threads(rt, alloc, plan, workers, sizes, gate, ready)
 }
 
 /// Runs what is ready, and returns when each thread has come to its end.
 fn run_threads<R, S, T, W, L, G>(
     rt: &R,
     alloc: Global,
-    programs: &[Program],
+    plan: Plan<'_>,
     workers: u32,
     sizes: RunSizes,
     gate: &G,
@@ -343,21 +343,14 @@ where
     W: OutSink + Drop,
     L: OutSink + Drop,
     G: RunGate + TapGate + RunObserver + Sync,
-    requires few { length programs.now ≤ MAX_FILTERS }
+    requires few { length plan.programs.now ≤ MAX_FILTERS }
     requires new { AreNew ready }
     requires ready { (vl_table : VlTable) × (before : WatchDevices)
         × IsReady S.TapSource T.TapSource W.OutSink L.OutSink
-        programs.now vl_table before ready }
-    ensures { Runs S.TapSource T.TapSource W.OutSink L.OutSink programs.now ready result }
+        (making_of plan) vl_table before ready }
+    ensures { Runs S.TapSource T.TapSource W.OutSink L.OutSink (making_of plan.entry) ready result }
 {
-    let mut slot = Some((
-        Formatting {
-            alloc,
-            programs,
-            gate,
-        },
-        ready,
-    ));
+    let mut slot = Some((Formatting { alloc, plan, gate }, ready));
     thread::scope(
         thread::scope_env(),
         rt,
@@ -365,9 +358,9 @@ where
             requires { IsSome slot
                 × IfSome slot (λ both. AreNew both.1 × ((vl_table : VlTable) × (before : WatchDevices)
                 × IsReady S.TapSource T.TapSource W.OutSink L.OutSink
-                both.0.programs.now vl_table before both.1)) }
+                (making_of both.0.plan) vl_table before both.1)) }
             ensures { IfSome slot.entry (λ both. Runs S.TapSource T.TapSource W.OutSink L.OutSink
-                both.0.programs.now both.1 result) }
+                (making_of both.0.plan) both.1 result) }
         {
             let (task, ready) = slot.take().unwrap();
             run_ready(scope, rt, alloc, task, workers, sizes, ready)

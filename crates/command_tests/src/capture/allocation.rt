@@ -4,7 +4,8 @@
 //! passes by either answer, and a test `ample_..` by the right one alone, so it tells whether an
 //! allocation failed. With ample memory both have to pass.
 
-use analyser::{Fault, capture_over, fault_line};
+use crate::ending::{ends, is_one_of};
+use analyser::{Fault, Ran, capture_over, fault_line};
 use bpf_isa::{NumericFault, Packed, read_numeric, write_numeric};
 use bpf_loader::LoadFault;
 use pcap_io::{MemSink, MemSource, OutSink, Script};
@@ -86,30 +87,34 @@ fn makes_a_line(rt: &(impl Abort + AllocGlobal)) -> bool {
     true
 }
 
-/// Copies the first run. Where there was no memory, what is written is a prefix of the capture.
-fn copies_the_first_run(rt: &(impl Abort + AllocGlobal)) -> bool {
-    let alloc = rt.alloc();
-    let (Ok(bytes), Ok(sink)) = (
-        Vec::from_slice(alloc, &FIRST_RUN),
-        MemSink::new(alloc, WIDE),
-    ) else {
-        return false;
-    };
-    let ran = capture_over(alloc, ONE_LINK, MemSource::new(bytes, SOUND), sink);
-    if ran.status == 0 {
-        assert!(rt; ran.line.is_none());
-        assert!(rt; ran.sink.taken() == &FIRST_RUN[..100]);
-        return true;
-    }
+/// The first run's recording, and a sink.
+fn devices(rt: &impl AllocGlobal) -> Option<(MemSource, MemSink)> {
+    let bytes = Vec::from_slice(rt.alloc(), &FIRST_RUN).ok()?;
+    let sink = MemSink::new(rt.alloc(), WIDE).ok()?;
+    Some((MemSource::new(bytes, SOUND), sink))
+}
+
+/// The command's fault is that there was no memory, and what is written is a prefix of the capture.
+fn lacks_memory(rt: &impl Abort, ran: &Ran<MemSink>) {
+    const LINES: [&str; 2] = ["afdxmon: watch 7 Memory", "afdxmon: numeric 6 Memory"];
     assert!(rt; ran.status == 1);
     assert!(rt; FIRST_RUN[..100].starts_with(ran.sink.taken()));
     if let Some(line) = &ran.line {
-        let line = line.as_str();
-        assert!(rt;
-            line == "afdxmon: watch 7 Memory" || line == "afdxmon: numeric 6 Memory",
-            "{line}"
-        );
+        assert!(rt; is_one_of(line, &LINES), "{line}");
     }
+}
+
+/// Copies the first run.
+fn copies_the_first_run(rt: &(impl Abort + AllocGlobal)) -> bool {
+    let Some((source, sink)) = devices(rt) else {
+        return false;
+    };
+    let ran = capture_over(rt.alloc(), ONE_LINK, source, sink);
+    if ran.status == 0 {
+        ends(rt, &ran, "", &FIRST_RUN[..100]);
+        return true;
+    }
+    lacks_memory(rt, &ran);
     false
 }
 

@@ -1,7 +1,8 @@
 //! The words of the command line.
 
 use analyser::{
-    CaptureArguments, DebugArguments, FilterArgument, Invocation, WatchArguments, read_arguments,
+    CaptureArguments, CommandLine, DebugArguments, FilterArgument, Invocation, WatchArguments,
+    read_arguments,
 };
 use std::alloc::{AllocError, Global};
 use std::test::Fail;
@@ -15,68 +16,9 @@ fn words(alloc: Global, texts: &[&str]) -> Result<Vec<String>, AllocError> {
     Ok(words)
 }
 
-/// What `capture` is given, by its words after its name.
-fn captured(
-    filter: FilterArgument<'static>,
-    recording: &'static str,
-    output: &'static str,
-) -> Invocation<'static> {
-    Invocation::Capture(CaptureArguments {
-        filter,
-        recording,
-        output,
-        pcapng: false,
-    })
-}
-
-#[test]
-fn captures_are_taken(rt: HostRuntime) -> Result<(), Fail> {
-    let code = FilterArgument::Code("1,6 0 0 0,");
-    let cases: [(&[&str], Invocation<'_>); 10] = [
-        (&["--code", "1,6 0 0 0,"], captured(code, "-", "-")),
-        (&["--code=1,6 0 0 0,"], captured(code, "-", "-")),
-        (
-            &["--code", ""],
-            captured(FilterArgument::Code(""), "-", "-"),
-        ),
-        (&["--code="], captured(FilterArgument::Code(""), "-", "-")),
-        (
-            &["--code", "-"],
-            captured(FilterArgument::Code("-"), "-", "-"),
-        ),
-        (
-            &["--code=-1"],
-            captured(FilterArgument::Code("-1"), "-", "-"),
-        ),
-        (
-            &["--filter", "f"],
-            captured(FilterArgument::Numeric("f"), "-", "-"),
-        ),
-        (
-            &["a", "--source", "s"],
-            captured(FilterArgument::Source("s"), "a", "-"),
-        ),
-        (
-            &["-o", "o", "--filter", "f", "-"],
-            captured(FilterArgument::Numeric("f"), "-", "o"),
-        ),
-        (
-            &["--output=o", "--filter", "f", "a"],
-            captured(FilterArgument::Numeric("f"), "a", "o"),
-        ),
-    ];
-    for (texts, expected) in cases {
-        let mut words = words(rt.alloc(), &["afdxmon", "capture"])?;
-        words.extend(self::words(rt.alloc(), texts)?)?;
-        assert!(rt; read_arguments(rt.alloc(), &words)? == expected);
-    }
-    Ok(())
-}
-
-#[test]
-fn runs_are_taken(rt: HostRuntime) -> Result<(), Fail> {
-    let words = words(
-        rt.alloc(),
+/// Words, and what they give.
+static COMMANDS: [(&[&str], Invocation<'static>); 3] = [
+    (
         &[
             "afdxmon",
             "watch",
@@ -89,46 +31,141 @@ fn runs_are_taken(rt: HostRuntime) -> Result<(), Fail> {
             "--workers",
             "8",
         ],
-    )?;
-    let expected = WatchArguments {
-        config: "t",
-        filter: None,
-        a: None,
-        b: Some("b"),
-        capture: None,
-        ledger: "l",
-        workers: 8,
-        quiet: false,
-        pcapng: false,
-    };
-    assert!(rt; read_arguments(rt.alloc(), &words)? == Invocation::Watch(expected));
-    Ok(())
-}
-
-#[test]
-fn sessions_are_taken(rt: HostRuntime) -> Result<(), Fail> {
-    let words = words(
-        rt.alloc(),
+        Invocation::Watch(WatchArguments {
+            config: "t",
+            filter: None,
+            a: None,
+            b: Some("b"),
+            capture: None,
+            ledger: "l",
+            manifest: None,
+            digest: false,
+            workers: 8,
+            quiet: false,
+            pcapng: false,
+            late: None,
+        }),
+    ),
+    (
         &["afdxmon", "debug", "--source", "s", "--tap", "t"],
-    )?;
-    let expected = DebugArguments {
-        filter: FilterArgument::Source("s"),
-        tap: "t",
-    };
-    assert!(rt; read_arguments(rt.alloc(), &words)? == Invocation::Debug(expected));
+        Invocation::Debug(DebugArguments {
+            filter: FilterArgument::Source("s"),
+            tap: "t",
+            late: None,
+        }),
+    ),
+    (&["afdxmon", "asm"], Invocation::Asm),
+];
+
+#[test]
+fn commands_are_taken(rt: HostRuntime) -> Result<(), Fail> {
+    for (texts, expected) in &COMMANDS {
+        let words = words(rt.alloc(), texts)?;
+        let expected = CommandLine {
+            command: *expected,
+            verbose: false,
+        };
+        assert!(rt; read_arguments(rt.alloc(), &words)? == expected);
+    }
     Ok(())
 }
 
+/// All is told where `-v` or `--verbose` is given.
 #[test]
-fn asm_is_taken(rt: HostRuntime) -> Result<(), Fail> {
-    let words = words(rt.alloc(), &["afdxmon", "asm"])?;
-    let read = read_arguments(rt.alloc(), &words)?;
-    assert!(rt; read == Invocation::Asm);
+fn verbose_is_taken(rt: HostRuntime) -> Result<(), Fail> {
+    let expected = CommandLine {
+        command: Invocation::Asm,
+        verbose: true,
+    };
+    for word in ["-v", "--verbose"] {
+        let words = words(rt.alloc(), &["afdxmon", "asm", word])?;
+        assert!(rt; read_arguments(rt.alloc(), &words)? == expected);
+    }
+    Ok(())
+}
+
+/// The words of `capture`, and what they give: the filter, the recording and the output.
+static CAPTURES: [(&[&str], FilterArgument<'static>, &str, &str); 10] = [
+    (
+        &["afdxmon", "capture", "--code", "1,6 0 0 0,"],
+        FilterArgument::Code("1,6 0 0 0,"),
+        "-",
+        "-",
+    ),
+    (
+        &["afdxmon", "capture", "--code=1,6 0 0 0,"],
+        FilterArgument::Code("1,6 0 0 0,"),
+        "-",
+        "-",
+    ),
+    (
+        &["afdxmon", "capture", "--code", ""],
+        FilterArgument::Code(""),
+        "-",
+        "-",
+    ),
+    (
+        &["afdxmon", "capture", "--code="],
+        FilterArgument::Code(""),
+        "-",
+        "-",
+    ),
+    (
+        &["afdxmon", "capture", "--code", "-"],
+        FilterArgument::Code("-"),
+        "-",
+        "-",
+    ),
+    (
+        &["afdxmon", "capture", "--code=-1"],
+        FilterArgument::Code("-1"),
+        "-",
+        "-",
+    ),
+    (
+        &["afdxmon", "capture", "--filter", "f"],
+        FilterArgument::Numeric("f"),
+        "-",
+        "-",
+    ),
+    (
+        &["afdxmon", "capture", "a", "--source", "s"],
+        FilterArgument::Source("s"),
+        "a",
+        "-",
+    ),
+    (
+        &["afdxmon", "capture", "-o", "o", "--filter", "f", "-"],
+        FilterArgument::Numeric("f"),
+        "-",
+        "o",
+    ),
+    (
+        &["afdxmon", "capture", "--output=o", "--filter", "f", "a"],
+        FilterArgument::Numeric("f"),
+        "a",
+        "o",
+    ),
+];
+
+#[test]
+fn captures_are_taken(rt: HostRuntime) -> Result<(), Fail> {
+    for (texts, filter, recording, output) in &CAPTURES {
+        let words = words(rt.alloc(), texts)?;
+        let expected = CaptureArguments {
+            filter: *filter,
+            recording,
+            output,
+            pcapng: false,
+            late: None,
+        };
+        assert!(rt; read_arguments(rt.alloc(), &words)?.command == Invocation::Capture(expected));
+    }
     Ok(())
 }
 
 /// Words that are no command with its arguments.
-const REFUSED: [&[&str]; 25] = [
+static REFUSED: [&[&str]; 25] = [
     &[],
     &["afdxmon"],
     &["afdxmon", "help"],
@@ -171,9 +208,9 @@ const REFUSED: [&[&str]; 25] = [
 
 #[test]
 fn other_words_are_refused(rt: HostRuntime) -> Result<(), Fail> {
-    for texts in REFUSED {
+    for texts in &REFUSED {
         let words = words(rt.alloc(), texts)?;
-        assert!(rt; read_arguments(rt.alloc(), &words).is_err(), "{texts:?}");
+        assert!(rt; read_arguments(rt.alloc(), &words).is_err());
     }
     Ok(())
 }

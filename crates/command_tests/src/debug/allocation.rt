@@ -1,6 +1,7 @@
 //! The command `debug` with each allocation failing in turn (`tests/allocations`). A test `refusal_..`
 //! then passes by either result, and a test `ample_..` by the right one alone.
 
+use crate::ending::is_one_of;
 use analyser::{Ran, debug_over};
 use pcap_io::{MemSink, MemSource, Script};
 use std::process::Abort;
@@ -64,7 +65,7 @@ fn lacks_memory(rt: &impl Abort, ran: &Ran<MemSink>) {
     ];
     assert!(rt; ran.sink.taken().is_empty());
     if let Some(line) = &ran.line {
-        assert!(rt; LINES.iter().any(|known| *known == line.as_str()), "{line}");
+        assert!(rt; is_one_of(line, &LINES), "{line}");
     }
 }
 

@@ -1,21 +1,24 @@
 //! The command `debug` over devices: what it prints, its status and the line of its fault.
 
+use crate::ending::ends;
 use analyser::{Ran, debug_over};
 use pcap_io::{MemSink, MemSource, Script};
 use std::alloc::{AllocError, Global};
 use std::process::Abort;
 use std::test::Fail;
-use test_support::{FIRST_RUN, HEADER, SOUND};
+use test_support::{FIRST_RUN, SOUND};
+
+// further: mod stops;
 
 /// `ld #7`, `st M[3]`, `ldx M[3]`, `txa`, `ret a`
 const STORING: &str = "5,0 0 0 7,2 0 0 3,97 0 0 3,135 0 0 0,22 0 0 0,";
 
 /// The debugger's walk.
-const WALK: &str =
-    "step +1\nselect 0\nstep +3\nstep -2\nstep +2\nstep -9\nbreakpoint 2\ncont\ncont\n\
+const WALK: &[u8] =
+    b"step +1\nselect 0\nstep +3\nstep -2\nstep +2\nstep -9\nbreakpoint 2\ncont\ncont\n\
     tally\nselect 1\nbreakpoint 5\nquit\n";
 
-const PRINTED: &str = "\
+pub(crate) const PRINTED: &str = "\
 frames 1
 fault 1 NoFrame
 at 0 pc 0 A 0 X 0 M 0 0 0 0 0 0 0 0 0 0 0 0 0 0 0 0
@@ -33,10 +36,7 @@ bye
 ";
 
 /// The length of a recording of the first frame alone.
-const ONE_FRAME: usize = 100;
-
-/// The most bytes of the commands.
-const LIMIT: usize = 16_777_216;
+pub(crate) const ONE_FRAME: usize = 100;
 
 /// A sink with room for all.
 const WIDE: Script = Script {
@@ -46,21 +46,21 @@ const WIDE: Script = Script {
 
 /// What the command is given.
 #[derive(Clone, Copy)]
-struct Given<'a> {
-    filter: &'a str,
-    tap: &'a [u8],
-    commands: &'a [u8],
-    tap_script: Script,
-    commands_script: Script,
-    sink_script: Script,
+pub(crate) struct Given<'a> {
+    pub(crate) filter: &'a str,
+    pub(crate) tap: &'a [u8],
+    pub(crate) commands: &'a [u8],
+    pub(crate) tap_script: Script,
+    pub(crate) commands_script: Script,
+    pub(crate) sink_script: Script,
 }
 
 /// The debugger's walk, over devices that never fail.
-fn walk() -> Given<'static> {
+pub(crate) fn walk() -> Given<'static> {
     Given {
         filter: STORING,
         tap: &FIRST_RUN[..ONE_FRAME],
-        commands: WALK.as_bytes(),
+        commands: WALK,
         tap_script: SOUND,
         commands_script: SOUND,
         sink_script: WIDE,
@@ -75,29 +75,14 @@ fn ran(alloc: Global, given: &Given<'_>) -> Result<Ran<MemSink>, AllocError> {
     Ok(debug_over(alloc, given.filter, tap, commands, sink))
 }
 
-/// The command ends with status 0, and has printed this.
-fn prints(rt: &(impl Abort + AllocGlobal), given: &Given<'_>, printed: &str) -> Result<(), Fail> {
-    let ran = ran(rt.alloc(), given)?;
-    assert!(rt; ran.status == 0, "{printed}");
-    assert!(rt; ran.line.is_none(), "{printed}");
-    assert!(rt; ran.sink.taken() == printed.as_bytes(), "{printed}");
-    Ok(())
-}
-
-/// The command ends with status 1 and this line, and has printed this.
-fn fails_with(
+/// The command ends with this line, or none where it is empty, and has printed this.
+pub(crate) fn ends_with(
     rt: &(impl Abort + AllocGlobal),
     given: &Given<'_>,
     line: &str,
     printed: &[u8],
-) -> Result<(), Fail> {
-    let ran = ran(rt.alloc(), given)?;
-    assert!(rt; ran.status == 1, "{line}");
-    match &ran.line {
-        Some(found) => assert!(rt; found.as_str() == line),
-        None => assert!(rt; false, "no line: {line}"),
-    }
-    assert!(rt; ran.sink.taken() == printed, "{line}");
+) -> Result<(), AllocError> {
+    ends(rt, &ran(rt.alloc(), given)?, line, printed);
     Ok(())
 }
 
@@ -110,32 +95,32 @@ fn the_walk(rt: HostRuntime) -> Result<(), Fail> {
             sink_script: Script { piece, ..WIDE },
             ..walk()
         };
-        prints(&rt, &given, PRINTED)?;
+        ends_with(&rt, &given, "", PRINTED.as_bytes())?;
     }
     Ok(())
 }
 
-/// Lines of commands, and what is printed for them after the number of frames.
+/// Lines of commands, and what is printed.
 static LINES: [(&str, &str); 18] = [
-    ("", ""),
-    ("\n", ""),
-    (" \n\n    ", ""),
-    ("quit", "bye\n"),
-    ("quit\ntally\n", "bye\n"),
-    ("\n  quit  \nquit\n", "bye\n"),
-    ("tally\n", "tally accepted 1 rejected 0\n"),
-    ("tally", "tally accepted 1 rejected 0\n"),
-    ("breakpoint  04\n", "breakpoint 4 set\n"),
+    ("", "frames 1\n"),
+    ("\n", "frames 1\n"),
+    (" \n\n    ", "frames 1\n"),
+    ("quit", "frames 1\nbye\n"),
+    ("quit\ntally\n", "frames 1\nbye\n"),
+    ("\n  quit  \nquit\n", "frames 1\nbye\n"),
+    ("tally\n", "frames 1\ntally accepted 1 rejected 0\n"),
+    ("tally", "frames 1\ntally accepted 1 rejected 0\n"),
+    ("breakpoint  04\n", "frames 1\nbreakpoint 4 set\n"),
     // Only a newline ends a line, and only a space ends a word.
-    ("quit\r\nquit\n", "fault 0 BadCommand\nbye\n"),
-    ("\r\n", "fault 0 BadCommand\n"),
-    ("\t\n", "fault 0 BadCommand\n"),
-    ("\tquit\n", "fault 0 BadCommand\n"),
-    ("select\t0\n", "fault 0 BadCommand\n"),
-    ("select\n", "fault 0 BadCommand\n"),
-    ("Quit\n", "fault 0 BadCommand\n"),
-    ("sélect 0\n", "fault 0 BadCommand\n"),
-    ("select 4294967296\n", "fault 0 BadCommand\n"),
+    ("quit\r\nquit\n", "frames 1\nfault 0 BadCommand\nbye\n"),
+    ("\r\n", "frames 1\nfault 0 BadCommand\n"),
+    ("\t\n", "frames 1\nfault 0 BadCommand\n"),
+    ("\tquit\n", "frames 1\nfault 0 BadCommand\n"),
+    ("select\t0\n", "frames 1\nfault 0 BadCommand\n"),
+    ("select\n", "frames 1\nfault 0 BadCommand\n"),
+    ("Quit\n", "frames 1\nfault 0 BadCommand\n"),
+    ("sélect 0\n", "frames 1\nfault 0 BadCommand\n"),
+    ("select 4294967296\n", "frames 1\nfault 0 BadCommand\n"),
 ];
 
 #[test]
@@ -145,121 +130,78 @@ fn lines(rt: HostRuntime) -> Result<(), Fail> {
             commands: commands.as_bytes(),
             ..walk()
         };
-        let printed = format!(in rt.alloc(); "frames 1\n{printed}")?;
-        prints(&rt, &given, &printed)?;
+        ends_with(&rt, &given, "", printed.as_bytes())?;
     }
     Ok(())
 }
 
-#[test]
-fn no_ending_is_a_fault(rt: HostRuntime) -> Result<(), Fail> {
-    let mut back = Vec::from_slice(rt.alloc(), &FIRST_RUN)?;
-    back.extend_from_slice(&FIRST_RUN[24..])?;
-    for (tap, printed) in [
-        (HEADER.as_slice(), "frames 0\n"),
-        (&FIRST_RUN[..ONE_FRAME - 1], "frames 0\n"),
-        (&FIRST_RUN[..ONE_FRAME + 15], "frames 1\n"),
-        (&FIRST_RUN, "frames 2\n"),
-        // The third timestamp is out of order.
-        (back.as_slice(), "frames 2\n"),
-    ] {
-        let given = Given {
-            tap,
-            commands: b"",
-            ..walk()
-        };
-        prints(&rt, &given, printed)?;
-    }
-    Ok(())
-}
+/// The filter, the tap and the commands, of which the tap's and the commands' devices may fail after 30
+/// bytes, and the line of the fault. There is no room for what is printed, so each has a later fault too.
+type Faulty = (
+    &'static str,
+    &'static [u8],
+    &'static [u8],
+    (bool, bool),
+    &'static str,
+);
+
+static FAULTS: [Faulty; 6] = [
+    (
+        "",
+        b"",
+        WALK,
+        (false, false),
+        "afdxmon: numeric 3 Form at 0",
+    ),
+    ("0,", b"", WALK, (false, false), "afdxmon: load 1 Length"),
+    (
+        STORING,
+        b"",
+        WALK,
+        (false, true),
+        "afdxmon: watch 2 Header A 1 Short",
+    ),
+    (
+        STORING,
+        &FIRST_RUN,
+        b"\xff",
+        (true, false),
+        "afdxmon: watch 3 Read A",
+    ),
+    (STORING, &FIRST_RUN, WALK, (false, true), "afdxmon: file -"),
+    (
+        STORING,
+        &FIRST_RUN,
+        b"tally\n\xff",
+        (false, false),
+        "afdxmon: file -",
+    ),
+];
 
 #[test]
 fn the_first_fault(rt: HostRuntime) -> Result<(), Fail> {
     let fails = Script { most: 30, ..SOUND };
-    // Each but the last has a later fault too.
-    let no_numbers = Given {
-        filter: "",
-        tap: b"",
-        ..walk()
-    };
-    fails_with(&rt, &no_numbers, "afdxmon: numeric 3 Form at 0", b"")?;
-    let no_instructions = Given {
-        filter: "0,",
-        tap: b"",
-        ..walk()
-    };
-    fails_with(&rt, &no_instructions, "afdxmon: load 1 Length", b"")?;
-    let no_header = Given {
-        tap: b"",
-        commands_script: fails,
-        ..walk()
-    };
-    fails_with(&rt, &no_header, "afdxmon: watch 2 Header A 1 Short", b"")?;
-    let failing_tap = Given {
-        tap_script: fails,
-        commands: b"\xff",
-        ..walk()
-    };
-    fails_with(&rt, &failing_tap, "afdxmon: watch 3 Read A", b"")?;
     let no_room = Script { most: 0, ..SOUND };
-    let failing_commands = Given {
-        commands_script: fails,
-        sink_script: no_room,
-        ..walk()
-    };
-    fails_with(&rt, &failing_commands, "afdxmon: file -", b"")?;
-    let no_text = Given {
-        commands: b"tally\n\xff",
-        ..walk()
-    };
-    fails_with(&rt, &no_text, "afdxmon: file -", b"")
-}
-
-#[test]
-fn a_tap_that_fails_after_each_byte(rt: HostRuntime) -> Result<(), Fail> {
-    for most in 0..=ONE_FRAME {
+    for (filter, tap, commands, (tap_fails, commands_fail), line) in &FAULTS {
         let given = Given {
-            tap_script: Script { most, ..SOUND },
-            ..walk()
+            filter,
+            tap,
+            commands,
+            tap_script: if *tap_fails { fails } else { SOUND },
+            commands_script: if *commands_fail { fails } else { SOUND },
+            sink_script: no_room,
         };
-        fails_with(&rt, &given, "afdxmon: watch 3 Read A", b"")?;
+        ends_with(&rt, &given, line, b"")?;
     }
     Ok(())
 }
 
 #[test]
-fn commands_at_the_limit(rt: HostRuntime) -> Result<(), Fail> {
-    let alloc = rt.alloc();
-    // What follows `quit` is read, and not answered.
-    let mut commands = Vec::from_slice(alloc, b"quit\n")?;
-    commands.resize(LIMIT, b' ')?;
+fn a_sink_that_fails(rt: HostRuntime) -> Result<(), Fail> {
     let given = Given {
-        commands: &commands,
+        sink_script: Script { most: 20, ..SOUND },
         ..walk()
     };
-    prints(&rt, &given, "frames 1\nbye\n")?;
-    commands.push(b' ')?;
-    let given = Given {
-        commands: &commands,
-        ..walk()
-    };
-    fails_with(&rt, &given, "afdxmon: file -", b"")
-}
-
-#[test]
-fn a_sink_that_fails_after_each_byte(rt: HostRuntime) -> Result<(), Fail> {
-    let printed = PRINTED.as_bytes();
-    for most in 0..printed.len() {
-        let given = Given {
-            sink_script: Script { most, ..SOUND },
-            ..walk()
-        };
-        fails_with(
-            &rt,
-            &given,
-            "afdxmon: file -",
-            printed.get(..most).unwrap_or(b""),
-        )?;
-    }
+    ends_with(&rt, &given, "afdxmon: file -", b"frames 1\nfault 1 NoF")?;
     Ok(())
 }

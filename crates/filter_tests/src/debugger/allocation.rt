@@ -10,40 +10,43 @@ use std::process::Abort;
 
 const START: &str = "at 0 pc 0 A 0 X 0 M 0 0 0 0 0 0 0 0 0 0 0 0 0 0 0 0\n";
 
+const ADD_1: Packed = Packed {
+    code: 0x04,
+    jt: 0,
+    jf: 0,
+    k: 1,
+};
+
+const RETURN_A: Packed = Packed {
+    code: 0x16,
+    jt: 0,
+    jf: 0,
+    k: 0,
+};
+
 /// `add #1`, 39 times, and `ret a`.
-fn words(rt: &impl AllocGlobal) -> Option<Vec<Packed>> {
-    let mut words = Vec::new(rt.alloc());
-    for index in 0..40 {
-        let code = if index == 39 { 0x16 } else { 0x04 };
-        let word = Packed {
-            code,
-            jt: 0,
-            jf: 0,
-            k: u32::from(index != 39),
-        };
-        words.push(word).ok()?;
-    }
-    Some(words)
+fn program(rt: &impl AllocGlobal) -> Option<Program> {
+    let mut words = [ADD_1; 40];
+    words[39] = RETURN_A;
+    Program::load(Vec::from_slice(rt.alloc(), &words).ok()?).ok()
 }
 
-/// A program, and the bytes of one frame.
-fn given(rt: &impl AllocGlobal) -> Option<(Program, Vec<TapFrame>)> {
-    let program = Program::load(words(rt)?).ok()?;
+/// The bytes of one frame.
+fn frames(rt: &impl AllocGlobal) -> Option<Vec<TapFrame>> {
     let bytes = Vec::from_slice(rt.alloc(), &[0; 60]).ok()?;
     let frame = TapFrame::new(Network::A, 0, Stamp(0), 60, bytes).ok()?;
     let mut frames = Vec::new(rt.alloc());
     frames.push(frame).ok()?;
-    Some((program, frames))
+    Some(frames)
 }
 
 /// A session, and whether there was the memory at the first time.
 fn begun(rt: &(impl Abort + AllocGlobal)) -> Option<(Session, bool)> {
-    let (program, frames) = given(rt)?;
+    let (program, frames) = (program(rt)?, frames(rt)?);
     match Session::new(rt.alloc(), program, frames) {
         Ok(session) => Some((session, true)),
         Err(NewRefused { program, frames }) => {
-            assert!(rt; program.len() == 40);
-            assert!(rt; frames.len() == 1);
+            assert!(rt; program.len() == 40 && frames.len() == 1);
             let session = Session::new(rt.alloc(), program, frames).ok()?;
             Some((session, false))
         }
@@ -66,10 +69,10 @@ fn entry(m: usize) -> Reply {
 fn replies(rt: &impl Abort, session: &mut Session, command: Command, right: Reply) -> bool {
     let first = session.command(command);
     if first == Err(DebugFault::Memory) {
-        assert!(rt; session.command(command) == Ok(right), "{command:?}, again");
+        assert!(rt; session.command(command) == Ok(right));
         return false;
     }
-    assert!(rt; first == Ok(right), "{command:?}");
+    assert!(rt; first == Ok(right));
     true
 }
 
@@ -89,8 +92,8 @@ fn walks(rt: &(impl Abort + AllocGlobal)) -> bool {
     let Some((mut session, mut ample)) = begun(rt) else {
         return false;
     };
-    for (command, m) in WALK {
-        ample &= replies(rt, &mut session, command, entry(m));
+    for (command, m) in &WALK {
+        ample &= replies(rt, &mut session, *command, entry(*m));
     }
     ample
 }
@@ -107,22 +110,35 @@ fn listed(rt: &impl Abort, session: &mut Session) -> Option<(Reply, bool)> {
     }
 }
 
+/// Writes a reply. Returns whether there was the memory, and checks the text.
+fn tells_start(rt: &(impl Abort + AllocGlobal)) -> bool {
+    let Ok(line) = render(rt.alloc(), &entry(0)) else {
+        return false;
+    };
+    assert!(rt; line.as_str() == START);
+    true
+}
+
+/// Writes the listing, as `tells_start`.
+fn tells_listing(rt: &(impl Abort + AllocGlobal), listing: &Reply) -> bool {
+    let Ok(lines) = render(rt.alloc(), listing) else {
+        return false;
+    };
+    let is_listing = lines.starts_with("L0: add #1\nL1: add #1\n")
+        && lines.ends_with("\nL39: ret a\n");
+    assert!(rt; is_listing);
+    true
+}
+
 /// Lists the program and writes replies, and says whether there was the memory.
 fn tells(rt: &(impl Abort + AllocGlobal)) -> bool {
     let Some((mut session, ample)) = begun(rt) else {
         return false;
     };
     let Some((listing, first)) = listed(rt, &mut session) else {
-        assert!(rt; false, "no listing at the second time");
-        return false;
+        panic!(rt; "no listing at the second time");
     };
-    let (Ok(lines), Ok(line)) = (render(rt.alloc(), &listing), render(rt.alloc(), &entry(0))) else {
-        return false;
-    };
-    assert!(rt; lines.as_str().starts_with("L0: add #1\nL1: add #1\n"));
-    assert!(rt; lines.as_str().ends_with("\nL39: ret a\n"));
-    assert!(rt; line.as_str() == START);
-    ample && first
+    tells_listing(rt, &listing) && tells_start(rt) && ample && first
 }
 
 #[test]

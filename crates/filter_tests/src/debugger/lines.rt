@@ -27,7 +27,7 @@ static COMMANDS: [(&str, Command); 22] = [
     ("quit   ", Command::Quit),
 ];
 
-static NO_COMMANDS: [&str; 39] = [
+static NO_COMMANDS: [&str; 42] = [
     "",
     " ",
     "     ",
@@ -67,30 +67,34 @@ static NO_COMMANDS: [&str; 39] = [
     "tally 0",
     "con",
     "contt",
+    "select 1\u{e9}",
+    "s\u{e9}lect 1",
+    "select \u{661}",
 ];
 
 #[test]
 fn commands(rt: HostRuntime) {
-    for (line, command) in COMMANDS {
-        assert!(rt; read_command(line) == Some(command), "{line:?}");
+    for (line, command) in &COMMANDS {
+        assert!(rt; read_command(line) == Some(*command), "{line}");
     }
 }
 
 #[test]
 fn other_lines(rt: HostRuntime) {
-    for line in NO_COMMANDS {
-        assert!(rt; read_command(line) == None, "{line:?}");
+    for line in &NO_COMMANDS {
+        assert!(rt; read_command(line).is_none(), "{line}");
     }
-    assert!(rt; read_command("select 1\u{e9}") == None);
-    assert!(rt; read_command("s\u{e9}lect 1") == None);
-    assert!(rt; read_command("select \u{661}") == None);
 }
 
 #[test]
 fn faults(rt: HostRuntime) {
-    assert!(rt; bad_command_line() == "fault 0 BadCommand\n");
-    assert!(rt; DebugFault::NoFrame.line() == "fault 1 NoFrame\n");
-    assert!(rt; DebugFault::NoSuchFrame.line() == "fault 2 NoSuchFrame\n");
-    assert!(rt; DebugFault::NoSuchInsn.line() == "fault 3 NoSuchInsn\n");
-    assert!(rt; DebugFault::Memory.line() == "fault 4 Memory\n");
+    for (line, text) in [
+        (bad_command_line(), "fault 0 BadCommand\n"),
+        (DebugFault::NoFrame.line(), "fault 1 NoFrame\n"),
+        (DebugFault::NoSuchFrame.line(), "fault 2 NoSuchFrame\n"),
+        (DebugFault::NoSuchInsn.line(), "fault 3 NoSuchInsn\n"),
+        (DebugFault::Memory.line(), "fault 4 Memory\n"),
+    ] {
+        assert!(rt; line == text);
+    }
 }

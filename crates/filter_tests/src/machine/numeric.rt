@@ -1,56 +1,68 @@
 //! The numeric form by worked examples.
 
+use crate::machine::{Word, words_of};
 use bpf_isa::NumericFault::{self, Character, Count, Form, Number, TooMany};
-use bpf_isa::{Packed, read_numeric, write_numeric};
+use bpf_isa::{read_numeric, write_numeric};
 use std::test::Fail;
 
 /// Accepts whole ARP frames, as bpf_asm writes it.
 const ARP: &str = "4,40 0 0 12,21 0 1 2054,6 0 0 4294967295,6 0 0 0,";
 
-const fn word(code: u16, jt: u8, jf: u8, k: u32) -> Packed {
-    Packed { code, jt, jf, k }
-}
+/// A filter on the frame's type: `ldh [12]; jeq #kind, 0, 1; ret #kept; ret #0`. That on ARP, and that of
+/// `tcpdump -ddd ip`.
+const OF_ARP: [Word; 4] = [
+    (40, 0, 0, 12),
+    (21, 0, 1, 2054),
+    (6, 0, 0, 4294967295),
+    (6, 0, 0, 0),
+];
 
-/// A filter on the frame's type: `ldh [12]; jeq #kind, 0, 1; ret #kept; ret #0`.
-const fn filter(kind: u32, kept: u32) -> [Packed; 4] {
-    [
-        word(40, 0, 0, 12),
-        word(21, 0, 1, kind),
-        word(6, 0, 0, kept),
-        word(6, 0, 0, 0),
-    ]
-}
+const OF_IP: [Word; 4] = [
+    (40, 0, 0, 12),
+    (21, 0, 1, 2048),
+    (6, 0, 0, 262144),
+    (6, 0, 0, 0),
+];
 
-/// The filter on ARP in each form that is read.
-const ARP_TEXTS: [&str; 6] = [
-    ARP,
+/// Texts that are read, each with its instructions: the filter on ARP in each form.
+static READ: [(&str, &[Word]); 8] = [
+    (ARP, &OF_ARP),
     // without the last comma
-    "4,40 0 0 12,21 0 1 2054,6 0 0 4294967295,6 0 0 0",
-    "4\n40 0 0 12\n21 0 1 2054\n6 0 0 4294967295\n6 0 0 0\n",
-    "4\r\n40 0 0 12\r\n21 0 1 2054\r\n6 0 0 4294967295\r\n6 0 0 0\r\n",
-    "\t4 ,, 40\t0 0 12 , \r\n21 0 1 2054,6 0 0 4294967295\n\n6 0 0 0",
-    "00000000000000004,40 00 000 0012,21 0 1 2054,6 0 0 00000000004294967295,6 0 0 0,",
+    ("4,40 0 0 12,21 0 1 2054,6 0 0 4294967295,6 0 0 0", &OF_ARP),
+    (
+        "4\n40 0 0 12\n21 0 1 2054\n6 0 0 4294967295\n6 0 0 0\n",
+        &OF_ARP,
+    ),
+    (
+        "4\r\n40 0 0 12\r\n21 0 1 2054\r\n6 0 0 4294967295\r\n6 0 0 0\r\n",
+        &OF_ARP,
+    ),
+    (
+        "\t4 ,, 40\t0 0 12 , \r\n21 0 1 2054,6 0 0 4294967295\n\n6 0 0 0",
+        &OF_ARP,
+    ),
+    (
+        "00000000000000004,40 00 000 0012,21 0 1 2054,6 0 0 00000000004294967295,6 0 0 0,",
+        &OF_ARP,
+    ),
+    ("4\n40 0 0 12\n21 0 1 2048\n6 0 0 262144\n6 0 0 0\n", &OF_IP),
+    ("0,", &[]),
 ];
 
 #[test]
 fn reads(rt: HostRuntime) -> Result<(), Fail> {
-    let arp = filter(2054, 4294967295);
-    for text in ARP_TEXTS {
-        let words = read_numeric(rt.alloc(), text)?;
-        assert!(rt; words.as_slice() == arp.as_slice(), "in {text:?}");
+    for (text, words) in &READ {
+        let read = read_numeric(rt.alloc(), text)?;
+        assert!(rt;
+            read.as_slice() == words_of(rt.alloc(), words)?.as_slice(),
+            "in {text}"
+        );
     }
-    // tcpdump -ddd ip
-    let words = read_numeric(
-        rt.alloc(),
-        "4\n40 0 0 12\n21 0 1 2048\n6 0 0 262144\n6 0 0 0\n",
-    )?;
-    assert!(rt; words.as_slice() == filter(2048, 262144).as_slice());
-    assert!(rt; read_numeric(rt.alloc(), "0,")?.len() == 0);
     Ok(())
 }
 
 /// Texts that aren't read, each with its fault.
-const REFUSED: [(&str, NumericFault); 15] = [
+static REFUSED: [(&str, NumericFault); 15] = [
     ("2,6 0 0 0,", Count { at: 10 }),
     // a surplus instruction, and a fault in one
     ("1,6 0 0 0,6 0 0 0,", Count { at: 18 }),
@@ -78,17 +90,17 @@ const REFUSED: [(&str, NumericFault); 15] = [
 
 #[test]
 fn refuses(rt: HostRuntime) {
-    for (text, want) in REFUSED {
+    for (text, fault) in &REFUSED {
         assert!(rt;
-            read_numeric(rt.alloc(), text).err() == Some(want),
-            "in {text:?}"
+            read_numeric(rt.alloc(), text).err() == Some(*fault),
+            "in {text}"
         );
     }
 }
 
 #[test]
 fn writes(rt: HostRuntime) -> Result<(), Fail> {
-    let text = write_numeric(rt.alloc(), &filter(2054, 4294967295))?;
+    let text = write_numeric(rt.alloc(), words_of(rt.alloc(), &OF_ARP)?.as_slice())?;
     assert!(rt; text.as_str() == ARP);
     Ok(())
 }

@@ -9,7 +9,6 @@ use bpf_isa::{
     Source, State, Store, canonical,
 };
 use std::process::Abort;
-use std::test::Fail;
 
 /// The captured bytes of a frame. Its length on the wire is `WHOLE`.
 const FRAME: [u8; 24] = [
@@ -30,7 +29,7 @@ const BEFORE: State = State {
 };
 
 /// What an instruction changes.
-#[derive(Clone, Copy, Debug)]
+#[derive(Clone, Copy)]
 enum Effect {
     A(u32),
     X(u32),
@@ -132,28 +131,37 @@ fn plain_word(code: u16, reads: Reads) -> Packed {
 /// A row of the table: its mnemonic, its code, what that reads, and its effect.
 type Row = (&'static str, u16, Reads, Effect);
 
-/// The family has these rows and no other. Each word unpacks to an instruction of the family, which
-/// packs in canonical form and has this effect.
-fn family_has<F: Family>(rt: &impl Abort, rows: &[Row]) -> Result<(), Fail> {
-    assert!(rt; rows.len() == F::CODES);
-    for (mnemonic, code, reads, effect) in rows {
-        let (word, plain) = (full(*code), plain_word(*code, *reads));
-        let class = *code % 8;
+/// The row's word, with all fields and in canonical form, unpacks to an instruction of the family, which
+/// packs in canonical form and has the row's effect.
+fn row_holds<F: Family>(rt: &impl Abort, row: &Row) {
+    let (mnemonic, code, reads, effect) = row;
+    let plain = plain_word(*code, *reads);
+    let want = outcome(BEFORE, *effect);
+    for word in [full(*code), plain] {
+        let Some(insn) = F::unpack(word) else {
+            panic!(rt; "not of the family: {mnemonic}");
+        };
         assert!(rt;
-            F::FIRST_CLASS <= class && class <= F::LAST_CLASS,
+            insn.pack() == plain && canonical(word) == plain,
             "{mnemonic}"
         );
-        let insn = F::unpack(word).ok_or("not of the family")?;
-        assert!(rt; insn.pack() == plain, "{mnemonic}");
-        assert!(rt; canonical(word) == plain, "{mnemonic}");
-        let want = outcome(BEFORE, *effect);
-        assert!(rt; stepped(rt, insn, BEFORE) == want, "{mnemonic}");
-        assert!(rt; advanced(rt, insn, BEFORE) == want, "{mnemonic}");
-        let same = Insn::unpack(plain).ok_or("not listed")?;
-        assert!(rt; same.pack() == plain, "{mnemonic}");
-        assert!(rt; stepped(rt, same, BEFORE) == want, "{mnemonic}");
+        assert!(rt;
+            stepped(rt, insn, BEFORE) == want && advanced(rt, insn, BEFORE) == want,
+            "{mnemonic}"
+        );
     }
-    Ok(())
+}
+
+/// The family has these rows and no other, each with a code of its classes. Each holds of the family, and
+/// of all instructions.
+fn family_has<F: Family>(rt: &impl Abort, rows: &[Row]) {
+    assert!(rt; rows.len() == F::CODES);
+    for row in rows {
+        let class = row.1 % 8;
+        assert!(rt; F::FIRST_CLASS <= class && class <= F::LAST_CLASS);
+        row_holds::<F>(rt, row);
+        row_holds::<Insn>(rt, row);
+    }
 }
 
 /// The rows of each family.
@@ -184,10 +192,10 @@ const STORES: [Row; 2] = [
 ];
 
 #[test]
-fn loads_and_stores(rt: HostRuntime) -> Result<(), Fail> {
-    family_has::<Load>(&rt, &LOADS)?;
-    family_has::<LoadX>(&rt, &LOADS_OF_X)?;
-    family_has::<Store>(&rt, &STORES)
+fn loads_and_stores(rt: HostRuntime) {
+    family_has::<Load>(&rt, &LOADS);
+    family_has::<LoadX>(&rt, &LOADS_OF_X);
+    family_has::<Store>(&rt, &STORES);
 }
 
 const ARITHMETIC: [Row; 21] = [
@@ -215,8 +223,8 @@ const ARITHMETIC: [Row; 21] = [
 ];
 
 #[test]
-fn arithmetic(rt: HostRuntime) -> Result<(), Fail> {
-    family_has::<Alu>(&rt, &ARITHMETIC)
+fn arithmetic(rt: HostRuntime) {
+    family_has::<Alu>(&rt, &ARITHMETIC);
 }
 
 const JUMPS: [Row; 9] = [
@@ -242,166 +250,138 @@ const MOVES: [Row; 2] = [
 ];
 
 #[test]
-fn jumps_returns_and_moves(rt: HostRuntime) -> Result<(), Fail> {
-    family_has::<Jump>(&rt, &JUMPS)?;
-    family_has::<Return>(&rt, &RETURNS)?;
-    family_has::<Move>(&rt, &MOVES)
+fn jumps_returns_and_moves(rt: HostRuntime) {
+    family_has::<Jump>(&rt, &JUMPS);
+    family_has::<Return>(&rt, &RETURNS);
+    family_has::<Move>(&rt, &MOVES);
 }
 
-/// Carries out a word of the table.
-fn carried_out(rt: &impl Abort, word: Packed, before: State) -> Result<Outcome, Fail> {
-    let insn = Insn::unpack(word).ok_or("not listed")?;
-    Ok(stepped(rt, insn, before))
+/// A word of the table has this effect.
+fn has_effect(rt: &impl Abort, word: Packed, before: State, effect: Effect) {
+    let Some(insn) = Insn::unpack(word) else {
+        panic!(rt; "not listed: code {}", word.code);
+    };
+    assert!(rt; before.place < 4096);
+    let want = outcome(before, effect);
+    assert!(rt;
+        stepped(rt, insn, before) == want,
+        "code {}, k {}",
+        word.code,
+        word.k
+    );
 }
+
+/// Comparisons of A, which is 74565 and shares no bit with 2: the code of jeq, jgt, jge or jset, the
+/// operand, and whether it holds.
+const COMPARISONS: [(u16, u32, bool); 20] = [
+    (0x15, 2, false),
+    (0x25, 2, true),
+    (0x35, 2, true),
+    (0x45, 2, false),
+    (0x15, 74564, false),
+    (0x25, 74564, true),
+    (0x35, 74564, true),
+    (0x45, 74564, true),
+    (0x15, 74565, true),
+    (0x25, 74565, false),
+    (0x35, 74565, true),
+    (0x45, 74565, true),
+    (0x15, 74566, false),
+    (0x25, 74566, false),
+    (0x35, 74566, false),
+    (0x45, 74566, true),
+    (0x15, 131072, false),
+    (0x25, 131072, false),
+    (0x35, 131072, false),
+    (0x45, 131072, false),
+];
 
 #[test]
-fn tests_tell_the_four_conditions_apart(rt: HostRuntime) -> Result<(), Fail> {
-    // A is 74565, and shares no bit with 2
-    for (operand, holding) in [
-        (2, [false, true, true, false]),
-        (74564, [false, true, true, true]),
-        (74565, [true, false, true, true]),
-        (74566, [false, false, false, true]),
-        (131072, [false, false, false, false]),
-    ] {
+fn tests_tell_the_four_conditions_apart(rt: HostRuntime) {
+    for (code, operand, holds) in &COMPARISONS {
+        let effect = Effect::Goes(if *holds { 31 } else { 51 });
+        has_effect(&rt, word(*code, 20, 40, *operand), BEFORE, effect);
         let by_x = State {
-            x: operand,
+            x: *operand,
             ..BEFORE
         };
-        // jeq, jgt, jge, jset
-        for (code, holds) in [0x15, 0x25, 0x35, 0x45].into_iter().zip(holding) {
-            let pc = if holds { 31 } else { 51 };
-            let want = outcome(BEFORE, Effect::Goes(pc));
-            let by_k = word(code, 20, 40, operand);
-            assert!(rt;
-                carried_out(&rt, by_k, BEFORE)? == want,
-                "{code:#x} {operand}"
-            );
-            let want = outcome(by_x, Effect::Goes(pc));
-            let from_x = word(code + 8, 20, 40, 74565);
-            assert!(rt;
-                carried_out(&rt, from_x, by_x)? == want,
-                "{code:#x} {operand}"
-            );
-        }
+        has_effect(&rt, word(*code | 8, 20, 40, 74565), by_x, effect);
     }
-    Ok(())
 }
 
-/// Instructions over numbers at their ends, from A, X and k.
-const NUMBERS: [(&str, u16, u32, u32, u32, Effect); 14] = [
-    ("add #k", 0x04, u32::MAX, 0, 1, Effect::A(0)),
-    ("sub #k", 0x14, 0, 0, 1, Effect::A(u32::MAX)),
-    ("mul #k", 0x24, 65536, 0, 65536, Effect::A(0)),
-    ("mul #k", 0x24, 65537, 0, 65537, Effect::A(131073)),
-    ("lsh x", 0x6c, 3, 31, 0, Effect::A(0x8000_0000)),
-    ("lsh x", 0x6c, 3, 32, 0, Effect::A(0)),
-    ("lsh x", 0x6c, 3, 33, 0, Effect::A(0)),
-    ("rsh x", 0x7c, 0xc000_0000, 31, 0, Effect::A(1)),
-    ("rsh x", 0x7c, 0xc000_0000, 32, 0, Effect::A(0)),
-    ("rsh x", 0x7c, 0xc000_0000, 33, 0, Effect::A(0)),
-    ("div x", 0x3c, 1, 0, 7, Effect::Ends(0)),
-    ("mod x", 0x9c, 1, 0, 7, Effect::Ends(0)),
-    ("neg", 0x84, 5, 0, 0, Effect::A(4294967291)),
-    ("neg", 0x84, 0, 0, 0, Effect::A(0)),
+/// Instructions over numbers at their ends, and loads at the end of the frame, of which 24 bytes are
+/// captured: by code, from A, X and k.
+const ENDS: [(u16, u32, u32, u32, Effect); 28] = [
+    // add #k, sub #k, mul #k
+    (0x04, u32::MAX, 0, 1, Effect::A(0)),
+    (0x14, 0, 0, 1, Effect::A(u32::MAX)),
+    (0x24, 65536, 0, 65536, Effect::A(0)),
+    (0x24, 65537, 0, 65537, Effect::A(131073)),
+    // lsh x, rsh x
+    (0x6c, 3, 31, 0, Effect::A(0x8000_0000)),
+    (0x6c, 3, 32, 0, Effect::A(0)),
+    (0x6c, 3, 33, 0, Effect::A(0)),
+    (0x7c, 0xc000_0000, 31, 0, Effect::A(1)),
+    (0x7c, 0xc000_0000, 32, 0, Effect::A(0)),
+    (0x7c, 0xc000_0000, 33, 0, Effect::A(0)),
+    // div x, mod x
+    (0x3c, 1, 0, 7, Effect::Ends(0)),
+    (0x9c, 1, 0, 7, Effect::Ends(0)),
+    // neg
+    (0x84, 5, 0, 0, Effect::A(4294967291)),
+    (0x84, 0, 0, 0, Effect::A(0)),
+    // ld [k], ldh [k], ldb [k]
+    (0x20, 74565, 0, 20, Effect::A(0x4556_6778)),
+    (0x20, 74565, 0, 21, Effect::Ends(0)),
+    (0x28, 74565, 0, 22, Effect::A(0x6778)),
+    (0x28, 74565, 0, 23, Effect::Ends(0)),
+    (0x30, 74565, 0, 23, Effect::A(0x78)),
+    (0x30, 74565, 0, 24, Effect::Ends(0)),
+    // ld [x + k], ldh [x + k], ldb [x + k]
+    (0x40, 74565, 20, 1, Effect::Ends(0)),
+    (0x48, 74565, 20, 3, Effect::Ends(0)),
+    (0x50, 74565, 20, 4, Effect::Ends(0)),
+    // ldxb 4*([k]&0xf)
+    (0xb1, 74565, 0, 23, Effect::X(32)),
+    (0xb1, 74565, 0, 24, Effect::Ends(0)),
+    // X + k is 0, 1 and 2 modulo 2^32: ld, ldh and ldb
+    (0x40, 74565, u32::MAX, 1, Effect::A(0x1021_3243)),
+    (0x48, 74565, 0x8000_0000, 0x8000_0001, Effect::A(0x2132)),
+    (0x50, 74565, 4, 4294967294, Effect::A(0x32)),
 ];
 
 #[test]
-fn numbers_at_their_ends(rt: HostRuntime) -> Result<(), Fail> {
-    for (mnemonic, code, a, x, k, effect) in NUMBERS {
-        let before = State { a, x, ..BEFORE };
-        let want = outcome(before, effect);
-        let found = carried_out(&rt, word(code, 0, 0, k), before)?;
-        assert!(rt; found == want, "{mnemonic} of {a}, {x} and {k}");
+fn numbers_and_loads_at_their_ends(rt: HostRuntime) {
+    for (code, a, x, k, effect) in &ENDS {
+        let before = State {
+            a: *a,
+            x: *x,
+            ..BEFORE
+        };
+        has_effect(&rt, word(*code, 0, 0, *k), before, *effect);
     }
-    Ok(())
-}
-
-/// Loads at the end of the frame, of which 24 bytes are captured, from X and k.
-const LAST_LOADS: [(&str, u16, u32, u32, Effect); 14] = [
-    ("ld [k]", 0x20, 0, 20, Effect::A(0x4556_6778)),
-    ("ld [k]", 0x20, 0, 21, Effect::Ends(0)),
-    ("ldh [k]", 0x28, 0, 22, Effect::A(0x6778)),
-    ("ldh [k]", 0x28, 0, 23, Effect::Ends(0)),
-    ("ldb [k]", 0x30, 0, 23, Effect::A(0x78)),
-    ("ldb [k]", 0x30, 0, 24, Effect::Ends(0)),
-    ("ld [x + k]", 0x40, 20, 1, Effect::Ends(0)),
-    ("ldh [x + k]", 0x48, 20, 3, Effect::Ends(0)),
-    ("ldb [x + k]", 0x50, 20, 4, Effect::Ends(0)),
-    ("ldxb 4*([k]&0xf)", 0xb1, 0, 23, Effect::X(32)),
-    ("ldxb 4*([k]&0xf)", 0xb1, 0, 24, Effect::Ends(0)),
-    // X + k is 0, 1 and 2 modulo 2^32
-    ("ld [x + k]", 0x40, u32::MAX, 1, Effect::A(0x1021_3243)),
-    (
-        "ldh [x + k]",
-        0x48,
-        0x8000_0000,
-        0x8000_0001,
-        Effect::A(0x2132),
-    ),
-    ("ldb [x + k]", 0x50, 4, 4294967294, Effect::A(0x32)),
-];
-
-#[test]
-fn loads_at_the_end_of_the_frame(rt: HostRuntime) -> Result<(), Fail> {
-    for (mnemonic, code, x, k, effect) in LAST_LOADS {
-        let before = State { x, ..BEFORE };
-        let want = outcome(before, effect);
-        let found = carried_out(&rt, word(code, 0, 0, k), before)?;
-        assert!(rt; found == want, "{mnemonic} at {x} + {k}");
-    }
-    Ok(())
-}
-
-/// How many codes unpack in the family. All are of its classes, and in the table.
-fn codes_of<F: Family>(rt: &impl Abort) -> usize {
-    let mut codes = 0usize;
-    for code in 0..=u16::MAX {
-        let word = word(code, 9, 9, 7);
-        if F::unpack(word).is_some() {
-            codes = codes.saturating_add(1);
-            assert!(rt; Insn::unpack(word).is_some(), "code {code:#x}");
-            let class = code % 8;
-            assert!(rt;
-                F::FIRST_CLASS <= class && class <= F::LAST_CLASS,
-                "code {code:#x}"
-            );
-        }
-    }
-    codes
-}
-
-#[test]
-fn codes_by_family(rt: HostRuntime) {
-    assert!(rt; codes_of::<Load>(&rt) == 9);
-    assert!(rt; codes_of::<LoadX>(&rt) == 4);
-    assert!(rt; codes_of::<Store>(&rt) == 2);
-    assert!(rt; codes_of::<Alu>(&rt) == 21);
-    assert!(rt; codes_of::<Jump>(&rt) == 9);
-    assert!(rt; codes_of::<Return>(&rt) == 2);
-    assert!(rt; codes_of::<Move>(&rt) == 2);
-    assert!(rt; codes_of::<Insn>(&rt) == 49);
 }
 
 #[test]
 fn operands(rt: HostRuntime) {
-    assert!(rt; Load::Length.operand() == None);
-    assert!(rt; LoadX::HeaderLength(14).operand() == Some(14));
-    assert!(rt; Store::X(6).operand() == 6);
-    assert!(rt; Alu::Binary(Operator::Add, Source::X).operand() == Some(Source::X));
     let less = Jump::If(Condition::AtLeast, Source::K(61), 0, 1);
-    assert!(rt; less.operand() == (Source::K(61), 0, 1));
-    assert!(rt; Return::A.operand() == None);
-    assert!(rt; Insn::Jump(less).operand() == (0, 1, 61));
+    assert!(rt; Load::Length.operand() == None && LoadX::HeaderLength(14).operand() == Some(14));
+    assert!(rt; Store::X(6).operand() == 6 && Return::A.operand() == None);
+    assert!(rt; Alu::Binary(Operator::Add, Source::X).operand() == Some(Source::X));
+    assert!(rt;
+        less.operand() == (Source::K(61), 0, 1) && Insn::Jump(less).operand() == (0, 1, 61)
+    );
 }
 
 #[test]
-fn canonical_forms(rt: HostRuntime) {
-    // ret #7
+fn canonical_forms_and_conditions(rt: HostRuntime) {
+    // ret #7, and codes that aren't listed
     assert!(rt; canonical(word(6, 9, 9, 7)) == word(6, 0, 0, 7));
-    // codes that aren't listed
     assert!(rt; canonical(word(23, 9, 9, 7)) == word(23, 9, 9, 7));
     assert!(rt; canonical(word(0x106, 9, 9, 7)) == word(0x106, 9, 9, 7));
+    assert!(rt;
+        Condition::AtLeast.holds(u32::MAX, u32::MAX) && !Condition::Greater.holds(1, u32::MAX)
+    );
 }
 
 #[test]
@@ -413,10 +393,4 @@ fn starts_at_zero(rt: HostRuntime) {
         scratch: [0; 16],
     };
     assert!(rt; State::start() == zero);
-}
-
-#[test]
-fn conditions(rt: HostRuntime) {
-    assert!(rt; Condition::AtLeast.holds(u32::MAX, u32::MAX));
-    assert!(rt; !Condition::Greater.holds(1, u32::MAX));
 }

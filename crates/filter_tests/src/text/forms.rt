@@ -1,145 +1,86 @@
 //! Texts that are source, and their statements.
 
-use bpf_text::{Mnemonic, Operand, Source, statements};
+use bpf_text::{Mnemonic, Operand, Source, Statement, statements};
 use std::test::Fail;
 
 /// The filter of the worked example: the frames that aren't ARP.
-pub const ETHERTYPE: &str = "ldh [12]\njne #0x806, drop\nret #-1\ndrop: ret #0";
+pub(crate) const ETHERTYPE: &str = "ldh [12]\njne #0x806, drop\nret #-1\ndrop: ret #0";
 
-const THREE: Source = Source::K(3);
+/// The statements of the worked example.
+const OF_ETHERTYPE: [Statement<'static>; 4] = [
+    Statement {
+        at: 0,
+        label: None,
+        mnemonic: Mnemonic::Ldh,
+        operand: Operand::Absolute(12),
+    },
+    Statement {
+        at: 9,
+        label: None,
+        mnemonic: Mnemonic::Jne,
+        operand: Operand::Branch(Source::K(0x806), "drop", None),
+    },
+    Statement {
+        at: 26,
+        label: None,
+        mnemonic: Mnemonic::Ret,
+        operand: Operand::Immediate(u32::MAX),
+    },
+    Statement {
+        at: 34,
+        label: Some("drop"),
+        mnemonic: Mnemonic::Ret,
+        operand: Operand::Immediate(0),
+    },
+];
 
-/// Texts of one statement, with its mnemonic and operand: loads and stores, jumps where the comparison
-/// holds and where it fails, arithmetic, moves and returns.
-const STATEMENTS: [(&str, Mnemonic, Operand<'static>); 48] = [
-    ("ld [4]", Mnemonic::Ld, Operand::Absolute(4)),
-    ("ld [x + 4]", Mnemonic::Ld, Operand::Indirect(4)),
-    ("ld [%x+-4]", Mnemonic::Ld, Operand::Indirect(4_294_967_292)),
-    ("ld M[3]", Mnemonic::Ld, Operand::Scratch(3)),
-    ("ld #7", Mnemonic::Ld, Operand::Immediate(7)),
-    ("ld len", Mnemonic::Ld, Operand::Len),
-    ("ld #len", Mnemonic::Ld, Operand::Len),
-    ("ldi #7", Mnemonic::Ldi, Operand::Immediate(7)),
-    ("ldi +7", Mnemonic::Ldi, Operand::Immediate(7)),
-    ("ldxi #0b101", Mnemonic::Ldxi, Operand::Immediate(5)),
-    ("ldxi 017", Mnemonic::Ldxi, Operand::Immediate(15)),
-    ("ldh [x+4]", Mnemonic::Ldh, Operand::Indirect(4)),
-    ("ldb [4]", Mnemonic::Ldb, Operand::Absolute(4)),
-    ("ldx m[3]", Mnemonic::Ldx, Operand::Scratch(3)),
-    ("ldx #7", Mnemonic::Ldx, Operand::Immediate(7)),
-    ("ldx LEN", Mnemonic::Ldx, Operand::Len),
-    ("ldx # len", Mnemonic::Ldx, Operand::Len),
-    ("ldx 4*([14]&0xf)", Mnemonic::Ldx, Operand::HeaderLength(14)),
-    (
-        "ldxb 0x4 * ( [14] & 15 )",
-        Mnemonic::Ldxb,
-        Operand::HeaderLength(14),
-    ),
-    ("st M[3]", Mnemonic::St, Operand::Scratch(3)),
-    ("stx M[3]", Mnemonic::Stx, Operand::Scratch(3)),
-    ("jmp t", Mnemonic::Jmp, Operand::Target("t")),
-    ("ja t", Mnemonic::Ja, Operand::Target("t")),
-    (
-        "jeq #3, t",
-        Mnemonic::Jeq,
-        Operand::Branch(THREE, "t", None),
-    ),
-    (
-        "jeq #3, t, f",
-        Mnemonic::Jeq,
-        Operand::Branch(THREE, "t", Some("f")),
-    ),
-    (
-        "jset #3, t",
-        Mnemonic::Jset,
-        Operand::Branch(THREE, "t", None),
-    ),
-    (
-        "jgt x, t",
-        Mnemonic::Jgt,
-        Operand::Branch(Source::X, "t", None),
-    ),
-    (
-        "jge %x, t, f",
-        Mnemonic::Jge,
-        Operand::Branch(Source::X, "t", Some("f")),
-    ),
-    (
-        "jneq #3, t",
-        Mnemonic::Jneq,
-        Operand::Branch(THREE, "t", None),
-    ),
-    (
-        "jne x, t",
-        Mnemonic::Jne,
-        Operand::Branch(Source::X, "t", None),
-    ),
-    (
-        "jlt #3, t",
-        Mnemonic::Jlt,
-        Operand::Branch(THREE, "t", None),
-    ),
-    (
-        "jle %X, t",
-        Mnemonic::Jle,
-        Operand::Branch(Source::X, "t", None),
-    ),
-    ("add #3", Mnemonic::Add, Operand::Source(THREE)),
-    ("sub x", Mnemonic::Sub, Operand::Source(Source::X)),
-    ("mul %x", Mnemonic::Mul, Operand::Source(Source::X)),
-    ("div #3", Mnemonic::Div, Operand::Source(THREE)),
-    ("mod x", Mnemonic::Mod, Operand::Source(Source::X)),
-    ("and #3", Mnemonic::And, Operand::Source(THREE)),
-    ("or x", Mnemonic::Or, Operand::Source(Source::X)),
-    ("xor #3", Mnemonic::Xor, Operand::Source(THREE)),
-    ("lsh x", Mnemonic::Lsh, Operand::Source(Source::X)),
-    ("rsh #3", Mnemonic::Rsh, Operand::Source(THREE)),
-    ("neg", Mnemonic::Neg, Operand::None),
-    ("tax", Mnemonic::Tax, Operand::None),
-    ("txa", Mnemonic::Txa, Operand::None),
-    ("ret #5", Mnemonic::Ret, Operand::Immediate(5)),
-    ("ret a", Mnemonic::Ret, Operand::A),
-    ("ret %a", Mnemonic::Ret, Operand::A),
+/// Two statements among blanks and comments, in either case.
+const OF_BLANKS: [Statement<'static>; 2] = [
+    Statement {
+        at: 0,
+        label: None,
+        mnemonic: Mnemonic::Ldh,
+        operand: Operand::Absolute(12),
+    },
+    Statement {
+        at: 13,
+        label: None,
+        mnemonic: Mnemonic::Ret,
+        operand: Operand::Immediate(16),
+    },
+];
+
+/// Two statements with labels.
+const OF_LABELS: [Statement<'static>; 2] = [
+    Statement {
+        at: 0,
+        label: Some("L"),
+        mnemonic: Mnemonic::Ret,
+        operand: Operand::Immediate(0),
+    },
+    Statement {
+        at: 10,
+        label: Some("l_1"),
+        mnemonic: Mnemonic::Ret,
+        operand: Operand::A,
+    },
+];
+
+static TEXTS: [(&str, &[Statement<'static>]); 5] = [
+    (ETHERTYPE, &OF_ETHERTYPE),
+    ("", &[]),
+    ("# a line\n;\t\r\n/* two\nlines **/", &[]),
+    ("LDH/**/[12]\r\nRet#0X10 ; to the end\n#ret #0", &OF_BLANKS),
+    ("L: ret #0 l_1:ret %A", &OF_LABELS),
 ];
 
 #[test]
-fn the_ethertype_filter(rt: HostRuntime) -> Result<(), Fail> {
-    let read = statements(rt.alloc(), ETHERTYPE)?;
-    assert!(rt; read.len() == 4);
-    assert!(rt; read[0].operand == Operand::Absolute(12));
-    assert!(rt; read[1].at == 9 && read[1].mnemonic == Mnemonic::Jne);
-    assert!(rt; read[1].operand == Operand::Branch(Source::K(0x806), "drop", None));
-    assert!(rt; read[2].operand == Operand::Immediate(u32::MAX));
-    assert!(rt; read[3].at == 34 && read[3].label == Some("drop"));
-    assert!(rt; read[3].mnemonic == Mnemonic::Ret);
-    assert!(rt; read[3].operand == Operand::Immediate(0));
-    Ok(())
-}
-
-#[test]
-fn blanks_comments_and_case(rt: HostRuntime) -> Result<(), Fail> {
-    let alloc = rt.alloc();
-    assert!(rt; statements(alloc, "")?.is_empty());
-    assert!(rt; statements(alloc, "# a line\n;\t\r\n/* two\nlines **/")?.is_empty());
-    let read = statements(alloc, "LDH/**/[12]\r\nRet#0X10 ; to the end\n#ret #0")?;
-    assert!(rt; read.len() == 2);
-    assert!(rt; read[0].operand == Operand::Absolute(12));
-    assert!(rt; read[1].operand == Operand::Immediate(16));
-    let read = statements(alloc, "L: ret #0 l_1:ret %A")?;
-    assert!(rt; read.len() == 2);
-    assert!(rt; read[0].label == Some("L"));
-    assert!(rt; read[1].label == Some("l_1"));
-    assert!(rt; read[1].operand == Operand::A);
-    Ok(())
-}
-
-#[test]
-fn each_form_of_operand(rt: HostRuntime) -> Result<(), Fail> {
-    for (text, mnemonic, operand) in STATEMENTS {
-        let read = statements(rt.alloc(), text)?;
-        assert!(rt; read.len() == 1, "{text}");
-        assert!(rt; read[0].at == 0 && read[0].label.is_none(), "{text}");
-        assert!(rt; read[0].mnemonic == mnemonic, "{text}");
-        assert!(rt; read[0].operand == operand, "{text}");
+fn blanks_comments_labels_and_case(rt: HostRuntime) -> Result<(), Fail> {
+    for (text, found) in &TEXTS {
+        assert!(rt;
+            statements(rt.alloc(), text)?.as_slice() == *found,
+            "{text}"
+        );
     }
     Ok(())
 }

@@ -5,6 +5,7 @@
 //! passes by either answer, and a test `ample_..` by the right one alone.
 
 use crate::workers::{Open, filtered, tap_frame};
+use afdx_frame::TapFrame;
 use bpf_isa::Packed;
 use bpf_loader::Program;
 use filter_workers::{ClaimDesk, Decision};
@@ -22,31 +23,31 @@ fn claims(rt: &(impl Abort + AllocGlobal)) -> bool {
     true
 }
 
-/// Filters a round by so many workers. Returns whether there was the memory.
-fn filters<R: Threads + Wait + Sync + Abort + AllocGlobal>(rt: &R, workers: u32) -> bool {
+/// A program that accepts every frame whole.
+fn every(rt: &impl AllocGlobal) -> Option<Program> {
     let every = Packed {
         code: 6,
         jt: 0,
         jf: 0,
         k: u32::MAX,
     };
-    let Ok(words) = vec![in rt.alloc(); every; 1] else {
-        return false;
-    };
-    let Ok(program) = Program::load(words) else {
-        panic!(rt; "a return is refused")
-    };
-    let Ok(mut frames) = Vec::with_capacity(rt.alloc(), 5) else {
-        return false;
-    };
+    Program::load(Vec::from_slice(rt.alloc(), &[every]).ok()?).ok()
+}
+
+/// Five frames without bytes.
+fn five_frames(rt: &impl AllocGlobal) -> Option<Vec<TapFrame>> {
+    let mut frames = Vec::with_capacity(rt.alloc(), 5).ok()?;
     for number in 0..5 {
-        let Some(frame) = tap_frame(number, Vec::new(rt.alloc())) else {
-            panic!(rt; "frame {number} is out of bounds")
-        };
-        if frames.push(frame).is_err() {
-            return false;
-        }
+        frames.push(tap_frame(number, Vec::new(rt.alloc()))?).ok()?;
     }
+    Some(frames)
+}
+
+/// Filters a round by so many workers. Returns whether there was the memory.
+fn filters<R: Threads + Wait + Sync + Abort + AllocGlobal>(rt: &R, workers: u32) -> bool {
+    let (Some(program), Some(frames)) = (every(rt), five_frames(rt)) else {
+        return false;
+    };
     let Ok(decisions) = filtered(rt, &[program], &frames, workers, &Open) else {
         return false;
     };

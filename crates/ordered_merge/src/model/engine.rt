@@ -21,7 +21,7 @@ pub const MAX_WORKERS: u32 = 8;
 ///
 /// Each event is one atomic step of one of them, so a list of events is an interleaving of their
 /// threads. Whatever the list and the sizes, the output is a prefix of the one order of both recordings.
-#[derive(Debug, Drop)]
+#[derive(Drop)]
 pub struct Core {
     parts: Parts,
 }

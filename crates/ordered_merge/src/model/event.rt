@@ -5,7 +5,7 @@ ghost use Rattle.afdx_frame.specs.Frame.{Frame};
 use afdx_frame::{Network, TapFrame};
 
 /// One atomic step of a tap, of the merger or of a worker. Workers count from 0.
-#[derive(Clone, Copy, Debug, PartialEq, Eq)]
+#[derive(Clone, Copy, PartialEq, Eq)]
 pub enum Event {
     /// The tap's next frame goes onto its ring.
     Put(Network),
@@ -24,7 +24,7 @@ pub enum Event {
 }
 
 /// A frame with the answer to it.
-#[derive(Debug, Drop)]
+#[derive(Drop)]
 pub struct Answered {
     pub frame: TapFrame,
     pub answer: u32,

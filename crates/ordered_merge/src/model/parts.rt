@@ -19,7 +19,7 @@ use std::marker::Model;
 
 /// The parts of the core: the taps with their rings, the merger, the open round with its workers, and
 /// the output.
-#[derive(Debug, Drop)]
+#[derive(Drop)]
 pub(crate) struct Parts {
     alloc: Global,
     a: TapSide,

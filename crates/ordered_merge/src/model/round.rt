@@ -10,7 +10,7 @@ use std::alloc::{AllocError, Global};
 use std::marker::Model;
 
 /// What a worker does.
-#[derive(Clone, Copy, Debug)]
+#[derive(Clone, Copy)]
 pub(crate) enum Worker {
     Idle,
     /// It drew this number of the open round, and hasn't posted the answer.
@@ -20,7 +20,7 @@ pub(crate) enum Worker {
 }
 
 /// Frames that workers answer, each by its number.
-#[derive(Debug, Drop)]
+#[derive(Drop)]
 pub(crate) struct Round {
     frames: Vec<TapFrame>,
     next: usize,

@@ -9,14 +9,14 @@ use std::collections::VecDeque;
 use std::marker::Model;
 
 /// What a tap puts onto its ring.
-#[derive(Debug, Drop)]
+#[derive(Drop)]
 pub(crate) enum RingItem {
     Frame(TapFrame),
     End,
 }
 
 /// The frames of a tap that weren't put yet, and its ring.
-#[derive(Debug, Drop)]
+#[derive(Drop)]
 pub(crate) struct TapSide {
     left: VecDeque<TapFrame>,
     marked: bool,

@@ -5,8 +5,7 @@
 //! passes by either answer, and a test `ample_..` by the right one alone.
 
 use crate::merge::cores::{AMPLE, Digits, core_of, is_prefix};
-use crate::merge::{cut_into, fetch, parts_of};
-use afdx_frame::Key;
+use crate::merge::{fetch, is_round};
 use afdx_frame::Network::{self, A, B};
 use ordered_merge::{Core, Event, Merger};
 use std::process::Abort;
@@ -15,27 +14,18 @@ use std::process::Abort;
 const ORDER: [(u64, Network, u64); 4] = [(5, A, 1), (7, A, 2), (10, A, 0), (12, B, 0)];
 
 /// Cuts all that is left. A call that lacks the memory changes nothing, so it is made once more. Returns
-/// whether no call lacked it. None: there was no memory for the list.
-fn cuts_all(
-    rt: &(impl Abort + AllocGlobal),
-    merger: &mut Merger,
-    keys: &mut Vec<Key>,
-) -> Option<bool> {
-    let mut ample = true;
-    let round = match merger.cut(9) {
-        Ok(round) => round,
-        Err(_) => {
-            ample = false;
-            match merger.cut(9) {
-                Ok(round) => round,
-                Err(_) => panic!(rt; "one allocation alone fails"),
-            }
-        }
-    };
-    for frame in &round {
-        keys.push(frame.key()).ok()?;
+/// whether no call lacked it.
+fn cuts_all(rt: &impl Abort, merger: &mut Merger) -> bool {
+    let mut round = merger.cut(9);
+    let ample = round.is_ok();
+    if !ample {
+        round = merger.cut(9);
     }
-    Some(ample)
+    match round {
+        Ok(round) => is_round(rt, &round, &ORDER),
+        Err(_) => panic!(rt; "one allocation alone fails"),
+    }
+    ample
 }
 
 /// Merges some frames, late ones among them. Returns whether there was the memory; a call that lacks it
@@ -51,17 +41,9 @@ fn merges(rt: &(impl Abort + AllocGlobal)) -> bool {
     }
     merger.end(A);
     merger.end(B);
-    let mut keys = Vec::new(rt.alloc());
-    let Some(cut) = cuts_all(rt, &mut merger, &mut keys) else {
-        return false;
-    };
-    let Ok(parts) = parts_of(rt.alloc(), &keys) else {
-        return false;
-    };
-    assert!(rt; parts.as_slice() == ORDER.as_slice());
+    let cut = cuts_all(rt, &mut merger);
     // Nothing is left, and a round of no frames takes no memory.
-    assert!(rt; cut_into(&mut merger, 9, &mut keys).is_ok());
-    assert!(rt; keys.len() == 4);
+    assert!(rt; matches!(merger.cut(9), Ok(round) if round.is_empty()));
     ample && cut
 }
 
@@ -99,12 +81,12 @@ fn happens(rt: &(impl Abort + AllocGlobal), core: &mut Core, event: Event) -> bo
     let before = core.output().len();
     match core.event(&Digits, event) {
         Ok(happened) => {
-            assert!(rt; happened, "{event:?}");
+            assert!(rt; happened);
             true
         }
         Err(_) => {
             assert!(rt; core.output().len() == before);
-            assert!(rt; matches!(core.event(&Digits, event), Ok(true)), "{event:?}");
+            assert!(rt; matches!(core.event(&Digits, event), Ok(true)));
             false
         }
     }

@@ -1,22 +1,10 @@
 //! Worked examples of merging, step by step.
 
-use crate::merge::{cut_into, fetch, parts_of};
+use crate::merge::{fetch, frame_at, is_round};
 use afdx_frame::Network::{self, A, B};
 use ordered_merge::Merger;
+use std::alloc::AllocError;
 use std::process::Abort;
-use std::test::Fail;
-
-/// Cuts, and compares the timestamp, the network and the number of each frame of the round.
-fn cuts(
-    rt: &(impl Abort + AllocGlobal),
-    merger: &mut Merger,
-    expected: &[(u64, Network, u64)],
-) -> Result<(), Fail> {
-    let mut keys = Vec::new(rt.alloc());
-    cut_into(merger, 256, &mut keys)?;
-    assert!(rt; parts_of(rt.alloc(), &keys)?.as_slice() == expected);
-    Ok(())
-}
 
 /// A step of a merge.
 #[derive(Clone, Copy)]
@@ -32,7 +20,11 @@ enum Step {
 }
 
 /// Takes these steps from the beginning.
-fn takes_steps(rt: &(impl Abort + AllocGlobal), late: u64, steps: &[Step]) -> Result<(), Fail> {
+fn takes_steps(
+    rt: &(impl Abort + AllocGlobal),
+    late: u64,
+    steps: &[Step],
+) -> Result<(), AllocError> {
     let mut merger = Merger::new(rt.alloc(), late);
     for step in steps {
         match *step {
@@ -41,7 +33,7 @@ fn takes_steps(rt: &(impl Abort + AllocGlobal), late: u64, steps: &[Step]) -> Re
                 assert!(rt; fetch(rt, &mut merger, network, number, stamp));
             }
             Step::End(network) => merger.end(network),
-            Step::Cuts(expected) => cuts(rt, &mut merger, expected)?,
+            Step::Cuts(expected) => is_round(rt, &merger.cut(256)?, expected),
         }
     }
     Ok(())
@@ -84,25 +76,21 @@ const LATE_FRAMES: [Step; 10] = [
 ];
 
 #[test]
-fn frames_merged_step_by_step(rt: HostRuntime) -> Result<(), Fail> {
-    takes_steps(&rt, 0, &FOUR_FRAMES)?;
-    takes_steps(&rt, 5, &LATE_FRAMES)
+fn frames_merged_step_by_step(rt: HostRuntime) {
+    assert!(rt; takes_steps(&rt, 0, &FOUR_FRAMES).is_ok());
+    assert!(rt; takes_steps(&rt, 5, &LATE_FRAMES).is_ok());
 }
 
 #[test]
-fn frames_that_may_not_come(rt: HostRuntime) -> Result<(), Fail> {
+fn frames_that_may_not_come(rt: HostRuntime) {
     let mut merger = Merger::new(rt.alloc(), 5);
     fetch(&rt, &mut merger, A, 0, 10);
     // number, stamp, within the window and the next
     for (number, stamp, fits) in [(1, 5, true), (1, 4, false), (2, 10, false), (0, 10, false)] {
-        let frame = crate::merge::frame_at(&rt, A, number, stamp);
-        assert!(rt;
-            merger.can_fetch(&frame) == fits,
-            "number {number}, stamp {stamp}"
-        );
+        let frame = frame_at(&rt, A, number, stamp);
+        assert!(rt; merger.can_fetch(&frame) == fits);
     }
     merger.end(A);
-    assert!(rt; !merger.can_fetch(&crate::merge::frame_at(&rt, A, 1, 10)));
-    assert!(rt; merger.can_fetch(&crate::merge::frame_at(&rt, B, 0, 0)));
-    Ok(())
+    assert!(rt; !merger.can_fetch(&frame_at(&rt, A, 1, 10)));
+    assert!(rt; merger.can_fetch(&frame_at(&rt, B, 0, 0)));
 }

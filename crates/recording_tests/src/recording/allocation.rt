@@ -4,7 +4,8 @@
 //! The script `tests/allocations` has each allocation in them fail in turn. A test `refusal_..` then
 //! passes by either answer, and a test `ample_..` by the right one alone.
 
-use crate::recording::copies::push_record;
+use crate::recording::writer::frame_of_two;
+use crate::recording::{opened, push_packet};
 use afdx_frame::{FrameBytes, Network, Stamp, TapFrame};
 use pcap_io::{Ending, Item, MemSource, ReadFault, TapReader, append_packet};
 use std::alloc::Global;
@@ -16,7 +17,7 @@ use test_support::{HEADER, SOUND, frame};
 fn recording(alloc: Global) -> Option<Vec<u8>> {
     let mut bytes = Vec::from_slice(alloc, &HEADER).ok()?;
     for place in 0..8u8 {
-        push_record(&mut bytes, usize::from(place), 100, place).ok()?;
+        push_packet(&mut bytes, [0, u32::from(place), 100, 100], &[place; 100]).ok()?;
     }
     Some(bytes)
 }
@@ -31,23 +32,15 @@ fn are_whole(rt: &impl Abort, frames: &[TapFrame]) {
     }
 }
 
-/// Reads frames and holds them all, in blocks of three packets. Where there was no memory for a frame, the
-/// reader has failed, and the frames before stand. Returns whether there was the memory, as all here.
-fn holds_frames(rt: &(impl Abort + AllocGlobal)) -> bool {
-    let alloc = rt.alloc();
-    let mut frames = Vec::new(alloc);
-    if frames.reserve(8).is_err() {
-        return false;
-    }
-    let Some(bytes) = recording(alloc) else {
-        return false;
-    };
-    let Ok(reader) = TapReader::open(MemSource::new(bytes, SOUND), Network::A, 1 << 32, 0) else {
-        panic!(rt; "no reader of a recording")
-    };
-    let mut reader = reader.with_block_len(348);
+/// Reads frames and holds them all. Where there was no memory for a frame, the reader has failed. Returns
+/// whether there was the memory, as all here.
+fn reads_frames(
+    rt: &(impl Abort + AllocGlobal),
+    reader: &mut TapReader<MemSource>,
+    frames: &mut Vec<TapFrame>,
+) -> bool {
     for _ in 0..9 {
-        match reader.next(alloc) {
+        match reader.next(rt.alloc()) {
             Ok(Item::Frame(frame)) => {
                 if frames.push(frame).is_err() {
                     return false;
@@ -59,14 +52,27 @@ fn holds_frames(rt: &(impl Abort + AllocGlobal)) -> bool {
             }
             Err(fault) => {
                 assert!(rt; fault == ReadFault::Memory);
-                assert!(rt; matches!(reader.next(alloc), Err(ReadFault::Failed)));
-                are_whole(rt, &frames);
+                assert!(rt; matches!(reader.next(rt.alloc()), Err(ReadFault::Failed)));
                 return false;
             }
         }
     }
-    are_whole(rt, &frames);
     true
+}
+
+/// Reads frames in blocks of three packets. Whatever there was memory for, the frames that were read stand.
+fn holds_frames(rt: &(impl Abort + AllocGlobal)) -> bool {
+    let mut frames = Vec::new(rt.alloc());
+    if frames.reserve(8).is_err() {
+        return false;
+    }
+    let Some(bytes) = recording(rt.alloc()) else {
+        return false;
+    };
+    let mut reader = opened(rt, MemSource::new(bytes, SOUND), 0).with_block_len(348);
+    let ample = reads_frames(rt, &mut reader, &mut frames);
+    are_whole(rt, &frames);
+    ample
 }
 
 /// Makes a block, and a frame that shares it, which takes no memory itself.
@@ -92,29 +98,32 @@ fn shares_a_block(rt: &(impl Abort + AllocGlobal)) -> bool {
 /// The packet after the seconds of its timestamp.
 const END_OF_PACKET: [u8; 14] = [2, 1, 0, 0, 2, 0, 0, 0, 2, 0, 0, 0, 9, 9];
 
-/// Appends a packet of two bytes twice. Where there was no memory for one, the bytes are as before.
-fn appends_packets(rt: &(impl Abort + AllocGlobal)) -> bool {
-    let alloc = rt.alloc();
-    let Ok(captured) = Vec::from_slice(alloc, &[9, 9]) else {
-        return false;
-    };
-    let Ok(frame) = TapFrame::new(Network::A, 0, Stamp(258), 2, captured) else {
-        panic!(rt; "out of bounds")
-    };
-    let Ok(mut bytes) = Vec::from_slice(alloc, b"before") else {
-        return false;
-    };
+/// Appends a frame's packet to these bytes three times. Where there was no memory for one, the bytes are as
+/// before.
+fn appends_to(rt: &impl Abort, bytes: &mut Vec<u8>, frame: &TapFrame) -> bool {
+    let captured = frame.view().bytes().len() as u32;
     for len in [6, 24, 42] {
-        assert!(rt; bytes.len() == len);
+        let appended = append_packet(bytes, &frame.lent(), captured).is_ok();
         assert!(rt; bytes.starts_with(b"before"));
-        if append_packet(&mut bytes, &frame, 2).is_err() {
+        if !appended {
             assert!(rt; bytes.len() == len);
-            assert!(rt; bytes.starts_with(b"before"));
             return false;
         }
+        assert!(rt; bytes.len() == len + 18);
         assert!(rt; bytes.ends_with(&END_OF_PACKET));
     }
-    appends_apart(rt, &frame)
+    true
+}
+
+/// Appends packets to bytes that stand there, and to bytes of their own.
+fn appends_packets(rt: &(impl Abort + AllocGlobal)) -> bool {
+    let Ok(frame) = frame_of_two(rt.alloc()) else {
+        return false;
+    };
+    let Ok(mut bytes) = Vec::from_slice(rt.alloc(), b"before") else {
+        return false;
+    };
+    appends_to(rt, &mut bytes, &frame) && appends_apart(rt, &frame)
 }
 
 /// Appends packets to bytes of their own, each time with an allocation.
@@ -122,7 +131,7 @@ fn appends_apart(rt: &(impl Abort + AllocGlobal), frame: &TapFrame) -> bool {
     for _ in 0..30 {
         let mut bytes = Vec::new(rt.alloc());
         let captured = frame.view().bytes().len() as u32;
-        if append_packet(&mut bytes, frame, captured).is_err() {
+        if append_packet(&mut bytes, &frame.lent(), captured).is_err() {
             assert!(rt; bytes.is_empty());
             return false;
         }

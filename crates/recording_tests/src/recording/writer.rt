@@ -1,85 +1,164 @@
-//! The writer over a sink that fails after each byte, and over one that fails at each call alone.
+//! The writer: what it puts of frames and of packets that were made in memory, also to a sink that fails.
 
 use afdx_frame::{Network, Stamp, TapFrame};
-use pcap_io::{CaptureWriter, MemSink, Script, WriteFault};
+use pcap_io::{CaptureWriter, MemSink, Script, WriteFault, append_packet};
+use std::alloc::{AllocError, Global};
 use std::process::Abort;
-use std::test::Fail;
-use test_support::SOUND;
+use test_support::{HEADER, SOUND};
 
-/// The capture of one frame of two bytes at 258 ns.
+/// A frame of two bytes at 258 ns.
+pub(crate) fn frame_of_two(alloc: Global) -> Result<TapFrame, AllocError> {
+    match TapFrame::new(
+        Network::A,
+        0,
+        Stamp(258),
+        2,
+        Vec::from_slice(alloc, &[9, 9])?,
+    ) {
+        Ok(frame) => Ok(frame),
+        Err(_) => Err(AllocError),
+    }
+}
+
+/// The packet of the frame.
+const PACKET: [u8; 18] = [0, 0, 0, 0, 2, 1, 0, 0, 2, 0, 0, 0, 2, 0, 0, 0, 9, 9];
+
+/// The packet twice.
+const PACKETS: [u8; 36] = [
+    0, 0, 0, 0, 2, 1, 0, 0, 2, 0, 0, 0, 2, 0, 0, 0, 9, 9, 0, 0, 0, 0, 2, 1, 0, 0, 2, 0, 0, 0, 2, 0,
+    0, 0, 9, 9,
+];
+
+/// The capture of the frame.
 const CAPTURE: [u8; 42] = [
     0x4d, 0x3c, 0xb2, 0xa1, 2, 0, 4, 0, 0, 0, 0, 0, 0, 0, 0, 0, 0, 0, 4, 0, 1, 0, 0, 0, 0, 0, 0, 0,
     2, 1, 0, 0, 2, 0, 0, 0, 2, 0, 0, 0, 9, 9,
 ];
 
+/// A writer to a sink that doesn't fail at once.
+pub(crate) fn begun(
+    rt: &(impl Abort + AllocGlobal),
+    script: Script,
+) -> Result<CaptureWriter<MemSink>, AllocError> {
+    match CaptureWriter::begin(MemSink::new(rt.alloc(), script)?) {
+        Ok(writer) => Ok(writer),
+        Err(_) => panic!(rt; "the sink failed"),
+    }
+}
+
+/// Puts the frame, or its packet, twice: the sink fails, and then the writer.
+fn fails(rt: &impl Abort, writer: &mut CaptureWriter<MemSink>, frame: &TapFrame, as_packet: bool) {
+    let captured = frame.view().bytes().len() as u32;
+    for fault in [WriteFault::Device, WriteFault::Failed] {
+        let put = if as_packet {
+            writer.put_packets(&PACKET)
+        } else {
+            writer.put(frame, captured)
+        };
+        assert!(rt; put == Err(fault));
+    }
+}
+
+/// Puts the frame, or its packet, to a sink that fails: it keeps what was written before, and nothing is
+/// written after.
+fn keeps_a_prefix(
+    rt: &(impl Abort + AllocGlobal),
+    script: Script,
+    written: usize,
+    as_packet: bool,
+) -> Result<(), AllocError> {
+    let sink = match CaptureWriter::begin(MemSink::new(rt.alloc(), script)?) {
+        Err(sink) => {
+            assert!(rt; written < 24);
+            sink
+        }
+        Ok(mut writer) => {
+            assert!(rt; written >= 24);
+            fails(rt, &mut writer, &frame_of_two(rt.alloc())?, as_packet);
+            writer.finish()
+        }
+    };
+    assert!(rt; written < 42);
+    assert!(rt; sink.taken() == &CAPTURE[..written]);
+    Ok(())
+}
+
 #[test]
-fn a_sink_that_fails(rt: HostRuntime) -> Result<(), Fail> {
-    let alloc = rt.alloc();
-    for most in 0..40 {
-        for piece in [1, usize::MAX] {
-            let sink = MemSink::new(
-                alloc,
-                Script {
+fn a_sink_that_fails(rt: HostRuntime) -> Result<(), AllocError> {
+    for as_packet in [false, true] {
+        for most in 0..42 {
+            for piece in [1, usize::MAX] {
+                let script = Script {
                     piece,
                     most,
                     ..SOUND
-                },
-            )?;
-            let bytes = Vec::from_slice(alloc, &[9; 2])?;
-            let frame = match TapFrame::new(Network::A, 0, Stamp(258), 2, bytes) {
-                Ok(frame) => frame,
-                Err(_) => return Ok(()),
-            };
-            match CaptureWriter::begin(sink) {
-                Err(sink) => {
-                    assert!(rt; most < 24);
-                    assert!(rt; sink.taken() == &CAPTURE[..most]);
-                }
-                Ok(mut writer) => {
-                    assert!(rt; most >= 24);
-                    assert!(rt; writer.put(&frame, 2) == Err(WriteFault::Device));
-                    assert!(rt; writer.put(&frame, 2) == Err(WriteFault::Failed));
-                    assert!(rt; writer.finish().taken() == &CAPTURE[..most]);
-                }
+                };
+                keeps_a_prefix(&rt, script, most, as_packet)?;
+            }
+        }
+        // At one call alone, in pieces that divide the file header and the packet.
+        for (piece, calls) in [(1, 42), (3, 14)] {
+            for call in 0..calls {
+                let script = Script {
+                    piece,
+                    most: 4096,
+                    miss: Some(call as u64),
+                };
+                keeps_a_prefix(&rt, script, piece * call, as_packet)?;
             }
         }
     }
     Ok(())
 }
 
-/// Writes the frame to a sink that takes so many bytes at a call and fails at one call alone: the sink keeps
-/// what was written before, and the next frame writes nothing.
-fn fails_once(rt: &(impl Abort + AllocGlobal), piece: usize, call: usize) -> Result<(), Fail> {
-    let alloc = rt.alloc();
+#[test]
+fn packets_are_put_in_one_go(rt: HostRuntime) -> Result<(), AllocError> {
+    // The third call would fail: the file header is one, all packets are one, and no packets are none.
     let script = Script {
-        piece,
         most: 4096,
-        miss: Some(call as u64),
+        miss: Some(2),
+        ..SOUND
     };
-    let bytes = Vec::from_slice(alloc, &[9; 2])?;
-    let Ok(frame) = TapFrame::new(Network::A, 0, Stamp(258), 2, bytes) else {
-        return Err("no such frame".into());
-    };
-    let written = piece.saturating_mul(call).min(42);
-    match CaptureWriter::begin(MemSink::new(alloc, script)?) {
-        Err(sink) => assert!(rt; sink.taken() == &CAPTURE[..written]),
-        Ok(mut writer) => {
-            assert!(rt; writer.put(&frame, 2) == Err(WriteFault::Device));
-            assert!(rt; writer.put(&frame, 2) == Err(WriteFault::Failed));
-            assert!(rt; writer.finish().taken() == &CAPTURE[..written]);
-        }
+    let mut writer = begun(&rt, script)?;
+    for packets in [&[][..], &PACKETS, &[]] {
+        assert!(rt; writer.put_packets(packets) == Ok(()));
     }
+    assert!(rt; writer.put_packets(&PACKETS) == Err(WriteFault::Device));
+    let sink = writer.finish();
+    assert!(rt; sink.taken().len() == 60);
+    assert!(rt; sink.taken().starts_with(&HEADER));
+    assert!(rt; sink.taken().ends_with(&PACKETS));
     Ok(())
 }
 
 #[test]
-fn a_sink_that_fails_at_each_call(rt: HostRuntime) -> Result<(), Fail> {
-    for call in 0..42 {
-        fails_once(&rt, 1, call)?;
-    }
-    // Pieces that divide the file header and the packet.
-    for call in 0..14 {
-        fails_once(&rt, 3, call)?;
+fn a_frame_after_a_packet(rt: HostRuntime) -> Result<(), AllocError> {
+    let frame = frame_of_two(rt.alloc())?;
+    let captured = frame.view().bytes().len() as u32;
+    let mut writer = begun(&rt, Script { most: 100, ..SOUND })?;
+    assert!(rt; writer.put_packets(&PACKET) == Ok(()));
+    assert!(rt; writer.put(&frame, captured) == Ok(()));
+    let sink = writer.finish();
+    assert!(rt; sink.taken().len() == 60);
+    assert!(rt; sink.taken().ends_with(&PACKETS));
+    Ok(())
+}
+
+/// What stood there before, the frame's packet, and the packet of which one byte is kept.
+const APPENDED: [u8; 41] = [
+    0x62, 0x65, 0x66, 0x6f, 0x72, 0x65, 0, 0, 0, 0, 2, 1, 0, 0, 2, 0, 0, 0, 2, 0, 0, 0, 9, 9, 0, 0,
+    0, 0, 2, 1, 0, 0, 1, 0, 0, 0, 2, 0, 0, 0, 9,
+];
+
+#[test]
+fn a_packet_is_appended_to_what_stands_there(rt: HostRuntime) -> Result<(), AllocError> {
+    let frame = frame_of_two(rt.alloc())?;
+    let captured = frame.view().bytes().len() as u32;
+    let mut bytes = Vec::from_slice(rt.alloc(), &APPENDED[..6])?;
+    for (most, len) in [(2, 24), (1, 41)] {
+        assert!(rt; append_packet(&mut bytes, &frame.lent(), captured.min(most)) == Ok(()));
+        assert!(rt; bytes.len() == len);
+        assert!(rt; APPENDED.starts_with(&bytes));
     }
     Ok(())
 }

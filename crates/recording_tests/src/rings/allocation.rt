@@ -3,12 +3,14 @@
 //! The script `tests/allocations` has each allocation in them fail in turn. A test `refusal_..`
 //! then passes by either answer, and a test `ample_..` by the right one alone.
 
-use crate::rings::{Open, Taken, recording, take_most};
+use crate::recording::opened;
+use crate::rings::endings::fed_ring;
+use crate::rings::{Taken, recording, take_most};
 use afdx_frame::Network;
-use pcap_io::{Ending, MemSource, ReadFault, TapReader};
+use pcap_io::{Ending, MemSource, ReadFault};
 use std::process::Abort;
 use std::sync::Wait;
-use tap_queue::{RingLost, TapItem, feed, tap_ring};
+use tap_queue::{RingLost, TapItem, tap_ring};
 use test_support::SOUND;
 
 /// Makes rings, and leaves each. Returns whether there was the memory, as all here.
@@ -30,13 +32,10 @@ fn feeds_a_ring(rt: &(impl Abort + Wait + AllocGlobal)) -> bool {
     let Ok(bytes) = recording(alloc, &[1, 2, 3], 60) else {
         return false;
     };
-    let Ok(reader) = TapReader::open(MemSource::new(bytes, SOUND), Network::A, 1 << 32, 0) else {
-        panic!(rt; "no reader of a recording")
-    };
-    let Ok((put, end)) = tap_ring(alloc, Network::A, 0) else {
+    let reader = opened(rt, MemSource::new(bytes, SOUND), 0);
+    let Ok((fed, end)) = fed_ring(rt, alloc, reader, Network::A, 0) else {
         return false;
     };
-    let fed = feed(rt, alloc, reader, put, &Open);
     let Ok(Taken { items, end }) = take_most(rt, alloc, end, usize::MAX) else {
         return false;
     };

@@ -5,7 +5,7 @@
 //! passes by either answer, and a test `ample_..` by the right one alone.
 
 use crate::judges::TWO_LINKS;
-use crate::judges::rounds::{judged, says_of_two_links, two_links};
+use crate::judges::rounds::{judged, last_of, says_of_two_links, two_links};
 use afdx_frame::VlId;
 use std::process::Abort;
 use std::sync::Wait;
@@ -57,7 +57,7 @@ fn judges_a_round<R: Threads + Wait + Sync + Abort + AllocGlobal>(rt: &R, worker
     match judged(rt, lanes, &round, workers) {
         Ok((lanes, said)) => {
             says_of_two_links(rt, &said);
-            assert!(rt; lanes.last() == round.last().map(|frame| frame.key()));
+            assert!(rt; lanes.last() == last_of(&round));
             true
         }
         Err(fault) => {

@@ -1,180 +1,197 @@
-//! The worked examples of classes and of whole verdicts, and many frames over many links.
+//! The worked examples of classes and of whole verdicts.
 
-use afdx_frame::{Network, Stamp, TapFrame};
+use crate::frames::{FRAME, Row, frame_of, judge_next};
+use afdx_frame::Network;
 use integrity::Integrity;
 use policing::Policing;
 use redundancy::Redundancy;
-use std::alloc::{AllocError, Global};
 use std::process::Abort;
 use std::test::Fail;
 use test_support::TABLE;
 use vl_config::{Class, Config};
 use vl_judge::{Lanes, Verdict};
 
-/// A frame of so many bytes: the constant field's first byte, the link's identifier, zeros and the
-/// sequence number.
-pub(super) fn bytes_of(
-    alloc: Global,
-    first: u8,
-    link: u16,
-    len: usize,
-    number: u8,
-) -> Result<Vec<u8>, AllocError> {
-    let mut bytes = Vec::with_capacity(alloc, len)?;
-    let [high, low] = link.to_be_bytes();
-    bytes.extend_from_slice(&[first, 0, 0, 0, high, low])?;
-    bytes.resize(len.saturating_sub(1), 0)?;
-    bytes.push(number)?;
-    Ok(bytes)
-}
+/// What is said of a frame that has gone through all judgements, or is stopped before one.
+type Said = (
+    Class,
+    Option<Policing>,
+    Option<Integrity>,
+    Option<Redundancy>,
+);
 
-pub(super) fn frame_at(
-    network: Network,
-    place: u64,
-    stamp: u64,
-    whole: u32,
-    bytes: Vec<u8>,
-) -> Result<TapFrame, Fail> {
-    Ok(TapFrame::new(network, place, Stamp(stamp), whole, bytes).map_err(|_| "no such frame")?)
-}
+const DELIVERED: Said = (
+    Class::Regular,
+    Some(Policing::Within),
+    Some(Integrity::First),
+    Some(Redundancy::Deliver),
+);
 
-/// Judges a frame that comes after the last one.
-pub(super) fn judge_next(rt: &impl Abort, lanes: &mut Lanes, frame: &TapFrame) -> Verdict {
-    if let Some(last) = lanes.last() {
-        assert!(rt;
-            last < frame.key(),
-            "the frame does not come after the last one"
-        );
-    }
-    lanes.judge(frame)
-}
+const LONG: Row = Row {
+    whole: 196,
+    captured: 196,
+    ..FRAME
+};
 
-#[test]
-fn within_excess_then_skip(rt: HostRuntime) -> Result<(), Fail> {
-    let config = Config::read(rt.alloc(), TABLE)?;
-    let mut lanes = Lanes::new(rt.alloc(), &config)?;
-    assert!(rt; lanes.last() == None);
-    for (place, stamp, policing, integrity, redundancy) in [
+/// A frame beyond the account is seen by no later judgement.
+const WITHIN_EXCESS_THEN_SKIP: [(Row, Said); 3] = [
+    (LONG, DELIVERED),
+    (
+        Row {
+            place: 1,
+            stamp: 10,
+            number: 2,
+            ..LONG
+        },
+        (Class::Regular, Some(Policing::Excess), None, None),
+    ),
+    (
+        Row {
+            place: 2,
+            stamp: 1_000_000,
+            number: 3,
+            ..LONG
+        },
         (
-            0,
-            0,
-            Policing::Within,
-            Some(Integrity::First),
-            Some(Redundancy::Deliver),
-        ),
-        (1, 10, Policing::Excess, None, None),
-        (
-            2,
-            1_000_000,
-            Policing::Within,
+            Class::Regular,
+            Some(Policing::Within),
             Some(Integrity::Skip),
             Some(Redundancy::Deliver),
         ),
-    ] {
-        let bytes = bytes_of(rt.alloc(), 3, 5, 196, place + 1)?;
-        let frame = frame_at(Network::A, place as u64, stamp, 196, bytes)?;
-        let verdict = judge_next(&rt, &mut lanes, &frame);
-        assert!(rt; verdict.class == Class::Regular);
-        assert!(rt; verdict.policing == Some(policing), "at {stamp} ns");
-        assert!(rt; verdict.integrity == integrity, "at {stamp} ns");
-        assert!(rt; verdict.redundancy == redundancy, "at {stamp} ns");
-        assert!(rt; lanes.last() == Some(frame.key()));
-    }
-    Ok(())
-}
-
-/// First byte, link, length on the wire, captured bytes, and the class.
-const CLASSES: [(u8, u16, u32, usize, Class); 7] = [
-    (3, 5, 60, 59, Class::Cut),
-    (3, 5, 59, 59, Class::Runt),
-    (3, 5, 1515, 1515, Class::Oversize),
-    (7, 5, 60, 60, Class::Foreign),
-    (3, 6, 60, 60, Class::Unconfigured),
-    (3, 5, 197, 197, Class::TooLong),
-    (3, 5, 196, 196, Class::Regular),
+    ),
 ];
 
+/// One frame of each class, and one that has no byte.
+const CLASSES: [(Row, Said); 8] = [
+    (
+        Row {
+            place: 0,
+            stamp: 0,
+            whole: 60,
+            captured: 59,
+            ..FRAME
+        },
+        (Class::Cut, None, None, None),
+    ),
+    (
+        Row {
+            place: 1,
+            stamp: 1,
+            whole: 59,
+            captured: 59,
+            ..FRAME
+        },
+        (Class::Runt, None, None, None),
+    ),
+    (
+        Row {
+            place: 2,
+            stamp: 2,
+            whole: 1515,
+            captured: 1515,
+            ..FRAME
+        },
+        (Class::Oversize, None, None, None),
+    ),
+    (
+        Row {
+            place: 3,
+            stamp: 3,
+            whole: 60,
+            captured: 60,
+            first: 7,
+            ..FRAME
+        },
+        (Class::Foreign, None, None, None),
+    ),
+    (
+        Row {
+            place: 4,
+            stamp: 4,
+            whole: 60,
+            captured: 60,
+            link: 6,
+            ..FRAME
+        },
+        (Class::Unconfigured, None, None, None),
+    ),
+    (
+        Row {
+            place: 5,
+            stamp: 5,
+            whole: 197,
+            captured: 197,
+            ..FRAME
+        },
+        (Class::TooLong, None, None, None),
+    ),
+    (
+        Row {
+            place: 6,
+            stamp: 6,
+            whole: 196,
+            captured: 196,
+            ..FRAME
+        },
+        DELIVERED,
+    ),
+    (
+        Row {
+            place: 7,
+            stamp: 7,
+            whole: 0,
+            captured: 0,
+            ..FRAME
+        },
+        (Class::Runt, None, None, None),
+    ),
+];
+
+const A_COPY_AT_ONE_STAMP: [(Row, Said); 2] = [
+    (Row { stamp: 5, ..FRAME }, DELIVERED),
+    (
+        Row {
+            network: Network::B,
+            stamp: 5,
+            ..FRAME
+        },
+        (
+            Class::Regular,
+            Some(Policing::Within),
+            Some(Integrity::First),
+            Some(Redundancy::Copy),
+        ),
+    ),
+];
+
+/// The verdict is this one.
+fn says(rt: &impl Abort, verdict: &Verdict, (class, policing, integrity, redundancy): &Said) {
+    assert!(rt; verdict.class == *class);
+    assert!(rt; verdict.policing == *policing);
+    assert!(rt; verdict.integrity == *integrity);
+    assert!(rt; verdict.redundancy == *redundancy);
+}
+
+/// Judges frames in turn: each has the verdict that stands beside it.
+fn judges(rt: &(impl Abort + AllocGlobal), config: &Config, cases: &[(Row, Said)]) -> Option<()> {
+    let mut lanes = Lanes::new(rt.alloc(), config).ok()?;
+    assert!(rt; lanes.last() == None);
+    for (row, said) in cases {
+        let frame = frame_of(rt.alloc(), row)?;
+        assert!(rt; config.class(&frame) == said.0);
+        says(rt, &judge_next(rt, &mut lanes, &frame), said);
+        assert!(rt; lanes.last() == Some(frame.key()));
+    }
+    Some(())
+}
+
+/// Each of them is judged from the beginning.
+const EXAMPLES: [&[(Row, Said)]; 3] = [&WITHIN_EXCESS_THEN_SKIP, &CLASSES, &A_COPY_AT_ONE_STAMP];
+
 #[test]
-fn one_frame_of_each_class(rt: HostRuntime) -> Result<(), Fail> {
+fn verdicts_of_the_worked_examples(rt: HostRuntime) -> Result<(), Fail> {
     let config = Config::read(rt.alloc(), TABLE)?;
-    let mut lanes = Lanes::new(rt.alloc(), &config)?;
-    let mut place = 0u64;
-    for (first, link, whole, captured, class) in CLASSES {
-        let bytes = bytes_of(rt.alloc(), first, link, captured, 1)?;
-        let frame = frame_at(Network::A, place, place, whole, bytes)?;
-        assert!(rt; config.class(&frame) == class);
-        let verdict = judge_next(&rt, &mut lanes, &frame);
-        assert!(rt; verdict.class == class);
-        assert!(rt; verdict.policing.is_some() == (class == Class::Regular));
-        place = place.saturating_add(1);
-    }
-    let empty = frame_at(Network::A, place, place, 0, Vec::new(rt.alloc()))?;
-    assert!(rt; config.class(&empty) == Class::Runt);
-    Ok(())
-}
-
-#[test]
-fn a_frame_and_its_copy_at_one_stamp(rt: HostRuntime) -> Result<(), Fail> {
-    let config = Config::read(rt.alloc(), TABLE)?;
-    let mut lanes = Lanes::new(rt.alloc(), &config)?;
-    for (network, redundancy) in [
-        (Network::A, Redundancy::Deliver),
-        (Network::B, Redundancy::Copy),
-    ] {
-        let bytes = bytes_of(rt.alloc(), 3, 5, 60, 1)?;
-        let frame = frame_at(network, 0, 5, 60, bytes)?;
-        let verdict = judge_next(&rt, &mut lanes, &frame);
-        assert!(rt; verdict.integrity == Some(Integrity::First));
-        assert!(rt; verdict.redundancy == Some(redundancy));
-    }
-    Ok(())
-}
-
-/// A table of 4096 links, the identifiers falling.
-fn large_table(alloc: Global) -> Result<String, Fail> {
-    let mut text = format!(in alloc; "constant = 50331648\n")?;
-    for index in 0..4096u32 {
-        let id = 4096 - index;
-        text.push_str(format!(in alloc;
-            "[[link]]\nid = {id}\nname = \"link-{id}\"\nbag_ms = 1\njitter_us = 0\nsmax = 200\n\
-             integrity = true\nredundancy = true\nskew_us = 1000\n"
-        )?
-        .as_str())?;
-    }
-    Ok(text)
-}
-
-#[test]
-fn a_million_frames_of_4096_links(rt: HostRuntime) -> Result<(), Fail> {
-    let text = large_table(rt.alloc())?;
-    let config = Config::read(rt.alloc(), text.as_str())?;
-    assert!(rt; config.links().len() == 4096);
-    for pair in config.links().windows(2) {
-        if let [lower, higher] = pair {
-            assert!(rt; lower.id < higher.id);
-        }
-    }
-    let mut lanes = Lanes::new(rt.alloc(), &config)?;
-    for place in 0..1_000_000u64 {
-        let round = place / 4096;
-        let number = if round == 0 {
-            0
-        } else {
-            ((round - 1) % 255 + 1) as u8
-        };
-        let bytes = bytes_of(rt.alloc(), 3, (place % 4096) as u16 + 1, 60, number)?;
-        let frame = frame_at(Network::A, place, place * 1000, 60, bytes)?;
-        let verdict = judge_next(&rt, &mut lanes, &frame);
-        let integrity = if round == 0 {
-            Integrity::First
-        } else {
-            Integrity::Next
-        };
-        assert!(rt; verdict.integrity == Some(integrity), "frame {place}");
-        assert!(rt;
-            verdict.redundancy == Some(Redundancy::Deliver),
-            "frame {place}"
-        );
+    for cases in &EXAMPLES {
+        assert!(rt; judges(&rt, &config, cases).is_some());
     }
     Ok(())
 }

@@ -26,28 +26,28 @@ fn an_account_to_its_last_byte(rt: HostRuntime) -> Result<(), Fail> {
     Ok(())
 }
 
-/// Sequence numbers in turn, and the verdict on each.
-const NUMBERS: [(u8, Integrity); 8] = [
-    (254, Integrity::First),
-    (255, Integrity::Next),
-    (2, Integrity::Skip),
-    (5, Integrity::Out),
-    (6, Integrity::Next),
-    (0, Integrity::Reset),
-    (2, Integrity::Skip),
-    (2, Integrity::Out),
+/// Is it checked, sequence numbers in turn, and the verdict on each.
+const NUMBERS: [(bool, u8, Integrity); 10] = [
+    (true, 254, Integrity::First),
+    (true, 255, Integrity::Next),
+    (true, 2, Integrity::Skip),
+    (true, 5, Integrity::Out),
+    (true, 6, Integrity::Next),
+    (true, 0, Integrity::Reset),
+    (true, 2, Integrity::Skip),
+    (true, 2, Integrity::Out),
+    (false, 9, Integrity::Off),
+    (true, 10, Integrity::Next),
 ];
 
 #[test]
 fn numbers_around_the_wrap(rt: HostRuntime) {
     let mut check = Check::new();
-    for (number, verdict) in NUMBERS {
-        let found = check.judge(true, number);
-        assert!(rt; found == verdict, "number {number}");
-        assert!(rt; found.is_valid() == (verdict != Integrity::Out));
+    for (on, number, said) in &NUMBERS {
+        let found = check.judge(*on, *number);
+        assert!(rt; found == *said, "number {number}");
+        assert!(rt; found.is_valid() == (*said != Integrity::Out));
     }
-    assert!(rt; check.judge(false, 9) == Integrity::Off);
-    assert!(rt; check.judge(true, 10) == Integrity::Next);
 }
 
 #[test]

@@ -5,13 +5,12 @@ use afdx_frame::VlId;
 use std::alloc::{AllocError, Global};
 use std::process::Abort;
 use std::test::Fail;
-use vl_config::{Config, ConfigFault};
+use vl_config::{Config, ConfigFault, Link};
 
-/// The lines of the top table of the worked examples.
-const TOP: [&str; 1] = ["constant = 50331648"];
-
-/// The lines of the link of the worked examples.
-const LINK: [&str; 8] = [
+/// The lines of the worked examples' table.
+const LINES: [&str; 10] = [
+    "constant = 50331648",
+    "[[link]]",
     "id = 5",
     "name = \"brake\"",
     "bag_ms = 1",
@@ -22,35 +21,43 @@ const LINK: [&str; 8] = [
     "skew_us = 1000",
 ];
 
-/// The worked table with the line that begins with `key` replaced; of an empty key, with `line` at
-/// the top.
+/// The lines of a second link after its name.
+const SECOND_LINK: [&str; 5] = [
+    "bag_ms = 128",
+    "jitter_us = 100000",
+    "smax = 1518",
+    "integrity = false",
+    "redundancy = false",
+];
+
+fn push_line(text: &mut String, line: &str) -> Result<(), AllocError> {
+    text.push_str(line)?;
+    text.push_str("\n")
+}
+
+/// The worked table with the line that begins with `key` replaced; of an empty key, with `line` at the top.
 fn table_with(alloc: Global, key: &str, line: &str) -> Result<String, AllocError> {
     let mut text = String::new(alloc);
     if key.is_empty() {
         push_line(&mut text, line)?;
     }
-    for given in TOP {
-        push_line(&mut text, replaced(given, key, line))?;
-    }
-    push_line(&mut text, "[[link]]")?;
-    for given in LINK {
-        push_line(&mut text, replaced(given, key, line))?;
+    for given in &LINES {
+        let is_replaced = !key.is_empty() && given.starts_with(key);
+        push_line(&mut text, if is_replaced { line } else { *given })?;
     }
     Ok(text)
 }
 
-fn replaced<'a>(given: &'a str, key: &str, line: &'a str) -> &'a str {
-    if !key.is_empty() && given.starts_with(key) {
-        line
-    } else {
-        given
+/// Appends a link with these lines of its identifier and its name, and this last line.
+fn push_link(text: &mut String, given: &[&str; 3]) -> Result<(), AllocError> {
+    push_line(text, "[[link]]")?;
+    for line in &given[..2] {
+        push_line(text, line)?;
     }
-}
-
-fn push_line(text: &mut String, line: &str) -> Result<(), AllocError> {
-    text.push_str(line)?;
-    text.push_str("\n")?;
-    Ok(())
+    for line in &SECOND_LINK {
+        push_line(text, line)?;
+    }
+    push_line(text, given[2])
 }
 
 /// The fault of a text.
@@ -58,10 +65,22 @@ fn fault_of(alloc: Global, text: &str) -> Option<ConfigFault> {
     Config::read(alloc, text).err()
 }
 
+const NO_KEY: ConfigFault = ConfigFault::Missing { link: Some(0) };
+
+const NO_RANGE: ConfigFault = ConfigFault::Range { link: Some(0) };
+
 /// The line that stands in place of the line of a key, or at the top, and the fault.
-const SINGLE_FAULTS: [(&str, &str, ConfigFault); 20] = [
-    ("bag_ms", "bag_ms = 3", ConfigFault::Range { link: Some(0) }),
+const SINGLE_FAULTS: [(&str, &str, ConfigFault); 28] = [
     ("constant", "", ConfigFault::Missing { link: None }),
+    ("id", "", NO_KEY),
+    ("name", "", NO_KEY),
+    ("bag_ms", "", NO_KEY),
+    ("jitter_us", "", NO_KEY),
+    ("smax", "", NO_KEY),
+    ("integrity", "", NO_KEY),
+    ("redundancy", "", NO_KEY),
+    ("skew_us", "", NO_KEY),
+    ("bag_ms", "bag_ms = 3", NO_RANGE),
     (
         "constant",
         "constant = 1",
@@ -72,21 +91,14 @@ const SINGLE_FAULTS: [(&str, &str, ConfigFault); 20] = [
         "smax = \"200\"",
         ConfigFault::Kind { link: Some(0) },
     ),
-    ("smax", "smax = 63", ConfigFault::Range { link: Some(0) }),
-    ("smax", "smax = 1519", ConfigFault::Range { link: Some(0) }),
-    ("id", "id = 65536", ConfigFault::Range { link: Some(0) }),
-    ("id", "id = -1", ConfigFault::Range { link: Some(0) }),
-    ("name", "name = \"\"", ConfigFault::Range { link: Some(0) }),
-    (
-        "name",
-        "name = \"a b\"",
-        ConfigFault::Range { link: Some(0) },
-    ),
-    (
-        "skew_us",
-        "skew_us = 1000001",
-        ConfigFault::Range { link: Some(0) },
-    ),
+    ("smax", "smax = 63", NO_RANGE),
+    ("smax", "smax = 1519", NO_RANGE),
+    ("id", "id = 65536", NO_RANGE),
+    ("id", "id = -1", NO_RANGE),
+    ("id", "id = 9223372036854775807", NO_RANGE),
+    ("name", "name = \"\"", NO_RANGE),
+    ("name", "name = \"a b\"", NO_RANGE),
+    ("skew_us", "skew_us = 1000001", NO_RANGE),
     (
         "skew_us",
         "skew_us = 1\nskew = 1",
@@ -103,222 +115,165 @@ const SINGLE_FAULTS: [(&str, &str, ConfigFault); 20] = [
     ("", "late = 5", ConfigFault::UnknownKey { link: None }),
     ("", "[", ConfigFault::Text),
     ("", "late_us = 9223372036854775808", ConfigFault::Text),
-    (
-        "id",
-        "id = 9223372036854775807",
-        ConfigFault::Range { link: Some(0) },
-    ),
 ];
 
 #[test]
 fn one_fault_of_a_table_each(rt: HostRuntime) -> Result<(), Fail> {
-    let alloc = rt.alloc();
-    for (key, line, fault) in SINGLE_FAULTS {
-        let text = table_with(alloc, key, line)?;
-        assert!(rt;
-            fault_of(alloc, text.as_str()) == Some(fault),
-            "with {line}"
-        );
+    for (key, line, fault) in &SINGLE_FAULTS {
+        let text = table_with(rt.alloc(), key, line)?;
+        let found = fault_of(rt.alloc(), text.as_str());
+        assert!(rt; found == Some(*fault), "{key}: {line}");
     }
     Ok(())
 }
 
-/// The keys that a table must have, and which link lacks them.
-const REQUIRED: [(&str, Option<u32>); 9] = [
-    ("constant", None),
-    ("id", Some(0)),
-    ("name", Some(0)),
-    ("bag_ms", Some(0)),
-    ("jitter_us", Some(0)),
-    ("smax", Some(0)),
-    ("integrity", Some(0)),
-    ("redundancy", Some(0)),
-    ("skew_us", Some(0)),
-];
+const FIVE: &str = "id = 5";
 
-#[test]
-fn each_required_key_missing(rt: HostRuntime) -> Result<(), Fail> {
-    let alloc = rt.alloc();
-    for (key, link) in REQUIRED {
-        let text = table_with(alloc, key, "")?;
-        let fault = ConfigFault::Missing { link };
-        assert!(rt;
-            fault_of(alloc, text.as_str()) == Some(fault),
-            "without {key}"
-        );
-    }
-    Ok(())
-}
+const NUMBERLESS: &str = "id = \"\"";
 
-/// The lines of the second link between its name and its last line.
-const SECOND_LINK: [&str; 5] = [
-    "bag_ms = 128",
-    "jitter_us = 100000",
-    "smax = 1518",
-    "integrity = false",
-    "redundancy = false",
-];
+const BRAKE: &str = "name = \"brake\"";
 
-/// Two links: the worked one, and one with this identifier and name, and with a last line.
-fn two_links(
-    alloc: Global,
-    top: &str,
-    id: &str,
-    name: &str,
-    last: &str,
-) -> Result<String, AllocError> {
-    let mut text = table_with(alloc, "", top)?;
-    push_line(&mut text, "[[link]]")?;
-    push_line(&mut text, id)?;
-    push_line(&mut text, name)?;
-    for line in SECOND_LINK {
-        push_line(&mut text, line)?;
-    }
-    push_line(&mut text, last)?;
-    Ok(text)
-}
+const NAMELESS: &str = "name = \"\"";
+
+const SKEW: &str = "skew_us = 0";
+
+const MORE: &str = "skew = 0\nskew_us = 0";
 
 /// A line at the top, the second link's identifier, name and last line, and the first fault.
-const SEVERAL_FAULTS: [(&str, &str, &str, &str, ConfigFault); 11] = [
+const SEVERAL_FAULTS: [(&str, [&str; 3], ConfigFault); 11] = [
     (
         "",
-        "id = 5",
-        "name = \"flaps\"",
-        "skew_us = 0",
+        [FIVE, "name = \"flaps\"", SKEW],
         ConfigFault::TwiceId { link: Some(1) },
     ),
     (
         "",
-        "id = 6",
-        "name = \"brake\"",
-        "skew_us = 0",
+        ["id = 6", BRAKE, SKEW],
         ConfigFault::TwiceName { link: Some(1) },
     ),
     (
         "",
-        "id = 5",
-        "name = \"brake\"",
-        "skew_us = 0",
+        [FIVE, BRAKE, SKEW],
         ConfigFault::TwiceId { link: Some(1) },
     ),
     (
         "",
-        "id = 5",
-        "name = \"brake\"",
-        "",
+        [FIVE, BRAKE, ""],
         ConfigFault::Missing { link: Some(1) },
     ),
     (
         "",
-        "id = \"\"",
-        "name = \"brake\"",
-        "",
+        [NUMBERLESS, BRAKE, ""],
         ConfigFault::Missing { link: Some(1) },
     ),
     (
         "",
-        "id = \"\"",
-        "name = \"\"",
-        "skew_us = 0",
+        [NUMBERLESS, NAMELESS, SKEW],
         ConfigFault::Kind { link: Some(1) },
     ),
     (
         "",
-        "id = 5",
-        "name = \"\"",
-        "skew = 0\nskew_us = 0",
+        [FIVE, NAMELESS, MORE],
         ConfigFault::Range { link: Some(1) },
     ),
     (
         "",
-        "id = 5",
-        "name = \"brake\"",
-        "skew = 0\nskew_us = 0",
+        [FIVE, BRAKE, MORE],
         ConfigFault::UnknownKey { link: Some(1) },
     ),
     (
         "late = 0",
-        "id = \"\"",
-        "name = \"\"",
-        "",
+        [NUMBERLESS, NAMELESS, ""],
         ConfigFault::UnknownKey { link: None },
     ),
     (
         "late_us = -1",
-        "id = \"\"",
-        "name = \"\"",
-        "",
+        [NUMBERLESS, NAMELESS, ""],
         ConfigFault::Range { link: None },
     ),
     (
         "late_us = true\nlate = 0",
-        "id = \"\"",
-        "name = \"\"",
-        "",
+        [NUMBERLESS, NAMELESS, ""],
         ConfigFault::Kind { link: None },
     ),
 ];
 
 #[test]
 fn the_first_of_several_faults(rt: HostRuntime) -> Result<(), Fail> {
-    let alloc = rt.alloc();
-    for (top, id, name, last, fault) in SEVERAL_FAULTS {
-        let text = two_links(alloc, top, id, name, last)?;
-        assert!(rt; fault_of(alloc, text.as_str()) == Some(fault), "{text}");
+    for (top, second, fault) in &SEVERAL_FAULTS {
+        let mut text = table_with(rt.alloc(), "", top)?;
+        push_link(&mut text, second)?;
+        let found = fault_of(rt.alloc(), text.as_str());
+        assert!(rt; found == Some(*fault), "{text}");
     }
     Ok(())
 }
+
+/// The identifier, the name, the gap, the jitter, the largest frame, what is on, and the skew of a link.
+type Values = (u16, &'static str, u64, u64, u32, bool, bool, u64);
+
+/// What the table below says of its links, by rising identifier.
+const LINKS: [Values; 2] = [
+    (
+        4,
+        "flaps",
+        128_000_000,
+        100_000_000,
+        1518,
+        false,
+        false,
+        1_000_000_000,
+    ),
+    (5, "brake", 1_000_000, 0, 200, true, true, 1_000_000),
+];
+
+fn has_values(rt: &impl Abort, link: &Link, values: &Values) {
+    let (id, name, bag, jitter, smax, integrity, redundancy, skew) = *values;
+    assert!(rt; link.id == VlId(id));
+    assert!(rt; link.name.as_str() == name);
+    assert!(rt; link.bag == bag && link.jitter == jitter && link.smax == smax);
+    assert!(rt; link.integrity == integrity && link.redundancy == redundancy);
+    assert!(rt; link.skew == skew);
+}
+
+fn has_links(rt: &impl Abort, config: &Config) {
+    assert!(rt; config.links().len() == LINKS.len());
+    for (link, values) in config.links().iter().zip(&LINKS) {
+        has_values(rt, link, values);
+    }
+    match config.link(VlId(4)) {
+        Some(link) => assert!(rt; link.smax == 1518),
+        None => panic!(rt; "no link 4"),
+    }
+    assert!(rt; config.link(VlId(6)).is_none());
+}
+
+/// The second link's lines.
+const FLAPS: [&str; 3] = ["id = 4", "name = \"flaps\"", "skew_us = 1000000"];
+
+const FILTERS: [&str; 2] = ["1,6 0 0 8,", ""];
 
 #[test]
 fn a_table_as_it_reads(rt: HostRuntime) -> Result<(), Fail> {
-    let alloc = rt.alloc();
     let top = "late_us = 1\nfilters = [\"1,6 0 0 8,\", \"\"]";
-    let text = two_links(
-        alloc,
-        top,
-        "id = 4",
-        "name = \"flaps\"",
-        "skew_us = 1000000",
-    )?;
-    let config = Config::read(alloc, text.as_str())?;
+    let mut text = table_with(rt.alloc(), "", top)?;
+    push_link(&mut text, &FLAPS)?;
+    let config = Config::read(rt.alloc(), text.as_str())?;
     assert!(rt; config.constant() == 0x0300_0000);
     assert!(rt; config.late() == 1000);
-    let [first, second] = config.filters() else {
-        return Err(Fail::from("not two filters"));
-    };
-    assert!(rt; first.as_str() == "1,6 0 0 8,");
-    assert!(rt; second.as_str() == "");
-    let [flaps, brake] = config.links() else {
-        return Err(Fail::from("not two links"));
-    };
-    assert!(rt; (flaps.id, flaps.name.as_str()) == (VlId(4), "flaps"));
-    assert!(rt; (flaps.bag, flaps.jitter, flaps.smax) == (128_000_000, 100_000_000, 1518));
-    assert!(rt; (flaps.integrity, flaps.redundancy, flaps.skew) == (false, false, 1_000_000_000));
-    assert!(rt; (brake.id, brake.name.as_str()) == (VlId(5), "brake"));
-    assert!(rt; (brake.bag, brake.jitter, brake.smax) == (1_000_000, 0, 200));
-    assert!(rt; (brake.integrity, brake.redundancy, brake.skew) == (true, true, 1_000_000));
-    assert!(rt; config.link(VlId(4)).map(|link| link.smax) == Some(1518));
-    assert!(rt; config.link(VlId(6)).is_none());
-    let bare = Config::read(alloc, "constant = 50331648")?;
-    assert!(rt; (bare.late(), bare.links().len(), bare.filters().len()) == (0, 0, 0));
-    Ok(())
-}
-
-fn push_links(rt: &impl Abort, text: &mut String, many: u32) -> Result<(), AllocError> {
-    assert!(rt; many <= 5000);
-    for _ in 0..many {
-        push_line(text, "[[link]]")?;
+    assert!(rt; config.filters().len() == FILTERS.len());
+    for (filter, wanted) in config.filters().iter().zip(&FILTERS) {
+        assert!(rt; filter.as_str() == *wanted);
     }
+    has_links(&rt, &config);
     Ok(())
 }
 
 #[test]
-fn too_many_links_before_their_keys(rt: HostRuntime) -> Result<(), Fail> {
-    let alloc = rt.alloc();
-    let mut text = String::from_str(alloc, "constant = 50331648\n")?;
-    push_links(&rt, &mut text, 4096)?;
-    assert!(rt; fault_of(alloc, text.as_str()) == Some(ConfigFault::Missing { link: Some(0) }));
-    push_links(&rt, &mut text, 1)?;
-    assert!(rt; fault_of(alloc, text.as_str()) == Some(ConfigFault::TooMany));
+fn a_table_without_the_keys_that_may_be_absent(rt: HostRuntime) -> Result<(), Fail> {
+    let bare = Config::read(rt.alloc(), "constant = 50331648")?;
+    assert!(rt; bare.late() == 0);
+    assert!(rt; bare.links().is_empty());
+    assert!(rt; bare.filters().is_empty());
     Ok(())
 }

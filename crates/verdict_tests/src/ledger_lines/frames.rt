@@ -28,424 +28,116 @@ pub fn letter(read: &Result<FrameLine, FrameFault>) -> u8 {
     }
 }
 
-/// Reads each prefix of the line.
-fn prefixes(rt: &impl Abort, line: &[u8], wanted: &[u8]) {
-    for (len, want) in wanted.iter().enumerate() {
-        if len <= line.len() {
-            let prefix = &line[..len];
-            assert!(rt; letter(&read_frame(prefix)) == *want, "at {len}");
-        }
-    }
-}
-
 /// Bytes that stand in the place of others.
 const OTHERS: [u8; 12] = *b" -0159ABaefg";
-
-/// Reads the line with each byte changed to each of the others: one after another at the first place, and
-/// then at the next.
-fn changes(rt: &impl Abort, line: &[u8], wanted: &[&[u8]]) {
-    for (at, row) in wanted.iter().enumerate() {
-        for (other, want) in OTHERS.iter().zip(row.iter()) {
-            let mut changed = [0u8; 96];
-            if at < line.len() && line.len() <= changed.len() {
-                changed[..line.len()].copy_from_slice(line);
-                changed[at] = *other;
-                assert!(rt;
-                    letter(&read_frame(&changed[..line.len()])) == *want,
-                    "at {at}"
-                );
-            }
-        }
-    }
-}
 
 const LINE_0: &[u8] = b"1800000012119534506 A 960 301 163 regular excess - - 108 01";
 
 const PREFIXES_0: &[u8] = b"abbbbbbbbbbbbbbbbbbbbccddddeeeeffffffffffggggggghhiijjkkkkk.";
 
-const CHANGES_0: [&[u8]; 59] = [
-    b"aaa.aaaaaaaa",
-    b"ba....aaaaaa",
-    b"ba....aaaaaa",
-    b"ba....aaaaaa",
-    b"ba....aaaaaa",
-    b"ba....aaaaaa",
-    b"ba....aaaaaa",
-    b"ba....aaaaaa",
-    b"ba....aaaaaa",
-    b"ba....aaaaaa",
-    b"ba....aaaaaa",
-    b"ba....aaaaaa",
-    b"ba....aaaaaa",
-    b"ba....aaaaaa",
-    b"ba....aaaaaa",
-    b"ba....aaaaaa",
-    b"ba....aaaaaa",
-    b"ba....aaaaaa",
-    b"ba....aaaaaa",
-    b".aaaaaaaaaaa",
-    b"bbbbbb..bbbb",
-    b".bbbbbbbbbbb",
-    b"ccc...cccccc",
-    b"ec....cccccc",
-    b"dc....cccccc",
-    b".ceeeecccccc",
-    b"ddd...dddddd",
-    b"fd....dddddd",
-    b"ed....dddddd",
-    b".ddddddddddd",
-    b"eee.eeeeeeee",
-    b"fe....eeeeee",
-    b"fe....eeeeee",
-    b".eeeeeeeeeee",
-    b"ffffffffffff",
-    b"fffffffff.ff",
-    b"fffffffffff.",
-    b"ffffffffffff",
-    b"ffffffffffff",
-    b"ffffffff.fff",
-    b"ffffffffffff",
-    b".fffffffffff",
-    b"ggggggggg.gg",
-    b"gggggggggggg",
-    b"gggggggggggg",
-    b"ggggggggg.gg",
-    b"gggggggggggg",
-    b"gggggggggggg",
-    b".ggggggggggg",
-    b"h.hhhhhhhhhh",
-    b".hhhhhhhhhhh",
-    b"i.iiiiiiiiii",
-    b".iiiiiiiiiii",
-    b"jjj...jjjjjj",
-    b"kj....jjjjjj",
-    b"kj....jjjjjj",
-    b".jkkkkjjjjjj",
-    b"kk....kk...k",
-    b"kk....kk...k",
-];
+const CHANGES_0: &[u8] = b"\
+    aaa.aaaaaaaaba....aaaaaaba....aaaaaaba....aaaaaaba....aaaaaaba....aaaaaaba....aaaaaa\
+    ba....aaaaaaba....aaaaaaba....aaaaaaba....aaaaaaba....aaaaaaba....aaaaaaba....aaaaaa\
+    ba....aaaaaaba....aaaaaaba....aaaaaaba....aaaaaaba....aaaaaa.aaaaaaaaaaabbbbbb..bbbb\
+    .bbbbbbbbbbbccc...ccccccec....ccccccdc....cccccc.ceeeeccccccddd...ddddddfd....dddddd\
+    ed....dddddd.dddddddddddeee.eeeeeeeefe....eeeeeefe....eeeeee.eeeeeeeeeeeffffffffffff\
+    fffffffff.fffffffffffff.ffffffffffffffffffffffffffffffff.fffffffffffffff.fffffffffff\
+    ggggggggg.ggggggggggggggggggggggggggggggggggg.gggggggggggggggggggggggggg.ggggggggggg\
+    h.hhhhhhhhhh.hhhhhhhhhhhi.iiiiiiiiii.iiiiiiiiiiijjj...jjjjjjkj....jjjjjjkj....jjjjjj\
+    .jkkkkjjjjjjkk....kk...kkkk...kk...k";
 
 const LINE_1: &[u8] = b"1800000025008110442 B 1985 210 0 regular within reset copy 60 02";
 
 const PREFIXES_1: &[u8] = b"abbbbbbbbbbbbbbbbbbbbccdddddeeeeffffffffggggggghhhhhhiiiiijjkkkk.";
 
-const CHANGES_1: [&[u8]; 64] = [
-    b"aaa.aaaaaaaa",
-    b"ba....aaaaaa",
-    b"ba....aaaaaa",
-    b"ba....aaaaaa",
-    b"ba....aaaaaa",
-    b"ba....aaaaaa",
-    b"ba....aaaaaa",
-    b"ba....aaaaaa",
-    b"ba....aaaaaa",
-    b"ba....aaaaaa",
-    b"ba....aaaaaa",
-    b"ba....aaaaaa",
-    b"ba....aaaaaa",
-    b"ba....aaaaaa",
-    b"ba....aaaaaa",
-    b"ba....aaaaaa",
-    b"ba....aaaaaa",
-    b"ba....aaaaaa",
-    b"ba....aaaaaa",
-    b".aaaaaaaaaaa",
-    b"bbbbbb..bbbb",
-    b".bbbbbbbbbbb",
-    b"ccc...cccccc",
-    b"fc....cccccc",
-    b"fc....cccccc",
-    b"dc....cccccc",
-    b".ceeeecccccc",
-    b"ddd...dddddd",
-    b"fd....dddddd",
-    b"ed....dddddd",
-    b".deeeedddddd",
-    b"ee....eeeeee",
-    b".eeeeeeeeeee",
-    b"ffffffffffff",
-    b"fffffffff.ff",
-    b"fffffffffff.",
-    b"ffffffffffff",
-    b"ffffffffffff",
-    b"ffffffff.fff",
-    b"ffffffffffff",
-    b".fffffffffff",
-    b"gggggggggggg",
-    b"gggggggggggg",
-    b"gggggggggggg",
-    b"gggggggggggg",
-    b"gggggggggggg",
-    b"gggggggggggg",
-    b".ggggggggggg",
-    b"hhhhhhhhhhhh",
-    b"hhhhhhhhh.hh",
-    b"hhhhhhhhhhhh",
-    b"hhhhhhhhh.hh",
-    b"hhhhhhhhhhhh",
-    b".hhhhhhhhhhh",
-    b"iiiiiiiiiiii",
-    b"iiiiiiiiiiii",
-    b"iiiiiiiiiiii",
-    b"iiiiiiiiiiii",
-    b".iiiiiiiiiii",
-    b"jjj...jjjjjj",
-    b"kj....jjjjjj",
-    b".jkkkkjjjjjj",
-    b"kk....kk...k",
-    b"kk....kk...k",
-];
+const CHANGES_1: &[u8] = b"\
+    aaa.aaaaaaaaba....aaaaaaba....aaaaaaba....aaaaaaba....aaaaaaba....aaaaaaba....aaaaaa\
+    ba....aaaaaaba....aaaaaaba....aaaaaaba....aaaaaaba....aaaaaaba....aaaaaaba....aaaaaa\
+    ba....aaaaaaba....aaaaaaba....aaaaaaba....aaaaaaba....aaaaaa.aaaaaaaaaaabbbbbb..bbbb\
+    .bbbbbbbbbbbccc...ccccccfc....ccccccfc....ccccccdc....cccccc.ceeeeccccccddd...dddddd\
+    fd....dddddded....dddddd.deeeeddddddee....eeeeee.eeeeeeeeeeefffffffffffffffffffff.ff\
+    fffffffffff.ffffffffffffffffffffffffffffffff.fffffffffffffff.fffffffffffgggggggggggg\
+    gggggggggggggggggggggggggggggggggggggggggggggggggggggggggggg.ggggggggggghhhhhhhhhhhh\
+    hhhhhhhhh.hhhhhhhhhhhhhhhhhhhhhhh.hhhhhhhhhhhhhh.hhhhhhhhhhhiiiiiiiiiiiiiiiiiiiiiiii\
+    iiiiiiiiiiiiiiiiiiiiiiii.iiiiiiiiiiijjj...jjjjjjkj....jjjjjj.jkkkkjjjjjjkk....kk...k\
+    kkk...kk...k";
 
 const LINE_2: &[u8] = b"0 A 0 5 255 regular within out - - 00";
 
 const PREFIXES_2: &[u8] = b"abbccddeeffffffffffggggggghhhhiijjkkk.";
 
-const CHANGES_2: [&[u8]; 37] = [
-    b"aa....aaaaaa",
-    b".aaaaaaaaaaa",
-    b"bbbbbb..bbbb",
-    b".bbbbbbbbbbb",
-    b"cc....cccccc",
-    b".ccccccccccc",
-    b"de....dddddd",
-    b".deeeedddddd",
-    b"eee.eeeeeeee",
-    b"fe...eeeeeee",
-    b"fe...eeeeeee",
-    b".eeeeeeeeeee",
-    b"ffffffffffff",
-    b"fffffffff.ff",
-    b"fffffffffff.",
-    b"ffffffffffff",
-    b"ffffffffffff",
-    b"ffffffff.fff",
-    b"ffffffffffff",
-    b".fffffffffff",
-    b"gggggggggggg",
-    b"gggggggggggg",
-    b"gggggggggggg",
-    b"gggggggggggg",
-    b"gggggggggggg",
-    b"gggggggggggg",
-    b".ggggggggggg",
-    b"hhhhhhhhhhhh",
-    b"hhhhhhhhhhhh",
-    b"hhhhhhhhhhhh",
-    b".hhhhhhhhhhh",
-    b"i.iiiiiiiiii",
-    b".iiiiiiiiiii",
-    b"j.....jjjjjj",
-    b".jjjjjjjjjjj",
-    b"kk....kk...k",
-    b"kk....kk...k",
-];
+const CHANGES_2: &[u8] = b"\
+    aa....aaaaaa.aaaaaaaaaaabbbbbb..bbbb.bbbbbbbbbbbcc....cccccc.cccccccccccde....dddddd\
+    .deeeeddddddeee.eeeeeeeefe...eeeeeeefe...eeeeeee.eeeeeeeeeeefffffffffffffffffffff.ff\
+    fffffffffff.ffffffffffffffffffffffffffffffff.fffffffffffffff.fffffffffffgggggggggggg\
+    gggggggggggggggggggggggggggggggggggggggggggggggggggggggggggg.ggggggggggghhhhhhhhhhhh\
+    hhhhhhhhhhhhhhhhhhhhhhhh.hhhhhhhhhhhi.iiiiiiiiii.iiiiiiiiiiij.kkkkjjjjjj.jjjjjjjjjjj\
+    kk.kkkkkkkkkkk.kkkkkkkkk";
 
 const LINE_3: &[u8] = b"4294967295999999999 B 4294967295 65535 7 unconfigured - - - 4294967295 ff";
 
 const PREFIXES_3: &[u8] =
     b"abbbbbbbbbbbbbbbbbbbbccdddddddddddeeeeeefffffffffffffgghhiijjkkkkkkkkkkkk.";
 
-const CHANGES_3: [&[u8]; 73] = [
-    b"aaa.aaaaaaaa",
-    b"ba..aaaaaaaa",
-    b"ba....aaaaaa",
-    b"ba..aaaaaaaa",
-    b"ba....aaaaaa",
-    b"ba...aaaaaaa",
-    b"ba...aaaaaaa",
-    b"ba..aaaaaaaa",
-    b"ba....aaaaaa",
-    b"ba...aaaaaaa",
-    b"ba....aaaaaa",
-    b"ba....aaaaaa",
-    b"ba....aaaaaa",
-    b"ba....aaaaaa",
-    b"ba....aaaaaa",
-    b"ba....aaaaaa",
-    b"ba....aaaaaa",
-    b"ba....aaaaaa",
-    b"ba....aaaaaa",
-    b".aaaaaaaaaaa",
-    b"bbbbbb..bbbb",
-    b".bbbbbbbbbbb",
-    b"ccc.cccccccc",
-    b"dc..cccccccc",
-    b"dc....cccccc",
-    b"dc..cccccccc",
-    b"dc....cccccc",
-    b"ec...ccccccc",
-    b"ec...ccccccc",
-    b"ec..cccccccc",
-    b"ec....cccccc",
-    b"dc...ccccccc",
-    b".ccccccccccc",
-    b"ddd..ddddddd",
-    b"ed...ddddddd",
-    b"fd...ddddddd",
-    b"fd..dddddddd",
-    b"ed...ddddddd",
-    b".ddddddddddd",
-    b"ee....eeeeee",
-    b".eeeeeeeeeee",
-    b"ffffffffffff",
-    b"ffffffffffff",
-    b"ffffffffffff",
-    b"ffffffffffff",
-    b"ffffffffffff",
-    b"ffffffffff.f",
-    b"ffffffffffff",
-    b"fffffffffff.",
-    b"ffffffffffff",
-    b"ffffffffffff",
-    b"fffffffff.ff",
-    b"ffffffffffff",
-    b".fffffffffff",
-    b"g.gggggggggg",
-    b".ggggggggggg",
-    b"h.hhhhhhhhhh",
-    b".hhhhhhhhhhh",
-    b"i.iiiiiiiiii",
-    b".iiiiiiiiiii",
-    b"jjj.jjjjjjjj",
-    b"kj..jjjjjjjj",
-    b"kj....jjjjjj",
-    b"kj..jjjjjjjj",
-    b"kj....jjjjjj",
-    b"kj...jjjjjjj",
-    b"kj...jjjjjjj",
-    b"lj..jjjjjjjj",
-    b"kj....jjjjjj",
-    b"kj...jjjjjjj",
-    b".jjjjjjjjjjj",
-    b"kk....kk...k",
-    b"kk....kk...k",
-];
+const CHANGES_3: &[u8] = b"\
+    aaa.aaaaaaaaba..aaaaaaaaba....aaaaaaba..aaaaaaaaba....aaaaaaba...aaaaaaaba...aaaaaaa\
+    ba..aaaaaaaaba....aaaaaaba...aaaaaaaba....aaaaaaba....aaaaaaba....aaaaaaba....aaaaaa\
+    ba....aaaaaaba....aaaaaaba....aaaaaaba....aaaaaaba....aaaaaa.aaaaaaaaaaabbbbbb..bbbb\
+    .bbbbbbbbbbbccc.ccccccccdc..ccccccccdc....ccccccdc..ccccccccdc....ccccccec...ccccccc\
+    ec...cccccccec..ccccccccec....ccccccdc...ccccccc.cccccccccccddd..ddddddded...ddddddd\
+    fd...dddddddfd..dddddddded...ddddddd.dddddddddddee....eeeeee.eeeeeeeeeeeffffffffffff\
+    ffffffffffffffffffffffffffffffffffffffffffffffffffffffffff.ffffffffffffffffffffffff.\
+    fffffffffffffffffffffffffffffffff.ffffffffffffff.fffffffffffg.gggggggggg.ggggggggggg\
+    h.hhhhhhhhhh.hhhhhhhhhhhi.iiiiiiiiii.iiiiiiiiiiijjj.jjjjjjjjkj..jjjjjjjjkj....jjjjjj\
+    kj..jjjjjjjjkj....jjjjjjkj...jjjjjjjkj...jjjjjjjlj..jjjjjjjjkj....jjjjjjkj...jjjjjjj\
+    .jjjjjjjjjjjkk....kk...kkk....kk...k";
 
 const LINE_4: &[u8] = b"7 A 1 - - foreign - - - - 80";
 
-const PREFIXES_4: &[u8] = b"abbccddeeffffffffgghhiijjkkk.";
+const PREFIXES_4: &[u8] = b"abbccddeeffffffffgghhiijjkkkk";
 
-const CHANGES_4: [&[u8]; 28] = [
-    b"aa....aaaaaa",
-    b".aaaaaaaaaaa",
-    b"bbbbbb..bbbb",
-    b".bbbbbbbbbbb",
-    b"cc....cccccc",
-    b".ccccccccccc",
-    b"d.eeeedddddd",
-    b".ddddddddddd",
-    b"e.eeeeeeeeee",
-    b".eeeeeeeeeee",
-    b"ffffffffff.f",
-    b"ffffffffffff",
-    b"ffffffffffff",
-    b"fffffffff.ff",
-    b"ffffffffffff",
-    b"fffffffffff.",
-    b"ffffffffffff",
-    b".fffffffffff",
-    b"g.gggggggggg",
-    b".ggggggggggg",
-    b"h.hhhhhhhhhh",
-    b".hhhhhhhhhhh",
-    b"i.iiiiiiiiii",
-    b".iiiiiiiiiii",
-    b"j.....jjjjjj",
-    b".jjjjjjjjjjj",
-    b"kk....kk...k",
-    b"kk....kk...k",
-];
+const CHANGES_4: &[u8] = b"\
+    aakkkkaaaaaakaaaaaaaaaaabbbbbbkkbbbbkbbbbbbbbbbbcckkkkcccccckcccccccccccdkeeeedddddd\
+    kdddddddddddekeeeeeeeeeekeeeeeeeeeeeffffffffffkffffffffffffffffffffffffffffffffffkff\
+    fffffffffffffffffffffffkffffffffffffkfffffffffffgkggggggggggkggggggggggghkhhhhhhhhhh\
+    khhhhhhhhhhhikiiiiiiiiiikiiiiiiiiiiijk....jjjjjjkjjjjjjjjjjjkk.kkkkkkkkkkkkkkkkkkkkk";
 
 const LINE_5: &[u8] = b"90 B 10 42 9 toolong - - - 1500 7f";
 
 const PREFIXES_5: &[u8] = b"abbbccdddeeeffffffffgghhiijjkkkkkk.";
 
-const CHANGES_5: [&[u8]; 34] = [
-    b"aaa...aaaaaa",
-    b"ba....aaaaaa",
-    b".aaaaaaaaaaa",
-    b"bbbbbb..bbbb",
-    b".bbbbbbbbbbb",
-    b"ccc...cccccc",
-    b"dc....cccccc",
-    b".ceeeecccccc",
-    b"ddd...dddddd",
-    b"ed....dddddd",
-    b".deeeedddddd",
-    b"ee....eeeeee",
-    b".eeeeeeeeeee",
-    b"ffffffffffff",
-    b"ffffffffffff",
-    b"ffffffffffff",
-    b"ffffffffffff",
-    b"ffffffffffff",
-    b"ffffffffffff",
-    b"fffffffffff.",
-    b".fffffffffff",
-    b"g.gggggggggg",
-    b".ggggggggggg",
-    b"h.hhhhhhhhhh",
-    b".hhhhhhhhhhh",
-    b"i.iiiiiiiiii",
-    b".iiiiiiiiiii",
-    b"jjj...jjjjjj",
-    b"lj....jjjjjj",
-    b"kj....jjjjjj",
-    b"kj....jjjjjj",
-    b".jjjjjjjjjjj",
-    b"kk....kk...k",
-    b"kk....kk...k",
-];
+const CHANGES_5: &[u8] = b"\
+    aaa...aaaaaaba....aaaaaa.aaaaaaaaaaabbbbbb..bbbb.bbbbbbbbbbbccc...ccccccdc....cccccc\
+    .ceeeeccccccddd...dddddded....dddddd.deeeeddddddee....eeeeee.eeeeeeeeeeeffffffffffff\
+    fffffffffffffffffffffffffffffffffffffffffffffffffffffffffffffffffffffff..fffffffffff\
+    g.gggggggggg.gggggggggggh.hhhhhhhhhh.hhhhhhhhhhhi.iiiiiiiiii.iiiiiiiiiiijjj...jjjjjj\
+    kj....jjjjjjkj....jjjjjjkj....jjjjjj.jjjjjjjjjjjkk....kk...kkk....kk...k";
 
 const LINE_6: &[u8] = b"10 A 3 9 1 regular within off both 61 0a";
 
 const PREFIXES_6: &[u8] = b"abbbccddeeffffffffggggggghhhhiiiiijjkkkk.";
 
-const CHANGES_6: [&[u8]; 40] = [
-    b"aaa...aaaaaa",
-    b"ba....aaaaaa",
-    b".aaaaaaaaaaa",
-    b"bbbbbb..bbbb",
-    b".bbbbbbbbbbb",
-    b"cc....cccccc",
-    b".ceeeecccccc",
-    b"de....dddddd",
-    b".deeeedddddd",
-    b"ee....eeeeee",
-    b".eeeeeeeeeee",
-    b"ffffffffffff",
-    b"fffffffff.ff",
-    b"fffffffffff.",
-    b"ffffffffffff",
-    b"ffffffffffff",
-    b"ffffffff.fff",
-    b"ffffffffffff",
-    b".fffffffffff",
-    b"gggggggggggg",
-    b"gggggggggggg",
-    b"gggggggggggg",
-    b"gggggggggggg",
-    b"gggggggggggg",
-    b"gggggggggggg",
-    b".ggggggggggg",
-    b"hhhhhhhhhhhh",
-    b"hhhhhhhhhh.h",
-    b"hhhhhhhhhh.h",
-    b".hhhhhhhhhhh",
-    b"iiiiiiiiiiii",
-    b"iiiiiiiiiiii",
-    b"iiiiiiiiiiii",
-    b"iiiiiiiiiiii",
-    b".iiiiiiiiiii",
-    b"jjj...jjjjjj",
-    b"kj....jjjjjj",
-    b".jjjjjjjjjjj",
-    b"kk....kk...k",
-    b"kk....kk...k",
-];
+const CHANGES_6: &[u8] = b"\
+    aaa...aaaaaaba....aaaaaa.aaaaaaaaaaabbbbbb..bbbb.bbbbbbbbbbbcc....cccccc.ceeeecccccc\
+    de....dddddd.deeeeddddddee....eeeeee.eeeeeeeeeeefffffffffffffffffffff.fffffffffffff.\
+    ffffffffffffffffffffffffffffffff.fffffffffffffff.fffffffffffgggggggggggggggggggggggg\
+    gggggggggggggggggggggggggggggggggggggggggggggggg.ggggggggggghhhhhhhhhhhhhhhhhhhhhh.h\
+    hhhhhhhhhh.h.hhhhhhhhhhhiiiiiiiiiiiiiiiiiiiiiiiiiiiiiiiiiiiiiiiiiiiiiiii.iiiiiiiiiii\
+    jjj...jjjjjjkj....jjjjjj.jjjjjjjjjjjkk....kk...kkkk...kk...k";
+
+const LINE_7: &[u8] = b"7 A 1 - - foreign - - - 64 80";
+
+const PREFIXES_7: &[u8] = b"abbccddeeffffffffgghhiijjkkkk.";
+
+const CHANGES_7: &[u8] = b"\
+    aa....aaaaaa.aaaaaaaaaaabbbbbb..bbbb.bbbbbbbbbbbcc....cccccc.cccccccccccd.eeeedddddd\
+    .ddddddddddde.eeeeeeeeee.eeeeeeeeeeeffffffffff.ffffffffffffffffffffffffffffffffff.ff\
+    fffffffffffffffffffffff.ffffffffffff.fffffffffffg.gggggggggg.gggggggggggh.hhhhhhhhhh\
+    .hhhhhhhhhhhi.iiiiiiiiii.iiiiiiiiiiijjj...jjjjjjkj....jjjjjj.jkkkkjjjjjjkkk...kk...k\
+    kk....kk...k";
 
 /// Whole lines, each with its letter.
-const LINES: [(&[u8], u8); 38] = [
+const LINES: [(&[u8], u8); 46] = [
     (b"", b'a'),
     (b" ", b'a'),
     (b"7 A 1 - - cut - - - - 00", b'.'),
@@ -475,11 +167,19 @@ const LINES: [(&[u8], u8); 38] = [
     (b"7 A 1 3 4 regular excess - - 7 0", b'k'),
     (b"7 A 1 3 4 regular excess - - 7 000", b'k'),
     (b"7 A 1 3 4 regular excess - - 7 0A", b'k'),
-    (b"7 A 1 3 4 regular excess - - 7 00 ", b'l'),
-    (b"7 A 1 3 4 regular excess - - 7 00 1", b'l'),
+    (b"7 A 1 3 4 regular excess - - 7 01 ", b'l'),
+    (b"7 A 1 3 4 regular excess - - 7 01 1", b'l'),
+    (b"7 A 1 3 4 regular excess - - 7 00 ", b'k'),
+    (b"7 A 1 3 4 regular excess - - 7 00 1", b'k'),
+    (b"7 A 1 3 4 regular excess - - - 00 ", b'l'),
+    (b"7 A 1 3 4 regular within next deliver - ff", b'k'),
+    (b"7 A 1 3 4 regular within next copy 77 00", b'k'),
+    (b"7 A 1 3 4 regular within next copy 0 00", b'k'),
+    (b"7 A 1 3 4 regular within next copy 0 10", b'.'),
     (b" 7 A 1 3 4 regular excess - - 7 00", b'a'),
     (b"7  A 1 3 4 regular excess - - 7 00", b'b'),
-    (b"7 A 1 3 4 regular within skip deliver 7 00", b'.'),
+    (b"7 A 1 3 4 regular within skip deliver 7 01", b'.'),
+    (b"7 A 1 3 4 regular within skip deliver 7 00", b'k'),
     (b"7\tA 1 3 4 regular within skip deliver 7 00", b'a'),
     (b"7 A 1 3 4 regular within skip deliver 7 00\r", b'k'),
     (
@@ -495,32 +195,58 @@ const LINES: [(&[u8], u8); 38] = [
     (b"7 A 1 3 4 unconfigured excess - - 7 00", b'g'),
 ];
 
-#[test]
-fn reads_prefixes(rt: HostRuntime) {
-    prefixes(&rt, LINE_0, PREFIXES_0);
-    prefixes(&rt, LINE_1, PREFIXES_1);
-    prefixes(&rt, LINE_2, PREFIXES_2);
-    prefixes(&rt, LINE_3, PREFIXES_3);
-    prefixes(&rt, LINE_4, PREFIXES_4);
-    prefixes(&rt, LINE_5, PREFIXES_5);
-    prefixes(&rt, LINE_6, PREFIXES_6);
+/// Lines, what is read in their prefixes, and what is read where a byte is changed to each of the others: one
+/// after another at the first place, and then at the next.
+const CASES: [(&[u8], &[u8], &[u8]); 8] = [
+    (LINE_0, PREFIXES_0, CHANGES_0),
+    (LINE_1, PREFIXES_1, CHANGES_1),
+    (LINE_2, PREFIXES_2, CHANGES_2),
+    (LINE_3, PREFIXES_3, CHANGES_3),
+    (LINE_4, PREFIXES_4, CHANGES_4),
+    (LINE_5, PREFIXES_5, CHANGES_5),
+    (LINE_6, PREFIXES_6, CHANGES_6),
+    (LINE_7, PREFIXES_7, CHANGES_7),
+];
+
+/// Reads each prefix of the line.
+fn prefixes(rt: &impl Abort, line: &[u8], wanted: &[u8]) {
+    assert!(rt; wanted.len() == line.len() + 1);
+    for (len, want) in wanted.iter().enumerate() {
+        if len <= line.len() {
+            assert!(rt; letter(&read_frame(&line[..len])) == *want, "at {len}");
+        }
+    }
+}
+
+/// Reads the line with the byte at an index changed to each of the others.
+fn changes(rt: &impl Abort, line: &[u8], at: usize, wanted: &[u8]) {
+    assert!(rt; at < line.len() && line.len() <= 96);
+    for (other, want) in OTHERS.iter().zip(wanted) {
+        let mut changed = [0u8; 96];
+        changed[..line.len()].copy_from_slice(line);
+        changed[at] = *other;
+        assert!(rt;
+            letter(&read_frame(&changed[..line.len()])) == *want,
+            "at {at}"
+        );
+    }
 }
 
 #[test]
-fn reads_changed_lines(rt: HostRuntime) {
-    changes(&rt, LINE_0, &CHANGES_0);
-    changes(&rt, LINE_1, &CHANGES_1);
-    changes(&rt, LINE_2, &CHANGES_2);
-    changes(&rt, LINE_3, &CHANGES_3);
-    changes(&rt, LINE_4, &CHANGES_4);
-    changes(&rt, LINE_5, &CHANGES_5);
-    changes(&rt, LINE_6, &CHANGES_6);
+fn reads_prefixes_and_changed_lines(rt: HostRuntime) {
+    for (line, beginnings, changed) in &CASES {
+        prefixes(&rt, line, beginnings);
+        assert!(rt; changed.len() / OTHERS.len() == line.len());
+        for (at, wanted) in changed.chunks(OTHERS.len()).enumerate() {
+            changes(&rt, line, at, wanted);
+        }
+    }
 }
 
 #[test]
 fn reads_whole_lines(rt: HostRuntime) {
-    for (line, want) in LINES {
-        assert!(rt; letter(&read_frame(line)) == want);
+    for (line, want) in &LINES {
+        assert!(rt; letter(&read_frame(line)) == *want);
     }
 }
 

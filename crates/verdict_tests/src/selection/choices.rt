@@ -1,4 +1,5 @@
 //! Worked examples.
+use crate::selection::everything;
 use afdx_frame::{Network, Stamp, VlId};
 use integrity::Integrity;
 use ledger_text::FrameLine;
@@ -48,25 +49,153 @@ const FIRST: Stamp = Stamp(90_000_000_000_000);
 /// An hour, in nanoseconds.
 const HOUR: u64 = 3_600_000_000_000;
 
-fn everything() -> Selection {
-    Selection {
-        links: None,
-        network: None,
-        words: None,
-        from: None,
-        to: None,
-        filters: None,
-    }
-}
-
 fn is_taken(rt: &impl Abort, selection: &Selection, copy: bool, runt: bool) {
     assert!(rt; selection.takes(FIRST, &COPY) == copy, "the copy");
     assert!(rt; selection.takes(FIRST, &RUNT) == runt, "the runt");
 }
 
+/// The network, the moments from which and to which frames are taken, a mask of filters, and whether the copy
+/// and the runt are taken.
+type Part = (
+    Option<Network>,
+    Option<Moment>,
+    Option<Moment>,
+    Option<u8>,
+    bool,
+    bool,
+);
+
+const PARTS: [Part; 23] = [
+    (None, None, None, None, true, true),
+    (Some(Network::A), None, None, None, false, true),
+    (Some(Network::B), None, None, None, true, false),
+    (None, Some(Moment::At(Stamp(NOW))), None, None, true, true),
+    (
+        None,
+        Some(Moment::At(Stamp(NOW - 1))),
+        None,
+        None,
+        true,
+        true,
+    ),
+    (
+        None,
+        Some(Moment::At(Stamp(NOW + 1))),
+        None,
+        None,
+        false,
+        false,
+    ),
+    (None, Some(Moment::OfDay(3 * HOUR)), None, None, true, true),
+    (
+        None,
+        Some(Moment::OfDay(3 * HOUR + 1)),
+        None,
+        None,
+        false,
+        false,
+    ),
+    (None, Some(Moment::OfDay(0)), None, None, true, true),
+    (
+        None,
+        Some(Moment::OfDay(u64::MAX)),
+        None,
+        None,
+        false,
+        false,
+    ),
+    (None, None, Some(Moment::At(Stamp(NOW))), None, true, true),
+    (
+        None,
+        None,
+        Some(Moment::At(Stamp(NOW - 1))),
+        None,
+        false,
+        false,
+    ),
+    (
+        None,
+        None,
+        Some(Moment::At(Stamp(NOW + 1))),
+        None,
+        true,
+        true,
+    ),
+    (None, None, Some(Moment::OfDay(3 * HOUR)), None, true, true),
+    (
+        None,
+        None,
+        Some(Moment::OfDay(3 * HOUR - 1)),
+        None,
+        false,
+        false,
+    ),
+    (None, None, Some(Moment::OfDay(u64::MAX)), None, true, true),
+    (None, None, None, Some(1), true, false),
+    (None, None, None, Some(2), false, false),
+    (None, None, None, Some(4), true, false),
+    (None, None, None, Some(5), true, false),
+    (None, None, None, Some(7), true, false),
+    (None, None, None, Some(250), false, false),
+    (None, None, None, Some(255), true, false),
+];
+
 #[test]
-fn no_part_is_given(rt: HostRuntime) {
-    is_taken(&rt, &everything(), true, true);
+fn parts(rt: HostRuntime) {
+    for (network, from, to, filters, copy, runt) in &PARTS {
+        let selection = Selection {
+            links: None,
+            network: *network,
+            words: None,
+            from: *from,
+            to: *to,
+            filters: *filters,
+        };
+        is_taken(&rt, &selection, *copy, *runt);
+    }
+}
+
+/// Half an hour, in nanoseconds.
+const HALF: u64 = HOUR / 2;
+
+fn next(of_day: u64, after: u64, before: u64) -> Moment {
+    Moment::Next {
+        of_day,
+        after,
+        before,
+    }
+}
+
+#[test]
+fn moments_after_the_first_frame(rt: HostRuntime) {
+    // A moment, and whether lines two hours after the first frame are no earlier, and no later.
+    let rows: [(Moment, bool, bool); 13] = [
+        (Moment::Since(0), true, false),
+        (Moment::Since(2 * HOUR - 1), true, false),
+        (Moment::Since(2 * HOUR), true, true),
+        (Moment::Since(2 * HOUR + 1), false, true),
+        (Moment::Since(u64::MAX), false, true),
+        (next(3 * HOUR, 0, 0), true, true),
+        (next(3 * HOUR - 1, 0, 0), true, false),
+        (next(3 * HOUR + 1, 0, 0), false, true),
+        (next(HOUR, 0, 0), true, false),
+        (next(HOUR - 1, 0, 0), false, true),
+        (next(3 * HOUR, 2 * HOUR + 1, 0), false, true),
+        (next(HALF, 0, 43 * HALF), true, true),
+        (next(HALF, 0, u64::MAX), true, false),
+    ];
+    for (moment, since, until) in &rows {
+        let from = Selection {
+            from: Some(*moment),
+            ..everything()
+        };
+        is_taken(&rt, &from, *since, *since);
+        let to = Selection {
+            to: Some(*moment),
+            ..everything()
+        };
+        is_taken(&rt, &to, *until, *until);
+    }
 }
 
 /// Ranges of links, and whether the copy, of link 301, is taken.
@@ -80,50 +209,33 @@ const RANGES: [(u16, u16, bool); 7] = [
     (302, 300, false),
 ];
 
+/// Identifiers, and whether they are in the set of the first and the last one.
+const ENDS: [(u16, bool); 4] = [(0, true), (1, false), (65534, false), (65535, true)];
+
 #[test]
 fn links(rt: HostRuntime) -> Result<(), Fail> {
-    for (first, last, taken) in RANGES {
+    for (first, last, taken) in &RANGES {
         let mut set = LinkSet::new(rt.alloc())?;
-        set.insert_range(VlId(first), VlId(last));
+        set.insert_range(VlId(*first), VlId(*last));
         let selection = Selection {
             links: Some(set),
             ..everything()
         };
-        is_taken(&rt, &selection, taken, false);
+        is_taken(&rt, &selection, *taken, false);
     }
     let mut set = LinkSet::new(rt.alloc())?;
     set.insert_range(VlId(0), VlId(0));
     set.insert_range(VlId(65535), VlId(65535));
-    for (id, held) in [(0, true), (1, false), (65534, false), (65535, true)] {
-        assert!(rt; set.contains(VlId(id)) == held, "{id}");
+    for (id, held) in &ENDS {
+        assert!(rt; set.contains(VlId(*id)) == *held, "{id}");
     }
     Ok(())
 }
 
-#[test]
-fn networks(rt: HostRuntime) {
-    is_taken(
-        &rt,
-        &Selection {
-            network: Some(Network::A),
-            ..everything()
-        },
-        false,
-        true,
-    );
-    is_taken(
-        &rt,
-        &Selection {
-            network: Some(Network::B),
-            ..everything()
-        },
-        true,
-        false,
-    );
-}
-
 /// Words, and whether the copy and the runt are taken.
-const WORDS: [(&str, bool, bool); 10] = [
+const WORDS: [(&str, bool, bool); 12] = [
+    ("faults", false, true),
+    ("faults,copy", true, true),
     ("copy", true, false),
     ("next", true, false),
     ("within", true, false),
@@ -138,7 +250,7 @@ const WORDS: [(&str, bool, bool); 10] = [
 
 #[test]
 fn words(rt: HostRuntime) -> Result<(), Fail> {
-    for (text, copy, runt) in WORDS {
+    for (text, copy, runt) in &WORDS {
         let named = read_words(rt.alloc(), text)?;
         is_taken(
             &rt,
@@ -146,8 +258,8 @@ fn words(rt: HostRuntime) -> Result<(), Fail> {
                 words: Some(named),
                 ..everything()
             },
-            copy,
-            runt,
+            *copy,
+            *runt,
         );
     }
     is_taken(
@@ -159,110 +271,6 @@ fn words(rt: HostRuntime) -> Result<(), Fail> {
         false,
         false,
     );
-    Ok(())
-}
-
-/// Moments from which frames are taken, and whether both frames are.
-const FROM: [(Moment, bool); 7] = [
-    (Moment::At(Stamp(NOW)), true),
-    (Moment::At(Stamp(NOW - 1)), true),
-    (Moment::At(Stamp(NOW + 1)), false),
-    (Moment::OfDay(3 * HOUR), true),
-    (Moment::OfDay(3 * HOUR + 1), false),
-    (Moment::OfDay(0), true),
-    (Moment::OfDay(u64::MAX), false),
-];
-
-/// Moments to which frames are taken, and whether both frames are.
-const TO: [(Moment, bool); 6] = [
-    (Moment::At(Stamp(NOW)), true),
-    (Moment::At(Stamp(NOW - 1)), false),
-    (Moment::At(Stamp(NOW + 1)), true),
-    (Moment::OfDay(3 * HOUR), true),
-    (Moment::OfDay(3 * HOUR - 1), false),
-    (Moment::OfDay(u64::MAX), true),
-];
-
-#[test]
-fn moments(rt: HostRuntime) {
-    for (from, taken) in FROM {
-        is_taken(
-            &rt,
-            &Selection {
-                from: Some(from),
-                ..everything()
-            },
-            taken,
-            taken,
-        );
-    }
-    for (to, taken) in TO {
-        is_taken(
-            &rt,
-            &Selection {
-                to: Some(to),
-                ..everything()
-            },
-            taken,
-            taken,
-        );
-    }
-}
-
-/// Masks of filters, and whether the copy is taken.
-const MASKS: [(u8, bool); 7] = [
-    (1, true),
-    (2, false),
-    (4, true),
-    (5, true),
-    (7, true),
-    (250, false),
-    (255, true),
-];
-
-#[test]
-fn filters(rt: HostRuntime) {
-    for (mask, taken) in MASKS {
-        is_taken(
-            &rt,
-            &Selection {
-                filters: Some(mask),
-                ..everything()
-            },
-            taken,
-            false,
-        );
-    }
-}
-
-/// Each word, and what it names.
-const NAMED: [(&str, Word); 18] = [
-    ("cut", Word::Class(Class::Cut)),
-    ("runt", Word::Class(Class::Runt)),
-    ("oversize", Word::Class(Class::Oversize)),
-    ("foreign", Word::Class(Class::Foreign)),
-    ("unconfigured", Word::Class(Class::Unconfigured)),
-    ("toolong", Word::Class(Class::TooLong)),
-    ("regular", Word::Class(Class::Regular)),
-    ("within", Word::Policing(Policing::Within)),
-    ("excess", Word::Policing(Policing::Excess)),
-    ("first", Word::Integrity(Integrity::First)),
-    ("reset", Word::Integrity(Integrity::Reset)),
-    ("next", Word::Integrity(Integrity::Next)),
-    ("skip", Word::Integrity(Integrity::Skip)),
-    ("off", Word::Integrity(Integrity::Off)),
-    ("out", Word::Integrity(Integrity::Out)),
-    ("deliver", Word::Redundancy(Redundancy::Deliver)),
-    ("copy", Word::Redundancy(Redundancy::Copy)),
-    ("both", Word::Redundancy(Redundancy::Both)),
-];
-
-#[test]
-fn words_from_text(rt: HostRuntime) -> Result<(), Fail> {
-    for (text, word) in NAMED {
-        let named = read_words(rt.alloc(), text)?;
-        assert!(rt; named.as_slice() == [word].as_slice(), "{text}");
-    }
     Ok(())
 }
 
@@ -279,14 +287,42 @@ const DISCARDED: [Word; 9] = [
     Word::Redundancy(Redundancy::Copy),
 ];
 
+/// Each word, and what it names.
+const NAMED: [(&str, &[Word]); 20] = [
+    ("cut", &[Word::Class(Class::Cut)]),
+    ("runt", &[Word::Class(Class::Runt)]),
+    ("oversize", &[Word::Class(Class::Oversize)]),
+    ("foreign", &[Word::Class(Class::Foreign)]),
+    ("unconfigured", &[Word::Class(Class::Unconfigured)]),
+    ("toolong", &[Word::Class(Class::TooLong)]),
+    ("regular", &[Word::Class(Class::Regular)]),
+    ("within", &[Word::Policing(Policing::Within)]),
+    ("excess", &[Word::Policing(Policing::Excess)]),
+    ("first", &[Word::Integrity(Integrity::First)]),
+    ("reset", &[Word::Integrity(Integrity::Reset)]),
+    ("next", &[Word::Integrity(Integrity::Next)]),
+    ("skip", &[Word::Integrity(Integrity::Skip)]),
+    ("off", &[Word::Integrity(Integrity::Off)]),
+    ("out", &[Word::Integrity(Integrity::Out)]),
+    ("deliver", &[Word::Redundancy(Redundancy::Deliver)]),
+    ("copy", &[Word::Redundancy(Redundancy::Copy)]),
+    ("both", &[Word::Redundancy(Redundancy::Both)]),
+    ("discarded", &DISCARDED),
+    (
+        "delivered",
+        &[
+            Word::Redundancy(Redundancy::Deliver),
+            Word::Redundancy(Redundancy::Both),
+        ],
+    ),
+];
+
 #[test]
-fn groups_of_words(rt: HostRuntime) -> Result<(), Fail> {
-    let delivered = [
-        Word::Redundancy(Redundancy::Deliver),
-        Word::Redundancy(Redundancy::Both),
-    ];
-    assert!(rt; read_words(rt.alloc(), "discarded")?.as_slice() == DISCARDED.as_slice());
-    assert!(rt; read_words(rt.alloc(), "delivered")?.as_slice() == delivered.as_slice());
+fn words_from_text(rt: HostRuntime) -> Result<(), Fail> {
+    for (text, words) in &NAMED {
+        let named = read_words(rt.alloc(), text)?;
+        assert!(rt; named.as_slice() == *words, "{text}");
+    }
     Ok(())
 }
 
@@ -304,48 +340,67 @@ const WRONG_WORDS: [(&str, usize); 8] = [
 
 #[test]
 fn wrong_words(rt: HostRuntime) {
-    for (text, index) in WRONG_WORDS {
-        match read_words(rt.alloc(), text) {
-            Ok(_) => assert!(rt; false, "{text}"),
-            Err(fault) => assert!(rt; fault == WordFault::Item(index), "{text}"),
-        }
+    for (text, index) in &WRONG_WORDS {
+        let fault = read_words(rt.alloc(), text).err();
+        assert!(rt; fault == Some(WordFault::Item(*index)), "{text}");
     }
 }
 
-/// Texts that are no mask.
-const WRONG_MASKS: [&str; 15] = [
-    "", "0", "00", "g", "1g", "+1", " 1", "001", "100", "/", ":", "@", "G", "`", "0x1",
+/// Texts, and the masks that they are.
+const MASKS: [(&str, Option<u8>); 22] = [
+    ("1", Some(1)),
+    ("9", Some(9)),
+    ("01", Some(1)),
+    ("a", Some(10)),
+    ("F", Some(15)),
+    ("fF", Some(255)),
+    ("80", Some(128)),
+    ("", None),
+    ("0", None),
+    ("00", None),
+    ("g", None),
+    ("1g", None),
+    ("+1", None),
+    (" 1", None),
+    ("001", None),
+    ("100", None),
+    ("/", None),
+    (":", None),
+    ("@", None),
+    ("G", None),
+    ("`", None),
+    ("0x1", None),
 ];
 
 #[test]
 fn masks(rt: HostRuntime) {
-    assert!(rt; read_mask("1") == Some(1));
-    assert!(rt; read_mask("9") == Some(9));
-    assert!(rt; read_mask("01") == Some(1));
-    assert!(rt; read_mask("a") == Some(10));
-    assert!(rt; read_mask("F") == Some(15));
-    assert!(rt; read_mask("fF") == Some(255));
-    assert!(rt; read_mask("80") == Some(128));
-    for text in WRONG_MASKS {
-        assert!(rt; read_mask(text) == None, "{text}");
+    for (text, mask) in &MASKS {
+        assert!(rt; read_mask(text) == *mask, "{text}");
     }
 }
 
+/// Patterns, names, and whether the name is one of the pattern's.
+const PATTERNS: [(&[u8], &[u8], bool); 15] = [
+    (b"engine_1", b"engine_1", true),
+    (b"engine_1", b"engine_2", false),
+    (b"engine_*", b"engine_1", true),
+    (b"engine_1*", b"engine_1", true),
+    (b"*", b"", true),
+    (b"", b"", true),
+    (b"", b"a", false),
+    (b"*_*", b"engine_1", true),
+    (b"*a*b*", b"aab", true),
+    (b"*b*a", b"aab", false),
+    (b"a*ba", b"ababa", true),
+    (b"**", b"aab", true),
+    (b"*b", b"aaaaaaaaaaaaaaaaaaaaaaaaaaaaaaab", true),
+    (b"engine", b"engine_1", false),
+    (b"engine_1", b"engine", false),
+];
+
 #[test]
 fn patterns(rt: HostRuntime) {
-    assert!(rt; matches(b"engine_1", b"engine_1"));
-    assert!(rt; !matches(b"engine_1", b"engine_2"));
-    assert!(rt; matches(b"engine_*", b"engine_1"));
-    assert!(rt; matches(b"engine_1*", b"engine_1"));
-    assert!(rt; matches(b"*", b""));
-    assert!(rt; matches(b"", b""));
-    assert!(rt; !matches(b"", b"a"));
-    assert!(rt; matches(b"*_*", b"engine_1"));
-    assert!(rt; matches(b"*a*b*", b"aab"));
-    assert!(rt; !matches(b"*b*a", b"aab"));
-    assert!(rt; matches(b"a*ba", b"ababa"));
-    assert!(rt; matches(b"**", b"aab"));
-    assert!(rt; matches(b"*b", b"aaaaaaaaaaaaaaaaaaaaaaaaaaaaaaab"));
-    assert!(rt; !matches(b"engine", b"engine_1"));
-    assert!(rt; !matches(b"engine_1", b"engine"));
+    for (index, (pattern, name, matched)) in PATTERNS.iter().enumerate() {
+        assert!(rt; matches(pattern, name) == *matched, "{index}");
+    }
 }

@@ -2,16 +2,17 @@ use Rattle.std.proofs.Common.{ap, inl, inr, refl, sym, subst, ◌≡◌, ◌∙�
 use Rattle.std.proofs.lemmas.Result.{err_from_is_err_and}
 use Rattle.clap.specs.Kinds.{Kinds}
 use Rattle.clap.specs.Words.{App, HasKind, fault_of, is_simple, is_simple_and_free, subcommand_of, takes}
-use Rattle.command_line.specs.Arguments.{afdxmon_app, meant_asked, meant_in, misuse_kinds}
+use Rattle.command_line.specs.Arguments.{meant_asked, meant_in, misuse_kinds}
+use Rattle.command_line.specs.Options.{afdxmon_app}
 use Rattle.command_line.proofs.Refusing.{has_a_kind, of_first, of_neither, of_second}
 use Rattle.command_line.proofs.arguments.read_arguments.Goals as goal
 
 is_free : is_simple_and_free afdxmon_app ≡ true
-unfolding afdxmon_app Rattle.command_line.specs.Arguments.capture_app Rattle.command_line.specs.Arguments.watch_app Rattle.command_line.specs.Arguments.debug_app Rattle.command_line.specs.Arguments.cut_app Rattle.command_line.specs.Arguments.links_app Rattle.command_line.specs.Arguments.report_app Rattle.command_line.specs.Arguments.check_app
+unfolding afdxmon_app
 is_free = refl
 
 simple : is_simple afdxmon_app ≡ true
-unfolding afdxmon_app Rattle.command_line.specs.Arguments.capture_app Rattle.command_line.specs.Arguments.watch_app Rattle.command_line.specs.Arguments.debug_app Rattle.command_line.specs.Arguments.cut_app Rattle.command_line.specs.Arguments.links_app Rattle.command_line.specs.Arguments.report_app Rattle.command_line.specs.Arguments.check_app
+unfolding afdxmon_app
 simple = refl
 
 pub returns-in_err-matches-clause-refused : goal.returns-in_err-matches-clause-refused

@@ -1,4 +1,4 @@
-use Rattle.std.proofs.Common.{ℕ, List, inl, refl, subst, sym}
+use Rattle.std.proofs.Common.{ℕ, List, [], inl, refl, subst, sym}
 use Rattle.std.specs.Io.KnownBytes.{Appends}
 use Rattle.pcap_io.specs.Writer.{sink_of}
 use Rattle.run_outcome.specs.Device.{sink_at, source_at}
@@ -25,7 +25,7 @@ returns-in-Err-begin g c = λ around noted.
 
 pub returns : goal.returns
 returns g c = λ around noted.
-    (let choice : Choice = record { selection = c.args.selection.now; around = around } in
+    (let choice : Choice = record { selection = c.args.selection.now; around = around; skips = c.args.skips } in
     let before = devices_at g.L.TapSource g.S.TapSource g.T.TapSource g.W.OutSink c.args.ledger c.args.a c.args.b c.args.output in
     let wrote = c.in-Ok-begin.ensures.written in
     rw (c.into_source-2.ensures, c.into_devices-a.ensures.devices)
@@ -34,7 +34,9 @@ returns g c = λ around noted.
     (c.cut_lines-outcome.ensures around before (record {
       read = reads_nothing g.L.TapSource c.args.ledger c.in-Ok.reader c.in-Ok.ensures.source c.in-Ok.ensures.unread c.in-Ok.ensures.start;
       took = record {
+        found = [];
         named = c.in-Ok-open.ensures.opened;
+        spread = refl;
         takes = refl;
         asked = c.new-2.ensures c.args.selection.now around noted;
         written = subst (λ (x : List ℕ). Appends before.output.contents (g.W.OutSink.contents (sink_of c.in-Ok-begin.writer)) x) (sym empty_capture) wrote.complete;

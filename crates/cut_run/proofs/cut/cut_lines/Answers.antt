@@ -1,7 +1,6 @@
 use Rattle.std.proofs.Common.{refl}
 use Rattle.std.proofs.lemmas.Result.{err_from_is_err_and}
 use Rattle.ledger_text.specs.Ledger.{frame_lines, lent_of}
-use Rattle.ledger_text.specs.Lines.{unread_of}
 use Rattle.ledger_text.specs.declared.order.LedgerLine.TheVariants as lines
 use Rattle.cut_run.specs.Lines.{Choice}
 use Rattle.cut_run.proofs.Ledgers.{ends_complete, ends_incomplete, few_before, frame_cut, frame_stops, ledger_stops, other_cut}
@@ -10,7 +9,7 @@ use Rattle.cut_run.proofs.cut.cut_lines.Goals as goal
 pub loop-line-preserved-in-Continue-1 : goal.loop-line-preserved-in-Continue-1
 loop-line-preserved-in-Continue-1 g c = record {
   cut = λ around before begun.
-      (let choice : Choice = record { selection = c.args.selection.now; around = around } in
+      (let choice : Choice = record { selection = c.args.selection.now; around = around; skips = c.args.skips } in
       let at = c.loop-line.invariant.cut around before begun in
       let found = rw (c.in-Ok-Line-Frame.field-0-is, c.in-Ok-Line-Frame.field-0-0-is) at (c.in-Ok-Line-Frame.ensures.found c.loop-line.invariant.sound) in
       let more = c.in_ok-cut_line-in-Ok-Line-Frame.ensures.cut around before.a before.b before.output (frame_lines at.0) at.1 at.2 at.3 at.4
@@ -24,7 +23,7 @@ loop-line-preserved-in-Continue-1 g c = record {
 pub returns-in_err-cut_line-in-Ok-Line-Frame : goal.returns-in_err-cut_line-in-Ok-Line-Frame
 returns-in_err-cut_line-in-Ok-Line-Frame g c = λ around before begun.
     (let p = err_from_is_err_and c.from_residual.result c.from_residual.ensures.1 in
-    let choice : Choice = record { selection = c.args.selection.now; around = around } in
+    let choice : Choice = record { selection = c.args.selection.now; around = around; skips = c.args.skips } in
     let at = c.loop-line.invariant.cut around before begun in
     let found = rw (c.in-Ok-Line-Frame.field-0-is, c.in-Ok-Line-Frame.field-0-0-is) at (c.in-Ok-Line-Frame.ensures.found c.loop-line.invariant.sound) in
     let stops = rw c.number.ensures at (c.in_err-cut_line-in-Ok-Line-Frame.ensures.cut around before.a before.b before.output (frame_lines at.0) at.1 at.2 at.3 at.4
@@ -36,7 +35,7 @@ returns-in_err-cut_line-in-Ok-Line-Frame g c = λ around before begun.
 pub loop-line-preserved-in-Ok-Line-Head : goal.loop-line-preserved-in-Ok-Line-Head
 loop-line-preserved-in-Ok-Line-Head g c = record {
   cut = λ around before begun.
-      (let choice : Choice = record { selection = c.args.selection.now; around = around } in
+      (let choice : Choice = record { selection = c.args.selection.now; around = around; skips = c.args.skips } in
       let at = c.loop-line.invariant.cut around before begun in
       let found = rw (c.in-Ok-Line-Head.field-0-is, c.in-Ok-Line-Head.field-0-0-is) at (c.in-Ok-Line-Head.ensures.found c.loop-line.invariant.sound) in
       other_cut g.L.TapSource g.S.TapSource g.T.TapSource g.W.OutSink choice before at.0 at.1 at.2 at.3 at.4 c.loop-line.ledger c.advance.new.self
@@ -48,7 +47,7 @@ loop-line-preserved-in-Ok-Line-Head g c = record {
 pub loop-line-preserved : goal.loop-line-preserved
 loop-line-preserved g c = record {
   cut = λ around before begun.
-      (let choice : Choice = record { selection = c.args.selection.now; around = around } in
+      (let choice : Choice = record { selection = c.args.selection.now; around = around; skips = c.args.skips } in
       let at = c.loop-line.invariant.cut around before begun in
       let found = rw (c.in-Ok-Line-Counts.field-0-is, c.in-Ok-Line-Counts.field-0-0-is) at (c.in-Ok-Line-Counts.ensures.found c.loop-line.invariant.sound) in
       other_cut g.L.TapSource g.S.TapSource g.T.TapSource g.W.OutSink choice before at.0 at.1 at.2 at.3 at.4 c.loop-line.ledger c.advance.new.self
@@ -59,22 +58,22 @@ loop-line-preserved g c = record {
 
 pub returns-in-Ok-Complete : goal.returns-in-Ok-Complete
 returns-in-Ok-Complete g c = λ around before begun.
-    (let choice : Choice = record { selection = c.args.selection.now; around = around } in
+    (let choice : Choice = record { selection = c.args.selection.now; around = around; skips = c.args.skips } in
     let at = c.loop-line.invariant.cut around before begun in
     ends_complete g.L.TapSource g.S.TapSource g.T.TapSource g.W.OutSink choice before at.0 at.1 at.2 at.3 at.4 c.loop-line.ledger c.advance.new.self
     c.loop-line.taking (rw c.in-Ok-Complete.field-0-is at (c.in-Ok-Complete.ensures.found c.loop-line.invariant.sound)) at.5)
 
 pub returns-in-Ok-Incomplete : goal.returns-in-Ok-Incomplete
 returns-in-Ok-Incomplete g c = λ around before begun.
-    (let choice : Choice = record { selection = c.args.selection.now; around = around } in
+    (let choice : Choice = record { selection = c.args.selection.now; around = around; skips = c.args.skips } in
     let at = c.loop-line.invariant.cut around before begun in
     ends_incomplete g.L.TapSource g.S.TapSource g.T.TapSource g.W.OutSink choice before at.0 at.1 at.2 at.3 at.4 c.loop-line.ledger c.advance.new.self
     c.loop-line.taking (rw c.in-Ok-Incomplete.field-0-is at (c.in-Ok-Incomplete.ensures.found c.loop-line.invariant.sound)) at.5)
 
 pub returns-in-Err : goal.returns-in-Err
 returns-in-Err g c = λ around before begun.
-    (let choice : Choice = record { selection = c.args.selection.now; around = around } in
+    (let choice : Choice = record { selection = c.args.selection.now; around = around; skips = c.args.skips } in
     let at = c.loop-line.invariant.cut around before begun in
     rw c.ledger_fault.ensures
     (ledger_stops g.L.TapSource g.S.TapSource g.T.TapSource g.W.OutSink choice before at.0 at.1 at.2 at.3 at.4 c.loop-line.ledger c.advance.new.self
-    c.loop-line.taking (lent_of c.advance.new.self) (unread_of c.advance.new.self.lines) c.in-Err.fault at.5 (c.in-Err.ensures.fault c.loop-line.invariant.sound)))
+    c.loop-line.taking (lent_of c.advance.new.self) c.in-Err.fault at.5 (c.in-Err.ensures.fault c.loop-line.invariant.sound)))

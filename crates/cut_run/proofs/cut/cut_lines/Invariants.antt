@@ -13,9 +13,9 @@ abbrev pub invariant-loop-line : goal.invariant-loop-line
 invariant-loop-line g l =
     record {
       cut : (around : Option Around) (before : CutDevices)
-          → HasCut g.L.TapSource g.S.TapSource g.T.TapSource g.W.OutSink (record { selection = l.selection; around = around }) before [] [] [] [] [] l.fn.ledger l.fn.taking
+          → HasCut g.L.TapSource g.S.TapSource g.T.TapSource g.W.OutSink (record { selection = l.selection; around = around; skips = l.skips }) before [] [] [] [] [] l.fn.ledger l.fn.taking
           → (rs : List ReadLine) × (fs : List Frame) × (taken : List Frame) × (fa : List Frame) × (fb : List Frame)
-          × HasCut g.L.TapSource g.S.TapSource g.T.TapSource g.W.OutSink (record { selection = l.selection; around = around }) before rs fs taken fa fb l.ledger l.taking;
+          × HasCut g.L.TapSource g.S.TapSource g.T.TapSource g.W.OutSink (record { selection = l.selection; around = around; skips = l.skips }) before rs fs taken fa fb l.ledger l.taking;
       sound : ledger_failed l.ledger ≡ false;
       going : has_failed l.taking.output ≡ false;
     }

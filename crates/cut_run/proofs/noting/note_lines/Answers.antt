@@ -1,6 +1,5 @@
 use Rattle.std.proofs.Common.{◌++◌, ◌∷◌, [], ℕ, None, refl, subst, sym}
 use Rattle.ledger_text.specs.Ledger.{frame_lines, lent_of}
-use Rattle.ledger_text.specs.Lines.{unread_of}
 use Rattle.ledger_text.specs.declared.order.LedgerLine.TheVariants as lines
 use Rattle.line_selection.specs.Neighbours.{HasNoted}
 use Rattle.cut_run.proofs.Ledgers.{few_before}
@@ -68,4 +67,4 @@ returns-in-Err g c = λ count before begun.
     (let at = c.loop-line.invariant.noted count before begun in
     rw c.ledger_fault.ensures
     (ledger_stops_noting g.L.TapSource c.args.selection.now count before at.0 c.loop-line.ledger c.advance.new.self c.loop-line.chooser c.loop-line.neighbours
-    (lent_of c.advance.new.self) (unread_of c.advance.new.self.lines) c.in-Err.fault at.1 (c.in-Err.ensures.fault c.loop-line.invariant.sound)))
+    (lent_of c.advance.new.self) c.in-Err.fault at.1 (c.in-Err.ensures.fault c.loop-line.invariant.sound)))

@@ -1,7 +1,6 @@
 use Rattle.std.proofs.Common.{refl}
 use Rattle.std.proofs.lemmas.Result.{err_from_is_err_and}
 use Rattle.ledger_text.specs.Ledger.{frame_lines, lent_of, stage_of}
-use Rattle.ledger_text.specs.Lines.{unread_of}
 use Rattle.ledger_text.specs.declared.order.LedgerLine.TheVariants as lines
 use Rattle.cut_run.specs.Lines.{Choice}
 use Rattle.cut_run.specs.Printed.{frame_texts}
@@ -13,7 +12,7 @@ use Rattle.cut_run.proofs.print.print_all.Goals as goal
 pub loop-line-preserved-in-Continue-1 : goal.loop-line-preserved-in-Continue-1
 loop-line-preserved-in-Continue-1 g c = record {
   printed = λ around before begun.
-      (let choice : Choice = record { selection = c.args.selection.now; around = around } in
+      (let choice : Choice = record { selection = c.args.selection.now; around = around; skips = c.args.skips } in
       let at = c.loop-line.invariant.printed around before begun in
       let v = c.in-Ok-Line-Frame.line in
       let found = rw (c.in-Ok-Line-Frame.field-0-is, c.in-Ok-Line-Frame.field-0-0-is) at (c.in-Ok-Line-Frame.ensures.found c.loop-line.invariant.sound) in
@@ -27,7 +26,7 @@ loop-line-preserved-in-Continue-1 g c = record {
 pub returns-in_err-print_line-in-Ok-Line-Frame : goal.returns-in_err-print_line-in-Ok-Line-Frame
 returns-in_err-print_line-in-Ok-Line-Frame g c = λ around before begun.
     (let p = err_from_is_err_and c.from_residual.result c.from_residual.ensures.1 in
-    let choice : Choice = record { selection = c.args.selection.now; around = around } in
+    let choice : Choice = record { selection = c.args.selection.now; around = around; skips = c.args.skips } in
     let at = c.loop-line.invariant.printed around before begun in
     let v = c.in-Ok-Line-Frame.line in
     let found = rw (c.in-Ok-Line-Frame.field-0-is, c.in-Ok-Line-Frame.field-0-0-is) at (c.in-Ok-Line-Frame.ensures.found c.loop-line.invariant.sound) in
@@ -40,7 +39,7 @@ returns-in_err-print_line-in-Ok-Line-Frame g c = λ around before begun.
 pub loop-line-preserved-in-Ok-Line-Head : goal.loop-line-preserved-in-Ok-Line-Head
 loop-line-preserved-in-Ok-Line-Head g c = record {
   printed = λ around before begun.
-      (let choice : Choice = record { selection = c.args.selection.now; around = around } in
+      (let choice : Choice = record { selection = c.args.selection.now; around = around; skips = c.args.skips } in
       let at = c.loop-line.invariant.printed around before begun in
       let found = rw (c.in-Ok-Line-Head.field-0-is, c.in-Ok-Line-Head.field-0-0-is) at (c.in-Ok-Line-Head.ensures.found c.loop-line.invariant.sound) in
       other_printed g.L.TapSource g.S.TapSource g.T.TapSource g.W.OutSink choice before at.0 at.1 c.loop-line.ledger c.advance.new.self
@@ -51,7 +50,7 @@ loop-line-preserved-in-Ok-Line-Head g c = record {
 pub loop-line-preserved : goal.loop-line-preserved
 loop-line-preserved g c = record {
   printed = λ around before begun.
-      (let choice : Choice = record { selection = c.args.selection.now; around = around } in
+      (let choice : Choice = record { selection = c.args.selection.now; around = around; skips = c.args.skips } in
       let at = c.loop-line.invariant.printed around before begun in
       let found = rw (c.in-Ok-Line-Counts.field-0-is, c.in-Ok-Line-Counts.field-0-0-is) at (c.in-Ok-Line-Counts.ensures.found c.loop-line.invariant.sound) in
       other_printed g.L.TapSource g.S.TapSource g.T.TapSource g.W.OutSink choice before at.0 at.1 c.loop-line.ledger c.advance.new.self
@@ -61,7 +60,7 @@ loop-line-preserved g c = record {
 
 pub returns-in-Ok-Complete : goal.returns-in-Ok-Complete
 returns-in-Ok-Complete g c = λ around before begun.
-    (let choice : Choice = record { selection = c.args.selection.now; around = around } in
+    (let choice : Choice = record { selection = c.args.selection.now; around = around; skips = c.args.skips } in
     let at = c.loop-line.invariant.printed around before begun in
     let found = rw c.in-Ok-Complete.field-0-is at (c.in-Ok-Complete.ensures.found c.loop-line.invariant.sound) in
     ends_printing g.L.TapSource g.S.TapSource g.T.TapSource g.W.OutSink choice before at.0 at.1 c.loop-line.ledger c.advance.new.self
@@ -69,7 +68,7 @@ returns-in-Ok-Complete g c = λ around before begun.
 
 pub returns-in-Ok-Incomplete : goal.returns-in-Ok-Incomplete
 returns-in-Ok-Incomplete g c = λ around before begun.
-    (let choice : Choice = record { selection = c.args.selection.now; around = around } in
+    (let choice : Choice = record { selection = c.args.selection.now; around = around; skips = c.args.skips } in
     let at = c.loop-line.invariant.printed around before begun in
     let found = rw c.in-Ok-Incomplete.field-0-is at (c.in-Ok-Incomplete.ensures.found c.loop-line.invariant.sound) in
     ends_printing g.L.TapSource g.S.TapSource g.T.TapSource g.W.OutSink choice before at.0 at.1 c.loop-line.ledger c.advance.new.self
@@ -77,8 +76,8 @@ returns-in-Ok-Incomplete g c = λ around before begun.
 
 pub returns-in-Err : goal.returns-in-Err
 returns-in-Err g c = λ around before begun.
-    (let choice : Choice = record { selection = c.args.selection.now; around = around } in
+    (let choice : Choice = record { selection = c.args.selection.now; around = around; skips = c.args.skips } in
     let at = c.loop-line.invariant.printed around before begun in
     rw c.ledger_fault.ensures
     (ledger_stops_printing g.L.TapSource g.S.TapSource g.T.TapSource g.W.OutSink choice before at.0 at.1 c.loop-line.ledger c.advance.new.self
-    c.loop-line.printing (lent_of c.advance.new.self) (unread_of c.advance.new.self.lines) c.in-Err.fault at.2 (c.in-Err.ensures.fault c.loop-line.invariant.sound)))
+    c.loop-line.printing (lent_of c.advance.new.self) c.in-Err.fault at.2 (c.in-Err.ensures.fault c.loop-line.invariant.sound)))

@@ -10,9 +10,9 @@ abbrev pub invariant-loop-line : goal.invariant-loop-line
 invariant-loop-line g l =
     record {
       printed : (around : Option Around) (before : LineDevices)
-          → HasPrintedLedger g.L.TapSource g.S.TapSource g.T.TapSource g.W.OutSink (record { selection = l.selection; around = around }) before [] [] l.fn.ledger l.fn.printing
+          → HasPrintedLedger g.L.TapSource g.S.TapSource g.T.TapSource g.W.OutSink (record { selection = l.selection; around = around; skips = l.skips }) before [] [] l.fn.ledger l.fn.printing
           → (rs : List ReadLine) × (printed : List (List ℕ))
-          × HasPrintedLedger g.L.TapSource g.S.TapSource g.T.TapSource g.W.OutSink (record { selection = l.selection; around = around }) before rs printed l.ledger l.printing;
+          × HasPrintedLedger g.L.TapSource g.S.TapSource g.T.TapSource g.W.OutSink (record { selection = l.selection; around = around; skips = l.skips }) before rs printed l.ledger l.printing;
       sound : ledger_failed l.ledger ≡ false;
     }
 

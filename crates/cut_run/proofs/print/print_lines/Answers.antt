@@ -8,14 +8,14 @@ use Rattle.cut_run.proofs.print.print_lines.Goals.{in-None, in-Some+in-Ok-open}
 
 pub returns-in-Err-open : goal.returns-in-Err-open
 returns-in-Err-open g c = λ around noted.
-    (let choice : Choice = record { selection = c.args.selection.now; around = around } in
+    (let choice : Choice = record { selection = c.args.selection.now; around = around; skips = c.args.skips } in
     lines_refused g.L.TapSource g.S.TapSource g.T.TapSource g.W.OutSink choice c.in-Err-open.field-0.fault c.args.ledger c.into_source.result c.args.recordings
     c.in-Some.a c.in-Err-open.field-0.a c.in-Some.b c.in-Err-open.field-0.b c.args.output (c.into_source.ensures ∙ c.in-Ok.ensures.source) c.in-Some.is
     c.in-Err-open.ensures.refused)
 
 pub returns : goal.returns
 returns g c = λ around noted.
-    (let choice : Choice = record { selection = c.args.selection.now; around = around } in
+    (let choice : Choice = record { selection = c.args.selection.now; around = around; skips = c.args.skips } in
     let before = line_devices_at g.L.TapSource g.S.TapSource g.T.TapSource g.W.OutSink c.args.ledger c.args.recordings c.args.output in
     rw (c.into_source-2.ensures, c.into_devices-recordings.ensures.output)
     (c.print_all-outcome.ensures around before

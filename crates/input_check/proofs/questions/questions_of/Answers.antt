@@ -3,7 +3,7 @@ use Rattle.std.proofs.Common.{◌≡◌, ◌∙◌, ◌++◌, ◌||◌, List, []
 use Rattle.std.proofs.lemmas.Bool.{both_ways}
 use Rattle.std.proofs.lemmas.List.{append-nil}
 use Rattle.input_check.specs.Parts.{pairs_in}
-use Rattle.input_check.specs.Questions.{AsksClocks, has_checks, is_settled, of_networks, overlap_in}
+use Rattle.input_check.specs.Questions.{AsksClocks, has_checks, is_settled, of_classes, of_networks, overlap_in}
 use Rattle.input_check.specs.Taps.{are_same}
 use Rattle.input_check.specs.declared.decide.Overlap.{Overlap}
 use Rattle.input_check.specs.declared.questions.Question.{Question}
@@ -24,8 +24,12 @@ returns c =
     c.is_settled.ensures ∙ ap (λ t. t || are_same c.tap-a.result.now c.tap-b.result.now) c.in_ok-has_checks.ensures.checks
     ∙ ap (λ (t : TapTally). (has_checks inputs.a || has_checks inputs.b) || are_same t c.tap-b.result.now) c.tap-a.ensures
     ∙ ap (λ (t : TapTally). (has_checks inputs.a || has_checks inputs.b) || are_same inputs.a t) c.tap-b.ensures in
-    let asked : c.ask_of_frames.new.questions.items ≡ of_networks inputs.a inputs.b (overlap_in c.args.look) ++ frames.asked =
-    frames.appended ∙ ap (λ (l : List Question). l ++ frames.asked) networks in
+    let before = of_networks inputs.a inputs.b (overlap_in c.args.look) in
+    let classes = of_classes inputs.a inputs.b in
+    let asked : c.ask_of_classes.new.questions.items ≡ before ++ (frames.asked ++ classes) =
+    c.in_ok-ask_of_classes.ensures ∙ ap (λ (l : List Question). l ++ of_classes c.tap-a.result.now c.tap-b.result.now) (frames.appended ∙ ap (λ (l : List Question). l ++ frames.asked) networks)
+    ∙ ap (λ (t : TapTally). (before ++ frames.asked) ++ of_classes t c.tap-b.result.now) c.tap-a.ensures ∙ ap (λ (t : TapTally). (before ++ frames.asked) ++ of_classes inputs.a t) c.tap-b.ensures
+    ∙ append_assoc before frames.asked classes in
     elim c.if-not-is_settled.branch [
       | then-not-is_settled+in_ok-ask_of_clocks w ↦
           let clocks = w.in_ok-ask_of_clocks.ensures in
@@ -36,7 +40,8 @@ returns c =
             settled = λ is. absurd (both_ways c.is_settled.result w.if-not-is_settled.true (settled ∙ is));
             open_is = λ _. subst (λ (o : Option Overlap). AsksClocks (pairs_in inputs) o clocks.asked) overlap clocks.asks;
             are = ap (λ (v : _). v.items) w.questions-is ∙ clocks.appended ∙ ap (λ (l : List Question). l ++ clocks.asked) asked
-                ∙ append_assoc (of_networks inputs.a inputs.b (overlap_in c.args.look)) frames.asked clocks.asked;
+                ∙ append_assoc before (frames.asked ++ classes) clocks.asked
+                ∙ ap (λ (l : List Question). before ++ l) (append_assoc frames.asked classes clocks.asked);
           }
       | else-not-is_settled w ↦ record {
         frames = frames.asked;
@@ -44,6 +49,6 @@ returns c =
         frames_are = frames.asks;
         settled = λ _. refl;
         open_is = λ is. absurd (both_ways c.is_settled.result (settled ∙ is) w.if-not-is_settled.false);
-        are = ap (λ (v : _). v.items) w.questions-is ∙ asked ∙ ap (λ (l : List Question). of_networks inputs.a inputs.b (overlap_in c.args.look) ++ l) (sym (append-nil frames.asked));
+        are = ap (λ (v : _). v.items) w.questions-is ∙ asked ∙ ap (λ (l : List Question). before ++ (frames.asked ++ l)) (sym (append-nil classes));
       }
     ]

@@ -7,7 +7,7 @@ use Rattle.vl_judge.specs.Judgement.{is_regular, is_within}
 use Rattle.verdict_ledger.specs.Text.{network_word, class_word, policing_word, integrity_word, redundancy_word, mask_text, is_addressed}
 use Rattle.ledger_text.specs.Fields.{first_field, next_fields, fields_of, left_of}
 use Rattle.ledger_text.specs.Reads.{Any, Below, Optional, dash_or}
-use Rattle.ledger_text.specs.FrameText.{link_fits, link_text, stamp_bound}
+use Rattle.ledger_text.specs.FrameText.{IsMaskOf, link_fits, link_text, stamp_bound}
 use Rattle.ledger_text.specs.declared.fault.FrameFault.TheVariants as faults
 use Rattle.ledger_text.proofs.Spelling.{make}
 use Rattle.ledger_text.proofs.Faults.{got, missed, told, whole, fits, fault_stamp, fault_network, fault_index, fault_link, fault_sequence, fault_class, fault_policing, fault_integrity, fault_redundancy, fault_kept, fault_mask, fault_fields}
@@ -273,7 +273,7 @@ returns-in_err-mask c =
     let e8 = x8.1 ∙ (c.next-9.ensures.field ∙ ap first_field l8) in
     let x9 = got (λ (x : Option ℕ). IfSome x (Below (2 ^ 32))) (dash_or decimal) c.next-10.result.now c.kept_of.result c.ok_or-10.result c.in_ok-kept.kept c.kept_of.ensures c.ok_or-10.ensures.ok_part c.in_ok-kept.was in
     let e9 = x9.1 ∙ (c.next-10.ensures.field ∙ ap first_field l9) in
-    let none = missed (Below (2 ^ 8)) (mask_text) c.next-11.result.now c.mask_of.result c.ok_or-11.result c.in_err-mask.field-0.0 c.mask_of.ensures c.ok_or-11.ensures.ok_part c.in_err-mask.was in
+    let none = missed (IsMaskOf c.in_ok-kept.kept) (mask_text) c.next-11.result.now c.mask_with.result c.ok_or-11.result c.in_err-mask.field-0.0 c.mask_with.ensures c.ok_or-11.ensures.ok_part c.in_err-mask.was in
     let here = c.next-11.ensures.field ∙ ap first_field l10 in
     told line faults.Mask c.from_residual-in_err-mask.result (search rules) (fault_mask fields c.in_ok-stamp.stamp c.in_ok-network.network c.in_ok-number.number c.in_ok-link.link c.in_ok-sequence.sequence c.in_ok-class.class c.in_ok-policing.policing c.in_ok-integrity.integrity c.in_ok-redundancy.redundancy c.in_ok-kept.kept x0.0 x2.0 x3.0 x4.0 x5.0 x6.0.present x7.0.present x8.0.present x9.0 (e0, (e1, (e2, (e3, (e4, (e5, (e6, (e7, (e8, (e9, tt)))))))))) (λ x h e. none x h (e ∙ sym here)))
 
@@ -313,7 +313,7 @@ returns-then-not-is_at_end c =
     let e8 = x8.1 ∙ (c.next-9.ensures.field ∙ ap first_field l8) in
     let x9 = got (λ (x : Option ℕ). IfSome x (Below (2 ^ 32))) (dash_or decimal) c.next-10.result.now c.kept_of.result c.ok_or-10.result c.in_ok-kept.kept c.kept_of.ensures c.ok_or-10.ensures.ok_part c.in_ok-kept.was in
     let e9 = x9.1 ∙ (c.next-10.ensures.field ∙ ap first_field l9) in
-    let x10 = got (Below (2 ^ 8)) (mask_text) c.next-11.result.now c.mask_of.result c.ok_or-11.result c.in_ok-mask.mask c.mask_of.ensures c.ok_or-11.ensures.ok_part c.in_ok-mask.was in
+    let x10 = got (IsMaskOf c.in_ok-kept.kept) (mask_text) c.next-11.result.now c.mask_with.result c.ok_or-11.result c.in_ok-mask.mask c.mask_with.ensures c.ok_or-11.ensures.ok_part c.in_ok-mask.was in
     let e10 = x10.1 ∙ (c.next-11.ensures.field ∙ ap first_field l10) in
     let more : left_of c.next-11.new.self ≡ [] → ⊥ = c.if-not-is_at_end.ensures in
     fault_fields fields c.in_ok-stamp.stamp c.in_ok-network.network c.in_ok-number.number c.in_ok-link.link c.in_ok-sequence.sequence c.in_ok-class.class c.in_ok-policing.policing c.in_ok-integrity.integrity c.in_ok-redundancy.redundancy c.in_ok-kept.kept c.in_ok-mask.mask x0.0 x2.0 x3.0 x4.0 x5.0 x6.0.present x7.0.present x8.0.present x9.0 x10.0 (e0, (e1, (e2, (e3, (e4, (e5, (e6, (e7, (e8, (e9, (e10, tt))))))))))) (λ e. more (l11 ∙ e))
@@ -354,7 +354,7 @@ returns c =
     let e8 = x8.1 ∙ (c.next-9.ensures.field ∙ ap first_field l8) in
     let x9 = got (λ (x : Option ℕ). IfSome x (Below (2 ^ 32))) (dash_or decimal) c.next-10.result.now c.kept_of.result c.ok_or-10.result c.in_ok-kept.kept c.kept_of.ensures c.ok_or-10.ensures.ok_part c.in_ok-kept.was in
     let e9 = x9.1 ∙ (c.next-10.ensures.field ∙ ap first_field l9) in
-    let x10 = got (Below (2 ^ 8)) (mask_text) c.next-11.result.now c.mask_of.result c.ok_or-11.result c.in_ok-mask.mask c.mask_of.ensures c.ok_or-11.ensures.ok_part c.in_ok-mask.was in
+    let x10 = got (IsMaskOf c.in_ok-kept.kept) (mask_text) c.next-11.result.now c.mask_with.result c.ok_or-11.result c.in_ok-mask.mask c.mask_with.ensures c.ok_or-11.ensures.ok_part c.in_ok-mask.was in
     let e10 = x10.1 ∙ (c.next-11.ensures.field ∙ ap first_field l10) in
     let end : left_of c.next-11.new.self ≡ [] = c.if-not-is_at_end.ensures in
     let fit = fits c.in_ok-stamp.stamp c.in_ok-network.network c.in_ok-number.number c.in_ok-link.link c.in_ok-sequence.sequence c.in_ok-class.class c.in_ok-policing.policing c.in_ok-integrity.integrity c.in_ok-redundancy.redundancy c.in_ok-kept.kept c.in_ok-mask.mask (record { stamp = x0.0; number = x2.0; link = x3.0; sequence = x4.0; class = x5.0; policing = x6.0.present; integrity = x7.0.present; redundancy = x8.0.present; kept = x9.0; mask = x10.0 }) in

@@ -15,6 +15,7 @@ returns-then-has_specified c = λ is seen few counts.
         | then-has_top v ↦ record {
           constant = c.has_top.ensures.constant v.if-has_top.true;
           late = c.has_top.ensures.late v.if-has_top.true;
+          filters = c.has_top.ensures.filters v.if-has_top.true;
           drafted = subst (λ (l : List VirtualLink). AreOfDraft (icd_list (option_copied c.args.sources.now.icd)) seen l) v.links.ensures.value
               (v.are_of_draft.ensures (sym v.value-is ∙ w.if-are_of_draft.true) seen few counts);
           complete = λ id small known. known_either (is_some (specified_of (icd_list (option_copied c.args.sources.now.icd)) id)) (is_among id (kept_links seen)) _ known

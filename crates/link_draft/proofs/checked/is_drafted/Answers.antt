@@ -1,5 +1,6 @@
 -- All that is compared is so.
-use Rattle.std.proofs.Common.{sym, ◌∙◌}
+use Rattle.std.proofs.Common.{◌≡◌, ℕ, List, Option, subst, sym, ◌∙◌}
+use Rattle.link_draft.specs.Drafts.{name_beside}
 use Rattle.link_draft.proofs.Drafting.{differ}
 use Rattle.link_draft.proofs.checked.is_drafted.Goals as goal
 use Rattle.link_draft.proofs.checked.is_drafted.Goals.{then-has_flags, else-has_flags, then-has_numbers, else-has_numbers}
@@ -14,7 +15,7 @@ returns-then-is_bag_of c = λ is frames few seen.
           numbers = c.has_numbers.ensures v.if-has_numbers.true;
           flags = v.has_flags.ensures (sym v.value-is ∙ w.if-has_flags.true);
           bag_is = λ ms e. w.is_bag_of.ensures (sym w.value-is ∙ c.if-is_bag_of.true) ms (w.bag_ms.ensures ∙ e);
-          name = λ name e. c.is_name_of.ensures is name (c.name.ensures ∙ e);
+          name = subst (λ (o : Option (List ℕ)). c.args.link.now.name ≡ name_beside o c.args.link.now.id.0) c.name.ensures (c.is_name_of.ensures is);
         }
         | else-has_numbers v ↦ absurd (differ (sym w.if-has_flags.true ∙ v.value-is ∙ v.if-has_numbers.false))
       ]

@@ -16,3 +16,11 @@ returns-in-Ok-clause-table c = λ wanted frames few counts.
       says = subst (λ (text : List ℕ). IsTableOfText text c.in-Ok.table) c.as_str.ensures.value c.in-Ok.ensures.table;
       drafts = c.is_draft_of.ensures c.if-is_draft_of.true (main_frames main frames) short (main_counts wanted c.args.sources.now.survey.now frames main counts c.main_field-main.ensures);
     })
+
+pub returns-in-Err-clause-refused : goal.returns-in-Err-clause-refused
+returns-in-Err-clause-refused c = λ wanted frames counts.
+    (let main = option_copied c.main_field-main.result in (
+      main,
+      c.main_field-main.ensures,
+      c.have_fault.ensures c.if-have_fault.true (main_frames main frames) (main_counts wanted c.args.sources.now.survey.now frames main counts c.main_field-main.ensures),
+    ))

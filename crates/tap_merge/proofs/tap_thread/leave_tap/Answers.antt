@@ -4,11 +4,11 @@ use Rattle.tap_queue.specs.Ring.{put_items, put_of, reader_of, taken_items}
 use Rattle.tap_merge.proofs.FedTaps.{left_gives}
 use Rattle.tap_merge.proofs.tap_thread.leave_tap.Goals as goal
 
-pub returns-in-Ok : goal.returns-in-Ok
-returns-in-Ok g c =
-    let fed = c.in_ok-join.field-0 in
+pub returns-in-Ok-clause-left : goal.returns-in-Ok-clause-left
+returns-in-Ok-clause-left g c =
+    let fed = c.join.result in
     let reader = reader_of fed in
-    let left = left_gives _ _ (put_items (put_of fed)) (taken_items c.args.end) c.in-Ok.ensures.first (c.in_ok-join.ensures.1, c.in_ok-join.ensures.2) in
+    let left = left_gives _ _ (put_items (put_of fed)) (taken_items c.args.end) c.in-Ok.ensures.first (c.join.ensures.1, c.join.ensures.2) in
     record {
       reading = reading_of g.S.TapSource.remaining g.S.TapSource.failures reader;
       ahead = unread_of reader;

@@ -13,7 +13,6 @@ use Rattle.rtrb.specs.contracts.consumer.Consumer as Consumer
 use Rattle.tap_merge.specs.contracts.parcel.AsPromised as AsPromised
 use Rattle.tap_merge.specs.contracts.parcel.Parcel as Parcel
 use Rattle.tap_merge.proofs.Crossing.{consumer_send, option_send, parcel_send}
-use Rattle.tap_merge.proofs.Delivering.{some_map}
 use Rattle.tap_merge.proofs.tap_thread.start_thread.Lts as Lts
 use Rattle.tap_merge.proofs.tap_thread.start_thread.Goals as goal
 
@@ -31,4 +30,4 @@ spawn_with-requires-send-F g c κs within =
 
 pub spawn_with-requires-clause-keeps : goal.spawn_with-requires-clause-keeps
 spawn_with-requires-clause-keeps g c κs within = λ fed kept.
-    some_map fed (λ x keeps. keeps c.args.promise.reader.value c.args.promise.put.value c.requires) kept.1.1
+    kept.1.1 c.args.promise.reader.value c.args.promise.put.value c.requires

@@ -6,6 +6,7 @@ use Rattle.watch_run.proofs.Returned.{aborted}
 use Rattle.run_outcome.proofs.Results.{with_both, with_ok}
 use Rattle.tap_merge.proofs.TwoTaps.{part_of}
 use Rattle.watch_run.proofs.Watching.{has_begun, none_first, some_filters, stops_by_writing}
+use Rattle.round_output.specs.Filters.{making_of}
 use Rattle.watch_run.proofs.one_thread.sized_watch_whole.Goals as goal
 
 pub returns-in-Err-begin-clause-aborted : goal.returns-in-Err-begin-clause-aborted
@@ -16,15 +17,15 @@ returns-in-Err-begin-clause-aborted g c = rw c.new-in-Err-begin.ensures
     c.late.ensures.value c.in-Ok.ensures.opened in
     inr (
       (some_filters _ _ c.is_empty.ensures c.if-is_empty.false, search rules),
-      inr (aborted c.in-Err-begin.field-0.fault c.args.programs.now c.args.config.now before _ _ _ _ _ (record {
+      inr (aborted c.in-Err-begin.field-0.fault (making_of c.args.plan.now) c.args.config.now before _ _ _ _ _ (record {
         a_left = c.into_sources-a.ensures.a;
         b_left = c.into_sources-a.ensures.b;
         a_failures = c.into_sources-a.ensures.a_failures;
         b_failures = c.into_sources-a.ensures.b_failures;
-      }) (stops_by_writing c.in-Err-begin.field-0.fault c.args.programs.now c.args.config.now before [] [] [] c.in-Ok.taps.merger.pending _ _ _ _
+      }) (stops_by_writing c.in-Err-begin.field-0.fault (making_of c.args.plan.now) c.args.config.now before [] [] [] c.in-Ok.taps.merger.pending _ _ _ _
           (none_first c.args.config.now.late before.a before.b)
           (part_of _ _ _ _ _ _ merged.read_a) (part_of _ _ _ _ _ _ merged.read_b) merged.follows.order merged.read_a.failures merged.read_b.failures
-          (c.in-Err-begin.ensures.stopped c.args.programs.now))),
+          c.in-Err-begin.ensures.stopped)),
     ))
 
 pub write_rounds-requires-clause-begun : goal.write_rounds-requires-clause-begun
@@ -34,7 +35,7 @@ write_rounds-requires-clause-begun g c =
       c.args.config.now,
       before,
       has_begun _ _ _ _ _ c.args.config.now before c.in-Ok.taps c.in-Ok-begin.outputs _ c.late.ensures.value c.in-Ok.ensures.opened
-          (c.in-Ok-begin.ensures.written c.args.programs.now (search rules)) c.in-Ok.ensures.agree c.in-Ok-begin.ensures.capture_going c.in-Ok-begin.ensures.ledger_going,
+          c.in-Ok-begin.ensures.written c.in-Ok.ensures.agree c.in-Ok-begin.ensures.capture_going c.in-Ok-begin.ensures.ledger_going,
     )
 
 pub finish-requires-clause-going : goal.finish-requires-clause-going
@@ -43,23 +44,23 @@ finish-requires-clause-going g c =
     (sink_at g.W.OutSink c.args.capture) (sink_at g.L.OutSink c.args.ledger) in
     (c.in-Ok-write_rounds.ensures.watching c.args.config.now before
     (has_begun _ _ _ _ _ c.args.config.now before c.in-Ok.taps c.in-Ok-begin.outputs _ c.late.ensures.value c.in-Ok.ensures.opened
-    (c.in-Ok-begin.ensures.written c.args.programs.now (search rules)) c.in-Ok.ensures.agree c.in-Ok-begin.ensures.capture_going c.in-Ok-begin.ensures.ledger_going)).ledger_going
+    c.in-Ok-begin.ensures.written c.in-Ok.ensures.agree c.in-Ok-begin.ensures.capture_going c.in-Ok-begin.ensures.ledger_going)).ledger_going
 
 pub returns-in-Err-write_rounds-clause-aborted : goal.returns-in-Err-write_rounds-clause-aborted
 returns-in-Err-write_rounds-clause-aborted g c =
     let before = watch_devices (source_at g.S.TapSource c.args.a) (source_at g.T.TapSource c.args.b)
     (sink_at g.W.OutSink c.args.capture) (sink_at g.L.OutSink c.args.ledger) in
     let begun = has_begun _ _ _ _ _ c.args.config.now before c.in-Ok.taps c.in-Ok-begin.outputs _ c.late.ensures.value c.in-Ok.ensures.opened
-    (c.in-Ok-begin.ensures.written c.args.programs.now (search rules)) c.in-Ok.ensures.agree c.in-Ok-begin.ensures.capture_going c.in-Ok-begin.ensures.ledger_going in
+    c.in-Ok-begin.ensures.written c.in-Ok.ensures.agree c.in-Ok-begin.ensures.capture_going c.in-Ok-begin.ensures.ledger_going in
     with_both c.stopped.result.a c.stopped.result.b _ _
-    (λ a b f. inr ((some_filters _ _ c.is_empty.ensures c.if-is_empty.false, search rules), inr (f c.args.programs.now c.args.config.now before (c.in-Err-write_rounds.ensures.stopped c.args.config.now before begun)))) c.stopped.ensures.aborted
+    (λ a b f. inr ((some_filters _ _ c.is_empty.ensures c.if-is_empty.false, search rules), inr (f (making_of c.args.plan.now) c.args.config.now before (c.in-Err-write_rounds.ensures.stopped c.args.config.now before begun)))) c.stopped.ensures.aborted
 
 pub returns-in-Ok-write_rounds-clause-watched : goal.returns-in-Ok-write_rounds-clause-watched
 returns-in-Ok-write_rounds-clause-watched g c =
     let before = watch_devices (source_at g.S.TapSource c.args.a) (source_at g.T.TapSource c.args.b)
     (sink_at g.W.OutSink c.args.capture) (sink_at g.L.OutSink c.args.ledger) in
     let begun = has_begun _ _ _ _ _ c.args.config.now before c.in-Ok.taps c.in-Ok-begin.outputs _ c.late.ensures.value c.in-Ok.ensures.opened
-    (c.in-Ok-begin.ensures.written c.args.programs.now (search rules)) c.in-Ok.ensures.agree c.in-Ok-begin.ensures.capture_going c.in-Ok-begin.ensures.ledger_going in
+    c.in-Ok-begin.ensures.written c.in-Ok.ensures.agree c.in-Ok-begin.ensures.capture_going c.in-Ok-begin.ensures.ledger_going in
     with_ok c.finish.result _ _
-    (λ done f. f c.args.programs.now c.args.config.now before (c.in-Ok-write_rounds.ensures.watching c.args.config.now before begun)
+    (λ done f. f (making_of c.args.plan.now) c.args.config.now before (c.in-Ok-write_rounds.ensures.watching c.args.config.now before begun)
     (some_filters _ _ c.is_empty.ensures c.if-is_empty.false, search rules)) c.finish.ensures.watched

@@ -3,6 +3,7 @@ use Rattle.std.proofs.lemmas.Result.{err_from_is_err_and}
 use Rattle.tap_merge.proofs.TwoTaps.{part_of}
 use Rattle.watch_run.proofs.Watching.{frames_counted, no_round, room_left, round_follows, some_round, stops_by_merging, stops_by_writing}
 use Rattle.watch_run.proofs.WholeOrder.{cut_is_first}
+use Rattle.round_output.specs.Filters.{making_of}
 use Rattle.watch_run.proofs.one_thread.write_rounds.Goals as goal
 
 pub next_round-requires : goal.next_round-requires
@@ -15,7 +16,7 @@ returns-in_err-round-clause-stopped g c =
     let p = err_from_is_err_and c.from_residual.result c.from_residual.ensures.1 in
     rw (p.1, p.2) (λ vl_table before h.
     (let w = c.loop-entries.invariant.watching vl_table before h in
-    stops_by_merging _ c.args.programs.now vl_table before w.cut _ _ _ _
+    stops_by_merging _ (making_of c.args.plan.now) vl_table before w.cut _ _ _ _
     (cut_is_first _ _ vl_table.late before.a before.b w.frames_a w.frames_b w.cut c.loop-entries.taps w.merged w.agree)
     (c.in_err-round.ensures.stopped vl_table.late before.a before.b w.frames_a w.frames_b w.cut w.merged)
     w.written.packets w.written.lines w.written.capture_failures w.written.ledger_failures))
@@ -36,7 +37,7 @@ write_round-requires-clause-room g c =
     let cut = some_round _ _ _ _ _ _ _ w.cut _ _ _ c.in-Some.round c.deref.result.now m.2 c.in-Some.is c.deref.ensures.value in
     (room_left (begun.0).late (begun.1).a (begun.1).b m.0 m.1 w.cut c.deref.result.now c.next_round.new.self.merger.pending _ _ _ _ _
     cut.read_a.read cut.read_b.read cut.follows.order
-    (frames_counted c.args.programs.now begun.0 w.cut _ w.written.tally.tally.totals))
+    (frames_counted (making_of c.args.plan.now) begun.0 w.cut _ w.written.tally.tally.totals))
 
 pub write_round-requires-clause-capture_going : goal.write_round-requires-clause-capture_going
 write_round-requires-clause-capture_going g c =
@@ -55,7 +56,7 @@ returns-in_err-write_round-clause-stopped g c =
     (let w = c.loop-entries.invariant.watching vl_table before h in
     let m = c.in_ok-round.ensures.merged vl_table.late before.a before.b w.frames_a w.frames_b w.cut w.merged in
     let cut = some_round _ _ _ _ _ _ _ w.cut _ _ _ c.in-Some.round c.deref.result.now m.2 c.in-Some.is c.deref.ensures.value in
-    stops_by_writing _ c.args.programs.now vl_table before m.0 m.1 (w.cut ++ c.deref.result.now) c.next_round.new.self.merger.pending _ _ _ _
+    stops_by_writing _ (making_of c.args.plan.now) vl_table before m.0 m.1 (w.cut ++ c.deref.result.now) c.next_round.new.self.merger.pending _ _ _ _
     (cut_is_first _ _ vl_table.late before.a before.b m.0 m.1 (w.cut ++ c.deref.result.now) c.next_round.new.self cut c.in_ok-round.ensures.agree)
     (part_of _ _ _ _ _ _ cut.read_a) (part_of _ _ _ _ _ _ cut.read_b) cut.follows.order cut.read_a.failures cut.read_b.failures
     (c.in_err-write_round.ensures.stopped vl_table before.capture before.ledger w.cut w.written)))

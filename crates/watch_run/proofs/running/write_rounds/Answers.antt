@@ -2,6 +2,7 @@ use Rattle.std.proofs.Common.{◌≡◌, ◌∙◌, ap, refl, Ok}
 use Rattle.round_output.proofs.Sharing.{all_written, none_shared}
 use Rattle.tap_merge.proofs.RingItems.{same_trans, takes_none}
 use Rattle.watch_run.proofs.Feeding.{begins_feeding, feeding_now, still_feeding}
+use Rattle.round_output.specs.Filters.{making_of}
 use Rattle.watch_run.proofs.running.write_rounds.Goals as goal
 
 pub loop-init : goal.loop-init
@@ -14,7 +15,7 @@ loop-init g c = record {
   running = λ vl_table capture ledger h. record {
     cut = h.cut;
     taken = h.taken;
-    shared = none_shared g.W.OutSink g.L.OutSink c.args.pool.now.task.programs.now vl_table capture ledger h.cut c.args.outputs h.written;
+    shared = none_shared g.W.OutSink g.L.OutSink (making_of c.args.pool.now.task.plan) vl_table capture ledger h.cut c.args.outputs h.written;
     capture_going = h.capture_going;
     ledger_going = h.ledger_going;
   };
@@ -82,7 +83,7 @@ returns-in-Ok-false-clause-written g c =
           record {
             cut = s.cut;
             taken = s.taken;
-            written = all_written g.W.OutSink g.L.OutSink c.args.pool.now.task.programs.now vl_table capture ledger s.cut c.write_next.new.outputs.lanes
+            written = all_written g.W.OutSink g.L.OutSink (making_of c.args.pool.now.task.plan) vl_table capture ledger s.cut c.write_next.new.outputs.lanes
                 c.write_next.new.outputs.capture c.write_next.new.outputs.ledger c.write_next.new.flight s.shared ended.3;
             capture_going = s.capture_going;
             ledger_going = s.ledger_going;

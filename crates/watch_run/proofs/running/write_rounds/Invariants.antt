@@ -6,6 +6,7 @@ use Rattle.tap_queue.specs.Ring.{SameEnd}
 use Rattle.watch_run.specs.Feeds.{KeepFeeding}
 use Rattle.watch_run.specs.Running.{IsRunning, IsSharing}
 use Rattle.run_outcome.specs.Device.{SinkView}
+use Rattle.round_output.specs.Filters.{making_of}
 use Rattle.watch_run.proofs.running.write_rounds.Given as goal
 
 abbrev pub invariant-loop : goal.invariant-loop
@@ -16,6 +17,6 @@ invariant-loop g l = record {
   a : SameEnd l.fn.rings.a l.rings.a;
   b : SameEnd l.fn.rings.b l.rings.b;
   running : (vl_table : VlTable) (capture ledger : SinkView) →
-      IsRunning g.W.OutSink g.L.OutSink l.fn.pool.task.programs.now vl_table capture ledger l.fn.rings l.fn.outputs →
-      IsSharing g.W.OutSink g.L.OutSink l.fn.pool.task.programs.now vl_table capture ledger l.rings l.outputs l.flight;
+      IsRunning g.W.OutSink g.L.OutSink (making_of l.fn.pool.task.plan) vl_table capture ledger l.fn.rings l.fn.outputs →
+      IsSharing g.W.OutSink g.L.OutSink (making_of l.fn.pool.task.plan) vl_table capture ledger l.rings l.outputs l.flight;
 }

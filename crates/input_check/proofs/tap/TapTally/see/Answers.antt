@@ -1,7 +1,7 @@
 -- Each part counts what is its own.
 use Rattle.std.proofs.Common.{◌≡◌, ◌∙◌, ◌+◌, ◌&&◌, ◌==◌, ℕ, List, length, nat_lt, ap, arith}
 use Rattle.input_check.specs.Checksum.{ends_with_check}
-use Rattle.input_check.specs.Taps.{Classed, digest_after, ends_of, is_checked, is_foreign, is_long, is_number, mix, network_number, one_if}
+use Rattle.input_check.specs.Taps.{Classed, digest_after, ends_of, is_checked, is_cut, is_foreign, is_long, is_number, is_unlisted, longest_with, mix, network_number, one_if}
 use Rattle.input_check.specs.declared.tap.TapTally.{TapTally}
 use Rattle.input_check.proofs.Tapping.{checks_few, count_few, tap_more}
 use Rattle.input_check.proofs.tap.TapTally.see.Goals as goal
@@ -11,7 +11,8 @@ returns c = λ frames few held.
     (let old = c.args.self.now in
     let classed : Classed = record { frame = c.args.frame.now; class = c.args.class } in
     let bytes : c.bytes-bytes.result.now ≡ c.args.frame.now.bytes = c.bytes-bytes.ensures ∙ c.view.ensures.value in
-    let class_is = c.see_class.ensures (omega (arith, held.foreign, count_few (λ classed. is_foreign classed.class) frames, few)) (omega (arith, held.long, count_few (λ classed. is_long classed.class) frames, few)) in
+    let class_is = c.see_class.ensures (omega (arith, held.foreign, count_few (λ classed. is_foreign classed.class) frames, few)) (omega (arith, held.long, count_few (λ classed. is_long classed.class) frames, few))
+    (omega (arith, held.unlisted, count_few (λ classed. is_unlisted classed.class) frames, few)) (omega (arith, held.cut, count_few (λ classed. is_cut classed.class) frames, few)) in
     let as_a : c.see_class.new.self.as_a ≡ old.as_a = ap (λ (t : TapTally). t.as_a) class_is in
     let as_b : c.see_class.new.self.as_b ≡ old.as_b = ap (λ (t : TapTally). t.as_b) class_is in
     let source_is = c.see_source.ensures (omega (arith, as_a, held.as_a, count_few (λ classed. is_number 1 (network_number classed.frame.bytes)) frames, few))
@@ -43,4 +44,8 @@ returns c = λ frames few held.
     ∙ ap (λ (l : List ℕ). one_if (is_number 2 (network_number l)) + old.as_b) bytes)
     digest
     (ap (λ (t : TapTally). t.foreign) check_is ∙ ap (λ (t : TapTally). t.foreign) source_is ∙ ap (λ (t : TapTally). t.foreign) class_is)
-    (ap (λ (t : TapTally). t.long) check_is ∙ ap (λ (t : TapTally). t.long) source_is ∙ ap (λ (t : TapTally). t.long) class_is))
+    (ap (λ (t : TapTally). t.long) check_is ∙ ap (λ (t : TapTally). t.long) source_is ∙ ap (λ (t : TapTally). t.long) class_is)
+    (ap (λ (t : TapTally). t.unlisted) check_is ∙ ap (λ (t : TapTally). t.unlisted) source_is ∙ ap (λ (t : TapTally). t.unlisted) class_is)
+    (ap (λ (t : TapTally). t.cut) check_is ∙ ap (λ (t : TapTally). t.cut) source_is ∙ ap (λ (t : TapTally). t.cut) class_is)
+    (ap (λ (t : TapTally). t.snaplen) check_is ∙ ap (λ (t : TapTally). t.snaplen) source_is ∙ ap (λ (t : TapTally). t.snaplen) class_is
+    ∙ ap (λ (l : List ℕ). longest_with c.args.class (length l) old.snaplen) bytes))

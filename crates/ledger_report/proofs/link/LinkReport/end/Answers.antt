@@ -36,7 +36,7 @@ returns-clause-absences c = λ row lines a b h.
     absences_end row lines c.args.networks.now c.settle_lanes.new.networks c.args.self.now.runs c.sum_fates.new.self.runs c.end.new.self _
     (keeps_networks_on c.args.networks.now c.settle_latest.new.networks c.settle_lanes.new.networks c.in_ok-settle_latest.ensures.networks c.in_ok-settle_lanes.ensures.networks)
     (c.end.ensures row.id lines) (c.sum_fates.ensures.runs ∙ c.settle_lanes.ensures.runs ∙ c.settle_latest.ensures.runs)
-    c.longest.ensures c.longest-2.ensures c.last-self.ensures a b h
+    c.longest.ensures c.longest-2.ensures c.last-self.ensures c.told-self.ensures a b h
 
 pub returns-clause-alone : goal.returns-clause-alone
 returns-clause-alone c =

@@ -253,25 +253,25 @@ returns-in_ok-note_delivery-in-Deliver-clause-losses c =
 pub returns-in_ok-note_copy-in-Copy-clause-runs : goal.returns-in_ok-note_copy-in-Copy-clause-runs
 returns-in_ok-note_copy-in-Copy-clause-runs c = λ id lines a b seen moment h.
     runs_noted id c.args.line.now lines c.args.at.now c.args.networks.now c.note_numbering.new.networks c.args.self.now.runs c.note_discarded.new.self.runs
-    c.note.new.self c.note_copy.new.self.runs c.in_ok-note_numbering.ensures.networks (c.note.ensures id c.args.line.now lines)
+    c.note.new.self c.note_copy.new.self.runs c.in_ok-note_numbering.ensures.networks (c.in_ok-note.ensures id lines)
     (c.note_discarded.ensures.runs ∙ c.note_numbering.ensures.runs ∙ c.note_lane.ensures.runs) c.note_copy.ensures.runs a b seen moment h
 
 pub returns-in_default-clause-runs : goal.returns-in_default-clause-runs
 returns-in_default-clause-runs c = λ id lines a b seen moment h.
     runs_noted id c.args.line.now lines c.args.at.now c.args.networks.now c.note_numbering.new.networks c.args.self.now.runs c.note_discarded.new.self.runs
-    c.note.new.self c.note.new.self c.in_ok-note_numbering.ensures.networks (c.note.ensures id c.args.line.now lines)
+    c.note.new.self c.note.new.self c.in_ok-note_numbering.ensures.networks (c.in_ok-note.ensures id lines)
     (c.note_discarded.ensures.runs ∙ c.note_numbering.ensures.runs ∙ c.note_lane.ensures.runs) refl a b seen moment h
 
 pub returns-in-Both-clause-runs : goal.returns-in-Both-clause-runs
 returns-in-Both-clause-runs c = λ id lines a b seen moment h.
     runs_noted id c.args.line.now lines c.args.at.now c.args.networks.now c.note_numbering.new.networks c.args.self.now.runs c.note_discarded.new.self.runs
-    c.note.new.self c.note.new.self c.in_ok-note_numbering.ensures.networks (c.note.ensures id c.args.line.now lines)
+    c.note.new.self c.note.new.self c.in_ok-note_numbering.ensures.networks (c.in_ok-note.ensures id lines)
     (c.note_discarded.ensures.runs ∙ c.note_numbering.ensures.runs ∙ c.note_lane.ensures.runs) refl a b seen moment h
 
 pub returns-in_ok-note_delivery-in-Deliver-clause-runs : goal.returns-in_ok-note_delivery-in-Deliver-clause-runs
 returns-in_ok-note_delivery-in-Deliver-clause-runs c = λ id lines a b seen moment h.
     runs_noted id c.args.line.now lines c.args.at.now c.args.networks.now c.note_numbering.new.networks c.args.self.now.runs c.note_discarded.new.self.runs
-    c.note.new.self c.note_delivery.new.self.runs c.in_ok-note_numbering.ensures.networks (c.note.ensures id c.args.line.now lines)
+    c.note.new.self c.note_delivery.new.self.runs c.in_ok-note_numbering.ensures.networks (c.in_ok-note.ensures id lines)
     (c.note_discarded.ensures.runs ∙ c.note_numbering.ensures.runs ∙ c.note_lane.ensures.runs) c.note_delivery.ensures.runs a b seen moment h
 
 pub returns-in_ok-note_copy-in-Copy-clause-alone : goal.returns-in_ok-note_copy-in-Copy-clause-alone

@@ -1,7 +1,7 @@
 -- The chunks before the index were gathered.
 use Rattle.std.proofs.Common.{ℕ, List, drop}
 use Rattle.afdx_frame.specs.Frame.{Frame}
-use Rattle.bpf_isa.specs.declared.packed.Packed.{Packed}
+use Rattle.round_output.specs.Filters.{Making}
 use Rattle.round_output.specs.Shared.{AreChunks}
 use Rattle.round_output.proofs.Gathering.{IsGathered}
 use Rattle.vl_judge.specs.Judgement.{Judgement}
@@ -9,5 +9,5 @@ use Rattle.round_output.proofs.entries.Entries.gather.Given as goal
 
 abbrev pub invariant-loop-chunk : goal.invariant-loop-chunk
 invariant-loop-chunk l =
-    (ps : List (List Packed)) (frames : List Frame) (verdicts : List Judgement) (size : ℕ) → AreChunks ps frames verdicts size l.chunks →
+    (ps : Making) (frames : List Frame) (verdicts : List Judgement) (size : ℕ) → AreChunks ps frames verdicts size l.chunks →
     IsGathered ps frames verdicts size (drop l.chunk-index l.chunks) l.self

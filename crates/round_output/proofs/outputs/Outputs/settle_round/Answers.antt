@@ -7,11 +7,12 @@ use Rattle.run_outcome.proofs.Results.{with_err, with_on_ok}
 use Rattle.round_output.specs.Outputs.{HasWritten, StopsWriting, effect_of, outputs_of}
 use Rattle.round_output.proofs.Sharing.{is_at}
 use Rattle.verdict_ledger.specs.Ledger.{sink_of as ledger_sink}
+use Rattle.round_output.specs.Filters.{making_of}
 use Rattle.round_output.proofs.outputs.Outputs.settle_round.Goals as goal
 
 pub returns-clause-written : goal.returns-clause-written
 returns-clause-written g c =
-    let ps = c.args.pool.now.task.programs.now in
+    let ps = (making_of c.args.pool.now.task.plan) in
     let some = sym c.take.ensures.value ∙ c.in-Some.is in
     let same : c.in-Some.flight.task ≡ c.args.pool.now.task = subst (λ f. IfSome f (λ p. p.task ≡ c.args.pool.now.task)) some c.requires.task in
     with_on_ok c.write_flight.result _ _ (λ f. λ vl_table capture ledger frames after h.
@@ -21,7 +22,7 @@ returns-clause-written g c =
 
 pub returns-clause-stopped : goal.returns-clause-stopped
 returns-clause-stopped g c =
-    let ps = c.args.pool.now.task.programs.now in
+    let ps = (making_of c.args.pool.now.task.plan) in
     let some = sym c.take.ensures.value ∙ c.in-Some.is in
     let same : c.in-Some.flight.task ≡ c.args.pool.now.task = subst (λ f. IfSome f (λ p. p.task ≡ c.args.pool.now.task)) some c.requires.task in
     with_err c.write_flight.result _ _ (λ fault f. λ vl_table capture ledger frames after h.

@@ -1,6 +1,6 @@
 use Rattle.std.proofs.Common.{◌≡◌, ◌++◌, ◌∷◌, [], length, sym, ap, ◌∙◌, inr, List, arith}
 use Rattle.std.proofs.lemmas.Bool.{not-false, not-true, false≢true}
-use Rattle.tap_queue.specs.Batches.{taken_of}
+use Rattle.tap_queue.specs.Batches.{rest_items, taken_of}
 use Rattle.tap_queue.specs.Ring.{taken_items}
 use Rattle.rtrb.specs.Ring.{received}
 use Rattle.tap_queue.specs.Items.{frames_in, high_of, is_over}
@@ -17,7 +17,7 @@ pub invariant_of-self-in-Frame-1 : goal.invariant_of-self-in-Frame-1
 invariant_of-self-in-Frame-1 g c =
     let before = taken_items c.args.self.now in
     let (going, unended) = c.is_going.ensures.0 c.if-not-is_going.false in
-    let taken : taken_of (received c.next_item.new.consumer) c.next_item.new.rest.items ≡ before ++ Frame c.in-Frame.frame ∷ [] =
+    let taken : taken_of (received c.next_item.new.consumer) (rest_items c.next_item.new.rest) ≡ before ++ Frame c.in-Frame.frame ∷ [] =
     c.in-Some.ensures.taken ∙ ap (λ (item : TapItem). before ++ item ∷ []) c.in-Frame.is in
     let kept = c.pass.ensures.passed in
     record {

@@ -1,0 +1,189 @@
+//! The manifest of a run: what it was of, and what it wrote.
+use crate::interface::Skipped;
+use crate::live::Blocks;
+use crate::spans::Spans;
+use crate::{Ended, arguments};
+use analyser::{Exit, Fault, WatchArguments, fault_line, version};
+use pcap_io::{BadReason, Ending};
+use run_manifest::{
+    FileRecord, Inputs, MANIFEST_VERSION, Manifest, Outputs, Program, RecordingRecord, Span, Sum,
+    manifest_text,
+};
+use std::alloc::{AllocError, Global};
+use std::io;
+use std::io::{ErrorKind, Write};
+
+/// The sums of the texts that a run is given.
+#[derive(Clone, Copy)]
+pub struct TextSums {
+    pub config: Sum,
+    pub filter: Option<Sum>,
+}
+
+/// The sums of a run's recordings, where they are known, and outputs, and when frames came.
+#[derive(Clone, Copy)]
+pub struct RunSums {
+    recordings: [Option<Sum>; 2],
+    outputs: [Sum; 2],
+    spans: [Option<Span>; 2],
+}
+
+impl RunSums {
+    /// Of the recordings of networks A and B, of the capture and the ledger, and of what was seen of that.
+    pub fn new(recordings: [Option<Sum>; 2], outputs: [Sum; 2], spans: Option<Spans>) -> RunSums {
+        RunSums {
+            recordings,
+            outputs,
+            spans: match spans {
+                Some(spans) => [spans.a, spans.b],
+                None => [None, None],
+            },
+        }
+    }
+}
+
+/// Why a recording ends bad, in the ledger's word.
+fn reason_word(reason: BadReason) -> &'static str {
+    match reason {
+        BadReason::Length => "length",
+        BadReason::Fraction => "fraction",
+        BadReason::StampBack => "stampback",
+        BadReason::TooMany => "toomany",
+        BadReason::BlockLength => "blocklength",
+        BadReason::BlockLengthsDiffer => "blocklengthsdiffer",
+        BadReason::BlockBounds => "blockbounds",
+        BadReason::UnknownInterface => "unknowninterface",
+        BadReason::Section => "section",
+        BadReason::SimplePacket => "simplepacket",
+        BadReason::StampRange => "stamprange",
+        BadReason::SeveralInterfaces => "severalinterfaces",
+        BadReason::TooManyInterfaces => "toomanyinterfaces",
+        BadReason::NoSuchInterface => "nosuchinterface",
+    }
+}
+
+fn file_if(
+    alloc: Global,
+    path: Option<&str>,
+    sum: Option<Sum>,
+) -> Result<Option<FileRecord>, AllocError> {
+    match (path, sum) {
+        (Some(path), Some(sum)) => Ok(Some(FileRecord::new(alloc, path, sum)?)),
+        _ => Ok(None),
+    }
+}
+
+/// A recording, with its ending and when its frames came, where the run met no fault.
+fn recording_if(
+    alloc: Global,
+    path: Option<&str>,
+    sum: Option<Sum>,
+    ending: Option<Ending>,
+    span: Option<Span>,
+) -> Result<Option<RecordingRecord>, AllocError> {
+    let Some(path) = path else {
+        return Ok(None);
+    };
+    let mut record = RecordingRecord::new(alloc, path, sum)?;
+    match ending {
+        Some(Ending::Clean(frames)) => record.end(alloc, frames, "clean", None)?,
+        Some(Ending::Cut(frames)) => record.end(alloc, frames, "cut", None)?,
+        Some(Ending::Bad(frames, reason)) => {
+            record.end(alloc, frames, "bad", Some(reason_word(reason)))?
+        }
+        None => return Ok(Some(record)),
+    }
+    if let Some(span) = span {
+        record.span(alloc, span)?;
+    }
+    Ok(Some(record))
+}
+
+fn inputs_of(
+    alloc: Global,
+    given: &WatchArguments<'_>,
+    texts: TextSums,
+    exit: &Exit,
+    sums: &RunSums,
+) -> Result<Inputs, AllocError> {
+    let (end_a, end_b) = match exit {
+        Exit::Watched(summary) => (Some(summary.a), Some(summary.b)),
+        _ => (None, None),
+    };
+    let ([sum_a, sum_b], [span_a, span_b]) = (sums.recordings, sums.spans);
+    Ok(Inputs {
+        config: FileRecord::new(alloc, given.config, texts.config)?,
+        filter: file_if(alloc, given.filter, texts.filter)?,
+        a: recording_if(alloc, given.a, sum_a, end_a, span_a)?,
+        b: recording_if(alloc, given.b, sum_b, end_b, span_b)?,
+    })
+}
+
+fn outputs_of(
+    alloc: Global,
+    given: &WatchArguments<'_>,
+    sums: &RunSums,
+) -> Result<Outputs, AllocError> {
+    let [capture, ledger] = sums.outputs;
+    Ok(Outputs {
+        capture: file_if(alloc, given.capture, Some(capture))?,
+        ledger: FileRecord::new(alloc, given.ledger, ledger)?,
+    })
+}
+
+/// The line of the fault that a run met, without what begins each.
+fn fault_of(alloc: Global, exit: &Exit) -> Result<Option<String>, AllocError> {
+    let Exit::Fault(fault) = exit else {
+        return Ok(None);
+    };
+    let line = fault_line(alloc, fault)?;
+    let line = line.strip_prefix("afdxmon: ").unwrap_or(&line);
+    Ok(Some(String::from_str(alloc, line)?))
+}
+
+/// The manifest's text.
+fn text_for(
+    rt: &HostRuntime,
+    given: &WatchArguments<'_>,
+    texts: TextSums,
+    exit: &Exit,
+    sums: &RunSums,
+) -> io::Result<String> {
+    let alloc = rt.alloc();
+    let manifest = Manifest {
+        manifest: MANIFEST_VERSION,
+        program: Program::of_version(alloc, "afdxmon", version())?,
+        command: arguments(rt)?,
+        fault: fault_of(alloc, exit)?,
+        inputs: inputs_of(alloc, given, texts, exit, sums)?,
+        outputs: outputs_of(alloc, given, sums)?,
+    };
+    manifest_text(alloc, &manifest).map_err(|_| io::Error::from(ErrorKind::OutOfMemory))
+}
+
+fn write_manifest(text: io::Result<String>, output: &mut Blocks) -> io::Result<()> {
+    output.write_all(text?.as_bytes())?;
+    output.finish(true)
+}
+
+/// Writes the manifest of a run. Where that fails, a run that met no other fault has met this one.
+pub fn with_manifest(
+    rt: &HostRuntime,
+    given: &WatchArguments<'_>,
+    texts: TextSums,
+    ended: Ended,
+    sums: &RunSums,
+    mut output: Blocks,
+) -> Ended {
+    let text = text_for(rt, given, texts, &ended.exit, sums);
+    let is_sound = matches!(ended.exit, Exit::Watched(_));
+    match write_manifest(text, &mut output) {
+        Err(reason) if is_sound => Ended {
+            exit: Exit::Fault(Fault::Manifest),
+            worst: None,
+            skipped: Skipped::none(),
+            reason: Some(reason),
+        },
+        Ok(()) | Err(_) => ended,
+    }
+}

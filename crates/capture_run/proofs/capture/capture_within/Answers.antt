@@ -1,0 +1,35 @@
+use Rattle.std.proofs.Common.{refl}
+use Rattle.capture_run.proofs.Whole.{aborted, captured}
+use Rattle.capture_run.proofs.capture.capture_within.Goals as goal
+
+pub returns-in-Ok-copied-clause-captured : goal.returns-in-Ok-copied-clause-captured
+returns-in-Ok-copied-clause-captured g c =
+    let opened = c.in-Ok.ensures in
+    rw (c.into_source-source.ensures.source, c.finish-sink.ensures) (captured c.args.late _ _ _ _ _ _
+    (record {
+      start = opened.start;
+      opens = rw opened.remaining opened.opened;
+      header = c.in-Ok-begin.ensures.written.complete;
+      source_before = opened.no_failure;
+      sink_before = c.in-Ok-begin.ensures.written.no_failure;
+      unread = (c.into_source-source.ensures.lost, refl);
+      contents = refl;
+      source_after = refl;
+      sink_after = refl;
+    }) c.in-Ok-copied.ensures.copied)
+
+pub returns-in-Err-copied-clause-aborted : goal.returns-in-Err-copied-clause-aborted
+returns-in-Err-copied-clause-aborted g c =
+    let opened = c.in-Ok.ensures in
+    rw (c.refused-in-Err-copied.ensures, c.into_source-source.ensures.source, c.finish-sink.ensures) (aborted c.args.late _ c.in-Err-copied.fault _ _ _ _
+    (record {
+      start = opened.start;
+      opens = rw opened.remaining opened.opened;
+      header = c.in-Ok-begin.ensures.written.complete;
+      source_before = opened.no_failure;
+      sink_before = c.in-Ok-begin.ensures.written.no_failure;
+      unread = (c.into_source-source.ensures.lost, refl);
+      contents = refl;
+      source_after = refl;
+      sink_after = refl;
+    }) c.in-Err-copied.ensures.stopped)

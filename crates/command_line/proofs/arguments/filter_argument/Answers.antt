@@ -1,7 +1,0 @@
-use Rattle.std.proofs.Common.{◌∙◌}
-use Rattle.clap.specs.Words.{found_of}
-use Rattle.command_line.proofs.Given.{filter_is}
-use Rattle.command_line.proofs.arguments.filter_argument.Goals as goal
-
-pub returns : goal.returns
-returns c = c.one_filter.ensures ∙ filter_is (found_of c.args.given.now) _ _ _ c.get_str.ensures c.get_str-2.ensures c.get_str-3.ensures

@@ -1,0 +1,471 @@
+//! The table of the commands and their arguments, and the commands of clap that it makes.
+ghost use Rattle.std.specs.Prelude.{◌≡◌, IfOk, false, fold};
+ghost use Rattle.clap.specs.Words.{app_of, new_app, rule_of};
+ghost use Rattle.command_line.specs.Options.{IsCommand, afdxmon_app, app_by, option_rule, program_app, rule_by, with_row};
+
+use crate::usage::{
+    ASM_EXAMPLE, CAPTURE_EXAMPLE, CAPTURE_USAGE, CHECK_EXAMPLE, CHECK_USAGE, CUT_EXAMPLE,
+    CUT_USAGE, DEBUG_EXAMPLE, DEBUG_USAGE, LINKS_EXAMPLE, LINKS_USAGE, REPORT_EXAMPLE,
+    REPORT_USAGE, WATCH_EXAMPLE, WATCH_USAGE,
+};
+use clap::{Arg, ArgAction, Command};
+use std::alloc::{AllocError, Global};
+
+/// The version that `--version` prints. In a copy of the linked program `tools/stamp` puts the commit in the
+/// place of the 12 letters.
+const VERSION: &str = "0.2.0 (commit unknown-tree)";
+
+/// The version, and the commit of the program's sources: `0.2.0 (commit 0123456789ab)`.
+pub fn version() -> &'static str {
+    VERSION
+}
+
+/// How an argument is given.
+#[derive(Clone, Copy)]
+pub(crate) enum Form {
+    /// An option without a value, which says yes where it is given.
+    Flag,
+    /// The same with a short name.
+    ShortFlag(char),
+    /// An option that has to be given, with what stands for its value in the help.
+    Needed(&'static str),
+    /// An option that may be given.
+    Free(&'static str),
+    /// An option with a number of 8 bits, and the text of the one that it is where it isn't given.
+    Number8(&'static str),
+    /// The same with a number of 16 bits.
+    Number16(&'static str),
+    /// The file that is written, which `-o` names too: standard output where it isn't given.
+    Output,
+    /// A word that no option stands before: standard input where it isn't given.
+    Word(&'static str),
+}
+
+/// An argument: its name, how it is given, and what the help says of it.
+#[derive(Clone, Copy)]
+pub(crate) struct Argument(&'static str, Form, &'static str);
+
+/// A command: its texts, and its arguments in the order of the help.
+#[derive(Clone, Copy)]
+pub(crate) struct CommandRow {
+    name: &'static str,
+    about: &'static str,
+    /// How it is called, where clap's own text doesn't say enough.
+    usage: Option<&'static str>,
+    /// What stands after the arguments in the help.
+    example: &'static str,
+    arguments: &'static [Argument],
+}
+
+const FILE: Form = Form::Free("FILE");
+
+const CONFIG: Argument = Argument(
+    "config",
+    Form::Needed("FILE"),
+    "The table of virtual links, a TOML document",
+);
+
+const FILTER: Argument = Argument(
+    "filter",
+    FILE,
+    "The filter in the numeric form, as `afdxmon asm` prints it",
+);
+
+const SOURCE: Argument = Argument(
+    "source",
+    FILE,
+    "The filter's source, as `afdxmon asm` reads it",
+);
+
+const A: Argument = Argument(
+    "a",
+    FILE,
+    "The recording of network A, a pcap or pcapng file",
+);
+
+const B: Argument = Argument(
+    "b",
+    FILE,
+    "The recording of network B, a pcap or pcapng file",
+);
+
+/// The help of what writes a capture.
+const CAPTURE_HELP: &str = "The capture to write, a nanosecond pcap file";
+
+/// The form of a capture that has a ledger beside it.
+const COMMENTED: Argument = Argument(
+    "pcapng",
+    Form::Flag,
+    "Write the capture as pcapng, with verdicts as packet comments",
+);
+
+const VERBOSE: Argument = Argument(
+    "verbose",
+    Form::ShortFlag('v'),
+    "Tell standard error, whatever it is, what a terminal is told but progress",
+);
+
+/// How late a timestamp may be, where any order will do.
+const LATE: Argument = Argument(
+    "late-us",
+    Form::Free("N|any"),
+    "Take timestamps that are out of order by N microseconds, or in any order",
+);
+
+/// What each command takes.
+const CAPTURE: [Argument; 8] = [
+    Argument(
+        "code",
+        Form::Free("TEXT"),
+        "The filter in the numeric form, as `tcpdump -ddd` prints it",
+    ),
+    FILTER,
+    SOURCE,
+    Argument("output", Form::Output, CAPTURE_HELP),
+    Argument("pcapng", Form::Flag, "Write the capture as pcapng"),
+    LATE,
+    Argument(
+        "recording",
+        Form::Word("RECORDING"),
+        "The recording, a pcap or pcapng file",
+    ),
+    VERBOSE,
+];
+
+const ASM: [Argument; 1] = [VERBOSE];
+
+const WATCH: [Argument; 13] = [
+    CONFIG,
+    FILTER,
+    A,
+    B,
+    Argument("capture", FILE, CAPTURE_HELP),
+    Argument(
+        "ledger",
+        Form::Needed("FILE"),
+        "The ledger of verdicts to write",
+    ),
+    Argument(
+        "manifest",
+        FILE,
+        "The manifest to write: a JSON text of what the run was of",
+    ),
+    Argument(
+        "digest",
+        Form::Flag,
+        "Take the SHA-256 of recordings and outputs into the manifest",
+    ),
+    Argument(
+        "workers",
+        Form::Number8("2"),
+        "The number of workers, 1 to 8",
+    ),
+    Argument(
+        "late-us",
+        Form::Free("N"),
+        "Take timestamps out of order by N microseconds, in place of the table's late_us",
+    ),
+    Argument(
+        "quiet",
+        Form::Flag,
+        "Leave out progress and summary at a terminal",
+    ),
+    COMMENTED,
+    VERBOSE,
+];
+
+const DEBUG: [Argument; 5] = [
+    FILTER,
+    SOURCE,
+    Argument(
+        "tap",
+        Form::Needed("FILE"),
+        "The recording, a pcap or pcapng file",
+    ),
+    LATE,
+    VERBOSE,
+];
+
+const CUT: [Argument; 16] = [
+    Argument(
+        "ledger",
+        Form::Needed("FILE"),
+        "The ledger of the recordings",
+    ),
+    A,
+    B,
+    Argument(
+        "config",
+        FILE,
+        "The table of virtual links: --link may then have their names",
+    ),
+    Argument(
+        "link",
+        Form::Free("LIST"),
+        "Virtual links, as '301-305,42' or 'engine_*'; '*' stands for any letters",
+    ),
+    Argument("network", Form::Free("A|B"), "The network"),
+    Argument(
+        "verdict",
+        Form::Free("LIST"),
+        "Words of the ledger's fields 6 to 9, 'discarded', 'faults' or 'delivered'",
+    ),
+    Argument("from", Form::Free("TIME"), "The first moment"),
+    Argument("to", Form::Free("TIME"), "The last moment"),
+    Argument(
+        "span",
+        Form::Free("LENGTH"),
+        "How long after --from the last moment is: '2s', '250ms', '80us'",
+    ),
+    Argument(
+        "filters",
+        Form::Free("MASK"),
+        "A mask of filters in hexadecimal: '06' is what filter 1 or 2 accepts",
+    ),
+    Argument(
+        "around",
+        Form::Number16("0"),
+        "Take N frames of the same link before and after each selected one too",
+    ),
+    Argument(
+        "ledger-only",
+        Form::Flag,
+        "Print the ledger's lines of the selected frames in place of packets",
+    ),
+    COMMENTED,
+    Argument(
+        "output",
+        Form::Output,
+        "The nanosecond pcap file to write, or the text file of lines",
+    ),
+    VERBOSE,
+];
+
+const LINKS: [Argument; 5] = [
+    A,
+    B,
+    Argument(
+        "constant",
+        Form::Free("NUMBER"),
+        "The constant field of the links' frames, as 0x03000000",
+    ),
+    Argument(
+        "icd",
+        FILE,
+        "The links that are specified, comma-separated values",
+    ),
+    VERBOSE,
+];
+
+const REPORT: [Argument; 6] = [
+    CONFIG,
+    Argument(
+        "ledger",
+        Form::Needed("FILE"),
+        "The ledger of verdicts, as `afdxmon watch` writes it",
+    ),
+    Argument(
+        "manifest",
+        FILE,
+        "The manifest of the run, as `afdxmon watch` writes it",
+    ),
+    Argument(
+        "json",
+        Form::Flag,
+        "Write the page's numbers as JSON in place of the page",
+    ),
+    Argument(
+        "output",
+        Form::Output,
+        "The page to write, or the JSON text",
+    ),
+    VERBOSE,
+];
+
+const CHECK: [Argument; 7] = [
+    CONFIG,
+    FILTER,
+    A,
+    B,
+    Argument(
+        "whole",
+        Form::Flag,
+        "Read the recordings to their ends, not their first 1000000 frames",
+    ),
+    Argument(
+        "json",
+        Form::Flag,
+        "Write the answer as JSON in place of text",
+    ),
+    VERBOSE,
+];
+
+/// The commands in the order of the help.
+const COMMANDS: [CommandRow; 8] = [
+    CommandRow {
+        name: "capture",
+        about: "Copies the frames of a recording that a filter accepts",
+        usage: Some(CAPTURE_USAGE),
+        example: CAPTURE_EXAMPLE,
+        arguments: &CAPTURE,
+    },
+    CommandRow {
+        name: "asm",
+        about: "Assembles a filter's source from standard input, and prints its numeric form",
+        usage: None,
+        example: ASM_EXAMPLE,
+        arguments: &ASM,
+    },
+    CommandRow {
+        name: "watch",
+        about: "Judges the frames of two recordings, and writes those that a filter accepts",
+        usage: Some(WATCH_USAGE),
+        example: WATCH_EXAMPLE,
+        arguments: &WATCH,
+    },
+    CommandRow {
+        name: "debug",
+        about: "Steps through a filter on the frames of a recording, by commands from standard input",
+        usage: Some(DEBUG_USAGE),
+        example: DEBUG_EXAMPLE,
+        arguments: &DEBUG,
+    },
+    CommandRow {
+        name: "cut",
+        about: "Copies the frames of two recordings that a ledger's lines select",
+        usage: Some(CUT_USAGE),
+        example: CUT_EXAMPLE,
+        arguments: &CUT,
+    },
+    CommandRow {
+        name: "links",
+        about: "Prints a draft of the table of virtual links that recordings have",
+        usage: Some(LINKS_USAGE),
+        example: LINKS_EXAMPLE,
+        arguments: &LINKS,
+    },
+    CommandRow {
+        name: "report",
+        about: "Writes an HTML page on what a ledger says, or its numbers",
+        usage: Some(REPORT_USAGE),
+        example: REPORT_EXAMPLE,
+        arguments: &REPORT,
+    },
+    CommandRow {
+        name: "check",
+        about: "Tells whether a run of watch with these inputs would be sound",
+        usage: Some(CHECK_USAGE),
+        example: CHECK_EXAMPLE,
+        arguments: &CHECK,
+    },
+];
+
+/// An option with a value, which may be given.
+fn option<'a>(alloc: Global, name: &'a str, value: &'a str, help: &'a str) -> Arg<'a>
+    ensures rule { rule_of result ≡ option_rule name.now }
+    ensures local { result.global ≡ false }
+{
+    Arg::new(alloc, name)
+        .long(name)
+        .value_name(value)
+        .help(help)
+        .action(ArgAction::Set)
+}
+
+/// An argument of the table, as clap has it.
+fn clap_argument<'a>(alloc: Global, row: &Argument) -> Arg<'a>
+    ensures rule { rule_of result ≡ rule_by row.now }
+    ensures local { result.global ≡ false }
+{
+    let Argument(name, form, help) = *row;
+    match form {
+        Form::Flag => Arg::new(alloc, name)
+            .long(name)
+            .help(help)
+            .action(ArgAction::SetTrue),
+        Form::ShortFlag(short) => Arg::new(alloc, name)
+            .long(name)
+            .short(short)
+            .help(help)
+            .action(ArgAction::SetTrue),
+        Form::Needed(value) => option(alloc, name, value, help).required(true),
+        Form::Free(value) => option(alloc, name, value, help),
+        Form::Number8(default) => option(alloc, name, "N", help)
+            .value_parser(clap::value_parser!(u8))
+            .default_value(default),
+        Form::Number16(default) => option(alloc, name, "N", help)
+            .value_parser(clap::value_parser!(u16))
+            .default_value(default),
+        Form::Output => option(alloc, name, "FILE", help)
+            .short('o')
+            .default_value("-"),
+        Form::Word(value) => Arg::new(alloc, name)
+            .value_name(value)
+            .help(help)
+            .default_value("-")
+            .action(ArgAction::Set),
+    }
+}
+
+/// A command of the table without its arguments.
+fn bare_command<'a>(alloc: Global, row: &CommandRow) -> Command<'a>
+    ensures { IsCommand result (new_app row.now.name.now) }
+{
+    let command = Command::new(alloc, row.name)
+        .about(row.about)
+        .after_help(row.example);
+    match row.usage {
+        Some(usage) => command.override_usage(usage),
+        None => command,
+    }
+}
+
+/// A command of the table, as clap has it.
+fn clap_command<'a>(alloc: Global, row: &CommandRow) -> Result<Command<'a>, AllocError>
+    ensures { IfOk result (λ command. IsCommand command (app_by row.now)) }
+{
+    let mut command = bare_command(alloc, row);
+    for argument in row.arguments {
+        command = command.arg(clap_argument(alloc, argument))?;
+    }
+    Ok(command)
+}
+
+/// The program's own command, before its subcommands.
+fn program_command<'a>(alloc: Global) -> Command<'a>
+    ensures { app_of result ≡ program_app }
+{
+    Command::new(alloc, "afdxmon")
+        .about("Analyses recordings of AFDX networks (ARINC 664 Part 7)")
+        .version(version())
+        .subcommand_required(true)
+}
+
+/// The program's command with these subcommands.
+fn command_with<'a>(alloc: Global, rows: &[CommandRow]) -> Result<Command<'a>, AllocError>
+    ensures { IfOk result (λ command. app_of command ≡ fold with_row program_app rows.now) }
+{
+    let mut command = program_command(alloc);
+    for row in rows {
+        command = command.subcommand(clap_command(alloc, row)?)?;
+    }
+    Ok(command)
+}
+
+/// The program's command, as clap has it.
+pub(crate) fn whole_command<'a>(alloc: Global) -> Result<Command<'a>, AllocError>
+    ensures { IfOk result (λ command. app_of command ≡ afdxmon_app) }
+{
+    command_with(alloc, &COMMANDS)
+}
+
+/// The command of a name, else the program's.
+pub(crate) fn named_command<'a>(
+    alloc: Global,
+    name: Option<&str>,
+) -> Result<Command<'a>, AllocError> {
+    match COMMANDS.iter().find(|row| name == Some(row.name)) {
+        Some(row) => clap_command(alloc, row),
+        None => whole_command(alloc),
+    }
+}

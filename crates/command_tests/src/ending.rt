@@ -1,0 +1,29 @@
+//! How a command over devices ends.
+
+use analyser::Ran;
+use pcap_io::MemSink;
+use std::process::Abort;
+
+/// The command ends with status 1 and this line, or with status 0 and none where the line is empty. It has
+/// written these bytes.
+pub(crate) fn ends(rt: &impl Abort, ran: &Ran<MemSink>, line: &str, written: &[u8]) {
+    let fails = !line.is_empty();
+    assert!(rt;
+        ran.status == u8::from(fails) && ran.line.is_some() == fails,
+        "{line}"
+    );
+    if let Some(found) = &ran.line {
+        assert!(rt; found.as_str() == line);
+    }
+    assert!(rt; ran.sink.taken() == written, "{line}");
+}
+
+/// The line is one of these.
+pub(crate) fn is_one_of(line: &str, known: &[&str]) -> bool {
+    for one in known {
+        if *one == line {
+            return true;
+        }
+    }
+    false
+}

@@ -1,0 +1,182 @@
+//! Whether the clocks of two taps move apart, and whether a recording has frames twice.
+
+use crate::clocks::{Meeting, Sample};
+use crate::decide::is_nearly_all;
+use crate::inputs::Inputs;
+use crate::questions::Question;
+use afdx_frame::Network;
+use std::alloc::{AllocError, Global};
+use vl_config::Link;
+
+/// How fast the clock of one tap moves away from the other's.
+#[derive(Clone, Copy)]
+pub struct Drift {
+    /// The tap whose clock runs faster.
+    pub faster: Network,
+    /// By how many parts in 10^12.
+    pub parts: u64,
+    /// How many links say so, to a quarter of it.
+    pub links: usize,
+    /// How many links say anything.
+    pub of: usize,
+}
+
+/// The least time between two frames that tell a drift, in nanoseconds.
+const LEAST_TIME: u64 = 1_000_000_000;
+
+/// The least drift, in parts in 10^12: a slower one is none.
+const LEAST_DRIFT: u64 = 10_000_000;
+
+/// The greatest drift, in parts in 10^12: no clock drifts faster.
+const MOST_DRIFT: u64 = 1_000_000_000;
+
+/// So many links at least tell a drift.
+const LEAST_LINKS: usize = 4;
+
+/// Of so many first frames at least it is looked whether they come twice.
+const LEAST_FRAMES: usize = 8;
+
+/// How much longer one time is than another, in parts in 10^12 of it.
+fn parts_of(longer: u64, shorter: u64) -> u64 {
+    let more = u128::from(longer.saturating_sub(shorter)) * 1_000_000_000_000;
+    let parts = more / u128::from(shorter.max(1));
+    parts.min(u128::from(u64::MAX)) as u64
+}
+
+/// How fast the clocks move apart between two frames that both taps have seen: the parts by which the time on
+/// A is longer than that on B, and the other way round. None: that can't be told.
+fn rate_of(first: Meeting, last: Meeting) -> Option<Meeting> {
+    let on_a = last.a.saturating_sub(first.a);
+    let on_b = last.b.saturating_sub(first.b);
+    let rate = Meeting {
+        a: parts_of(on_a, on_b),
+        b: parts_of(on_b, on_a),
+    };
+    if on_a < LEAST_TIME || on_b < LEAST_TIME || rate.a.max(rate.b) > MOST_DRIFT {
+        None
+    } else {
+        Some(rate)
+    }
+}
+
+/// The rates that the links with redundancy management on tell.
+fn rates_of(alloc: Global, inputs: &Inputs<'_>) -> Result<Vec<Meeting>, AllocError> {
+    let mut rates = Vec::new(alloc);
+    for (link, tally) in inputs.links().iter().zip(inputs.tallies()) {
+        if !link.redundancy {
+            continue;
+        }
+        if let (Some(first), Some(last)) = (tally.meeting(), tally.last_meeting()) {
+            if let Some(rate) = rate_of(first, last) {
+                rates.push(rate)?;
+            }
+        }
+    }
+    Ok(rates)
+}
+
+/// Are two numbers no further apart than a quarter of the greater?
+fn are_near(one: u64, other: u64) -> bool {
+    one.abs_diff(other) <= one.max(other) / 4
+}
+
+/// Do two rates tell nearly the same drift?
+fn are_alike(one: Meeting, other: Meeting) -> bool {
+    are_near(one.a, other.a) && are_near(one.b, other.b)
+}
+
+/// The rate that most others are like, and how many are.
+fn most_alike(rates: &[Meeting]) -> Option<(Meeting, usize)> {
+    let mut best: Option<(Meeting, usize)> = None;
+    for rate in rates {
+        let links = rates
+            .iter()
+            .filter(|other| are_alike(*rate, **other))
+            .count();
+        let held = match best {
+            Some((_, most)) => most,
+            None => 0,
+        };
+        if links > held {
+            best = Some((*rate, links));
+        }
+    }
+    best
+}
+
+/// The drift that nearly all links tell.
+fn drift_of(rates: &[Meeting]) -> Option<Drift> {
+    let (rate, links) = most_alike(rates)?;
+    let (faster, parts) = if rate.a < rate.b {
+        (Network::B, rate.b)
+    } else {
+        (Network::A, rate.a)
+    };
+    let of = rates.len();
+    if of >= LEAST_LINKS && parts >= LEAST_DRIFT && is_nearly_all(links as u64, of as u64) {
+        Some(Drift {
+            faster,
+            parts,
+            links,
+            of,
+        })
+    } else {
+        None
+    }
+}
+
+/// Does a frame have the number of the one before, closer than half of a BAG? One sender doesn't send so.
+fn is_again(link: &Link, before: &Sample, sample: &Sample) -> bool {
+    before.number == sample.number && sample.stamp.saturating_sub(before.stamp) < link.bag / 2
+}
+
+/// Do the first frames of a link come twice on a network, a quarter of them at least?
+fn comes_twice(link: &Link, starts: &[Sample]) -> bool {
+    let pairs = starts.iter().zip(starts.iter().skip(1));
+    let again = pairs
+        .filter(|(before, sample)| is_again(link, before, sample))
+        .count();
+    starts.len() >= LEAST_FRAMES && again >= starts.len() / 4
+}
+
+/// Do the frames of most links that have some come twice on a network?
+fn are_twice(inputs: &Inputs<'_>, network: Network) -> bool {
+    let (mut twice, mut known) = (0usize, 0usize);
+    for (link, tally) in inputs.links().iter().zip(inputs.tallies()) {
+        let starts = tally.starts(network);
+        if link.integrity && starts.len() >= LEAST_FRAMES {
+            known = known.saturating_add(1);
+            if comes_twice(link, starts) {
+                twice = twice.saturating_add(1);
+            }
+        }
+    }
+    twice > known / 2
+}
+
+/// Do the source addresses of a recording name both networks, each in a quarter of its frames at least?
+fn names_both(inputs: &Inputs<'_>, network: Network) -> bool {
+    let marks = inputs.tap(network).marks();
+    let quarter = marks.frames / 4;
+    marks.as_a > 0 && marks.as_a >= quarter && marks.as_b > 0 && marks.as_b >= quarter
+}
+
+/// What the links say: whether a recording has frames twice, and whether the clocks move apart.
+///
+/// # Errors
+///
+/// `AllocError` if the system is out of memory.
+pub fn link_questions(alloc: Global, inputs: &Inputs<'_>) -> Result<Vec<Question>, AllocError> {
+    let mut questions = Vec::new(alloc);
+    for network in [Network::A, Network::B] {
+        if are_twice(inputs, network) {
+            let mixed = names_both(inputs, network);
+            questions.push(Question::Twice { network, mixed })?;
+        }
+    }
+    let rates = rates_of(alloc, inputs)?;
+    if let Some(drift) = drift_of(&rates) {
+        questions.push(Question::Drift(drift))?;
+    }
+    Ok(questions)
+}

@@ -1,0 +1,182 @@
+//! Links that aren't delivered for long, networks that are silent, and what falls into silences.
+
+use crate::numbers::rounded;
+use crate::view::{NETWORKS, other};
+use afdx_frame::Network;
+use ledger_report::{
+    Interval, LONG_TIME, LONG_TIMES, Lane, LinkReport, NetworkReport, Report, SILENT_LINES,
+    Silence, WINDOW_BAGS,
+};
+
+/// What is usual of a link is known from so many times between deliveries on.
+const KNOWN_TIMES: u64 = 127;
+/// A gap is longer than so many times the link's longest time but three, and its BAG.
+const LONGER: u64 = 8;
+/// A link pauses as a habit where its longest time but three is more than so many times the usual one.
+const HABIT: u64 = 32;
+/// A gap of such a link is longer than so many times.
+const LONGER_BY_HABIT: u64 = 64;
+/// Times from here on aren't told apart.
+const NOT_APART: u64 = 31 << 26;
+/// A link's rate is known where its longest time but three is at most so many times the usual one.
+const REGULAR: u64 = 2;
+/// A network pauses as a habit where it is silent for long more often.
+const MOST_PAUSES: usize = 8;
+
+/// The longest time between deliveries of a link that may be usual, where that is known.
+fn most_usual(link: &LinkReport) -> Option<u64> {
+    let gaps = &link.gaps;
+    if gaps.count < KNOWN_TIMES || gaps.fourth >= NOT_APART {
+        return None;
+    }
+    let times = if gaps.fourth > gaps.usual.saturating_mul(HABIT) {
+        LONGER_BY_HABIT
+    } else {
+        LONGER
+    };
+    Some(gaps.fourth.max(link.bag).saturating_mul(times))
+}
+
+/// The interval, if it is longer than what may be usual of the link.
+fn unusual(link: &LinkReport, interval: Interval) -> Option<Interval> {
+    match most_usual(link) {
+        Some(most) if interval.time() > most => Some(interval),
+        _ => None,
+    }
+}
+
+/// The longest time between two deliveries of a link, where it is longer than what may be usual.
+pub fn gap_of(link: &LinkReport) -> Option<Interval> {
+    match link.gaps.longest {
+        Some(interval) => unusual(link, interval),
+        None => None,
+    }
+}
+
+/// The time from a link's last delivery to the last line of the networks that it was on, where it is longer
+/// than what may be usual.
+pub fn stop_of(report: &Report, link: &LinkReport) -> Option<Interval> {
+    let Some(from) = link.gaps.last else {
+        return None;
+    };
+    let mut to = 0u64;
+    for network in NETWORKS {
+        if link.lanes.of(network).frames > 0 {
+            to = to.max(report.networks.of(network).last);
+        }
+    }
+    unusual(link, Interval { from, to })
+}
+
+/// The time from a network's last line to the ledger's, where it is as long as a silence by its length.
+pub fn end_of(report: &Report, network: Network) -> Option<Interval> {
+    let side = report.networks.of(network);
+    let interval = Interval {
+        from: side.last,
+        to: report.end,
+    };
+    let time = interval.time();
+    let long = time >= LONG_TIME && time >= side.usual.saturating_mul(LONG_TIMES);
+    if side.frames >= SILENT_LINES && long {
+        Some(interval)
+    } else {
+        None
+    }
+}
+
+/// Is the network silent by its length alone?
+fn is_pause(silence: &Silence) -> bool {
+    silence.lines < SILENT_LINES
+}
+
+/// Is it silent by its length so often that this is a habit of it?
+pub fn pauses_often(side: &NetworkReport) -> bool {
+    side.silences
+        .iter()
+        .filter(|silence| is_pause(silence))
+        .count()
+        > MOST_PAUSES
+}
+
+/// Is this silence told?
+pub fn is_told(side: &NetworkReport, silence: &Silence) -> bool {
+    !is_pause(silence) || !pauses_often(side)
+}
+
+/// The part of a network's silence in which the other network is silent too, where that is a second or more.
+pub fn silent_on_both(report: &Report, network: Network, silence: &Silence) -> Option<Interval> {
+    for held in report.networks.of(other(network)).silences.iter() {
+        let both = Interval {
+            from: held.from.max(silence.from),
+            to: held.to.min(silence.to),
+        };
+        if both.time() >= LONG_TIME {
+            return Some(both);
+        }
+    }
+    None
+}
+
+/// Is the link's rate known, so that a time tells how many of its frames fall into it?
+pub fn has_rate(link: &LinkReport) -> bool {
+    let gaps = &link.gaps;
+    gaps.count >= KNOWN_TIMES && gaps.fourth <= gaps.usual.saturating_mul(REGULAR)
+}
+
+/// How long a lane was recorded in this time, from its first line to its last.
+fn within(lane: &Lane, interval: Interval) -> u64 {
+    let within = Interval {
+        from: interval.from.max(lane.first),
+        to: interval.to.min(lane.last),
+    };
+    within.time()
+}
+
+/// About how many frames of a lane fall into a time, by the mean of its intervals.
+fn about(lane: &Lane, time: u64) -> u64 {
+    rounded(time, lane.intervals, lane.interval_sum)
+}
+
+/// About how many numbers of the links whose rate is known are missing in a time on a network, and how many
+/// more links have lines before and after it.
+pub fn missing_between(report: &Report, network: Network, interval: Interval) -> (u64, u64) {
+    let (mut missing, mut unknown) = (0u64, 0u64);
+    for link in report.links.iter() {
+        let lane = link.lanes.of(network);
+        let time = within(lane, interval);
+        if link.integrity && lane.frames > 0 && time > 0 {
+            if has_rate(link) {
+                missing = missing.saturating_add(about(lane, time));
+            } else {
+                unknown = unknown.saturating_add(1);
+            }
+        }
+    }
+    (missing, unknown)
+}
+
+/// May numbers have come again while the lane had no line, so that what is counted as lost is a lower bound?
+pub fn is_lower_bound(link: &LinkReport, network: Network) -> bool {
+    let lane = link.lanes.of(network);
+    lane.intervals > 0 && lane.greatest >= link.bag.saturating_mul(WINDOW_BAGS)
+}
+
+/// About how many numbers of a link are missing in the silences of a network, where its rate is known.
+pub fn missing_in_silences(report: &Report, link: &LinkReport, network: Network) -> Option<u64> {
+    let lane = link.lanes.of(network);
+    let mut time = 0u64;
+    for silence in report.networks.of(network).silences.iter() {
+        let interval = Interval {
+            from: silence.from,
+            to: silence.to,
+        };
+        time = time.saturating_add(within(lane, interval));
+    }
+    if time == 0 || lane.frames == 0 || !link.integrity {
+        Some(0)
+    } else if has_rate(link) {
+        Some(about(lane, time))
+    } else {
+        None
+    }
+}

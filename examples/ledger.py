@@ -1,0 +1,162 @@
+"""A ledger of afdxmon in data frames of pandas (docs/GUIDE.md has what can be asked of them).
+
+    import ledger
+    frames = ledger.read("flight.ledger")          # a row for each frame
+    table = ledger.table("flight.toml")            # a row for each virtual link
+    ledger.excess(frames, "10s")
+
+Needs pandas, and matplotlib for the pictures. Times are exact: nanoseconds in UTC. A word that is `-` in the ledger is
+missing (NA). The columns have the names of docs/LEDGER.md.
+"""
+import json
+import os
+import tomllib
+
+import pandas
+
+WORDS = {
+    "network": ["A", "B"],
+    "class": ["cut", "runt", "oversize", "foreign", "unconfigured", "toolong", "regular"],
+    "policing": ["within", "excess"],
+    "integrity": ["first", "next", "skip", "reset", "off", "out"],
+    "redundancy": ["deliver", "both", "copy"],
+}
+TYPES = {
+    "time": "int64",
+    **{name: pandas.CategoricalDtype(words) for name, words in WORDS.items()},
+    "number": "int64",
+    "link": "Int32",
+    "sequence": "UInt8",
+    "kept": "Int32",
+    "mask": "string",
+}
+NAMES = ["time", "network", "number", "link", "sequence", "class", "policing", "integrity", "redundancy", "kept", "mask"]
+DELIVERED = ["deliver", "both"]
+TAIL = 1 << 20  # bytes that hold all lines of counts: 4096 virtual links of at most 160 bytes, and some more
+
+
+class Incomplete(Exception):
+    """A ledger without its line `total`: its run was aborted, or still writes."""
+
+
+def counts(path):
+    """The lines of counts, as lists of words."""
+    with open(path, "rb") as text:
+        text.seek(max(os.path.getsize(path) - TAIL, 0))
+        lines = text.read().decode("ascii").split("\n")
+    if lines[-1] or len(lines) < 2 or not lines[-2].startswith("total "):
+        raise Incomplete(path)
+    return [line.split(" ") for line in lines if line[:1] in ("l", "f", "t")]
+
+
+def totals(path):
+    """The line `total`: how many frames there are of each word."""
+    words = counts(path)[-1][1:]
+    return pandas.Series(list(map(int, words[1::2])), words[::2], name="frames")
+
+
+def links(path):
+    """The lines `link`: a row for each virtual link of the table, with its counts."""
+    rows = [words[1:] for words in counts(path) if words[0] == "link"]
+    found = pandas.DataFrame([[int(row[0]), row[1], *map(int, row[3::2])] for row in rows])
+    found.columns = ["id", "name", "frames", "toolong", "excess", "out", "copy", "delivered"]
+    return found.set_index("id")
+
+
+def parts(path, size=1_000_000):
+    """The lines of frames, so many at a time, for ledgers that memory doesn't hold."""
+    count = int(totals(path)["frames"])
+    how = {"sep": " ", "names": NAMES, "dtype": TYPES, "skiprows": 1, "nrows": count, "na_values": ["-"], "keep_default_na": False}
+    if count == 0:
+        return
+    with pandas.read_csv(path, chunksize=size, **how) as text:
+        for part in text:
+            part["time"] = pandas.to_datetime(part["time"], unit="ns", utc=True)
+            part["mask"] = part["mask"].map(lambda mask: int(mask, 16)).astype("uint8")
+            yield part
+
+
+def read(path):
+    """All lines of frames."""
+    found = list(parts(path))
+    return pandas.concat(found, ignore_index=True) if found else pandas.DataFrame(columns=NAMES)
+
+
+def table(path):
+    """The virtual links of a table: a row for each identifier."""
+    with open(path, "rb") as text:
+        return pandas.DataFrame(tomllib.load(text).get("link", [])).set_index("id").sort_index()
+
+
+def report(path):
+    """The links of `afdxmon report --json`: a row for each identifier, with a column for each number, as `a.lost` or `signs.gap`."""
+    with open(path, encoding="utf-8") as text:
+        return pandas.json_normalize(json.load(text)["links"]).set_index("id").sort_index()
+
+
+def excess(frames, window="1s"):
+    """How many frames of each link policing discards in each window of time that has one."""
+    found = frames[frames["policing"] == "excess"]
+    return found.groupby([pandas.Grouper(key="time", freq=window), "link"]).size().rename("frames")
+
+
+def intervals(frames):
+    """The time from each frame of a link and network to the one before it, as far as they come to policing."""
+    seen = frames[frames["class"] == "regular"]
+    before = seen.groupby(["link", "network"], observed=True)["time"].shift()
+    return seen.assign(interval=seen["time"] - before).dropna(subset=["interval"])
+
+
+def skew(frames):
+    """Each copy with how long it came after the frame that was delivered."""
+    columns = ["time", "network", "link", "sequence"]
+    first = frames.loc[frames["redundancy"] == "deliver", columns].assign(delivered=lambda it: it["time"])
+    copies = frames.loc[frames["redundancy"] == "copy", columns]
+    found = pandas.merge_asof(copies, first, on="time", by=["link", "sequence"], suffixes=("", "_first"))
+    return found.assign(skew=found["time"] - found["delivered"])
+
+
+def bandwidth(frames, window="1s"):
+    """kbit/s of each link and network in each window of time, of a ledger whose run had a filter that keeps frames whole."""
+    seen = frames.dropna(subset=["link"])
+    bits = 8 * seen.groupby([pandas.Grouper(key="time", freq=window), "link", "network"], observed=True)["kept"].sum()
+    return (bits / 1000 / pandas.Timedelta(window).total_seconds()).unstack(["link", "network"], fill_value=0)
+
+
+def compared(today, before):
+    """What policing, integrity checking and Smax discard of each thousand frames of a link, in two ledgers, and how much that grew."""
+    rates = {}
+    for name, path in (("today", today), ("before", before)):
+        found = links(path)
+        rates[name] = 1000 * found[["toolong", "excess", "out"]].div(found["frames"].where(found["frames"] > 0), axis=0)
+    rates["grew"] = rates["today"] - rates["before"]
+    return pandas.concat(rates, axis=1)
+
+
+def draw_intervals(frames, config, path):
+    """A histogram of the intervals of all links, each as a part of its BAG."""
+    from matplotlib.figure import Figure
+
+    found = intervals(frames)
+    bag = found["link"].map(table(config)["bag_ms"]).astype(float)
+    part = found["interval"].dt.total_seconds() * 1000 / bag
+    figure = Figure(figsize=(8, 3.5), layout="constrained")
+    axes = figure.subplots()
+    axes.hist(part.clip(upper=2), bins=100, range=(0, 2), log=True, color="#4472c4")
+    axes.axvline(1, color="#c00000", linewidth=1, label="BAG")
+    axes.set(xlabel="interval between frames of a link, in BAGs (2: 2 and more)", ylabel="frames")
+    axes.legend()
+    figure.savefig(path, dpi=100)
+
+
+def draw_skew(frames, path):
+    """The skew of each copy over time, in a colour for each link."""
+    from matplotlib.figure import Figure
+
+    figure = Figure(figsize=(8, 3.5), layout="constrained")
+    axes = figure.subplots()
+    for link, found in skew(frames).groupby("link"):
+        axes.plot(found["time"], found["skew"].dt.total_seconds() * 1e6, ".", markersize=2, label=str(link))
+    axes.set(xlabel="time (UTC)", ylabel="skew in microseconds")
+    axes.legend(title="link", fontsize=8, markerscale=4, loc="upper left", bbox_to_anchor=(1, 1))
+    figure.savefig(path, dpi=100)

@@ -1,0 +1,105 @@
+"""The module examples/ledger.py: what it reads of ledgers, beside a slow reader of their lines."""
+import json
+import os
+import subprocess
+import tempfile
+from collections import Counter, defaultdict
+
+from guide import DEBIAN_PYTHON, has_pandas
+from harness import TOP, run, say, skip
+
+FLIGHT = os.path.join(TOP, "examples")
+# What the module finds, as JSON: each in words that the slow reader has too.
+SCRIPT = """
+import json, sys, pandas, ledger
+path, table = sys.argv[1:]
+frames = ledger.read(path)
+def rows(frames):
+    given = frames.astype({"time": "int64"}).astype(object)
+    return given.where(given.notna(), None).values.tolist()
+skew, intervals = ledger.skew(frames), ledger.intervals(frames)
+found = {
+    "rows": rows(frames),
+    "in parts": [row for part in ledger.parts(path, 700) for row in rows(part)],
+    "types": [str(kind) for kind in frames.dtypes],
+    "totals": ledger.totals(path).to_dict(),
+    "links": ledger.links(path).reset_index().values.tolist(),
+    "excess": [[time.value, link, count] for (time, link), count in ledger.excess(frames, "1s").items()],
+    "least": {str(link): int(it.value) for link, it in intervals.groupby("link")["interval"].min().items()},
+    "skew": {str(link): [int(it.max().value), len(it)] for link, it in skew.groupby("link")["skew"]},
+    "kbit": ledger.bandwidth(frames, "60s").sum().sum(),
+    "table": ledger.table(table)["bag_ms"].to_dict(),
+    "same": float(ledger.compared(path, path)["grew"].abs().sum().sum()),
+}
+ledger.draw_intervals(frames, table, path + ".intervals.png")
+ledger.draw_skew(frames, path + ".skew.png")
+print(json.dumps(found, default=int))
+"""
+
+
+def lines_of(path):
+    with open(path, encoding="ascii") as text:
+        return [line.split() for line in text.read().splitlines()[1:]]
+
+
+def slowly(path):
+    """The same by loops over the lines."""
+    frames = [[int(w[0]), w[1], int(w[2]), *w[3:10], int(w[10], 16)] for w in lines_of(path) if w[0].isdigit()]
+    rows = [[None if it == "-" else int(it) if at in (3, 4, 9) else it for at, it in enumerate(row)] for row in frames]
+    excess, least, last, delivered, skews = Counter(), {}, {}, {}, defaultdict(list)
+    for time, network, _, link, sequence, kind, policing, _, redundancy, _, _ in rows:
+        if policing == "excess":
+            excess[time // 10**9 * 10**9, link] += 1
+        if kind == "regular":
+            if (link, network) in last:
+                least[str(link)] = min(time - last[link, network], least.get(str(link), 10**20))
+            last[link, network] = time
+        if redundancy == "deliver":
+            delivered[link, sequence] = time
+        elif redundancy == "copy":
+            skews[str(link)].append(time - delivered[link, sequence])
+    counts = [w for w in lines_of(path) if w[0] == "link"]
+    total = lines_of(path)[-1][1:]
+    return {
+        "rows": rows,
+        "in parts": rows,
+        "types": ["datetime64[ns, UTC]", "category", "int64", "Int32", "UInt8", *["category"] * 4, "Int32", "uint8"],
+        "totals": dict(zip(total[::2], map(int, total[1::2]))),
+        "links": [[int(w[1]), w[2], *map(int, w[4::2])] for w in counts],
+        "excess": [[time, link, count] for (time, link), count in sorted(excess.items())],
+        "least": least,
+        "skew": {link: [max(found), len(found)] for link, found in skews.items()},
+        "kbit": 8 * sum(row[9] or 0 for row in rows if row[3] is not None) / 60_000,
+    }
+
+
+def found_in(path):
+    environment = {**os.environ, "PYTHONPATH": FLIGHT}
+    table = os.path.join(FLIGHT, "flight.toml")
+    ran = subprocess.run([DEBIAN_PYTHON, "-c", SCRIPT, path, table], capture_output=True, env=environment, text=True)
+    return json.loads(ran.stdout) if ran.returncode == 0 else ran.stderr[-500:]
+
+
+def cases():
+    if not has_pandas():
+        skip("examples/ledger.py", "no pandas and matplotlib here")
+        return
+    with tempfile.TemporaryDirectory() as folder:
+        path = os.path.join(folder, "flight.ledger")
+        taps = [word for tap in "ab" for word in (f"--{tap}", os.path.join(FLIGHT, f"flight_{tap}.pcap"))]
+        tables = [os.path.join(FLIGHT, f"flight.{kind}") for kind in ("toml", "filter")]
+        run(["watch", "--config", tables[0], "--filter", tables[1], *taps, "--ledger", path])
+        found, expected = found_in(path), slowly(path)
+        for name, value in expected.items():
+            same = isinstance(found, dict) and (abs(found[name] - value) < 1e-6 if name == "kbit" else found[name] == value)
+            say(f"examples/ledger.py: {name}", "" if same else f"{str(found[name] if isinstance(found, dict) else found)[:300]}")
+        right = isinstance(found, dict) and found["table"]["301"] == 128 and found["same"] == 0
+        say("examples/ledger.py: a table, and a flight beside itself", "" if right else f"{str(found)[:300]}")
+        for name in ("intervals", "skew"):
+            picture = f"{path}.{name}.png"
+            drawn = os.path.exists(picture) and open(picture, "rb").read(8) == b"\x89PNG\r\n\x1a\n"
+            say(f"examples/ledger.py: the picture of {name}", "" if drawn else "it isn't there")
+        with open(path, "rb+") as text:
+            text.truncate(os.path.getsize(path) - 1)
+        ran = subprocess.run([DEBIAN_PYTHON, "-c", "import ledger, sys; ledger.read(sys.argv[1])", path], capture_output=True, env={**os.environ, "PYTHONPATH": FLIGHT})
+        say("examples/ledger.py: an incomplete ledger", "" if b"ledger.Incomplete" in ran.stderr else f"{ran.stderr[-200:]!r}")

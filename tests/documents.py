@@ -1,0 +1,139 @@
+"""The documents as texts: one width, links that lead somewhere, and each fault, ending, word, key and member of a JSON of the
+program in its page. Each option stands in afdxmon(1), which tests/manual.py compares with the help."""
+import json
+import os
+import re
+import subprocess
+import tempfile
+
+from guide import commands_of
+from harness import PROGRAM, TOP, say
+
+WIDTH = 100
+LINK = re.compile(r"\]\(([^)\s]+)\)")
+# Faults of watch that the program refuses before a run, or that a run without threads can't meet.
+UNTOLD = {"5 Spawn", "8 Filters"}
+
+
+def pages():
+    """The documents, by their paths."""
+    found = ["README.md", "CONTRIBUTING.md", "CHANGELOG.md", os.path.join("examples", "README.md")]
+    return found + sorted(os.path.join("docs", name) for name in os.listdir(os.path.join(TOP, "docs")) if name.endswith(".md"))
+
+
+def text_of(page):
+    with open(os.path.join(TOP, page), encoding="utf-8") as given:
+        return given.read()
+
+
+def prose_of(text):
+    """The lines that are neither code nor tables, with their numbers."""
+    fenced = False
+    for number, line in enumerate(text.splitlines(), 1):
+        if line.lstrip().startswith("```"):
+            fenced = not fenced
+        elif not fenced and not line.startswith(("    ", "|")):
+            yield number, line
+
+
+def anchors_of(text):
+    """The anchors of a page's headings, as GitHub makes them."""
+    titles = (re.sub(r"[`*]|\[([^\]]*)\]\([^)]*\)", r"\1", line.lstrip("# ")) for _, line in prose_of(text) if line.startswith("#"))
+    return {re.sub(r"[^\w\- ]", "", title.lower()).replace(" ", "-") for title in titles}
+
+
+def wide_lines(page):
+    """Lines of prose that are too wide. Links can't be broken."""
+    return [f"line {number} has {len(line)}" for number, line in prose_of(text_of(page)) if len(line) > WIDTH and "](" not in line]
+
+
+def false_lists(page):
+    """Lines within a paragraph that begin as an item of a list does."""
+    before = ""
+    for number, line in prose_of(text_of(page)):
+        if re.match(r"\d+\. |[-+*] ", line) and before and not re.match(r"\d+\. |[-+*] | ", before):
+            yield f"line {number} begins a list"
+        before = line
+
+
+def wide_commands(page):
+    """Lines of commands that are too wide. What commands print is as it is."""
+    written = [command for command, _ in commands_of(page)] + re.findall(r"^```sh\n(.*?)^```", text_of(page), re.M | re.S)
+    return [line for command in written for line in command.splitlines() if len(line) > WIDTH]
+
+
+def dead_links(page):
+    """Links to files that aren't there, and to headings that their page doesn't have."""
+    for target in LINK.findall(text_of(page)):
+        path, _, anchor = target.partition("#")
+        if "://" in path:
+            continue
+        file = os.path.normpath(os.path.join(os.path.dirname(page), path)) if path else page
+        if not os.path.exists(os.path.join(TOP, file)):
+            yield f"{target}: no such file"
+        elif anchor and file.endswith(".md") and anchor not in anchors_of(text_of(file)):
+            yield f"{target}: no such heading"
+
+
+def unlisted_pages():
+    """Pages of docs/ that its README doesn't name."""
+    linked = {target.partition("#")[0] for target in LINK.findall(text_of(os.path.join("docs", "README.md")))}
+    return sorted({os.path.basename(page) for page in pages() if page.startswith("docs")} - linked - {"README.md"})
+
+
+def found_in(pattern, *path):
+    """What a pattern finds in the sources of a crate."""
+    folder = os.path.join(TOP, "crates", *path)
+    names = (os.path.join(where, name) for where, _, names in os.walk(folder) for name in names if name.endswith(".rt"))
+    return {word.strip() for name in names for word in re.findall(pattern, text_of(name))}
+
+
+def lacks(known, page, form="`WORD`"):
+    """What of a list a page, or several, don't have."""
+    text = "\n".join(text_of(os.path.join("docs", name)) for name in page.split())
+    missing = [word for word in sorted(known) if not re.search(form.replace("WORD", re.escape(word)), text)]
+    return f"{page} lacks {', '.join(missing)}" if missing else "" if known else "the sources have none where they are looked for"
+
+
+def facts():
+    """What a reader looks up: of each kind where it stands in the program's sources, and in which page it has to stand."""
+    faults = found_in(r'"(\d [A-Z]\w*(?: \d [A-Z]\w*)?(?: \w+)?)"', "command_line", "src") - UNTOLD
+    say("documents: each fault", lacks(faults, "MESSAGES.md TABLE.md DEBUGGER.md", r"`[^`\n]*\bWORD\b"))
+    say("documents: each ending's word", lacks(found_in(r'BadReason::\w+ => "( ?[a-z]+)"', "verdict_ledger", "src"), "FORMATS.md", r"bad\(n, WORD\)"))
+    say("documents: each ending's message", lacks(found_in(r'BadReason::\w+ => "([^"]+)"', "command_line", "src"), "MESSAGES.md FORMATS.md", "WORD"))
+    say("documents: each key", lacks(found_in(r'Key::\w+ => "(\w+)"', "vl_config", "src"), "TABLE.md", r"\n\| `WORD` "))
+    words = found_in(r'(?:Class|Integrity|Redundancy|Policing)::\w+\)? => "(\w+)"', "line_selection", "src") - {"discarded", "faults"}
+    say("documents: each word of a verdict", lacks(words, "LEDGER.md", r"\n\| `WORD` "))
+
+
+def members_of(value):
+    """The names of all members in a JSON value."""
+    inner = value.values() if isinstance(value, dict) else value if isinstance(value, list) else ()
+    return (set(value) if isinstance(value, dict) else set()).union(*map(members_of, inner))
+
+
+def members():
+    """Each member of report --json and of check --json, as the flight gives them."""
+    table, a, b = (os.path.join(TOP, "examples", f"flight{name}") for name in (".toml", "_a.pcap", "_b.pcap"))
+    with tempfile.TemporaryDirectory() as folder:
+        ledger, wrong = os.path.join(folder, "ledger"), os.path.join(folder, "wrong.toml")
+        with open(wrong, "w", encoding="utf-8") as out:
+            out.write("constant = 1\n")
+        subprocess.run([PROGRAM, "watch", "--config", table, "--a", a, "--b", b, "--ledger", ledger], check=True, timeout=60)
+        for page, command in (
+            ("REPORT.md", ["report", "--config", table, "--ledger", ledger, "--json"]),
+            ("MESSAGES.md", ["check", "--config", table, "--a", a, "--b", a, "--json"]),
+            ("MESSAGES.md", ["check", "--config", wrong, "--a", a, "--json"]),
+        ):
+            ran = subprocess.run([PROGRAM, *command], stdout=subprocess.PIPE, stderr=subprocess.DEVNULL, timeout=60)
+            say(f"documents: each member of {' '.join(command[:1] + command[-1:])}", lacks(members_of(json.loads(ran.stdout)), page))
+
+
+def cases():
+    for page in pages():
+        say(f"{page}: lines of at most {WIDTH} columns", "; ".join((wide_lines(page) + wide_commands(page))[:3]))
+        say(f"{page}: lists", "; ".join(list(false_lists(page))[:3]))
+        say(f"{page}: links", "; ".join(list(dead_links(page))[:3]))
+    say("docs/README.md names each page", ", ".join(unlisted_pages()))
+    facts()
+    members()

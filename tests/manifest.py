@@ -1,0 +1,460 @@
+"""`afdxmon watch --manifest` and `afdxmon report --manifest`: the whole texts, and what is refused.
+
+Digests are those of hashlib, lengths those of the files, frames, timestamps and endings those of tests/reference.py.
+"""
+import datetime
+import hashlib
+import html
+import json
+import os
+import re
+import subprocess
+import tempfile
+import threading
+
+from analyser import watch
+from harness import EVERY, FAULT, PROGRAM, SUCCESS, USAGE, difference, frame, header, record, run, run_at_terminal, say
+from reference import parse
+from texts import FULL, OUTPUT, advice_on
+from watching import TABLE, Desk, notes_on, read, tap
+
+START = 1_800_000_000 * 10**9
+ENDS = {
+    "clean": b"",
+    "cut": record(START + 10**9, frame(5, 60, 9))[:-1],
+    "length": record(START + 10**9, b"")[:8] + (262145).to_bytes(4, "little") * 2,
+    "fraction": (1_800_000_001).to_bytes(4, "little") + (10**9).to_bytes(4, "little") + bytes(8),
+    "stampback": record(0, frame(5, 60, 9)),
+}
+
+
+def frames(*stamps):
+    return tap(*((START + stamp, frame(5, 60, number % 255 + 1)) for number, stamp in enumerate(stamps)))
+
+
+A, B = frames(0, 10**6, 2 * 10**6 + 1), frames(500, 10**6 + 500)
+INPUTS = {"config": TABLE, "filter": EVERY, "a": A, "b": B}
+WHOLE = watch(TABLE, EVERY, A, B)
+LEDGER = WHOLE.lines + WHOLE.summary
+
+
+def digest(data):
+    return hashlib.sha256(data).hexdigest()
+
+
+def utc(stamp):
+    """As RFC 3339 writes it, with as many decimals as it needs."""
+    second = datetime.datetime.fromtimestamp(stamp // 10**9, datetime.timezone.utc)
+    decimals = f"{stamp % 10**9:09}".rstrip("0")
+    return f"{second:%Y-%m-%dT%H:%M:%S}{'.' if decimals else ''}{decimals}Z"
+
+
+def file_of(path, data, hashed):
+    return {"path": path, "bytes": len(data), "sha256": digest(data) if hashed else None}
+
+
+def recording_of(path, data, hashed, known=True):
+    """A recording's members. Of a run that met a fault nothing is known but its bytes."""
+    members = file_of(path, data, hashed)
+    members.update(dict.fromkeys(("frames", "end", "reason", "first", "first_utc", "last", "last_utc")))
+    if known:
+        taken, ending = parse(data)
+        end, count, *reason = ending.split()
+        members.update(frames=int(count), end=end, reason=reason[0] if reason else None)
+        if taken:
+            first, last = min(taken)[0], max(taken)[0]
+            members.update(first=str(first), first_utc=utc(first), last=str(last), last_utc=utc(last))
+    return members
+
+
+def program_of():
+    told = run(["--version"], stdout=subprocess.PIPE).stdout.decode()
+    version, commit = re.fullmatch(r"afdxmon (\S+) \(commit (\S+)\)\n", told).groups()
+    return {"name": "afdxmon", "version": version, "commit": commit}
+
+
+def manifest_of(arguments, paths, given, written, hashed, fault=None):
+    """The manifest of a run with these arguments: the paths by their options, and what was read and written."""
+    known = fault is None
+    inputs = {"config": file_of(paths["config"], given["config"].encode(), True)}
+    inputs["filter"] = file_of(paths["filter"], given["filter"].encode(), True) if paths["filter"] else None
+    for network in "ab":
+        inputs[network] = recording_of(paths[network], given[network], hashed, known) if paths[network] else None
+    outputs = {option: file_of(paths[option], written[option], hashed) if paths[option] else None for option in ("capture", "ledger")}
+    return {"manifest": 1, "program": program_of(), "command": [PROGRAM, *arguments], "fault": fault, "inputs": inputs, "outputs": outputs}
+
+
+def text_of(manifest):
+    return (json.dumps(manifest, indent=2, ensure_ascii=False) + "\n").encode()
+
+
+class Run:
+    """A run of `watch` on a desk with a manifest."""
+
+    def __init__(self, desk, given, *more, **elsewhere):
+        self.desk, self.given = desk, given
+        self.paths = {**desk.paths, **elsewhere}
+        self.target = os.path.join(desk.directory, "run.json")
+        with open(self.target, "wb") as older:
+            older.write(b"older, and longer than nothing")
+        desk.lay(**given)
+        self.hashed = "--digest" in more
+        self.arguments = [*desk.arguments(**elsewhere), "--manifest", self.target, *more]
+
+    def run(self, runner=run, **how):
+        return runner(self.arguments, stdin=subprocess.DEVNULL, **{"stdout": subprocess.PIPE, **how})
+
+    def expected(self, written, fault=None):
+        return text_of(manifest_of(self.arguments, self.paths, self.given, written, self.hashed, fault))
+
+    def compared(self, written, fault=None):
+        """How the manifest that was written differs from what is expected."""
+        found, wanted = read(self.target), self.expected(written, fault)
+        return "" if found == wanted else f"the manifest is {found.decode()}, not {wanted.decode()}"
+
+
+def watched(desk, name, given, *more, **elsewhere):
+    """A run that succeeds: its outputs and its manifest."""
+    a, b = (given[network] if elsewhere.get(network, "") is not None else header() for network in "ab")
+    code = given["filter"] if elsewhere.get("filter", "") is not None else "1,6 0 0 0,"
+    whole = watch(given["config"], code, a, b)
+    written = {"capture": whole.capture, "ledger": whole.lines + whole.summary}
+    for options in ((), ("--digest",), ("--digest", "--workers", "8")):
+        it = Run(desk, given, *more, *options, **elsewhere)
+        ran = it.run()
+        fault = difference(ran, SUCCESS, notes_on(written["ledger"], {"A": a, "B": b}), b"") or it.compared(written)
+        say(" ".join(["manifest:", name, *options]), fault or desk.compared("ledger", written["ledger"]))
+
+
+def runs(desk):
+    watched(desk, "two recordings, a filter and a capture", INPUTS)
+    watched(desk, "no filter and no capture", INPUTS, filter=None, capture=None)
+    watched(desk, "one network", INPUTS, b=None)
+    watched(desk, "the other network", INPUTS, a=None)
+    watched(desk, "no frames", {**INPUTS, "a": header(), "b": header()})
+    watched(desk, "frames at one stamp on one network", {**INPUTS, "a": frames(7, 7), "b": header()})
+    watched(desk, "timestamp 0", {**INPUTS, "a": tap((0, frame(5, 60, 1))), "b": header()})
+    for end, bytes_after in ENDS.items():
+        watched(desk, f"a recording that ends {end}", {**INPUTS, "b": B + bytes_after})
+    many = frames(*(i * 1000 for i in range(5000)))
+    few = frames(1000, 2000)
+    watched(desk, "5000 frames on A, and B ends early", {**INPUTS, "a": many, "b": few})
+    watched(desk, "5000 frames on B, and A begins late", {**INPUTS, "a": frames(4_000_000, 4_999_999), "b": many})
+    names = "\n".join(f'[[link]]\nid = {i}\nname = "A_{i}"\nbag_ms = 1\njitter_us = 0\nsmax = 200\nintegrity = true\nredundancy = true\nskew_us = 1000'
+                      for i in range(100, 140))
+    watched(desk, "links whose names have capitals", {**INPUTS, "config": TABLE + names})
+    late = frames(0, 2000, 1000, 3000)
+    watched(desk, "a bad recording after 2 frames", {**INPUTS, "a": late})
+
+
+def standard_output(desk):
+    """The manifest to standard output, and to a pipe."""
+    it = Run(desk, INPUTS, "--digest")
+    it.arguments[it.arguments.index(it.target)] = "-"
+    ran = it.run()
+    wanted = it.expected({"capture": WHOLE.capture, "ledger": LEDGER})
+    say("manifest: to standard output", difference(ran, SUCCESS, "", wanted))
+    for option in ("capture", "ledger"):
+        it = Run(desk, INPUTS, **{option: "-"})
+        it.arguments[it.arguments.index(it.target)] = "-"
+        say(f"manifest: --{option} is standard output too", difference(it.run(), FAULT, "afdxmon: file --manifest", b""))
+
+
+def pour(path, data):
+    with open(path, "wb") as pipe:
+        pipe.write(data)
+
+
+def pipes(desk):
+    """All inputs by pipes: of them the bytes that were read."""
+    given = {**INPUTS, "a": frames(*(i * 1000 for i in range(3000)))}
+    whole = watch(TABLE, EVERY, given["a"], given["b"])
+    written = {"capture": whole.capture, "ledger": whole.lines + whole.summary}
+    names = {option: os.path.join(desk.directory, "pipe_" + option) for option in INPUTS}
+    it = Run(desk, given, "--digest", **names)
+    for path in names.values():
+        os.mkfifo(path)
+    writers = [threading.Thread(target=pour, args=(path, given[option].encode() if isinstance(given[option], str) else given[option]))
+               for option, path in names.items()]
+    for writer in writers:
+        writer.start()
+    ran = it.run()
+    for writer in writers:
+        writer.join()
+    say("manifest: inputs that are pipes", difference(ran, SUCCESS, "", b"") or it.compared(written))
+    it = Run(desk, INPUTS, "--digest", a="-")
+    ran = run(it.arguments, input=A, stdout=subprocess.PIPE)
+    say("manifest: a recording on standard input", difference(ran, SUCCESS, "", b"") or it.compared({"capture": WHOLE.capture, "ledger": LEDGER}))
+
+
+def pipes_out(desk):
+    """Outputs that are pipes: of them the bytes that were written."""
+    given = {**INPUTS, "a": frames(*(i * 1000 for i in range(5000)))}
+    whole = watch(TABLE, EVERY, given["a"], given["b"])
+    written = {"capture": whole.capture, "ledger": whole.lines + whole.summary}
+    names = {option: os.path.join(desk.directory, "pipe_" + option) for option in written}
+    it = Run(desk, given, "--digest", **names)
+    came = {}
+    for path in names.values():
+        os.mkfifo(path)
+    readers = [threading.Thread(target=lambda option, path: came.update({option: read(path)}), args=pair) for pair in names.items()]
+    for reader in readers:
+        reader.start()
+    ran = it.run()
+    for reader in readers:
+        reader.join()
+    say("manifest: outputs that are pipes", difference(ran, SUCCESS, "", b"") or it.compared(written) or ("" if came == written else "they differ"))
+
+
+def usage(desk):
+    desk.lay(**INPUTS)
+    ran = desk.watch("--digest")
+    told = "error: --digest needs --manifest, which has the digests\n"
+    say("manifest: --digest alone", difference(ran, USAGE, lambda text: text.startswith(told), b""))
+    ran = desk.watch("--manifest")
+    say("manifest: --manifest without a file", difference(ran, USAGE, lambda text: "--manifest <FILE>" in text, b""))
+
+
+def outputs(desk):
+    """A manifest that can't be opened or written, or is another file of the run."""
+    nowhere = os.path.join(desk.directory, "nowhere", "run.json")
+    for name, path, line, more in (
+        ("in a directory that isn't there", nowhere, "file --manifest",
+         f"{nowhere}: No such file or directory (os error 2)\n{OUTPUT.format('manifest')}\n"),
+        ("on a full disk", "/dev/full", "watch 4 Write manifest", f"/dev/full: {FULL}\n"),
+    ):
+        for runner, rest in ((run, ""), (run_at_terminal, more)):
+            it = Run(desk, INPUTS)
+            it.arguments[it.arguments.index(it.target)] = path
+            ran = runner([*it.arguments, "--quiet"], stdin=subprocess.DEVNULL, **({} if rest else {"stdout": subprocess.PIPE}))
+            said = ran.stderr if isinstance(ran.stderr, str) else ran.stderr.decode()
+            wanted = f"afdxmon: {line}\n{rest}"
+            fault = "" if (ran.returncode, said) == (FAULT, wanted) else f"status {ran.returncode}, {said!r}, not {wanted!r}"
+            if path == "/dev/full":
+                fault = fault or desk.compared("ledger", LEDGER) or desk.compared("capture", WHOLE.capture)
+            say(f"manifest: {name}{' at a terminal' if rest else ''}", fault)
+    for option in ("config", "filter", "a", "b", "capture", "ledger"):
+        it = Run(desk, INPUTS)
+        it.arguments[it.arguments.index(it.target)] = desk.paths[option]
+        before = {name: read(path) for name, path in desk.paths.items()}
+        ran = it.run()
+        first = option if option in ("capture", "ledger") else "manifest"
+        fault = difference(ran, FAULT, f"afdxmon: file --{first}", b"")
+        changed = [name for name, path in desk.paths.items() if read(path) != before[name]]
+        say(f"manifest: it is the file of --{option}", fault or ("files have changed" if changed else ""))
+
+
+def faults(desk):
+    """A run that meets a fault: the manifest has its line. Before the run nothing is written."""
+    it = Run(desk, INPUTS, "--digest", capture="/dev/full")
+    ran = it.run()
+    written = {"capture": b"", "ledger": desk.left("ledger")}
+    say("manifest: of a run whose capture can't be written", difference(ran, FAULT, "afdxmon: watch 4 Write capture", b"")
+        or it.compared(written, "watch 4 Write capture"))
+    it = Run(desk, {**INPUTS, "b": b"no recording at all, and longer than a header"}, "--digest")
+    ran = it.run()
+    fault = difference(ran, FAULT, "afdxmon: watch 2 Header B 2 Magic", b"")
+    told = json.loads(read(it.target)) if not fault else {}
+    wanted = json.loads(it.expected({"capture": b"", "ledger": b""}, "watch 2 Header B 2 Magic"))
+    if told:
+        # How far A was read by then isn't certain.
+        for members in (told, wanted):
+            members["inputs"]["a"].update(bytes=None, sha256=None)
+    say("manifest: of a run whose recording isn't one", fault or ("" if told == wanted else f"{told}, not {wanted}"))
+    it = Run(desk, {**INPUTS, "config": "constant = 0\n"})
+    older = read(it.target)
+    ran = it.run()
+    say("manifest: a refused table leaves an older one", difference(ran, FAULT, "afdxmon: config 4 Range top", b"")
+        or ("" if read(it.target) == older else "it has changed"))
+
+
+# ---- report
+
+
+class Reports:
+    """A ledger, its table and its manifest, and reports on changed ones."""
+
+    def __init__(self, desk, *more):
+        self.desk, self.it = desk, Run(desk, INPUTS, *more)
+        self.it.run()
+        self.manifest = json.loads(read(self.it.target))
+        self.changed = os.path.join(desk.directory, "changed.json")
+
+    def put(self, manifest):
+        """Writes a changed manifest, and returns its path."""
+        data = manifest if isinstance(manifest, bytes) else text_of(manifest)
+        with open(self.changed, "wb") as out:
+            out.write(data)
+        return self.changed
+
+    def report(self, manifest, *more, runner=run, **elsewhere):
+        paths = {"config": self.desk.paths["config"], "ledger": self.desk.paths["ledger"], **elsewhere}
+        given = ["--manifest", manifest] if manifest else []
+        how = {} if runner is run_at_terminal else {"stdout": subprocess.PIPE}
+        return runner(["report", "--config", paths["config"], "--ledger", paths["ledger"], *given, *more], **how)
+
+    def refused(self, name, manifest, line, *told, **elsewhere):
+        """In a pipe the line alone, and at a terminal what is told besides."""
+        ran = self.report(manifest, **elsewhere)
+        fault = difference(ran, FAULT, f"afdxmon: {line}", b"")
+        ran = self.report(manifest, runner=run_at_terminal, **elsewhere)
+        wanted = "".join(text + "\n" for text in (f"afdxmon: {line}", *told))
+        if not fault and (ran.returncode, ran.stderr, ran.stdout) != (FAULT, wanted, b""):
+            fault = f"at a terminal {ran.stderr!r}, not {wanted!r}"
+        say(f"manifest: report: {name}: {line}", fault)
+
+
+def grouped(number):
+    return f"{number:,}".replace(",", "&#8239;")
+
+
+def shown_file(word, members):
+    return f"<br/>{word} <b>{html.escape(members['path'])}</b>: {grouped(members['bytes'])} bytes"
+
+
+def shown_digest(members):
+    return f", SHA-256 <code>{members['sha256']}</code>" if members["sha256"] else ""
+
+
+def shown(manifest):
+    """The paragraph of the page's head on the run."""
+    program, inputs, outputs = manifest["program"], manifest["inputs"], manifest["outputs"]
+    arguments = "".join("".join(c if " " <= c <= "~" and c not in '&<>"' else f"&#{ord(c)};" for c in word) + " " for word in manifest["command"])
+    text = f'<p class="of">{program["name"]} {program["version"]} (commit {program["commit"]}): <code>{arguments}</code>'
+    if manifest["fault"]:
+        text += f"<br/>it met a fault: {manifest['fault']}"
+    for word, members in (("table", inputs["config"]), ("filter", inputs["filter"])):
+        text += shown_file(word, members) + shown_digest(members) if members else ""
+    for word, members in (("A", inputs["a"]), ("B", inputs["b"])):
+        if members:
+            text += shown_file(word, members) + f", {grouped(members['frames'])} frames"
+            text += f" from {members['first_utc']} to {members['last_utc']}, ends {members['end']}"
+            text += f" ({members['reason']})" if members["reason"] else ""
+            text += shown_digest(members)
+    for word, members in (("capture", outputs["capture"]), ("ledger", outputs["ledger"])):
+        text += shown_file(word, members) + shown_digest(members) if members else ""
+    return text + "</p>"
+
+
+TIES = {
+    None: "Table and ledger were not tied: no manifest of the run was given. ",
+    (): "The table has the SHA-256 of the run's manifest, and the ledger its length. ",
+    ("--digest",): "Table and ledger have the SHA-256 of the run's manifest. ",
+}
+
+
+def pages(desk):
+    """The page and the numbers with a manifest, and without one."""
+    for more in ((), ("--digest",)):
+        reports = Reports(desk, *more)
+        name = " ".join(["manifest: report", *more])
+        ran = reports.report(reports.it.target, "--json")
+        told = json.loads(ran.stdout) if ran.returncode == SUCCESS else {}
+        say(f"{name}: its numbers have it", difference(ran, SUCCESS, "") or ("" if told["manifest"] == reports.manifest else f"{told['manifest']}"))
+        page = reports.report(reports.it.target).stdout.decode("ascii")
+        say(f"{name}: its page has the run", "" if shown(reports.manifest) in page else f"{re.findall('<p class=.of.*?</p>', page)}, not {shown(reports.manifest)}")
+        say(f"{name}: its page has what ties them", "" if TIES[more] in page else "it hasn't")
+    without = json.loads(reports.report(None, "--json").stdout)
+    say("manifest: report: numbers without one", "" if without["manifest"] is None else f"{without['manifest']}")
+    say("manifest: report: the same numbers", "" if {**told, "manifest": None} == without else "they differ")
+    page = reports.report(None).stdout.decode("ascii")
+    say("manifest: report: a page without one", "" if TIES[None] in page and 'class="of"' not in page else "it doesn't say so")
+    strange = {**reports.manifest, "command": ["<&\"'>", "f\u00fcr @\n"], "fault": "watch 7 Memory"}
+    page = reports.report(reports.put(strange)).stdout.decode("ascii")
+    say("manifest: report: arguments of any characters", "" if shown(strange) in page else f"{re.findall('<p class=.of.*?</p>', page)}")
+    more = {**reports.manifest, "later": {"added": [1]}}
+    ran = reports.report(reports.put(more), "--json")
+    say("manifest: report: a member that isn't known", difference(ran, SUCCESS, "") or
+        ("" if json.loads(ran.stdout)["manifest"] == reports.manifest else "it is told"))
+
+
+def wrong_manifests(desk):
+    reports = Reports(desk, "--digest")
+    form = "no manifest: afdxmon watch writes one by --manifest"
+    changed = reports.changed
+
+    def refused(name, manifest, line, *told, **elsewhere):
+        reports.refused(name, reports.put(manifest), line, *told, **elsewhere)
+
+    def without(*path):
+        copy = json.loads(json.dumps(reports.manifest))
+        members = copy
+        for name in path[:-1]:
+            members = members[name]
+        del members[path[-1]]
+        return copy
+
+    refused("no text", b"", "report 5 Manifest at 1 form", f"{changed}: EOF while parsing at line 1 column 0", form)
+    refused("no JSON", b"{\n\n no}", "report 5 Manifest at 3 form", f"{changed}: invalid JSON at line 3 column 2", form)
+    refused("a list", b"[]", "report 5 Manifest at 1 form", f"{changed}: missing field `manifest` at line 1 column 2", form)
+    refused("no version", without("manifest"), f"report 5 Manifest at {len(text_of(without('manifest')).splitlines())} form",
+            f"{changed}: missing field `manifest` at line {len(text_of(without('manifest')).splitlines())} column 1", form)
+    for version in (0, 2, 4294967295):
+        refused(f"version {version}", {**reports.manifest, "manifest": version}, "report 5 Manifest version",
+                f"{changed}: {advice_on('report 5 Manifest version')}")
+    refused("another version without its members", b'{"manifest": 2}', "report 5 Manifest version", f"{changed}: {advice_on('report 5 Manifest version')}")
+    for path in (("program",), ("command",), ("inputs",), ("outputs",)):
+        data = text_of(without(*path))
+        lines = len(data.splitlines())
+        refused(f"no {path[0]}", without(*path), f"report 5 Manifest at {lines} form", f"{changed}: missing field `{path[0]}` at line {lines} column 1", form)
+    data = text_of({**reports.manifest, "command": "watch"})
+    line = data[: data.index(b'"command"')].count(b"\n") + 1
+    ran = reports.report(reports.put(data))
+    say("manifest: report: a command that is no list", difference(ran, FAULT, f"afdxmon: report 5 Manifest at {line} form", b""))
+    other = json.loads(json.dumps(reports.manifest))
+    other["inputs"]["config"]["sha256"] = None
+    table = f"{desk.paths['config']}: {advice_on('report 5 Manifest table')}"
+    refused("no digest of the table", other, "report 5 Manifest table", table)
+    other["inputs"]["config"]["sha256"] = digest(b"other")
+    refused("another digest of the table", other, "report 5 Manifest table", table)
+    path = os.path.join(desk.directory, "missing.json")
+    reports.refused("no such file", path, "file --manifest", f"{path}: No such file or directory (os error 2)")
+    with open(changed, "wb") as out:
+        out.write(b"{\xff}")
+    reports.refused("not UTF-8", changed, "file --manifest", f"{changed}: not UTF-8 at byte 1")
+    with open(changed, "wb") as out:
+        out.write(b" " * (16777216 - len(read(reports.it.target))) + read(reports.it.target))
+    say("manifest: report: 16777216 bytes", difference(reports.report(changed, "--json"), SUCCESS, ""))
+    with open(changed, "ab") as out:
+        out.write(b" ")
+    reports.refused("16777217 bytes", changed, "file --manifest", f"{changed}: it has 16777217 bytes")
+
+
+def other_files(desk):
+    """A table and a ledger that aren't the manifest's."""
+    for more in ((), ("--digest",)):
+        reports = Reports(desk, *more)
+        target, how = reports.it.target, f" after a run {'with --digest' if more else 'without it'}"
+        other = os.path.join(desk.directory, "other")
+
+        def put(data):
+            with open(other, "wb") as out:
+                out.write(data)
+
+        put(TABLE.replace("skew_us = 1000", "skew_us = 1001").encode())
+        reports.refused("another table" + how, target, "report 5 Manifest table", f"{other}: {advice_on('report 5 Manifest table')}", config=other)
+        put(TABLE.encode() + b"\n")
+        reports.refused("a table with a newline more" + how, target, "report 5 Manifest table", f"{other}: {advice_on('report 5 Manifest table')}", config=other)
+        whole = watch(TABLE, EVERY, A, frames(500))
+        put(whole.lines + whole.summary)
+        reports.refused("a ledger of another run" + how, target, "report 5 Manifest ledger", f"{other}: {advice_on('report 5 Manifest ledger')}", ledger=other)
+        put(LEDGER.replace(str(START).encode(), str(START + 1).encode()))
+        if more:
+            reports.refused("a ledger as long" + how, target, "report 5 Manifest ledger", f"{other}: {advice_on('report 5 Manifest ledger')}", ledger=other)
+        else:
+            say("manifest: report: a ledger as long" + how, difference(reports.report(target, "--json", ledger=other), SUCCESS, ""))
+        ran = run(["report", "--config", desk.paths["config"], "--ledger", "-", "--manifest", target, "--json"], input=LEDGER, stdout=subprocess.PIPE)
+        say("manifest: report: the ledger by a pipe" + how, difference(ran, SUCCESS, ""))
+        page = os.path.join(desk.directory, "run.json")
+        before = read(page)
+        ran = reports.report(target, "-o", page)
+        say("manifest: report: its page is the manifest's file" + how, difference(ran, FAULT, "afdxmon: file --output", b"")
+            or ("" if read(page) == before else "it has changed"))
+    ran = run(["report", "--config", desk.paths["config"], "--ledger", "-", "--manifest", "-"], input=LEDGER, stdout=subprocess.PIPE)
+    say("manifest: report: standard input twice", difference(ran, FAULT, "afdxmon: file --ledger", b""))
+
+
+def cases():
+    for part in (runs, standard_output, pipes, pipes_out, usage, outputs, faults, pages, wrong_manifests, other_files):
+        with tempfile.TemporaryDirectory() as work:
+            part(Desk(work))
