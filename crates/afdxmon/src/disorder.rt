@@ -1,12 +1,10 @@
 //! By how much the frame that ends a recording is out of order, and which option takes it.
-use crate::recordings::{Reading, files_of};
-use crate::streams::Input;
-use crate::taps::Tap;
-use afdx_frame::Network;
+use crate::interface::start_of;
 use analyser::{Invocation, MAX_LATE_MICROS};
-use pcap_io::{Found, TapReader};
-use std::fmt;
+use pcap_io::Found;
+use pcapng::Choice;
 use std::fmt::{Display, Formatter};
+use std::{fmt, fs};
 
 /// Which option takes a frame that is out of order.
 #[derive(Clone, Copy)]
@@ -28,23 +26,21 @@ impl Disorder {
     pub fn of(
         rt: &HostRuntime,
         command: Invocation<'_>,
-        tap: &Tap,
+        (path, choice): (&str, Choice),
         count: u64,
     ) -> Option<Disorder> {
-        let late = lateness_after(rt, tap, count)?;
+        let late = lateness_after(rt, path, choice, count)?;
         let taken = taken_by(command, late);
         Some(Disorder { late, taken })
     }
 }
 
-/// By how many nanoseconds the frame after the first `count` of a recording lies below the greatest timestamp.
-fn lateness_after(rt: &HostRuntime, tap: &Tap, count: u64) -> Option<u64> {
-    if !tap.is_of_regular_files(rt) {
+/// By how many nanoseconds the frame after the first `count` of a file lies below the greatest timestamp.
+fn lateness_after(rt: &HostRuntime, path: &str, choice: Choice, count: u64) -> Option<u64> {
+    if !fs::metadata(rt, path).ok()?.is_file() {
         return None;
     }
-    let first = Input::open(rt, tap.files.first()?.path.as_str()).ok()?;
-    let source = files_of(Reading::quiet(rt, Network::A), tap, first, None).ok()?;
-    let mut reader = TapReader::open(source, Network::A, 1 << 32, u64::MAX).ok()?;
+    let mut reader = start_of(rt, path, choice, u64::MAX)?;
     let (mut high, mut late) = (0u64, 0);
     for _ in 0..count.saturating_add(1) {
         let Ok(Found::Frame) = reader.advance(rt.alloc()) else {
@@ -70,7 +66,7 @@ fn taken_by(command: Invocation<'_>, late: u64) -> Taken {
 
 /// A length of time, in a unit that suits it.
 #[derive(Clone, Copy)]
-pub struct Amount(pub u64);
+struct Amount(u64);
 
 impl Display for Amount {
     fn fmt<W: fmt::Write>(&self, f: &mut Formatter<W>) -> fmt::Result {

@@ -1,9 +1,9 @@
 //! What is written of inputs that pause, as pipes do: it is handed to the system before the program waits for
 //! more, and a fault is told before the program waits for its threads.
+use crate::interface::Choices;
 use crate::pauses::Pauses;
 use crate::progress::Progress;
 use crate::streams::{Input, Output};
-use crate::taps::Taps;
 use crate::telling::{Known, tell};
 use afdx_frame::Network;
 use analyser::{Exit, Fault, Invocation, RunObserver, WatchArguments, WatchFault};
@@ -120,7 +120,7 @@ impl SharedBlocks {
     }
 
     /// The same output.
-    pub fn share(&self) -> Result<SharedBlocks, AllocError> {
+    fn share(&self) -> Result<SharedBlocks, AllocError> {
         Ok(SharedBlocks {
             writer: Arc::try_clone(&self.writer)?,
         })
@@ -186,7 +186,6 @@ impl Read for LiveInput {
 pub struct Watcher<'a> {
     rt: &'a HostRuntime,
     given: WatchArguments<'a>,
-    taps: &'a Taps,
     capture: SharedBlocks,
     ledger: SharedBlocks,
     progress: Option<&'a Progress>,
@@ -200,7 +199,7 @@ impl<'a> Watcher<'a> {
     /// told all of it.
     pub fn new(
         rt: &'a HostRuntime,
-        (given, taps): (WatchArguments<'a>, &'a Taps),
+        given: WatchArguments<'a>,
         outputs: (SharedBlocks, SharedBlocks),
         progress: Option<&'a Progress>,
         pauses: Option<&'a Pauses>,
@@ -210,7 +209,6 @@ impl<'a> Watcher<'a> {
         Watcher {
             rt,
             given,
-            taps,
             capture,
             ledger,
             progress,
@@ -244,8 +242,7 @@ impl<'a> Watcher<'a> {
         let known = Known {
             source: None,
             reason,
-            taps: self.taps,
-            at: [0, 0],
+            choices: Choices::any(),
             full: self.full,
         };
         let _ = tell(self.rt, command, &Exit::Fault(Fault::Watch(fault)), known);

@@ -139,8 +139,7 @@ fn is_within_day(from: u64, length: u64) -> bool
 }
 
 /// The first moment of a span from a time of day on, on the day of the ledger's first frame. Where a span
-/// within a day is over before that frame, it is the next day's. A span whose end isn't told by a time of day
-/// or a length begins at the first such moment from twelve hours before that frame on.
+/// within a day is over before that frame, it is the next day's.
 fn first_of_day(from: u64, last: Last) -> Moment
     ensures { result ≡ first_of_day from last }
 {
@@ -155,8 +154,7 @@ fn first_of_day(from: u64, last: Last) -> Moment
             after: 0,
             before: length,
         },
-        Last::At(MomentText::OfDay(_)) | Last::After(_) => Moment::OfDay(from),
-        Last::Open | Last::At(_) => Moment::Near(from),
+        _ => Moment::OfDay(from),
     }
 }
 

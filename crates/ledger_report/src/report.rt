@@ -32,7 +32,7 @@ use crate::network::NetworkReport;
 use crate::sides::Sides;
 use crate::statistics::Statistics;
 use afdx_frame::{Network, VlId};
-use ledger_text::{Found, LedgerLine, LedgerReader, LedgerStop, LinesRefused, ReadFault};
+use ledger_text::{Found, LedgerLine, LedgerReader, LinesRefused, ReadFault};
 use pcap_io::TapSource;
 use std::alloc::{AllocError, Global};
 use vl_config::Config;
@@ -99,8 +99,6 @@ pub struct Report {
     pub endings: Sides<Option<TapEnding>>,
     /// Does the ledger have its last line?
     pub whole: bool,
-    /// Where it ends, if it doesn't.
-    pub stop: Option<LedgerStop>,
 }
 
 impl Report {
@@ -148,27 +146,25 @@ struct Reading {
     lines: CountsLines,
 }
 
-/// Reads up to the ledger's end. Some: where it ends before its last line.
+/// Reads up to the ledger's end.
 fn read_lines<S: TapSource>(
     alloc: Global,
     config: &Config,
     ledger: &mut LedgerReader<S>,
     reading: &mut Reading,
-) -> Result<Option<LedgerStop>, ReportFault>
+) -> Result<(), ReportFault>
     requires sound { ledger_failed ledger.old ≡ false }
     ensures read { (bytes : Option (List ℕ)) (failures : ℕ) (links : List VirtualLink)
         → links ≡ config.now.links
         → HasNoted S.TapSource bytes failures links [] ledger.old reading.old.counts reading.old.statistics
         reading.old.lines
-        → IfOk result (λ stop. HasRead bytes links stop
-        reading.new.counts reading.new.statistics reading.new.lines) }
+        → IfOk result (λ _. HasRead bytes links reading.new.counts reading.new.statistics reading.new.lines) }
     ensures judged { (bytes : Option (List ℕ)) (failures : ℕ) (table : VlTable) → table ≡ config.now
         → HasNoted S.TapSource bytes failures table.links [] ledger.old reading.old.counts
         reading.old.statistics reading.old.lines
         → HasJudged table [] reading.old.statistics reading.old.lines
         → MatchResult result
-        (λ stop. HasReadRight bytes table stop
-        reading.new.counts reading.new.statistics reading.new.lines)
+        (λ _. HasReadRight bytes table reading.new.counts reading.new.statistics reading.new.lines)
         (λ fault. IsRefused table (record { remaining = bytes; failures = failures })
         (source_at S.TapSource (source_of ledger.new)) fault) }
 {
@@ -190,8 +186,8 @@ fn read_lines<S: TapSource>(
                     return Err(line_fault(ledger.number(), refusal));
                 }
             }
-            Ok(Found::Complete) => return Ok(None),
-            Ok(Found::Incomplete(stop)) => return Ok(Some(stop)),
+            Ok(Found::Complete) => return Ok(()),
+            Ok(Found::Incomplete) => return Ok(()),
             Err(fault) => return Err(read_fault(fault)),
         }
     }
@@ -224,9 +220,9 @@ pub fn read_report<S: TapSource + Drop>(
         Ok(reading) => reading,
         Err(AllocError) => return Err(ReportFault::Memory),
     };
-    let stop = read_lines(alloc, config, &mut ledger, &mut reading)?;
+    read_lines(alloc, config, &mut ledger, &mut reading)?;
     match reading.statistics.end() {
-        Ok(()) => Ok(reading.into_report(stop)),
+        Ok(()) => Ok(reading.into_report()),
         Err(AllocError) => Err(ReportFault::Memory),
     }
 }
@@ -257,8 +253,8 @@ impl Reading {
         })
     }
 
-    fn into_report(self, stop: Option<LedgerStop>) -> Report
-        ensures { result ≡ report_of self.counts self.statistics self.lines stop }
+    fn into_report(self) -> Report
+        ensures { result ≡ report_of self.counts self.statistics self.lines }
     {
         let Reading {
             counts,
@@ -276,7 +272,6 @@ impl Reading {
             counts,
             endings: lines.endings,
             whole: lines.whole,
-            stop,
         }
     }
 }

@@ -14,5 +14,3 @@ mod pcapng_files;
 mod recording;
 #[cfg(test)]
 mod rings;
-#[cfg(test)]
-mod several;

@@ -1,6 +1,0 @@
-pub mod Endings
-pub mod Given
-pub mod Joining
-pub mod Joins
-pub mod Reading
-pub mod Starts

@@ -1,7 +1,0 @@
-pub mod Files
-pub mod Given
-pub mod Handed
-pub mod Input
-pub mod Laws
-pub mod Pending
-pub mod Supply
