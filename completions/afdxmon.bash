@@ -44,7 +44,7 @@ _afdxmon() {
         debug:-*) _afdxmon_words '--filter --source --tap --late-us -v --verbose -h --help' "$current" ;;
         cut:-*) _afdxmon_words '--ledger --a --b --config --link --network --verdict --from --to --span --filters --around --ledger-only --pcapng -o --output -v --verbose -h --help' "$current" ;;
         links:-*) _afdxmon_words '--a --b --constant --icd -v --verbose -h --help' "$current" ;;
-        report:-*) _afdxmon_words '--config --ledger --manifest --json -o --output -v --verbose -h --help' "$current" ;;
+        report:-*) _afdxmon_words '--config --ledger --manifest --baseline --json -o --output -v --verbose -h --help' "$current" ;;
         check:-*) _afdxmon_words '--config --filter --a --b --whole --json -v --verbose -h --help' "$current" ;;
         help:*) _afdxmon_words 'capture asm watch debug cut links report check help' "$current" ;;
         capture:*) _afdxmon_files "$current" ;;

@@ -279,7 +279,7 @@ FORMATS = {
     b"\x0a\x0d\x0d\x0a": "pcapng",
 }
 ENDS = {"clean": "it ends clean", "cut": "it ends cut, within a record"}
-BAD = {"stampback": "timestamp out of order", "length": "captured length over 262144 bytes", "fraction": "fraction of a second out of range"}
+BAD = {"stampback": "timestamp out of order", "length": "captured length over 262144 bytes", "fraction": "fraction of a second out of range", "fileheader": "another pcap file begins here"}
 
 
 def network_line(network, path, recording, frames, ending, kind=None):

@@ -27,7 +27,7 @@ LINES = {
     "head": "afdxmon: cut 1 Ledger at {} head",
     "class": "afdxmon: cut 1 Ledger at {} class",
     "mask": "afdxmon: cut 1 Ledger at {} mask",
-    "part": "afdxmon: cut 1 Ledger at {} newline",
+    "after total": "afdxmon: cut 1 Ledger at {} newline",
     "order": "afdxmon: cut 2 Order at {}",
     "absent": "afdxmon: cut 3 Absent at {}",
     "header": "afdxmon: cut 4 Header {} {}",
@@ -36,7 +36,9 @@ LINES = {
     "memory": "afdxmon: cut 7 Memory",
     "selection": "afdxmon: cut 8 Selection {} at {}",
     "open": "afdxmon: file {}",
-    "aborted": "afdxmon: note: ledger ends without its total",
+    "stopped": "afdxmon: note: {} ends after line {}, without its total: its run was stopped, or goes on; whole lines: {}",
+    "part": "afdxmon: note: {} ends within line {}: its run was stopped, or goes on; whole lines: {}",
+    "empty": "afdxmon: note: {} is empty: its run was stopped, or goes on; whole lines: 0",
     "passed": "afdxmon: note: {} selected line{} of network {} passed over: no recording is given",
     "nothing": "afdxmon: note: no line is selected:{}\nafdxmon: note: the ledger has frames from {} to {}",
     "frameless": "afdxmon: note: no line is selected: the ledger has no frames",
@@ -85,6 +87,8 @@ def span_of(options, first):
         spans = ((day + start, day + (end if until == "day" else start + end)) for day in days)
         return next(span for span in spans if span[1] >= first)
     low = {None: None, "at": start, "since": first + (start or 0), "day": first // DAY * DAY + (start or 0)}[kind]
+    if kind == "day" and until in (None, "at", "since"):
+        low = next_of(start, max(first - DAY // 2, 0))
     if until is None:
         return low, None
     if until == "day":
@@ -236,6 +240,15 @@ def nothing(ledger, options):
     return LINES["nothing"].format(texts + ends, utc(times[0]), utc(times[-1]))
 
 
+def stopped(name, ledger):
+    """The note on the end of a ledger without its line `total`."""
+    lines = ledger.splitlines(keepends=True)
+    whole = sum(line.endswith(b"\n") for line in lines)
+    if not lines:
+        return LINES["empty"].format(name)
+    return LINES["stopped"].format(name, whole, whole) if whole == len(lines) else LINES["part"].format(name, whole + 1, whole)
+
+
 def notes_of(ledger, options, lines, networks):
     """The notes of a cut of these lines, with the recordings of these networks; none means that lines are printed."""
     passed = [line for line in lines if networks and line.split()[1].lower() not in networks]
@@ -378,6 +391,7 @@ def midnight(bench):
         ends = ("23:59:58", "23:59:58.000000001", "00:00:00", "00:00:02", "00:00:06", "12:00:00")
         cases = [{"from": start, "to": end} for start in ends for end in ends] + [{end: text} for end in ("from", "to") for text in ends]
         cases += [{"from": start, "span": span} for start in ends for span in ("0s", "2s", "8s", "86400s")]
+        cases += [{"from": start, "to": end} for start in ends for end in ("+4", str(first + 8 * 10**9))]
         for options in cases:
             compared(bench, f"from {written(first)}", options, TABLE, a, HEADER, "a")
 
@@ -393,7 +407,8 @@ def every_fault(bench):
     bench.put(ledger="afdx-ledger 2\n" + "".join(lines))
     taken = [line for line, word in zip(lines, fields) if word not in ("copy", "deliver", "both")]
     ran = bench.cut({"verdict": "faults"}, "", "--ledger-only")
-    say("cut: --verdict faults, each word", difference(ran, SUCCESS, LINES["aborted"], "".join(taken).encode()))
+    told = stopped(bench.path("ledger"), bench.read("ledger"))
+    say("cut: --verdict faults, each word", difference(ran, SUCCESS, told, "".join(taken).encode()))
 
 
 def late(bench):
@@ -418,15 +433,19 @@ def unfinished(bench):
     a, b = small()
     ledger = bench.watched(TABLE, EVERY, a, b)
     lines = ledger.splitlines(keepends=True)
-    for count in (1, 2, 4, 8, len(lines) - 1):
-        bench.put(ledger=b"".join(lines[:count]))
-        compared(bench, f"{count} lines of a ledger", {}, TABLE, a, b, line=LINES["aborted"])
-    for lost in (1, 2, 30):
-        bench.put(ledger=b"".join(lines[:5])[:-lost])
-        before = b"".join(lines[:4])
-        told = LINES["part"].format(5)
-        say(f"cut: the last line without {lost} bytes", difference(bench.cut(), FAULT, told, packets_of(frame_lines(before), recordings_of(a, b)))
-            or difference(bench.cut(None, "", "--ledger-only"), FAULT, told, "".join(frame_lines(before)).encode()))
+    part = b"".join(lines[:5])
+    kept = [(f"{count} lines of a ledger", b"".join(lines[:count])) for count in (1, 2, 4, 8, len(lines) - 1)]
+    kept += [(f"the fifth line without its last {lost} bytes", part[:-lost]) for lost in (1, 2, 30, len(lines[4]) - 1)]
+    kept += [("a part of the head", lines[0][:5]), ("a part of the last line", ledger[:-1]), ("an empty ledger", b"")]
+    for name, held in kept:
+        bench.put(ledger=held)
+        for options in ({}, {"around": "1", "link": "6"}):
+            compared(bench, name, options, TABLE, a, b, line=stopped(bench.path("ledger"), held))
+        ran = run(["cut", "--ledger", "-", "--ledger-only"], stdout=subprocess.PIPE, input=held)
+        say(f"cut: {name}, of a pipe", "" if stopped("standard input", held) in ran.stderr.decode() and ran.returncode == SUCCESS else repr(ran.stderr))
+    bench.put(ledger=ledger + lines[1][:9])
+    told = LINES["after total"].format(len(lines) + 1)
+    say("cut: a part of a line after the total", difference(bench.cut(), FAULT, told, packets_of(frame_lines(ledger), recordings_of(a, b))))
 
 
 def refused(bench, name, told, before, a, b, flags=()):
@@ -462,8 +481,7 @@ def other_recordings(bench):
     refused(bench, "networks swapped", LINES["absent"].format(4), third, b, a)
     bench.put(a=tap((NOON, frame(5, 60, 1))), b=b)
     refused(bench, "another recording", LINES["absent"].format(4), third, tap((NOON, frame(5, 60, 1))), b)
-    bench.put(a=a, ledger=b"")
-    compared(bench, "an empty ledger", {}, TABLE, a, b, line=LINES["aborted"])
+    bench.put(a=a)
     for network in "AB":
         bench.put(ledger=b"".join(lines), a=a, b=b)
         bench.put(**{network.lower(): header()[:23]})

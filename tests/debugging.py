@@ -145,7 +145,7 @@ def faults(files):
     for name, arguments in (
         ("debug without a tap", ["debug", "--filter", sound]),
         ("debug without a filter", ["debug", "--tap", tap]),
-        ("an argument too many of debug", [*command, "more"]),
+        ("an argument too many of debug", ["debug", "more", *command[1:]]),
     ):
         judge(name, run(arguments, input=b"", stdout=subprocess.PIPE), USAGE, lambda told: "--tap <FILE>" in told or "more" in told, b"")
 

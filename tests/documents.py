@@ -82,9 +82,10 @@ def unlisted_pages():
 
 
 def found_in(pattern, *path):
-    """What a pattern finds in the sources of a crate."""
-    folder = os.path.join(TOP, "crates", *path)
-    names = (os.path.join(where, name) for where, _, names in os.walk(folder) for name in names if name.endswith(".rt"))
+    """What a pattern finds in the sources of a crate, or in one of them."""
+    given = os.path.join(TOP, "crates", *path)
+    names = [os.path.join(where, name) for where, _, names in os.walk(given) for name in names if name.endswith(".rt")]
+    names = names or [given]
     return {word.strip() for name in names for word in re.findall(pattern, text_of(name))}
 
 
@@ -100,7 +101,7 @@ def facts():
     faults = found_in(r'"(\d [A-Z]\w*(?: \d [A-Z]\w*)?(?: \w+)?)"', "command_line", "src") - UNTOLD
     say("documents: each fault", lacks(faults, "MESSAGES.md TABLE.md DEBUGGER.md", r"`[^`\n]*\bWORD\b"))
     say("documents: each ending's word", lacks(found_in(r'BadReason::\w+ => "( ?[a-z]+)"', "verdict_ledger", "src"), "FORMATS.md", r"bad\(n, WORD\)"))
-    say("documents: each ending's message", lacks(found_in(r'BadReason::\w+ => "([^"]+)"', "command_line", "src"), "MESSAGES.md FORMATS.md", "WORD"))
+    say("documents: each ending's message", lacks(found_in(r'BadReason::\w+ => "([^"]+)"', "command_line", "src", "message.rt"), "MESSAGES.md FORMATS.md", "WORD"))
     say("documents: each key", lacks(found_in(r'Key::\w+ => "(\w+)"', "vl_config", "src"), "TABLE.md", r"\n\| `WORD` "))
     words = found_in(r'(?:Class|Integrity|Redundancy|Policing)::\w+\)? => "(\w+)"', "line_selection", "src") - {"discarded", "faults"}
     say("documents: each word of a verdict", lacks(words, "LEDGER.md", r"\n\| `WORD` "))

@@ -11,6 +11,7 @@ import subprocess
 import tempfile
 
 import flights
+import report_reference
 from flights import MS, SECOND, WHOLE, flight_of, link, periodic, sporadic, table_of, without
 from harness import EVERY, PROGRAM, SUCCESS, frame, run, run_at_terminal, say
 from report import numbers_fault
@@ -213,6 +214,32 @@ def doubled(folder):
     say("healthy: sound frames have no number again", "; ".join(one for one in found if "number again" in one))
 
 
+def drifting(name, judged, wanted):
+    """The clocks drift by about so many tenths of a ppm, B's the faster where that is above zero; or don't."""
+    told = report_reference.drift(judged.path["t.toml"], judged.path["v.ledger"])
+    words = ("The clocks of the taps drift",)
+    if told:
+        words = (*words, f"that of {told[0]} is about {told[1] // 10}.{told[1] % 10} ppm faster, say {told[2]} of {told[3]} links", "PTP")
+    found, shown = named(judged.findings(), *words), "the clocks of the taps drift" in judged.terminal()
+    planted = told is None if wanted is None else told is not None and told[0] == ("B" if wanted > 0 else "A") and near(told[1], abs(wanted), 0.25)
+    expect(name, judged, (planted, f"the reference has {told}"), (found == shown == (told is not None), "a finding"))
+
+
+def clocks_that_drift(folder):
+    flight = sending(random.Random(10), 20 * SECOND, [(i, 16, periodic, "AB") for i in range(1, 7)])
+    for ppm in (50, -50, 200, -900, 5):
+        moved = [(at + at * ppm // 10**6, data) for at, data in flight.taps["B"]]
+        judged = Judged(folder, flights.Flight(flight.links, {"A": flight.taps["A"], "B": moved}))
+        drifting(f"clocks that drift by {ppm} ppm", judged, ppm * 10 if abs(ppm) >= 50 else None)
+    for step in (300_000, 5 * MS):
+        moved = [(at + (step if at > 10 * SECOND else 0), data) for at, data in flight.taps["B"]]
+        judged = Judged(folder, flights.Flight(flight.links, {"A": flight.taps["A"], "B": moved}))
+        drifting(f"a clock that steps by {step} ns", judged, None)
+    three = sending(random.Random(11), 20 * SECOND, [(i, 16, periodic, "AB") for i in range(1, 4)])
+    moved = [(at + at * 50 // 10**6, data) for at, data in three.taps["B"]]
+    drifting("three links alone", Judged(folder, flights.Flight(three.links, {"A": three.taps["A"], "B": moved})), None)
+
+
 def sizes_of_frames(folder):
     flight = sending(random.Random(9), 2 * SECOND, [(1, 8, periodic, "AB")])
     told = Judged(folder, flight).json()
@@ -284,6 +311,7 @@ def cases():
         frames_cut_short(folder)
         another_table(folder)
         doubled(folder)
+        clocks_that_drift(folder)
         sizes_of_frames(folder)
         questions(folder)
         sound_flights(folder)

@@ -81,7 +81,7 @@ class Side:
         if not most:
             return 0, ""
         at = self.stamps[1 + needs.index(max(needs))]
-        text = f"# {network}: the largest jitter needed is {most} us, first at {moment(at)}"
+        text = f"# {network}: largest need {most} us, at {moment(at)}"
         text += ", more than a table allows" if most > 100_000 else ""
         enough = [p for p in range(18) if sum(need // 1000 >= 1 << p for need in needs) <= len(self.stamps) // 1000]
         text += f"; all but 0.1 per cent of the frames need less than {1 << enough[0]} us" if enough else ""
@@ -163,6 +163,12 @@ def window_text(a, b, late):
     return f"late_us = {min(max(2 * seen, 100), 10**6)}  # room for timestamps out of order: {why}\n"
 
 
+def left_out_text(links):
+    """The comment on the links whose frames are all cut short."""
+    named = ", ".join(map(str, links[:8])) + (f" and {len(links) - 8} more" if len(links) > 8 else "")
+    return f"# Links that aren't here, since all their frames are cut short: {named}.\n" if links else ""
+
+
 def drafted(head, a, b, wanted, texts):
     """A draft with this head, and the text of all links, by their frames."""
     text, frames, unusable, late = head, [], 0, 0
@@ -175,11 +181,14 @@ def drafted(head, a, b, wanted, texts):
         kind, count = ending.split()[:2]
         text += ENDINGS[kind].format(network, count)
         frames += [(stamp, network, k, length, data) for k, (stamp, length, data) in enumerate(found)]
-    fields = {}
+    fields, cut = {}, {}
     strays = 0
     for stamp, network, _, length, data in sorted(frames, key=lambda f: f[:3]):
         if len(data) < 6 or len(data) < length or not 60 <= length <= 1514:
             unusable += 1
+            if 6 <= len(data) < length and data[0] & 3 == 3:
+                constant, link = struct.unpack_from(">IH", data)
+                cut.setdefault(link, constant)
             continue
         constant, link = struct.unpack_from(">IH", data)
         kept = constant == wanted if wanted is not None else constant & GROUP == GROUP
@@ -187,13 +196,15 @@ def drafted(head, a, b, wanted, texts):
             strays += 1
             continue
         fields.setdefault(constant, []).append((link, network, stamp, length, data[-1]))
-    text += f"# {unusable} frames weren't recorded whole, or aren't of 60 to 1514 bytes. A link that has no others isn't here.\n" if unusable else ""
+    text += f"# {unusable} frames weren't recorded whole, or aren't of 60 to 1514 bytes.\n" if unusable else ""
+    main = max(fields, key=lambda constant: len(fields[constant]), default=wanted)
+    text += left_out_text([link for link, constant in sorted(cut.items()) if main in (None, constant) and all(
+        link != of[0] for of in fields.get(main, []))])
     if not fields:
         none = "this constant field" if wanted is not None else "a constant field with bits 24 and 25 set"
         none = f"No frame has {none}" if a is not None or b is not None else "No recording was given"
         assumed = f"{none}: 0x{GROUP:08x} is assumed" if wanted is None else none
         return text + f"# {assumed}.\nconstant = {GROUP if wanted is None else wanted}\n" + window_text(a, b, late) + texts({})
-    main = max(fields, key=lambda constant: len(fields[constant]))
     for constant, of in fields.items():
         text += f"# Another constant field: {constant}, in {len(of)} frames.\n" if constant != main else ""
     text += f"# {strays} frames have further constant fields.\n" if strays else ""
@@ -228,6 +239,12 @@ def table(chance, count):
     return [(link, chance.choice(BAGS), chance.randrange(60, 1515)) for link in ids]
 
 
+def cut_to(size, links, recording):
+    """The recording with the frames of these links cut to so many bytes."""
+    packets = [(stamp, data[:size] if int.from_bytes(data[4:6], "big") in links else data, len(data)) for stamp, _, data in parse(recording, 1 << 62)[0]]
+    return header() + b"".join(record(stamp, data, original=whole) for stamp, data, whole in packets)
+
+
 def pairs():
     chance = random.Random(11)
     for count, cycles in ((1, 1), (1, 300), (2, 150), (63, 40), (4096, 3)):
@@ -258,6 +275,11 @@ def pairs():
     yield "no frame at all", (header(), header())
     yield "another constant field", (a, other + b"".join(record(START + 30, b"\x00" + frame(5, 80, 1)[1:]) for _ in range(3)))
     yield "a recording that is cut short", (a[: len(a) // 2 + 3], b)
+    for count in (1, 8, 9, 11):
+        many = sorted(table(chance, 12))
+        short = {link for link, _, _ in many[:count]}
+        yield f"{count} links whose frames are all cut short", [cut_to(50, short, one) for one in sent(chance, many, 20)]
+    yield "some frames of each link cut short", [cut_to(50, range(65536), a), b]
     yield "frames cut, short and long", (
         a, header() + b"".join(record(START + k, frame(9, size, k), original=1600) for k, size in enumerate((60, 1514, 1600, 40)))
     )
@@ -323,7 +345,9 @@ def cases():
             ran = run(["links", *given], stdout=subprocess.PIPE)
             text = draft(a, b)
             early = re.search("truncated|can't be read", text)
-            note = (lambda told: told.startswith("afdxmon: note: ")) if early else ""
+            cut = re.search("# Links that aren't here, since all their frames are cut short: (.*)\\.\n", text)
+            note = f"afdxmon: note: not drafted, since all their frames are cut short: links {cut[1]}" if cut else ""
+            note = (lambda told: told.startswith("afdxmon: note: ")) if early else note
             say(f"links: {name}", difference(ran, SUCCESS, note, text.encode()))
             judged(work, name, text, a, b)
         constants(work)

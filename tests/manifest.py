@@ -55,7 +55,7 @@ def file_of(path, data, hashed):
 
 def recording_of(path, data, hashed, known=True):
     """A recording's members. Of a run that met a fault nothing is known but its bytes."""
-    members = file_of(path, data, hashed)
+    members = {"path": path, "files": None, **file_of(path, data, hashed)}
     members.update(dict.fromkeys(("frames", "end", "reason", "first", "first_utc", "last", "last_utc")))
     if known:
         taken, ending = parse(data)

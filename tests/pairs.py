@@ -11,7 +11,7 @@ FILTERS = [EVERY, FIRST_64, LINK5, ODD, BY_LINK, BY_HEADER_LENGTH, "1,6 0 0 0,",
 # What the pairs together have to show; `toomany` needs 2^32 frames.
 WORDS = {
     *"cut runt oversize foreign unconfigured toolong regular within excess first reset next skip off out".split(),
-    *"deliver copy both clean bad length fraction stampback A B - 00 01 02 03 ff".split(),
+    *"deliver copy both clean bad length fraction stampback fileheader A B - 00 01 02 03 ff".split(),
 }
 LINK = """
 [[link]]
@@ -64,7 +64,7 @@ def sent(chance, links):
 
 def ending(chance, packets, layout, unit, last):
     """What may stand after the last packet."""
-    kind = chance.choice(("clean", "clean", "clean", "cut", "length", "fraction", "stampback"))
+    kind = chance.choice(("clean", "clean", "clean", "cut", "length", "fraction", "stampback", "fileheader"))
     following = record(last, bytes(60), layout, unit)
     if kind == "cut":
         return (packets + following)[: -chance.randrange(1, 76)]
@@ -72,6 +72,8 @@ def ending(chance, packets, layout, unit, last):
         return packets + following[:8] + struct.pack(layout + "II", 262145, 262145)
     if kind == "fraction":
         return packets + following[:4] + struct.pack(layout + "I", 10**9 // unit) + following[8:]
+    if kind == "fileheader":
+        return packets + header(chance.choice("<>"), chance.choice((0xA1B23C4D, 0xA1B2C3D4))) + following
     if kind == "stampback" and last > 2 * 10**6:
         return packets + record(last - 2 * 10**6, bytes(60), layout, unit)
     return packets

@@ -12,6 +12,7 @@ import tempfile
 import xml.etree.ElementTree as tree
 
 import report_reference
+from cut import stopped
 from harness import FAULT, PROGRAM, SUCCESS, ended, frame, header, record, run, say
 
 CONSTANT = "constant = 50331648\n"
@@ -228,6 +229,28 @@ def empty_and_many(folder):
     say("report: 4096 links, half in trouble: page below 1.2 MB", page_fault(table, ledger))
 
 
+def unfinished(folder):
+    """What stands of a ledger whose run was stopped: whole lines alone, the beginning of one more, and nothing."""
+    chance = random.Random(4)
+    links = [dict(l, redundancy=True, integrity=True) for l in links_of(chance, 3)]
+    table, ledger, _ = ledger_in(folder, table_of(links), traffic(chance, links, 1, 0.02))
+    with open(ledger, "rb") as file:
+        whole = file.read()
+    ends = [at + 1 for at, byte in enumerate(whole) if byte == 10]
+    part = os.path.join(folder, "part.ledger")
+    for name, size in (("nothing", 0), ("a part of the head", 5), ("the head", ends[0]), ("a part of the first frame's line", ends[0] + 1),
+                       ("40 lines", ends[39]), ("a line without its newline", ends[40] - 1), ("all but the total", ends[-2]),
+                       ("a total without its newline", ends[-1] - 1)):
+        with open(part, "wb") as file:
+            file.write(whole[:size])
+        ran = report(table, part)
+        page = ran.stdout.decode("ascii")
+        claims = [(ran.returncode == SUCCESS and ran.stderr.decode() == stopped(part, whole[:size]) + "\n", f"note: {ran.stderr!r}"),
+                  ("The ledger isn't whole" in page, "the page doesn't say it"), (">1970-" not in page and ", 1970-" not in page, "1970")]
+        fault = numbers_fault(table, part) or "; ".join(what for holds, what in claims if not holds)
+        say(f"report: of a ledger {name}", fault)
+
+
 def broken(folder):
     chance = random.Random(3)
     links = [dict(l, redundancy=True, integrity=True) for l in links_of(chance, 3)]
@@ -270,6 +293,7 @@ def broken(folder):
          f"report 2 Contradiction at {copy + 1} copy")
     told("a link's counts", put(link_counts, "frames ", "frames 1"), f"report 2 Contradiction at {link_counts + 1} counts")
     told("the total", put(total, "delivered ", "delivered 1"), f"report 2 Contradiction at {total + 1} counts")
+    told("a part of a line after the total", lambda mine: mine.append("total"), f"report 1 Ledger at {total + 2} newline")
 
 
 def in_a_browser(folder):
@@ -304,6 +328,7 @@ def cases():
         silences_of_one_network(folder)
         at_the_bounds(folder)
         empty_and_many(folder)
+        unfinished(folder)
         broken(folder)
         in_a_browser(folder)
 

@@ -9,6 +9,7 @@ import json
 import sys
 import tomllib
 from collections import namedtuple
+from fractions import Fraction
 
 Line = namedtuple("Line", "at stamp network number link sequence cls policing integrity redundancy kept mask ordinal")
 CLASSES = ["cut", "runt", "oversize", "foreign", "unconfigured", "toolong"]
@@ -24,11 +25,14 @@ def optional(field, read=int):
 
 
 def read_lines(path):
-    """The lines of frames, with each line's place in the ledger and its ordinal on its network, from 1."""
+    """The lines of frames, with each line's place in the ledger and its ordinal on its network, from 1; the lines of counts; and where the ledger
+    ends."""
     lines, ordinals, tail = [], {"A": 0, "B": 0}, []
     with open(path, encoding="ascii") as ledger:
-        assert ledger.readline() == "afdx-ledger 2\n"
-        for text in ledger:
+        held = ledger.read().split("\n")
+        stop = {"lines": len(held) - 1, "within_line": held.pop() != ""}
+        assert held[:1] in ([], ["afdx-ledger 2"])
+        for text in held[1:]:
             f = text.split()
             if not f[0].isdigit():
                 tail.append(f)
@@ -36,7 +40,7 @@ def read_lines(path):
             ordinals[f[1]] += 1
             lines.append(Line(len(lines), int(f[0]), f[1], int(f[2]), optional(f[3]), optional(f[4]), f[5], optional(f[6], str),
                               optional(f[7], str), optional(f[8], str), optional(f[9]), int(f[10], 16), ordinals[f[1]]))
-    return lines, tail
+    return lines, tail, stop
 
 
 def rule_of(line):
@@ -220,7 +224,7 @@ def numbers_of(seen):
 
 
 def fates(ledger, link, seen):
-    """What became of each line `deliver`: a list of (fate, line), and of the skews of late ones."""
+    """What became of each line `deliver`: a list of (fate, line), and of the late ones their lines and skews."""
     said, late_skews = [], []
     window = WINDOW_BAGS * link["bag"]
     for of in numbers_of(seen):
@@ -236,7 +240,7 @@ def fates(ledger, link, seen):
                     and d.stamp - delivers[i - 1].stamp <= window:
                 late.add(i)
                 named[i - 1] = "first"
-                late_skews.append(d.stamp - delivers[i - 1].stamp)
+                late_skews.append((d, d.stamp - delivers[i - 1].stamp))
             named[i] = "late" if i in late else "paired" if paired else "met" if met else "open"
         for i, d in enumerate(delivers):
             fate = named[i]
@@ -331,6 +335,7 @@ def link_of(ledger, link):
     seen = [l for l in ledger.lines if l.link == link["id"] and l.cls in ("toolong", "regular")]
     lanes = {n: [l for l in seen if l.network == n] for n in "AB"}
     ends, late = fates(ledger, link, seen)
+    late = [skew for _, skew in late]
     copies = skews(seen)
     of_copies = [skew for _, skew in copies]
     said = {"id": link["id"], "name": link["name"], "counts": counts(seen), "deliveries": len(ends),
@@ -370,10 +375,60 @@ def network_of(ledger, network, tail, hits, copies, start, width):
             "signs": signs(own), "timeline": timeline(lines, own, copies, start, width)}
 
 
+def levels_of(ledger, link, start, width):
+    """Of each bin with skews the greatest one of a link's copies and late deliveries there, below zero where it came on A."""
+    seen = [l for l in ledger.lines if l.link == link["id"] and l.cls in ("toolong", "regular")]
+    window = dict(link, bag=link["bag_ms"] * 10**6)
+    bins = {}
+    for l, skew in skews(seen) + fates(ledger, window, seen)[1]:
+        bins.setdefault((l.stamp - start) // width, []).append(skew if l.network == "B" else -skew)
+    levels = {at: max(found, key=lambda skew: (abs(skew), skew < 0)) for at, found in bins.items()}
+    return {at: level for at, level in levels.items() if level}
+
+
+def rate_of(levels, width):
+    """The rate of levels that move steadily, in parts in 10^12, above zero where they rise; None where they don't."""
+    first, last = min(levels), max(levels)
+    moved = levels[last] - levels[first]
+    parts = abs(moved) * 10**12 // ((last - first) * width)
+    line = {at: levels[first] + Fraction(moved * (at - first), last - first) for at in levels}
+    if not 10**7 <= parts <= 10**9 or any(abs(level - line[at]) > abs(moved) // 4 for at, level in levels.items()):
+        return None
+    return parts if moved > 0 else -parts
+
+
+def drift(table_path, ledger_path):
+    """The faster tap, by how many tenths of a ppm, how many links say so and of how many; None where the clocks don't drift."""
+    with open(table_path, "rb") as table:
+        table = tomllib.load(table)
+    lines, _, _ = read_lines(ledger_path)
+    ledger = Ledger(lines, False)
+    start, width = lines[0].stamp if lines else 0, width_of(lines)
+    held = [levels_of(ledger, link, start, width) for link in sorted(table.get("link", []), key=lambda l: l["id"]) if link["redundancy"]]
+    held = [levels for levels in held if levels and (max(levels) - min(levels)) * width >= 10**9]
+    rates = [rate for rate in (rate_of(levels, width) for levels in held) if rate is not None]
+
+    def like(rate):
+        return sum(rate * other > 0 and abs(rate - other) <= max(abs(rate), abs(other)) // 4 for other in rates)
+
+    best = max(rates, key=like, default=None)
+    if best is None or like(best) < 4 or len(held) - like(best) > len(held) // 10:
+        return None
+    return "B" if best > 0 else "A", abs(best) // 10**5, like(best), len(held)
+
+
+def width_of(lines):
+    """How wide a bin is."""
+    width = 5**9
+    while lines and lines[-1].stamp - lines[0].stamp >= BINS * width:
+        width *= 2
+    return width
+
+
 def reference(table_path, ledger_path):
     with open(table_path, "rb") as table:
         table = tomllib.load(table)
-    lines, tail = read_lines(ledger_path)
+    lines, tail, stop = read_lines(ledger_path)
     ledger = Ledger(lines, any(takes_whole(text) for text in table.get("filters", [])))
     links = []
     hits, copies = {"A": [], "B": []}, {"A": [], "B": []}
@@ -384,14 +439,13 @@ def reference(table_path, ledger_path):
         for n in "AB":
             hits[n] += own[n]
             copies[n] += [(l, skew) for l, skew in of_copies if l.network == n]
-    width, start = 5**9, lines[0].stamp if lines else 0
-    while lines and lines[-1].stamp - start >= BINS * width:
-        width *= 2
+    width, start = width_of(lines), lines[0].stamp if lines else 0
     outside = []
     for vl in sorted({l.link for l in lines if l.cls == "unconfigured"}):
         of = [l for l in lines if l.cls == "unconfigured" and l.link == vl]
         outside.append({"id": vl, "frames": len(of), "network": of[0].network, "first": place(of[0])})
-    return {"version": 1, "whole": any(f[0] == "total" for f in tail), "start": str(lines[0].stamp) if lines else None,
+    whole = any(f[0] == "total" for f in tail)
+    return {"version": 1, "whole": whole, "stopped": None if whole else stop, "start": str(lines[0].stamp) if lines else None,
             "end": str(lines[-1].stamp) if lines else None, "width": width, "counts": counts(lines),
             "filters": [sum(l.mask >> i & 1 for l in lines) for i in range(1 + len(table.get("filters", [])))],
             "a": network_of(ledger, "A", tail, hits["A"], copies["A"], start, width),

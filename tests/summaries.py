@@ -3,6 +3,7 @@ import os
 import re
 import subprocess
 import tempfile
+import zlib
 
 from analyser import watch
 from harness import EVERY, SUCCESS, TOP, difference, frame, header, record, run_at_terminal, say
@@ -43,6 +44,7 @@ def summary_of(ledger, hint):
 FOREIGN = "nearly all frames are foreign: is the table's 'constant' that of this network?"
 TOO_LONG = "nearly all frames are too long: does 'smax' count a frame without its check sequence?"
 NO_COPY = "no frame is a copy of another: are the clocks of the taps apart?"
+CHECK_SEQUENCES = "more than a quarter of the frames are out: does a recording hold frame check sequences? Take them off: editcap -L -C -4"
 OTHER_TABLE = "more than half of the frames are unconfigured: is the table that of another aircraft?"
 CUT_FRAMES = "more than one frame in a hundred is cut short: record frames whole, tcpdump -s 0"
 ONE_RECORDING = "each frame has its copy: are --a and --b two names of one recording?"
@@ -51,6 +53,11 @@ ONE_RECORDING = "each frame has its copy: are --a and --b two names of one recor
 def frames(count, start=0, size=60, first=0):
     """So many frames of link 5, one each 2 ms, with sequence numbers that go on from `first`."""
     return [(start + i * 2 * MS, frame(5, size, (first + i) % 255 + 1)) for i in range(count)]
+
+
+def checked(frames):
+    """The frames with their check sequences."""
+    return [(stamp, data + zlib.crc32(data).to_bytes(4, "little")) for stamp, data in frames]
 
 
 def tap_of(note):
@@ -126,6 +133,10 @@ def cases():
             held = header() + b"".join(
                 record(stamp, data[: 50 if k < cut else 60], original=60) for k, (stamp, data) in enumerate(frames(count)))
             summed(desk, f"{cut} cut frames of {count}", TABLE, held, tap(), hint)
+        for held, out, hint in ((15, 5, None), (14, 5, CHECK_SEQUENCES)):
+            jumps = [(10**9 + i * 2 * MS, frame(5, 60, 100 if i % 2 else 200)) for i in range(out)]
+            summed(desk, f"{out} frames of {held + out} that are out", TABLE, tap(*frames(held), *jumps), tap(), hint)
+        summed(desk, "check sequences in network B's recording", TABLE, tap(*sound), tap(*checked(sound)), CHECK_SEQUENCES)
         summed(desk, "taps a day apart", TABLE, tap(*sound), tap(*day), NO_COPY)
         summed(desk, "one recording twice", TABLE, tap(*sound), tap(*sound), ONE_RECORDING)
         example = [read(os.path.join(TOP, "examples", "flight" + end)) for end in (".toml", "_a.pcap", "_b.pcap")]

@@ -221,6 +221,7 @@ def faults(desk):
     told.append(twice("a draft", "links 1 Constant", "", ["links", "--a", desk.paths["a"], "--constant", "5"], stdin=subprocess.DEVNULL))
     told.append("check 1 Unsound")  # check.py has it, beside the answer
     told += ["file --manifest", "watch 4 Write manifest"]  # manifest.py has these
+    told += ["order --a", "repeated --a"]  # several.py has these
     told += [f"report 5 Manifest {what}" for what in ("at 1 form", "version", "table", "ledger")]
     told += little_memory(desk)
     for key in ADVICE:
@@ -337,13 +338,23 @@ def reports(desk):
     for text, line in (
         ("x\n", "report 1 Ledger at 1 head"),
         (head + "x\n", "report 1 Ledger at 2 timestamp"),
-        (head + LINE.format("deliver").replace(" 5 1 ", " 500 1 "), "report 2 Contradiction at 2 link"),
         (head + LINE.format("copy"), "report 2 Contradiction at 2 copy"),
         (head + LINE.format("deliver") + "link 5 frames 2\n", "report 2 Contradiction at 3 counts"),
     ):
         with open(ledger, "w", encoding="ascii") as out:
             out.write(text)
         told.append(twice("a report", line, f"{ledger}: ", ["report", "--config", desk.paths["config"], "--ledger", ledger], stdin=subprocess.DEVNULL))
+    of_others = (
+        (LINE.format("deliver").replace(" 5 1 ", " 500 1 "), "link 500 isn't in the table {}"),
+        (LINE.format("-").replace("regular within first", "unconfigured - -"), "link 5 brake is unconfigured there, and the table {} has it"),
+        (LINE.format("both"), "link 5 brake has other integrity checking or redundancy management in the table {}"),
+    )
+    for text, words in of_others:
+        with open(ledger, "w", encoding="ascii") as out:
+            out.write(head + text)
+        advice = "line 2: " + words.format(desk.paths["config"]) + ": is it the table of the run?"
+        arguments = ["report", "--config", desk.paths["config"], "--ledger", ledger]
+        told.append(twice("a report", "report 2 Contradiction at 2 link", f"{ledger}: ", arguments, advice=advice, stdin=subprocess.DEVNULL))
     arguments = ["report", "--config", desk.paths["config"], "--ledger", desk.directory]
     told.append(twice("a report", "report 3 Read Ledger", f"{desk.directory}: ", arguments, advice=DIRECTORY, stdin=subprocess.DEVNULL))
     return told

@@ -27,6 +27,8 @@ ADVICE = {
     "file --ledger": OUTPUT.format("ledger"),
     "file --manifest": OUTPUT.format("manifest"),
     "file -": "standard input or output fails, or the text is longer than 16 MiB or not UTF-8",
+    "order --a": "give the files of a recording in the order of their first timestamps",
+    "repeated --a": "give each file of a recording once",
     "asm 1 Text 1": "no token begins with this byte",
     "asm 1 Text 2": "not a number, or too large: 0x1f, 0b11, 017 and 31 are numbers",
     "asm 1 Text 3": "the statement doesn't go on like this",
@@ -158,10 +160,10 @@ ABOUT = {
 # What each command's help says after the line of what it does.
 HELP = {
     "capture": r"""
-Usage: afdxmon capture [OPTIONS] <--code <TEXT>|--filter <FILE>|--source <FILE>> [RECORDING]
+Usage: afdxmon capture [OPTIONS] <--code <TEXT>|--filter <FILE>|--source <FILE>> [RECORDING]...
 
 Arguments:
-  [RECORDING]  The recording, a pcap or pcapng file [default: -]
+  [RECORDING]  The recording, pcap or pcapng files, or @LIST of paths [default: -]
 
 Options:
       --code <TEXT>      The filter in the numeric form, as `tcpdump -ddd` prints it
@@ -189,13 +191,13 @@ Example: keep the frames of virtual link 5
   printf 'ldh [4]\njne #5, drop\nret #-1\ndrop: ret #0\n' | afdxmon asm
 """,
     "watch": r"""
-Usage: afdxmon watch [OPTIONS] --config <FILE> --ledger <FILE> <--a <FILE>|--b <FILE>>
+Usage: afdxmon watch [OPTIONS] --config <FILE> --ledger <FILE> <--a <FILE>...|--b <FILE>...>
 
 Options:
       --config <FILE>    The table of virtual links, a TOML document
       --filter <FILE>    The filter in the numeric form, as `afdxmon asm` prints it
-      --a <FILE>         The recording of network A, a pcap or pcapng file
-      --b <FILE>         The recording of network B, a pcap or pcapng file
+      --a <FILE>         The recording of network A, pcap or pcapng files, or @LIST of paths
+      --b <FILE>         The recording of network B, pcap or pcapng files, or @LIST of paths
       --capture <FILE>   The capture to write, a nanosecond pcap file
       --ledger <FILE>    The ledger of verdicts to write
       --manifest <FILE>  The manifest to write: a JSON text of what the run was of
@@ -215,12 +217,12 @@ Example: keep the frames that examples/flight.filter accepts, and judge them all
     --capture kept.pcap --ledger verdicts.ledger
 """,
     "debug": r"""
-Usage: afdxmon debug [OPTIONS] --tap <FILE> <--filter <FILE>|--source <FILE>>
+Usage: afdxmon debug [OPTIONS] --tap <FILE>... <--filter <FILE>|--source <FILE>>
 
 Options:
       --filter <FILE>    The filter in the numeric form, as `afdxmon asm` prints it
       --source <FILE>    The filter's source, as `afdxmon asm` reads it
-      --tap <FILE>       The recording, a pcap or pcapng file
+      --tap <FILE>       The recording, pcap or pcapng files, or @LIST of paths
       --late-us <N|any>  Take timestamps that are out of order by N microseconds, or in any order
   -v, --verbose          Tell standard error, whatever it is, what a terminal is told but progress
   -h, --help             Print help
@@ -231,12 +233,12 @@ Example: the state before the filter's first three instructions on frame 0
   printf 'select 0\nstep 1\nstep 1\n' | afdxmon debug --filter flight.filter --tap a.pcap
 """,
     "cut": r"""
-Usage: afdxmon cut [OPTIONS] --ledger <FILE> <--a <FILE>|--b <FILE>|--ledger-only>
+Usage: afdxmon cut [OPTIONS] --ledger <FILE> <--a <FILE>...|--b <FILE>...|--ledger-only>
 
 Options:
       --ledger <FILE>   The ledger of the recordings
-      --a <FILE>        The recording of network A, a pcap or pcapng file
-      --b <FILE>        The recording of network B, a pcap or pcapng file
+      --a <FILE>        The recording of network A, pcap or pcapng files, or @LIST of paths
+      --b <FILE>        The recording of network B, pcap or pcapng files, or @LIST of paths
       --config <FILE>   The table of virtual links: --link may then have their names
       --link <LIST>     Virtual links, as '301-305,42' or 'engine_*'; '*' stands for any letters
       --network <A|B>   The network
@@ -263,11 +265,11 @@ Example: keep the frames that policing discarded
   afdxmon cut --ledger flight.ledger --a a.pcap --b b.pcap --verdict excess -o excess.pcap
 """,
     "links": r"""
-Usage: afdxmon links [OPTIONS] <--a <FILE>|--b <FILE>|--icd <FILE>>
+Usage: afdxmon links [OPTIONS] <--a <FILE>...|--b <FILE>...|--icd <FILE>>
 
 Options:
-      --a <FILE>           The recording of network A, a pcap or pcapng file
-      --b <FILE>           The recording of network B, a pcap or pcapng file
+      --a <FILE>           The recording of network A, pcap or pcapng files, or @LIST of paths
+      --b <FILE>           The recording of network B, pcap or pcapng files, or @LIST of paths
       --constant <NUMBER>  The constant field of the links' frames, as 0x03000000
       --icd <FILE>         The links that are specified, comma-separated values
   -v, --verbose            Tell standard error, whatever it is, what a terminal is told but progress
@@ -290,6 +292,7 @@ Options:
       --config <FILE>    The table of virtual links, a TOML document
       --ledger <FILE>    The ledger of verdicts, as `afdxmon watch` writes it
       --manifest <FILE>  The manifest of the run, as `afdxmon watch` writes it
+      --baseline <FILE>  The ledger of an earlier flight, of the same table, to compare with
       --json             Write the page's numbers as JSON in place of the page
   -o, --output <FILE>    The page to write, or the JSON text [default: -]
   -v, --verbose          Tell standard error, whatever it is, what a terminal is told but progress
@@ -298,8 +301,9 @@ Options:
 The page is one file without scripts and links. Without -o a terminal is shown the first part as text.
 '-' is standard input, or standard output.
 
-Example: a page on a run
+Example: a page on a run, and one that compares it with the flight before
   afdxmon report --config flight.toml --ledger verdicts.ledger -o report.html
+  afdxmon report --config flight.toml --ledger today.ledger --baseline yesterday.ledger -o two.html
 """,
     "check": r"""
 Usage: afdxmon check [OPTIONS] --config <FILE>
@@ -307,8 +311,8 @@ Usage: afdxmon check [OPTIONS] --config <FILE>
 Options:
       --config <FILE>  The table of virtual links, a TOML document
       --filter <FILE>  The filter in the numeric form, as `afdxmon asm` prints it
-      --a <FILE>       The recording of network A, a pcap or pcapng file
-      --b <FILE>       The recording of network B, a pcap or pcapng file
+      --a <FILE>       The recording of network A, pcap or pcapng files, or @LIST of paths
+      --b <FILE>       The recording of network B, pcap or pcapng files, or @LIST of paths
       --whole          Read the recordings to their ends, not their first 1000000 frames
       --json           Write the answer as JSON in place of text
   -v, --verbose        Tell standard error, whatever it is, what a terminal is told but progress

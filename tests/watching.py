@@ -45,6 +45,8 @@ REASONS = {
     "fraction": "fraction of a second out of range",
     "stampback": "timestamp out of order",
     "toomany": "too many frames",
+    "fileheader": "another pcap file begins here",
+    "nextfile": "the next file has no header that is read",
 }
 
 

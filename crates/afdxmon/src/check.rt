@@ -1,19 +1,16 @@
 //! Whether a run of `watch` would be sound, told on standard output.
-use crate::interface::{Choices, Skipped};
-use crate::streams::Input;
-use crate::{Ended, NO_RUN, Refused, open_tap, recording_of, refuse_several_of_both, text_of};
+use crate::ended::{Ended, Refused};
+use crate::recordings::{TapFiles, end_of, open_both};
+use crate::seams::tell_gaps;
+use crate::taps::{Tap, Taps};
+use crate::{NO_RUN, text_of};
 use afdx_frame::Network;
 use analyser::{CheckArguments, Exit, Fault, FileOption, WatchFault, filter_of, is_standard};
 use bpf_loader::Program;
 use check_text::{Answer, FilterAnswer, TapAnswer, json_of, text_of as answer_text, verdict_of};
-use input_check::{
-    FORMAT_LEN, Format, Inputs, Look, Reach, format_of, link_questions, questions_of,
-};
-use pcap_io::ReadSource;
-use pcapng::RecordingSource;
+use input_check::{Inputs, Look, Reach, link_questions, questions_of};
 use run_outcome::MAX_FRAMES;
-use std::io;
-use std::io::Read;
+use std::fmt::Write;
 use survey_run::{Extent, Pass, Recorded, show_recordings};
 use table_check::{TableFault, table_faults};
 use vl_config::Config;
@@ -23,54 +20,6 @@ const MOST_FRAMES: u64 = 1_000_000;
 
 /// How far a timestamp may lie below an earlier one where no table says so, in nanoseconds.
 const MOST_LATE: u64 = 1_000_000_000;
-
-/// An input whose first bytes are kept as they come by.
-#[derive(Drop)]
-struct Headed {
-    input: Input,
-    head: [u8; 4],
-    len: usize,
-}
-
-impl Headed {
-    fn new(input: Input) -> Headed {
-        Headed {
-            input,
-            head: [0; FORMAT_LEN],
-            len: 0,
-        }
-    }
-
-    fn keep(&mut self, byte: u8) {
-        if self.len < FORMAT_LEN {
-            self.head[self.len] = byte;
-            self.len += 1;
-        }
-    }
-
-    fn format(&self) -> Option<Format> {
-        if self.len < FORMAT_LEN {
-            None
-        } else {
-            format_of(self.head)
-        }
-    }
-}
-
-impl Read for Headed {
-    fn read(&mut self, buf: &mut [u8]) -> io::Result<usize> {
-        let count = self.input.read(buf)?;
-        if self.len < FORMAT_LEN {
-            for byte in buf.iter().take(count.min(FORMAT_LEN)) {
-                self.keep(*byte);
-            }
-        }
-        Ok(count)
-    }
-}
-
-/// The source of a recording.
-type HeadedSource = RecordingSource<ReadSource<Headed>>;
 
 /// What a pass over the recordings came to.
 #[derive(Clone, Copy)]
@@ -90,52 +39,60 @@ fn shown_path(path: &str) -> &str {
 }
 
 fn tap_answer<'a>(
-    path: Option<&'a str>,
-    source: HeadedSource,
+    rt: &HostRuntime,
+    (network, tap): (Network, &Tap),
+    name: &'a str,
+    source: TapFiles<'_>,
     recorded: Recorded,
 ) -> Option<TapAnswer<'a>> {
-    let skipped = source.skipped();
-    let headed = source.into_source().into_reader();
+    if name.is_empty() {
+        return None;
+    }
+    let end = end_of(rt, source);
+    let _ = tell_gaps(rt, network, tap, &end);
     Some(TapAnswer {
-        name: shown_path(path?),
-        format: headed.format(),
+        name,
+        format: end.format,
         recorded,
-        skipped,
+        skipped: end.skipped,
     })
 }
 
-/// Opens both recordings.
-fn open_both(
-    rt: &HostRuntime,
-    given: &CheckArguments<'_>,
-    choices: Choices,
-) -> Result<(HeadedSource, HeadedSource), Refused> {
-    let a = open_tap(rt, given.a, Network::A, None)?;
-    let b = open_tap(rt, given.b, Network::B, None)?;
-    refuse_several_of_both(rt, given.a, given.b, choices)?;
-    let a = recording_of(rt, ReadSource::new(Headed::new(a)), choices.a)?;
-    let b = recording_of(rt, ReadSource::new(Headed::new(b)), choices.b)?;
-    Ok((a, b))
+/// What a person knows a recording by: nothing if it isn't given.
+fn name_of(rt: &HostRuntime, tap: &Tap) -> Result<String, Fault> {
+    let mut name = String::new(rt.alloc());
+    let Some(first) = tap.path_at(0) else {
+        return Ok(name);
+    };
+    let written = match tap.files.len() {
+        1 => write!(name, "{}", shown_path(first)),
+        2 => write!(name, "{first} and 1 more file"),
+        count => write!(name, "{first} and {} more files", count.saturating_sub(1)),
+    };
+    written.map_err(|_| NO_RUN)?;
+    Ok(name)
 }
 
 /// Reads the first frames of both recordings.
 fn read_recordings<'a>(
     rt: &HostRuntime,
-    given: &CheckArguments<'a>,
-    choices: Choices,
+    given: &CheckArguments<'_>,
+    (taps, names): (&Taps, [&'a str; 2]),
     config: Option<&Config>,
     inputs: &mut Inputs<'_>,
 ) -> Result<Passed<'a>, Refused> {
-    let (a, b) = open_both(rt, given, choices)?;
     let extent = Extent {
         frames: if given.whole { MAX_FRAMES } else { MOST_FRAMES },
         late: config.map_or(MOST_LATE, |config| config.late()),
     };
+    let (a, b) = open_both(rt, (given.a, given.b), taps, extent.late)?;
+    let tap_a = (Network::A, taps.of_network(Network::A));
+    let tap_b = (Network::B, taps.of_network(Network::B));
     let Pass { outcome, a, b } = show_recordings(rt.alloc(), extent, a, b, inputs);
     match outcome {
         Ok((of_a, of_b)) => Ok(Passed {
-            a: tap_answer(given.a, a, of_a),
-            b: tap_answer(given.b, b, of_b),
+            a: tap_answer(rt, tap_a, names[0], a, of_a),
+            b: tap_answer(rt, tap_b, names[1], b, of_b),
             unread: None,
         }),
         Err(WatchFault::Memory) => Err(Refused::from(NO_RUN)),
@@ -213,11 +170,7 @@ struct Table<'a> {
 }
 
 /// Tells whether a run with these inputs would be sound.
-pub fn check(
-    rt: &HostRuntime,
-    given: &CheckArguments<'_>,
-    choices: Choices,
-) -> Result<Ended, Refused> {
+pub fn check(rt: &HostRuntime, given: &CheckArguments<'_>, taps: &Taps) -> Result<Ended, Refused> {
     let text = text_of(rt, given.config, FileOption::Config)?;
     let faults = table_faults(rt.alloc(), &text).map_err(|_| NO_RUN)?;
     let config = table_in(rt, &text, &faults)?;
@@ -226,19 +179,22 @@ pub fn check(
         faults: &faults,
         config: config.as_ref(),
     };
-    check_inputs(rt, given, choices, table)
+    check_inputs(rt, given, taps, table)
 }
 
 /// Looks at the filters and the recordings, and tells the answer.
 fn check_inputs(
     rt: &HostRuntime,
     given: &CheckArguments<'_>,
-    choices: Choices,
+    taps: &Taps,
     table: Table<'_>,
 ) -> Result<Ended, Refused> {
+    let name_a = name_of(rt, taps.of_network(Network::A))?;
+    let name_b = name_of(rt, taps.of_network(Network::B))?;
+    let recordings = (taps, [name_a.as_str(), name_b.as_str()]);
     let filters = filter_answers(rt, given, table.config)?;
     let mut inputs = Inputs::new(rt.alloc(), table.config).map_err(|_| NO_RUN)?;
-    let passed = read_recordings(rt, given, choices, table.config, &mut inputs)?;
+    let passed = read_recordings(rt, given, recordings, table.config, &mut inputs)?;
     tell_inputs(rt, given, table, &filters, &inputs, passed)
 }
 
@@ -291,9 +247,8 @@ fn tell_answer(
     };
     if let Err(error) = rt.print(&text) {
         return Err(Refused {
-            fault: Fault::File(FileOption::Standard),
-            source: None,
             reason: Some(error),
+            ..Refused::from(Fault::File(FileOption::Standard))
         });
     }
     let exit = if verdict_of(answer).is_sound() {
@@ -301,10 +256,5 @@ fn tell_answer(
     } else {
         Exit::Fault(Fault::Unsound)
     };
-    Ok(Ended {
-        exit,
-        worst: None,
-        skipped: Skipped::none(),
-        reason: None,
-    })
+    Ok(Ended::from(exit))
 }

@@ -1,13 +1,15 @@
 //! The frames of a ledger's lines, cut from its recordings.
 use crate::annotated::Joining;
 use crate::captures::CutObserver;
+use crate::ended::{Ended, Refused};
 use crate::files::refuse_shared;
-use crate::interface::{Choices, Skipped};
-use crate::live::Blocks;
+use crate::interface::Skipped;
+use crate::live::{Blocks, LiveInput};
+use crate::recordings::{Reading, TapFiles, end_of, files_of};
 use crate::seen::Seen;
+use crate::taps::Taps;
 use crate::{
-    Ended, LiveSource, NO_RUN, Refused, capture_output, create, is_at_terminal, live_source, open,
-    open_tap, recording_of, refuse_several_of_both, table_of,
+    MAX_LATE, NO_RUN, capture_output, create, is_at_terminal, live_output, open, open_tap, table_of,
 };
 use afdx_frame::Network;
 use analyser::{
@@ -16,7 +18,6 @@ use analyser::{
     selection_of,
 };
 use pcap_io::{ReadSource, WriteSink};
-use pcapng::RecordingSource;
 use vl_config::Config;
 
 /// What is read and written by a cut.
@@ -27,9 +28,9 @@ struct CutDevices<'a> {
     /// The network whose lines are passed over.
     skips: Option<Network>,
     seen: &'a Seen,
-    ledger: LiveSource,
-    a: RecordingSource<LiveSource>,
-    b: RecordingSource<LiveSource>,
+    ledger: ReadSource<LiveInput>,
+    a: TapFiles<'a>,
+    b: TapFiles<'a>,
     sink: WriteSink<Blocks>,
 }
 
@@ -84,16 +85,17 @@ fn cut_lines(rt: &HostRuntime, files: CutDevices<'_>, is_checked: bool) -> Ended
         sink,
         &observer,
     );
-    let skipped = match recordings {
-        Some((a, b)) => Skipped::two(a.skipped(), b.skipped()),
-        None => Skipped::none(),
-    };
     let reason = output.into_writer().finish(outcome.is_ok()).err();
+    let ended = Ended::from(exit_of(outcome, reason.is_none()));
+    let Some((a, b)) = recordings else {
+        return Ended { reason, ..ended };
+    };
+    let (a, b) = (end_of(rt, a), end_of(rt, b));
     Ended {
-        exit: exit_of(outcome, reason.is_none()),
-        worst: None,
-        skipped,
+        skipped: Skipped::two(a.skipped, b.skipped),
+        at: [a.file, b.file],
         reason,
+        ..ended
     }
 }
 
@@ -132,11 +134,12 @@ fn cut_packets(
         &observer,
     );
     let reason = run.output.into_writer().finish(run.outcome.is_ok()).err();
+    let (a, b) = (end_of(rt, run.a), end_of(rt, run.b));
     Ok(Ended {
-        exit: exit_of(run.outcome, reason.is_none()),
-        worst: None,
-        skipped: Skipped::two(run.a.skipped(), run.b.skipped()),
+        skipped: Skipped::two(a.skipped, b.skipped),
+        at: [a.file, b.file],
         reason,
+        ..Ended::from(exit_of(run.outcome, reason.is_none()))
     })
 }
 
@@ -171,7 +174,7 @@ fn neighbours(
 
 /// Writes the frames of two recordings that a selection of their ledger's lines takes, or these lines. What
 /// was written before a fault is handed to the system too. An error is a fault that was met before.
-pub fn cut(rt: &HostRuntime, given: &CutArguments<'_>, choices: Choices) -> Result<Ended, Refused> {
+pub fn cut(rt: &HostRuntime, given: &CutArguments<'_>, taps: &Taps) -> Result<Ended, Refused> {
     if !given.ledger_only && is_at_terminal(rt, given.output) {
         return Ok(Ended::from(Exit::Terminal));
     }
@@ -181,21 +184,22 @@ pub fn cut(rt: &HostRuntime, given: &CutArguments<'_>, choices: Choices) -> Resu
     let ledger = open(rt, given.ledger, FileOption::Ledger)?;
     let a = open_tap(rt, given.a, Network::A, None)?;
     let b = open_tap(rt, given.b, Network::B, None)?;
-    refuse_shared(rt, Invocation::Cut(*given))?;
-    refuse_several_of_both(rt, given.a, given.b, choices)?;
+    refuse_shared(rt, Invocation::Cut(*given), taps)?;
+    let [length_a, length_b] = taps.look(rt, &a, &b, MAX_LATE)?;
     let output = create(rt, given.output, FileOption::Output)?;
-    let (ledger, output) = live_source(rt, ledger, output)?;
-    let (a, output) = live_source(rt, a, output)?;
-    let (b, output) = live_source(rt, b, output)?;
+    let (output, before_ledger) = live_output(rt, output, ledger.may_pause(rt))?;
+    let (output, before_a) = live_output(rt, output, given.a.is_some() && length_a.is_none())?;
+    let (output, before_b) = live_output(rt, output, given.b.is_some() && length_b.is_none())?;
+    let (tap_a, tap_b) = (taps.of_network(Network::A), taps.of_network(Network::B));
     let (skips, seen) = (skipped(given), Seen::new());
     let files = CutDevices {
         selection: &selection,
         neighbours,
         skips,
         seen: &seen,
-        ledger,
-        a: recording_of(rt, a, choices.a)?,
-        b: recording_of(rt, b, choices.b)?,
+        ledger: ReadSource::new(LiveInput::new(ledger, before_ledger)),
+        a: files_of(Reading::quiet(rt, Network::A), tap_a, a, before_a)?,
+        b: files_of(Reading::quiet(rt, Network::B), tap_b, b, before_b)?,
         sink: WriteSink::new(output),
     };
     let ended = if given.ledger_only {

@@ -1,10 +1,12 @@
 //! By how much the frame that ends a recording is out of order, and which option takes it.
-use crate::interface::start_of;
+use crate::recordings::{Reading, files_of};
+use crate::streams::Input;
+use crate::taps::Tap;
+use afdx_frame::Network;
 use analyser::{Invocation, MAX_LATE_MICROS};
-use pcap_io::Found;
-use pcapng::Choice;
+use pcap_io::{Found, TapReader};
+use std::fmt;
 use std::fmt::{Display, Formatter};
-use std::{fmt, fs};
 
 /// Which option takes a frame that is out of order.
 #[derive(Clone, Copy)]
@@ -26,21 +28,24 @@ impl Disorder {
     pub fn of(
         rt: &HostRuntime,
         command: Invocation<'_>,
-        (path, choice): (&str, Choice),
+        tap: &Tap,
         count: u64,
     ) -> Option<Disorder> {
-        let late = lateness_after(rt, path, choice, count)?;
+        let late = lateness_after(rt, tap, count)?;
         let taken = taken_by(command, late);
         Some(Disorder { late, taken })
     }
 }
 
-/// By how many nanoseconds the frame after the first `count` of a file lies below the greatest timestamp.
-fn lateness_after(rt: &HostRuntime, path: &str, choice: Choice, count: u64) -> Option<u64> {
-    if !fs::metadata(rt, path).ok()?.is_file() {
+/// By how many nanoseconds the frame after the first `count` of a recording lies below the greatest
+/// timestamp.
+fn lateness_after(rt: &HostRuntime, tap: &Tap, count: u64) -> Option<u64> {
+    if !tap.is_of_regular_files(rt) {
         return None;
     }
-    let mut reader = start_of(rt, path, choice, u64::MAX)?;
+    let first = Input::open(rt, tap.files.first()?.path.as_str()).ok()?;
+    let source = files_of(Reading::quiet(rt, Network::A), tap, first, None).ok()?;
+    let mut reader = TapReader::open(source, Network::A, 1 << 32, u64::MAX).ok()?;
     let (mut high, mut late) = (0u64, 0);
     for _ in 0..count.saturating_add(1) {
         let Ok(Found::Frame) = reader.advance(rt.alloc()) else {
@@ -66,7 +71,7 @@ fn taken_by(command: Invocation<'_>, late: u64) -> Taken {
 
 /// A length of time, in a unit that suits it.
 #[derive(Clone, Copy)]
-struct Amount(u64);
+pub struct Amount(pub u64);
 
 impl Display for Amount {
     fn fmt<W: fmt::Write>(&self, f: &mut Formatter<W>) -> fmt::Result {

@@ -1,7 +1,11 @@
 //! That no output is another file of its command, and that the standard streams are there.
+use crate::NO_RUN;
+use crate::taps::{Tap, Taps, option_of};
+use afdx_frame::Network;
 use analyser::{
-    Fault, GivenFile, Inode, Invocation, Named, NamedFile, WatchArguments, is_standard,
+    Fault, FileOption, GivenFile, Inode, Invocation, Named, NamedFile, WatchArguments, is_standard,
 };
+use std::alloc::AllocError;
 use std::fs::Metadata;
 use std::io::{ErrorKind, Read, Write};
 use std::os::unix::fs::MetadataExt;
@@ -60,18 +64,34 @@ fn named_file<'a>(rt: &HostRuntime, file: GivenFile<'a>) -> NamedFile<'a> {
     }
 }
 
+/// Adds the files of a recording after its first one.
+fn add_later_files<'a>(
+    rt: &HostRuntime,
+    named: &mut Vec<NamedFile<'a>>,
+    tap: &'a Tap,
+    option: FileOption,
+) -> Result<(), AllocError> {
+    for file in tap.files.iter().skip(1) {
+        named.push(NamedFile {
+            option,
+            is_written: false,
+            named: named_by(rt, &file.path),
+        })?;
+    }
+    Ok(())
+}
+
 /// Refuses an output of a command that is another of its files.
-pub fn refuse_shared(rt: &HostRuntime, command: Invocation<'_>) -> Result<(), Fault> {
-    let [first, second, third, fourth, fifth, sixth, seventh] = command.files();
-    analyser::refuse_shared(&[
-        named_file(rt, first),
-        named_file(rt, second),
-        named_file(rt, third),
-        named_file(rt, fourth),
-        named_file(rt, fifth),
-        named_file(rt, sixth),
-        named_file(rt, seventh),
-    ])
+pub fn refuse_shared(rt: &HostRuntime, command: Invocation<'_>, taps: &Taps) -> Result<(), Fault> {
+    let mut named = Vec::new(rt.alloc());
+    for file in command.files() {
+        named.push(named_file(rt, file)).map_err(|_| NO_RUN)?;
+    }
+    for network in [Network::A, Network::B] {
+        let option = option_of(command, network);
+        add_later_files(rt, &mut named, taps.of_network(network), option).map_err(|_| NO_RUN)?;
+    }
+    analyser::refuse_shared(&named)
 }
 
 /// The system's error for a stream that is closed.

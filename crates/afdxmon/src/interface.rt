@@ -1,33 +1,13 @@
 //! Which interface of a pcapng recording is read: a number or a name after its path and a colon. And what is
 //! told of the others.
 use afdx_frame::Network;
-use analyser::{
-    CaptureArguments, CheckArguments, CutArguments, DebugArguments, Exit, Invocation,
-    LinksArguments, SkippedNote, WatchArguments, is_standard,
-};
+use analyser::{Exit, SkippedNote, is_standard};
 use pcap_io::{BadReason, Ending, Found, ReadSource, TapReader};
 use pcapng::{Choice, Interface, InterfaceName, RecordingSource};
 use std::fmt::Write;
 use std::fs::File;
 use std::io::{Read, Take};
 use std::{fs, io};
-
-/// What a command reads of its recordings: of network A, or of its one recording, and of network B.
-#[derive(Clone, Copy)]
-pub struct Choices {
-    pub a: Choice,
-    pub b: Choice,
-}
-
-impl Choices {
-    /// The one Ethernet interface of each.
-    pub fn any() -> Choices {
-        Choices {
-            a: Choice::Any,
-            b: Choice::Any,
-        }
-    }
-}
 
 /// The interface that a person names: digits are a number, and anything else is a name.
 fn choice_of(text: &str) -> Option<Choice> {
@@ -44,7 +24,7 @@ fn choice_of(text: &str) -> Option<Choice> {
 
 /// The path of a recording, and the interface that is chosen after it. A path that names a file as it
 /// stands wins.
-fn chosen_in<'a>(rt: &HostRuntime, path: &'a str) -> (&'a str, Choice) {
+pub fn chosen_in<'a>(rt: &HostRuntime, path: &'a str) -> (&'a str, Choice) {
     if is_standard(path) || fs::metadata(rt, path).is_ok() {
         return (path, Choice::Any);
     }
@@ -56,73 +36,6 @@ fn chosen_in<'a>(rt: &HostRuntime, path: &'a str) -> (&'a str, Choice) {
             }
         }
         Some(_) | None => (path, Choice::Any),
-    }
-}
-
-fn chosen_if<'a>(rt: &HostRuntime, path: Option<&'a str>) -> (Option<&'a str>, Choice) {
-    match path {
-        Some(path) => {
-            let (path, choice) = chosen_in(rt, path);
-            (Some(path), choice)
-        }
-        None => (None, Choice::Any),
-    }
-}
-
-/// The paths of the recordings of two networks, and what is read of them.
-fn chosen_of_both<'a>(
-    rt: &HostRuntime,
-    a: Option<&'a str>,
-    b: Option<&'a str>,
-) -> (Option<&'a str>, Option<&'a str>, Choices) {
-    let (a, choice_of_a) = chosen_if(rt, a);
-    let (b, choice_of_b) = chosen_if(rt, b);
-    let choices = Choices {
-        a: choice_of_a,
-        b: choice_of_b,
-    };
-    (a, b, choices)
-}
-
-/// What a command reads of its one recording, and nothing of another.
-fn of_one(choice: Choice) -> Choices {
-    Choices {
-        a: choice,
-        b: Choice::Any,
-    }
-}
-
-/// A command whose recordings are named by their paths alone, and what it reads of them.
-pub fn choose<'a>(rt: &HostRuntime, command: Invocation<'a>) -> (Invocation<'a>, Choices) {
-    match command {
-        Invocation::Capture(given) => {
-            let (recording, choice) = chosen_in(rt, given.recording);
-            let given = CaptureArguments { recording, ..given };
-            (Invocation::Capture(given), of_one(choice))
-        }
-        Invocation::Debug(given) => {
-            let (tap, choice) = chosen_in(rt, given.tap);
-            let given = DebugArguments { tap, ..given };
-            (Invocation::Debug(given), of_one(choice))
-        }
-        Invocation::Watch(given) => {
-            let (a, b, choices) = chosen_of_both(rt, given.a, given.b);
-            let given = WatchArguments { a, b, ..given };
-            (Invocation::Watch(given), choices)
-        }
-        Invocation::Cut(given) => {
-            let (a, b, choices) = chosen_of_both(rt, given.a, given.b);
-            (Invocation::Cut(CutArguments { a, b, ..given }), choices)
-        }
-        Invocation::Links(given) => {
-            let (a, b, choices) = chosen_of_both(rt, given.a, given.b);
-            (Invocation::Links(LinksArguments { a, b, ..given }), choices)
-        }
-        Invocation::Check(given) => {
-            let (a, b, choices) = chosen_of_both(rt, given.a, given.b);
-            (Invocation::Check(CheckArguments { a, b, ..given }), choices)
-        }
-        Invocation::Asm | Invocation::Report(_) => (command, Choices::any()),
     }
 }
 

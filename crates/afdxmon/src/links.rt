@@ -1,13 +1,15 @@
 //! The table of virtual links that is drafted from recordings and a document.
-use crate::interface::{Choices, Skipped};
-use crate::{Ended, NO_RUN, Refused, open_tap, recording_of, refuse_several_of_both, text_of};
-use afdx_frame::Network;
+use crate::ended::{Ended, Refused};
+use crate::interface::Skipped;
+use crate::recordings::{end_of, open_both};
+use crate::taps::Taps;
+use crate::{MAX_LATE, NO_RUN, text_of};
 use analyser::{Exit, Fault, FileOption, LinksArguments};
 use icd_links::IcdLinks;
-use link_draft::{Comparison, DraftFault, Recordings, Sources, draft_of};
-use pcap_io::{Ending, ReadSource};
+use link_draft::{Comparison, DraftFault, LeftOut, Recordings, Sources, draft_of};
+use pcap_io::Ending;
 use std::io;
-use survey_run::{Survey, SurveyRun, survey_recordings};
+use survey_run::{SurveyRun, survey_recordings};
 use vl_config::ConfigFault;
 
 /// The bits that a constant field has set (ARINC 664 Part 7).
@@ -67,65 +69,65 @@ fn fault_of(fault: DraftFault) -> Fault {
     }
 }
 
+/// Notes which links the draft leaves out.
+fn note_left_out(rt: &HostRuntime, links: LeftOut<'_>) -> io::Result<()> {
+    if links.is_empty() {
+        return Ok(());
+    }
+    eprintln!(rt; "afdxmon: note: not drafted, since all their frames are cut short: links {links}")
+}
+
 /// Prints the draft.
-fn print_draft<'s>(
-    rt: &HostRuntime,
-    survey: &'s Survey,
-    icd: &'s Option<IcdLinks>,
-    recordings: Recordings,
-    constant: Option<u32>,
-) -> Result<Comparison, Refused> {
-    let sources = Sources {
-        survey,
-        recordings,
-        constant,
-        icd: icd.as_ref(),
-    };
-    let draft = draft_of(rt.alloc(), &sources).map_err(fault_of)?;
+fn print_draft(rt: &HostRuntime, sources: &Sources<'_>) -> Result<Comparison, Refused> {
+    let draft = draft_of(rt.alloc(), sources).map_err(fault_of)?;
     match rt.print(&draft.text) {
         Ok(()) => Ok(draft.comparison),
         Err(error) => Err(Refused {
-            fault: Fault::File(FileOption::Standard),
-            source: None,
             reason: Some(error),
+            ..Refused::from(Fault::File(FileOption::Standard))
         }),
     }
 }
 
 /// Prints a draft of the table of virtual links that recordings have and a document specifies.
-pub fn links(
-    rt: &HostRuntime,
+pub fn links<'x>(
+    rt: &'x HostRuntime,
     given: &LinksArguments<'_>,
-    choices: Choices,
+    taps: &'x Taps,
     full: bool,
 ) -> Result<Ended, Refused> {
     let constant = constant_of(given.constant)?;
     let icd = icd_of(rt, given.icd)?;
-    let a = open_tap(rt, given.a, Network::A, None)?;
-    let b = open_tap(rt, given.b, Network::B, None)?;
-    refuse_several_of_both(rt, given.a, given.b, choices)?;
-    let a = recording_of(rt, ReadSource::new(a), choices.a)?;
-    let b = recording_of(rt, ReadSource::new(b), choices.b)?;
-    let SurveyRun { outcome, a, b } = survey_recordings(rt.alloc(), constant, a, b);
-    let skipped = Skipped::two(a.skipped(), b.skipped());
+    let (a, b) = open_both(rt, (given.a, given.b), taps, MAX_LATE)?;
+    let SurveyRun { outcome, cut, a, b } = survey_recordings(rt.alloc(), constant, a, b);
+    let (mut end_a, mut end_b) = (end_of(rt, a), end_of(rt, b));
     let exit = match outcome {
         Ok((survey, a, b)) => {
             let recordings = Recordings {
                 a: given.a.map(|_| a),
                 b: given.b.map(|_| b),
             };
-            let comparison = print_draft(rt, &survey, &icd, recordings, constant)?;
+            let icd = icd.as_ref();
+            let sources = Sources {
+                survey: &survey,
+                cut: &cut,
+                recordings,
+                constant,
+                icd,
+            };
+            let comparison = print_draft(rt, &sources)?;
+            let _ = note_left_out(rt, LeftOut(&sources));
             if full {
                 let _ = tell_comparison(rt, comparison);
             }
+            (end_a.file, end_b.file) = (end_a.file_of(a.ending), end_b.file_of(b.ending));
             exit_of(a.ending, b.ending)
         }
         Err(fault) => Exit::Fault(Fault::Watch(fault)),
     };
     Ok(Ended {
-        exit,
-        worst: None,
-        skipped,
-        reason: None,
+        skipped: Skipped::two(end_a.skipped, end_b.skipped),
+        at: [end_a.file, end_b.file],
+        ..Ended::from(exit)
     })
 }

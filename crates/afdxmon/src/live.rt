@@ -1,9 +1,9 @@
 //! What is written of inputs that pause, as pipes do: it is handed to the system before the program waits for
 //! more, and a fault is told before the program waits for its threads.
-use crate::interface::Choices;
 use crate::pauses::Pauses;
 use crate::progress::Progress;
 use crate::streams::{Input, Output};
+use crate::taps::Taps;
 use crate::telling::{Known, tell};
 use afdx_frame::Network;
 use analyser::{Exit, Fault, Invocation, RunObserver, WatchArguments, WatchFault};
@@ -120,7 +120,7 @@ impl SharedBlocks {
     }
 
     /// The same output.
-    fn share(&self) -> Result<SharedBlocks, AllocError> {
+    pub fn share(&self) -> Result<SharedBlocks, AllocError> {
         Ok(SharedBlocks {
             writer: Arc::try_clone(&self.writer)?,
         })
@@ -186,6 +186,7 @@ impl Read for LiveInput {
 pub struct Watcher<'a> {
     rt: &'a HostRuntime,
     given: WatchArguments<'a>,
+    taps: &'a Taps,
     capture: SharedBlocks,
     ledger: SharedBlocks,
     progress: Option<&'a Progress>,
@@ -199,7 +200,7 @@ impl<'a> Watcher<'a> {
     /// told all of it.
     pub fn new(
         rt: &'a HostRuntime,
-        given: WatchArguments<'a>,
+        (given, taps): (WatchArguments<'a>, &'a Taps),
         outputs: (SharedBlocks, SharedBlocks),
         progress: Option<&'a Progress>,
         pauses: Option<&'a Pauses>,
@@ -209,6 +210,7 @@ impl<'a> Watcher<'a> {
         Watcher {
             rt,
             given,
+            taps,
             capture,
             ledger,
             progress,
@@ -242,7 +244,8 @@ impl<'a> Watcher<'a> {
         let known = Known {
             source: None,
             reason,
-            choices: Choices::any(),
+            taps: self.taps,
+            at: [0, 0],
             full: self.full,
         };
         let _ = tell(self.rt, command, &Exit::Fault(Fault::Watch(fault)), known);
@@ -251,8 +254,8 @@ impl<'a> Watcher<'a> {
 }
 
 impl RunObserver for Watcher<'_> {
-    /// Tells at once that an output can't be written. No thread can end the read that another waits in, so the
-    /// run goes on until that comes to its end.
+    /// Tells at once that an output can't be written. No thread can end the read that another waits in, so
+    /// the run goes on until that comes to its end.
     fn waits(&self) {
         if let Err((output, error)) = self.hand_over() {
             self.tell_fault(WatchFault::Write { output }, Some(error));

@@ -9,6 +9,8 @@ mod captures;
 mod check;
 mod cutting;
 mod disorder;
+mod disputed;
+mod ended;
 mod files;
 mod interface;
 mod links;
@@ -17,10 +19,13 @@ mod manifest;
 mod packets;
 mod pauses;
 mod progress;
+mod recordings;
 mod report;
+mod seams;
 mod seen;
 mod spans;
 mod streams;
+mod taps;
 mod telling;
 mod worst;
 
@@ -29,7 +34,7 @@ use analyser::{
     AsmRun, CaptureArguments, CaptureRun, CommandLine, DebugArguments, Exit, Fault, FileOption,
     FilterArgument, HeldTap, Invocation, Lateness, MAX_LATE_MICROS, Plan, RunSizes, Summary,
     TapRead, USAGE, WatchArguments, WatchFault, WatchRefused, Watched, answer_line, begin_session,
-    capture_by, filter_of, filter_of_source, is_standard, load_filters, read_arguments,
+    capture_by, filter_of, filter_of_source, gathered, is_standard, load_filters, read_arguments,
     read_config, read_file, read_tap, run_asm, run_session, sized_watch,
 };
 use annotated::Joining;
@@ -38,21 +43,23 @@ use bpf_loader::Program;
 use captures::CaptureOutput;
 use check::check;
 use cutting::cut;
+use ended::{Ended, Refused, file_in, summarise};
 use files::{refuse_closed, refuse_shared};
-use interface::{Choices, Skipped, choose, refused_interfaces, status_of};
+use interface::{Skipped, status_of};
 use links::links;
-use live::{Blocks, LiveInput, SharedBlocks, Watcher};
+use live::{Blocks, SharedBlocks, Watcher};
 use manifest::{RunSums, TextSums, with_manifest};
 use packet_format::PacketFormat;
 use pauses::Pauses;
 use pcap_io::{ReadSource, TapSource, WriteSink};
 use pcapng::{Choice, RecordingSource};
 use pcapng_writer::Interfaces;
-use progress::{Progress, Recording};
+use progress::Progress;
+use recordings::{Reading, TapEnd, TapFiles, end_of, files_of};
 use report::report;
-use run_manifest::{Sum, sum_of};
+use run_manifest::sum_of;
 use spans::Spans;
-use std::alloc::Global;
+use std::alloc::{AllocError, Global};
 use std::io::{BufRead, BufReader, BufWriter, ErrorKind, IsTerminal, Write};
 use std::process::ExitCode;
 use std::sync::Wait;
@@ -60,31 +67,13 @@ use std::sync::atomic::{AtomicBool, Ordering};
 use std::thread::Threads;
 use std::{io, thread};
 use streams::{Input, Output};
+use taps::Taps;
 use telling::{Known, tell};
 use vl_config::Config;
 use worst::{LedgerWriter, WorstLinks};
 
 /// How many bytes are handed to the system at once.
 const BLOCK: usize = 65536;
-
-/// Why a command was not begun. Of a filter's source the text shows a person where its fault lies; of a file
-/// of several interfaces it lists them. Of an output that can't be written the system says why.
-#[derive(Drop)]
-struct Refused {
-    fault: Fault,
-    source: Option<String>,
-    reason: Option<io::Error>,
-}
-
-impl From<Fault> for Refused {
-    fn from(fault: Fault) -> Refused {
-        Refused {
-            fault,
-            source: None,
-            reason: None,
-        }
-    }
-}
 
 /// Assembles the filter's source on standard input, and prints its numeric form to standard output.
 fn asm(rt: &HostRuntime) -> Result<Exit, Refused> {
@@ -101,9 +90,9 @@ fn asm(rt: &HostRuntime) -> Result<Exit, Refused> {
     let reason = sink.into_writer().flush().err();
     match Exit::of_text(outcome, reason.is_none()) {
         Exit::Fault(fault) => Err(Refused {
-            fault,
             source: text,
             reason,
+            ..Refused::from(fault)
         }),
         exit => Ok(exit),
     }
@@ -151,40 +140,6 @@ fn recording_of<S: TapSource + Drop>(
     RecordingSource::new(rt.alloc(), source, choice).map_err(|_| NO_RUN)
 }
 
-/// Refuses a file that begins with packets of several interfaces, if none is chosen, and one that doesn't
-/// describe the one that is.
-fn refuse_several(
-    rt: &HostRuntime,
-    path: &str,
-    file: FileOption,
-    choice: Choice,
-) -> Result<(), Refused> {
-    match refused_interfaces(rt, path, choice) {
-        Some(listed) => Err(Refused {
-            fault: Fault::Interfaces(file),
-            source: Some(listed),
-            reason: None,
-        }),
-        None => Ok(()),
-    }
-}
-
-/// The same of the recordings of two networks, where they are given.
-fn refuse_several_of_both(
-    rt: &HostRuntime,
-    a: Option<&str>,
-    b: Option<&str>,
-    choices: Choices,
-) -> Result<(), Refused> {
-    if let Some(path) = a {
-        refuse_several(rt, path, FileOption::A, choices.a)?;
-    }
-    if let Some(path) = b {
-        refuse_several(rt, path, FileOption::B, choices.b)?;
-    }
-    Ok(())
-}
-
 /// What hands an output its bytes in blocks. Are they to be hashed?
 fn blocks_of(rt: &HostRuntime, output: Output, hashed: bool) -> Result<Blocks, Fault> {
     Blocks::new(rt.alloc(), output, hashed).map_err(|_| NO_RUN)
@@ -228,8 +183,12 @@ fn capture_output<'a>(
 type RunOutputs = (Blocks, Blocks, Option<Blocks>);
 
 /// Opens the outputs, if none is another file of the run.
-fn open_outputs(rt: &HostRuntime, given: &WatchArguments<'_>) -> Result<RunOutputs, Fault> {
-    refuse_shared(rt, Invocation::Watch(*given))?;
+fn open_outputs(
+    rt: &HostRuntime,
+    given: &WatchArguments<'_>,
+    taps: &Taps,
+) -> Result<RunOutputs, Fault> {
+    refuse_shared(rt, Invocation::Watch(*given), taps)?;
     let capture = match given.capture {
         Some(path) => create_hashed(rt, path, FileOption::Capture, given.digest)?,
         None => blocks_of(rt, Output::Nowhere, false)?,
@@ -240,7 +199,7 @@ fn open_outputs(rt: &HostRuntime, given: &WatchArguments<'_>) -> Result<RunOutpu
         None => None,
     };
     // Of one new file with two names, as that of a link to it, this shows only once it is there.
-    refuse_shared(rt, Invocation::Watch(*given))?;
+    refuse_shared(rt, Invocation::Watch(*given), taps)?;
     Ok((capture, ledger, manifest))
 }
 
@@ -263,9 +222,8 @@ fn filter(rt: &HostRuntime, given: FilterArgument<'_>) -> Result<Program, Refuse
             match filter_of_source(rt.alloc(), &text) {
                 Ok(program) => Ok(program),
                 Err(fault) => Err(Refused {
-                    fault,
                     source: Some(text),
-                    reason: None,
+                    ..Refused::from(fault)
                 }),
             }
         }
@@ -284,39 +242,32 @@ fn late_of(late: Option<Lateness>) -> u64 {
 
 /// Copies the frames of a recording that the filter accepts. What was written before a fault is handed to
 /// the system too. An error is a fault that was met before.
-fn capture(
-    rt: &HostRuntime,
-    given: &CaptureArguments<'_>,
-    choice: Choice,
-) -> Result<Ended, Refused> {
+fn capture(rt: &HostRuntime, given: &CaptureArguments<'_>, taps: &Taps) -> Result<Ended, Refused> {
     if is_at_terminal(rt, given.output) {
         return Ok(Ended::from(Exit::Terminal));
     }
     let program = filter(rt, given.filter)?;
     let recording = open(rt, given.recording, FileOption::Recording)?;
-    refuse_shared(rt, Invocation::Capture(*given))?;
-    refuse_several(rt, given.recording, FileOption::Recording, choice)?;
+    refuse_shared(rt, Invocation::Capture(*given), taps)?;
+    let (tap, late) = (taps.of_network(Network::A), late_of(given.late));
+    let length = tap.look(rt, (FileOption::Recording, &recording), late)?;
     let output = create(rt, given.output, FileOption::Output)?;
-    let (source, output) = live_source(rt, recording, output)?;
-    let source = recording_of(rt, source, choice)?;
+    let (output, live) = live_output(rt, output, length.is_none())?;
+    let source = files_of(Reading::quiet(rt, Network::A), tap, recording, live)?;
     let output = capture_output(rt, output, given.pcapng, Joining::Recording, None)?;
     let CaptureRun {
         outcome,
         source,
         sink,
-    } = capture_by(
-        rt.alloc(),
-        &program,
-        late_of(given.late),
-        source,
-        WriteSink::new(output),
-    );
+    } = capture_by(rt.alloc(), &program, late, source, WriteSink::new(output));
     let reason = sink.into_writer().finish(outcome.is_ok()).err();
+    let end = end_of(rt, source);
+    let exit = Exit::of_capture(outcome, reason.is_none());
     Ok(Ended {
-        exit: Exit::of_capture(outcome, reason.is_none()),
-        worst: None,
-        skipped: Skipped::one(source.skipped()),
+        skipped: Skipped::one(end.skipped),
+        at: [file_in(&end, &exit, Network::A), 0],
         reason,
+        ..Ended::from(exit)
     })
 }
 
@@ -327,8 +278,8 @@ const NO_FRAME: &str = "1,6 0 0 0,";
 const MAX_LATE: u64 = MAX_LATE_MICROS * 1000;
 
 /// The table, with the window that the command line gives, and the filters of the command line and of the
-/// table. Where the command line has none, one that accepts no frame stands in its place. The sums are those of
-/// the texts, hashed where there is a manifest.
+/// table. Where the command line has none, one that accepts no frame stands in its place. The sums are those
+/// of the texts, hashed where there is a manifest.
 fn set_up(
     rt: &HostRuntime,
     given: &WatchArguments<'_>,
@@ -364,42 +315,18 @@ fn table_of(rt: &HostRuntime, path: Option<&str>) -> Result<Option<Config>, Faul
     Ok(Some(read_config(rt.alloc(), &text)?))
 }
 
-/// An input of which something is written.
-type LiveSource = ReadSource<LiveInput>;
-
-/// What reads an input of which something is written to an output, and the output. What was written so far
-/// can be seen while a pipe gives no more.
-fn live_source(
+/// The output, and what hands over what was written so far while an input may pause: it can then be seen
+/// while a pipe gives no more.
+fn live_output(
     rt: &HostRuntime,
-    input: Input,
     output: Blocks,
-) -> Result<(LiveSource, Blocks), Fault> {
-    if !input.may_pause(rt) {
-        return Ok((ReadSource::new(LiveInput::new(input, None)), output));
+    may_pause: bool,
+) -> Result<(Blocks, Option<SharedBlocks>), Fault> {
+    if !may_pause {
+        return Ok((output, None));
     }
     let (output, live) = shared(rt, output)?;
-    Ok((ReadSource::new(LiveInput::new(input, Some(live))), output))
-}
-
-/// How a command ended, of `watch` the worst links, if they are to be told, how many packets that are not of
-/// Ethernet its recordings have, and why the system took an output no longer.
-#[derive(Drop)]
-struct Ended {
-    exit: Exit,
-    worst: Option<WorstLinks>,
-    skipped: Skipped,
-    reason: Option<io::Error>,
-}
-
-impl From<Exit> for Ended {
-    fn from(exit: Exit) -> Ended {
-        Ended {
-            exit,
-            worst: None,
-            skipped: Skipped::none(),
-            reason: None,
-        }
-    }
+    Ok((output, Some(live)))
 }
 
 /// The capture of `watch`.
@@ -408,39 +335,46 @@ type CaptureSink = WriteSink<Blocks>;
 /// The ledger of `watch`.
 type LedgerSink = WriteSink<LedgerWriter>;
 
-/// What reads a recording of `watch`.
-type WatchSource<'p> = RecordingSource<ReadSource<Recording<'p>>>;
+/// What is known of a recording of a run, if the run gave it back.
+fn end_if_back(rt: &HostRuntime, files: Option<TapFiles<'_>>) -> Option<TapEnd> {
+    Some(end_of(rt, files?))
+}
 
-/// The sum of what was read of a recording.
-fn read_sum(source: WatchSource<'_>) -> Sum {
-    source.into_source().into_reader().into_sum()
+/// The number of the file of a recording in which a run ended, or that was read last.
+fn last_file(end: &Option<TapEnd>, exit: &Exit, network: Network) -> usize {
+    match end {
+        Some(end) => file_in(end, exit, network),
+        None => 0,
+    }
+}
+
+/// How many packets of a recording were skipped.
+fn skipped_in(end: &Option<TapEnd>) -> u64 {
+    end.as_ref().map_or(0, |end| end.skipped)
 }
 
 /// How a run over two recordings ended, whose outputs are handed to the system, and the sums of its files.
 fn settle<'p>(
+    rt: &HostRuntime,
     run: Result<
-        Watched<WatchSource<'p>, WatchSource<'p>, CaptureSink, LedgerSink>,
-        WatchRefused<WatchSource<'p>, WatchSource<'p>, CaptureSink, LedgerSink>,
+        Watched<TapFiles<'p>, TapFiles<'p>, CaptureSink, LedgerSink>,
+        WatchRefused<TapFiles<'p>, TapFiles<'p>, CaptureSink, LedgerSink>,
     >,
 ) -> (Ended, RunSums) {
-    let (outcome, skipped, a, b, capture, ledger) = match run {
+    let (outcome, [a, b], capture, ledger) = match run {
         Ok(done) => {
             let [a, b] = done.endings;
             let totals = done.totals;
             (
                 Ok(Summary { a, b, totals }),
-                Skipped::two(done.a.skipped(), done.b.skipped()),
-                Some(done.a),
-                Some(done.b),
+                [Some(end_of(rt, done.a)), Some(end_of(rt, done.b))],
                 done.capture,
                 done.ledger,
             )
         }
         Err(refused) => (
             Err(Fault::Watch(refused.fault)),
-            Skipped::none(),
-            refused.a,
-            refused.b,
+            [end_if_back(rt, refused.a), end_if_back(rt, refused.b)],
             refused.capture,
             refused.ledger,
         ),
@@ -450,16 +384,20 @@ fn settle<'p>(
     let ledger_fails = ledger.finish(outcome.is_ok()).err();
     let sums = [capture.take_sum(), ledger.take_sum()];
     let (worst, spans) = ledger.into_found();
+    let exit = Exit::of_watch(outcome, capture_fails.is_none(), ledger_fails.is_none());
+    let at = [
+        last_file(&a, &exit, Network::A),
+        last_file(&b, &exit, Network::B),
+    ];
     let ended = Ended {
-        exit: Exit::of_watch(outcome, capture_fails.is_none(), ledger_fails.is_none()),
+        at,
+        exit,
         worst,
-        skipped,
+        skipped: Skipped::two(skipped_in(&a), skipped_in(&b)),
         reason: capture_fails.or(ledger_fails),
     };
-    (
-        ended,
-        RunSums::new([a.map(read_sum), b.map(read_sum)], sums, spans),
-    )
+    let read = [a.map(|end| end.sums), b.map(|end| end.sums)];
+    (ended, RunSums::new(read, sums, spans))
 }
 
 /// The worst links of a ledger that is to be written, if a person is to be told.
@@ -491,7 +429,7 @@ struct Analysis<'a> {
     programs: &'a [Program],
     /// The sums of the texts of the table and of the filter.
     texts: TextSums,
-    choices: Choices,
+    taps: &'a Taps,
     /// Is a person told all of how the run ended?
     full: bool,
     /// Becomes true once a fault was told.
@@ -500,32 +438,66 @@ struct Analysis<'a> {
 
 /// Judges and filters the frames of two recordings, on threads. What was written before a fault is
 /// handed to the system too. An error is a fault that was met before the run.
-fn watch_networks<R: Threads + Wait + Sync>(
-    rt: &HostRuntime,
+fn watch_networks<'x, R: Threads + Wait + Sync>(
+    rt: &'x HostRuntime,
     threads: &R,
-    analysis: &Analysis<'_>,
-    pauses: Option<&Pauses>,
+    analysis: &Analysis<'x>,
+    pauses: Option<&'x Pauses>,
 ) -> Result<Ended, Refused> {
-    let (given, choices) = (analysis.given, analysis.choices);
+    let (given, taps) = (analysis.given, analysis.taps);
     let a = open_tap(rt, given.a, Network::A, pauses)?;
     let b = open_tap(rt, given.b, Network::B, pauses)?;
-    refuse_several_of_both(rt, given.a, given.b, choices)?;
-    let (capture, ledger, manifest) = open_outputs(rt, given)?;
+    let [length_a, length_b] = taps.look(rt, &a, &b, analysis.config.late())?;
+    let (capture, ledger, manifest) = open_outputs(rt, given, taps)?;
     let progress = if given.quiet {
         None
     } else {
-        Progress::begin(rt, a.length(rt), b.length(rt))
+        Progress::begin(rt, length_a, length_b)
     };
-    let shown = progress.as_ref();
+    let of_a = Reading {
+        rt,
+        network: Network::A,
+        hashed: given.digest,
+        progress: progress.as_ref(),
+        pauses,
+    };
+    let of_b = Reading {
+        network: Network::B,
+        ..of_a
+    };
+    let a = files_of(of_a, taps.of_network(Network::A), a, None)?;
+    let b = files_of(of_b, taps.of_network(Network::B), b, None)?;
+    let spans = manifest.as_ref().map(|_| Spans::new());
+    let (ended, sums) = run_watch(threads, analysis, of_a, (a, b), (capture, ledger), spans)?;
+    match manifest {
+        Some(output) => {
+            Ok(with_manifest(rt, (given, taps), analysis.texts, ended, &sums, output))
+        }
+        None => Ok(ended),
+    }
+}
+
+/// Carries out a run over two recordings, into a capture and a ledger.
+fn run_watch<'p, R: Threads + Wait + Sync>(
+    threads: &R,
+    analysis: &Analysis<'_>,
+    reading: Reading<'p>,
+    (a, b): (TapFiles<'p>, TapFiles<'p>),
+    (capture, ledger): (Blocks, Blocks),
+    spans: Option<Spans>,
+) -> Result<(Ended, RunSums), Fault> {
+    let Reading {
+        rt,
+        progress,
+        pauses,
+        ..
+    } = reading;
     let (capture, live_capture) = shared(rt, capture)?;
     let (ledger, live_ledger) = shared(rt, ledger)?;
-    let hashed = given.digest;
-    let a = ReadSource::new(Recording::with_pauses(rt, a, hashed, Network::A, shown, pauses));
-    let b = ReadSource::new(Recording::with_pauses(rt, b, hashed, Network::B, shown, pauses));
     let outputs = (live_capture, live_ledger);
+    let given = analysis.given;
     let told = (analysis.told, analysis.full);
-    let watcher = Watcher::new(rt, *given, outputs, shown, pauses, told);
-    let spans = manifest.as_ref().map(|_| Spans::new());
+    let watcher = Watcher::new(rt, (*given, analysis.taps), outputs, progress, pauses, told);
     let plan = Plan {
         programs: analysis.programs,
         format: format_of(given, analysis.config),
@@ -537,20 +509,16 @@ fn watch_networks<R: Threads + Wait + Sync>(
         analysis.config,
         plan,
         u32::from(given.workers),
-        recording_of(rt, a, choices.a)?,
-        recording_of(rt, b, choices.b)?,
+        a,
+        b,
         WriteSink::new(capture),
         WriteSink::new(LedgerWriter::new(ledger, worst_links(rt, analysis), spans)),
         &watcher,
     );
-    if let Some(progress) = &progress {
+    if let Some(progress) = progress {
         progress.erase(rt);
     }
-    let (ended, sums) = settle(run);
-    match manifest {
-        Some(output) => Ok(with_manifest(rt, given, analysis.texts, ended, &sums, output)),
-        None => Ok(ended),
-    }
+    Ok(settle(rt, run))
 }
 
 /// Judges and filters the frames of two recordings that may pause, while another thread tells of pauses.
@@ -574,7 +542,7 @@ fn watch<R: Threads + Wait + Sync>(
     rt: &HostRuntime,
     threads: &R,
     given: &WatchArguments<'_>,
-    choices: Choices,
+    taps: &Taps,
     (told, full): (&AtomicBool, bool),
 ) -> Result<Ended, Refused> {
     if given.capture.is_some_and(|path| is_at_terminal(rt, path)) {
@@ -587,7 +555,7 @@ fn watch<R: Threads + Wait + Sync>(
         config: &config,
         programs: &programs,
         texts,
-        choices,
+        taps,
         full,
         told,
     };
@@ -658,29 +626,36 @@ fn debug_terminal(rt: &HostRuntime, program: Program, frames: Vec<TapFrame>) -> 
 /// Reads a recording whole, and shows its progress.
 fn read_tap_shown(
     rt: &HostRuntime,
-    tap: Input,
-    choice: Choice,
+    taps: &Taps,
+    first: Input,
     late: u64,
-) -> Result<(HeldTap, Skipped), Fault> {
-    let progress = Progress::begin(rt, tap.length(rt), None);
-    let recording = Recording::new(rt, tap, Network::A, progress.as_ref());
-    let source = recording_of(rt, ReadSource::new(recording), choice)?;
+) -> Result<(HeldTap, TapEnd), Refused> {
+    let tap = taps.of_network(Network::A);
+    let length = tap.look(rt, (FileOption::Tap, &first), late)?;
+    let progress = Progress::begin(rt, length, None);
+    let reading = Reading {
+        progress: progress.as_ref(),
+        ..Reading::quiet(rt, Network::A)
+    };
+    let source = files_of(reading, tap, first, None)?;
     let TapRead { outcome, source } = read_tap(rt.alloc(), late, source);
     if let Some(progress) = &progress {
         progress.erase(rt);
     }
     match outcome {
-        Ok(held) => Ok((held, Skipped::one(source.skipped()))),
-        Err(fault) => Err(Fault::Watch(fault)),
+        Ok(held) => Ok((held, end_of(rt, source))),
+        Err(fault) => {
+            let file = end_of(rt, source).file;
+            Err(Refused::from(Fault::Watch(fault)).at(FileOption::Tap, file))
+        }
     }
 }
 
 /// Steps through a filter on the frames of a recording. An error is a fault that was met before the session.
-fn debug(rt: &HostRuntime, given: &DebugArguments<'_>, choice: Choice) -> Result<Ended, Refused> {
+fn debug(rt: &HostRuntime, given: &DebugArguments<'_>, taps: &Taps) -> Result<Ended, Refused> {
     let program = filter(rt, given.filter)?;
-    let tap = open(rt, given.tap, FileOption::Tap)?;
-    refuse_several(rt, given.tap, FileOption::Tap, choice)?;
-    let (tap, skipped) = read_tap_shown(rt, tap, choice, late_of(given.late))?;
+    let first = open(rt, given.tap, FileOption::Tap)?;
+    let (tap, end) = read_tap_shown(rt, taps, first, late_of(given.late))?;
     let exit = if rt.stdin().is_terminal() {
         let outcome = debug_terminal(rt, program, tap.frames);
         Exit::of_session(tap.ending, outcome, true)
@@ -688,23 +663,10 @@ fn debug(rt: &HostRuntime, given: &DebugArguments<'_>, choice: Choice) -> Result
         debug_input(rt, program, tap)
     };
     Ok(Ended {
-        exit,
-        worst: None,
-        skipped,
-        reason: None,
+        skipped: Skipped::one(end.skipped),
+        at: [file_in(&end, &exit, Network::A), 0],
+        ..Ended::from(exit)
     })
-}
-
-/// Tells a person what a run over two recordings came to.
-fn summarise(rt: &HostRuntime, ended: &Ended) -> io::Result<()> {
-    let Exit::Watched(summary) = &ended.exit else {
-        return Ok(());
-    };
-    rt.eprintln(*summary)?;
-    match &ended.worst {
-        Some(worst) if !worst.is_empty() => eprintln!(rt; "{worst}"),
-        Some(_) | None => Ok(()),
-    }
 }
 
 /// Why the arguments can't be had as text.
@@ -720,25 +682,70 @@ fn arguments(rt: &HostRuntime) -> io::Result<Vec<String>> {
     Ok(std::env::args(rt)?.collect(rt.alloc())?)
 }
 
+/// The same, where the files of a recording are one word.
+fn gathered_arguments(rt: &HostRuntime) -> io::Result<Vec<String>> {
+    Ok(gathered(rt.alloc(), &arguments(rt)?)?)
+}
+
 /// Carries out a command. An error is a fault that was met before it began.
 fn run<R: Threads + Wait + Sync>(
     rt: &HostRuntime,
     threads: &R,
     command: Invocation<'_>,
-    choices: Choices,
+    taps: &Taps,
     (told, full): (&AtomicBool, bool),
 ) -> Result<Ended, Refused> {
     command.refuse_taken()?;
     match command {
-        Invocation::Watch(given) => watch(rt, threads, &given, choices, (told, full)),
+        Invocation::Watch(given) => watch(rt, threads, &given, taps, (told, full)),
         Invocation::Asm => Ok(Ended::from(asm(rt)?)),
-        Invocation::Capture(given) => capture(rt, &given, choices.a),
-        Invocation::Debug(given) => debug(rt, &given, choices.a),
-        Invocation::Cut(given) => cut(rt, &given, choices),
-        Invocation::Links(given) => links(rt, &given, choices, full),
-        Invocation::Report(given) => report(rt, &given),
-        Invocation::Check(given) => check(rt, &given, choices),
+        Invocation::Capture(given) => capture(rt, &given, taps),
+        Invocation::Debug(given) => debug(rt, &given, taps),
+        Invocation::Cut(given) => cut(rt, &given, taps),
+        Invocation::Links(given) => links(rt, &given, taps, full),
+        Invocation::Report(given) => report(rt, &given, taps),
+        Invocation::Check(given) => check(rt, &given, taps),
     }
+}
+
+/// Tells standard error of a fault that was met before a command began.
+fn tell_refused<'x>(
+    rt: &HostRuntime,
+    asked: Invocation<'x>,
+    taps: &'x Taps,
+    refused: &'x Refused,
+    full: bool,
+) -> Ended {
+    let exit = Exit::Fault(refused.fault);
+    let source = refused.source.as_deref();
+    let known = Known {
+        source,
+        reason: refused.reason,
+        taps,
+        at: refused.at,
+        full,
+    };
+    let _ = tell(rt, taps.named(asked, refused.at), &exit, known);
+    Ended::from(exit)
+}
+
+/// Tells standard error how a command ended.
+fn tell_ended<'x>(
+    rt: &HostRuntime,
+    asked: Invocation<'x>,
+    taps: &'x Taps,
+    ended: &Ended,
+    full: bool,
+) {
+    let known = Known {
+        source: None,
+        reason: ended.reason,
+        taps,
+        at: ended.at,
+        full,
+    };
+    let _ = tell(rt, taps.named(asked, ended.at), &ended.exit, known);
+    let _ = ended.skipped.tell(rt, &ended.exit);
 }
 
 /// Carries out what a command line asks for, and tells standard error how it ended: all of it, where that is
@@ -751,37 +758,19 @@ fn carry_out<R: Threads + Wait + Sync>(
     let quiet = matches!(asked.command, Invocation::Watch(given) if given.quiet);
     let full = asked.verbose || rt.stderr().is_terminal();
     let told = AtomicBool::new(false);
-    let (command, choices) = choose(rt, asked.command);
-    let ended = match run(rt, threads, command, choices, (&told, full)) {
-        Ok(ended) if told.load(Ordering::SeqCst) => ended,
+    let Ok(taps) = Taps::of(rt, asked.command) else {
+        let _ = rt.eprintln(NO_RUN);
+        return Exit::Fault(NO_RUN);
+    };
+    let command = taps.named(asked.command, [0, 0]);
+    let ended = match run(rt, threads, command, &taps, (&told, full)) {
         Ok(ended) => {
-            let known = Known {
-                source: None,
-                reason: ended.reason,
-                choices,
-                full,
-            };
-            let _ = tell(rt, command, &ended.exit, known);
-            let _ = ended.skipped.tell(rt, &ended.exit);
+            if !told.load(Ordering::SeqCst) {
+                tell_ended(rt, asked.command, &taps, &ended, full);
+            }
             ended
         }
-        Err(
-            Refused {
-                fault,
-                source,
-                reason,
-            },
-        ) => {
-            let exit = Exit::Fault(fault);
-            let known = Known {
-                source: source.as_deref(),
-                reason,
-                choices,
-                full,
-            };
-            let _ = tell(rt, command, &exit, known);
-            Ended::from(exit)
-        }
+        Err(refused) => tell_refused(rt, asked.command, &taps, &refused, full),
     };
     if full && !quiet {
         let _ = summarise(rt, &ended);
@@ -791,7 +780,7 @@ fn carry_out<R: Threads + Wait + Sync>(
 
 fn main(rt: HostRuntime) -> ExitCode {
     // Where standard error can't be written, the status alone tells how the program ended.
-    let arguments = match arguments(&rt) {
+    let arguments = match gathered_arguments(&rt) {
         Ok(arguments) => arguments,
         Err(error) => {
             let _ = rt.eprintln(unreadable(&error));

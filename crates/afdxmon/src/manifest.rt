@@ -1,8 +1,10 @@
 //! The manifest of a run: what it was of, and what it wrote.
-use crate::interface::Skipped;
+use crate::arguments;
+use crate::ended::Ended;
 use crate::live::Blocks;
 use crate::spans::Spans;
-use crate::{Ended, arguments};
+use crate::taps::{Tap, Taps};
+use afdx_frame::Network;
 use analyser::{Exit, Fault, WatchArguments, fault_line, version};
 use pcap_io::{BadReason, Ending};
 use run_manifest::{
@@ -21,16 +23,20 @@ pub struct TextSums {
 }
 
 /// The sums of a run's recordings, where they are known, and outputs, and when frames came.
-#[derive(Clone, Copy)]
+#[derive(Drop)]
 pub struct RunSums {
-    recordings: [Option<Sum>; 2],
+    recordings: [Option<Vec<Sum>>; 2],
     outputs: [Sum; 2],
     spans: [Option<Span>; 2],
 }
 
 impl RunSums {
     /// Of the recordings of networks A and B, of the capture and the ledger, and of what was seen of that.
-    pub fn new(recordings: [Option<Sum>; 2], outputs: [Sum; 2], spans: Option<Spans>) -> RunSums {
+    pub fn new(
+        recordings: [Option<Vec<Sum>>; 2],
+        outputs: [Sum; 2],
+        spans: Option<Spans>,
+    ) -> RunSums {
         RunSums {
             recordings,
             outputs,
@@ -59,6 +65,8 @@ fn reason_word(reason: BadReason) -> &'static str {
         BadReason::SeveralInterfaces => "severalinterfaces",
         BadReason::TooManyInterfaces => "toomanyinterfaces",
         BadReason::NoSuchInterface => "nosuchinterface",
+        BadReason::FileHeader => "fileheader",
+        BadReason::NextFile => "nextfile",
     }
 }
 
@@ -73,18 +81,36 @@ fn file_if(
     }
 }
 
+/// The record of a recording's files. One of several has the path of the first, and the files that were read.
+fn record_of(
+    alloc: Global,
+    path: &str,
+    tap: &Tap,
+    sums: &Option<Vec<Sum>>,
+) -> Result<RecordingRecord, AllocError> {
+    let sums = sums.as_deref().unwrap_or(&[]);
+    if !tap.is_of_several() {
+        return RecordingRecord::new(alloc, path, sums.first().copied());
+    }
+    let mut record = RecordingRecord::new(alloc, path, None)?;
+    for (file, sum) in tap.files.iter().zip(sums) {
+        record.add_file(alloc, FileRecord::new(alloc, &file.path, *sum)?)?;
+    }
+    Ok(record)
+}
+
 /// A recording, with its ending and when its frames came, where the run met no fault.
 fn recording_if(
     alloc: Global,
-    path: Option<&str>,
-    sum: Option<Sum>,
+    (path, tap): (Option<&str>, &Tap),
+    sums: &Option<Vec<Sum>>,
     ending: Option<Ending>,
     span: Option<Span>,
 ) -> Result<Option<RecordingRecord>, AllocError> {
     let Some(path) = path else {
         return Ok(None);
     };
-    let mut record = RecordingRecord::new(alloc, path, sum)?;
+    let mut record = record_of(alloc, path, tap, sums)?;
     match ending {
         Some(Ending::Clean(frames)) => record.end(alloc, frames, "clean", None)?,
         Some(Ending::Cut(frames)) => record.end(alloc, frames, "cut", None)?,
@@ -101,7 +127,7 @@ fn recording_if(
 
 fn inputs_of(
     alloc: Global,
-    given: &WatchArguments<'_>,
+    (given, taps): (&WatchArguments<'_>, &Taps),
     texts: TextSums,
     exit: &Exit,
     sums: &RunSums,
@@ -110,12 +136,14 @@ fn inputs_of(
         Exit::Watched(summary) => (Some(summary.a), Some(summary.b)),
         _ => (None, None),
     };
-    let ([sum_a, sum_b], [span_a, span_b]) = (sums.recordings, sums.spans);
+    let ([sums_a, sums_b], [span_a, span_b]) = (&sums.recordings, sums.spans);
+    let a = (given.a, taps.of_network(Network::A));
+    let b = (given.b, taps.of_network(Network::B));
     Ok(Inputs {
         config: FileRecord::new(alloc, given.config, texts.config)?,
         filter: file_if(alloc, given.filter, texts.filter)?,
-        a: recording_if(alloc, given.a, sum_a, end_a, span_a)?,
-        b: recording_if(alloc, given.b, sum_b, end_b, span_b)?,
+        a: recording_if(alloc, a, sums_a, end_a, span_a)?,
+        b: recording_if(alloc, b, sums_b, end_b, span_b)?,
     })
 }
 
@@ -144,7 +172,7 @@ fn fault_of(alloc: Global, exit: &Exit) -> Result<Option<String>, AllocError> {
 /// The manifest's text.
 fn text_for(
     rt: &HostRuntime,
-    given: &WatchArguments<'_>,
+    (given, taps): (&WatchArguments<'_>, &Taps),
     texts: TextSums,
     exit: &Exit,
     sums: &RunSums,
@@ -155,7 +183,7 @@ fn text_for(
         program: Program::of_version(alloc, "afdxmon", version())?,
         command: arguments(rt)?,
         fault: fault_of(alloc, exit)?,
-        inputs: inputs_of(alloc, given, texts, exit, sums)?,
+        inputs: inputs_of(alloc, (given, taps), texts, exit, sums)?,
         outputs: outputs_of(alloc, given, sums)?,
     };
     manifest_text(alloc, &manifest).map_err(|_| io::Error::from(ErrorKind::OutOfMemory))
@@ -169,20 +197,18 @@ fn write_manifest(text: io::Result<String>, output: &mut Blocks) -> io::Result<(
 /// Writes the manifest of a run. Where that fails, a run that met no other fault has met this one.
 pub fn with_manifest(
     rt: &HostRuntime,
-    given: &WatchArguments<'_>,
+    (given, taps): (&WatchArguments<'_>, &Taps),
     texts: TextSums,
     ended: Ended,
     sums: &RunSums,
     mut output: Blocks,
 ) -> Ended {
-    let text = text_for(rt, given, texts, &ended.exit, sums);
+    let text = text_for(rt, (given, taps), texts, &ended.exit, sums);
     let is_sound = matches!(ended.exit, Exit::Watched(_));
     match write_manifest(text, &mut output) {
         Err(reason) if is_sound => Ended {
-            exit: Exit::Fault(Fault::Manifest),
-            worst: None,
-            skipped: Skipped::none(),
             reason: Some(reason),
+            ..Ended::from(Exit::Fault(Fault::Manifest))
         },
         Ok(()) | Err(_) => ended,
     }

@@ -1,9 +1,10 @@
 //! What a person at a terminal sees of the reading: how far it is, on one line that is written over, and
 //! gone at the end.
+use crate::live::LiveInput;
 use crate::packets::PacketCount;
-use crate::pauses::Pauses;
-use crate::streams::Input;
+use crate::recordings::Reading;
 use afdx_frame::Network;
+use input_check::{FORMAT_LEN, Format, format_of};
 use run_manifest::{Digesting, Sum};
 use std::fmt::{Display, Formatter};
 use std::io::{IsTerminal, Read};
@@ -20,16 +21,16 @@ pub const ERASE: &str =
 
 /// How much of a recording was read.
 #[derive(Drop)]
-struct Reading {
+struct ReadSoFar {
     /// How many bytes it has, if that is known.
     length: Option<u64>,
     bytes: AtomicU64,
     frames: AtomicU64,
 }
 
-impl Reading {
-    fn of(length: Option<u64>) -> Reading {
-        Reading {
+impl ReadSoFar {
+    fn of(length: Option<u64>) -> ReadSoFar {
+        ReadSoFar {
             length,
             bytes: AtomicU64::new(0),
             frames: AtomicU64::new(0),
@@ -48,8 +49,8 @@ impl Reading {
 #[derive(Drop)]
 pub struct Progress {
     started: Instant,
-    a: Reading,
-    b: Reading,
+    a: ReadSoFar,
+    b: ReadSoFar,
     /// When the line was written last, in milliseconds since the start. 0: it wasn't yet.
     written: AtomicU64,
 }
@@ -63,13 +64,13 @@ impl Progress {
         }
         Some(Progress {
             started: Instant::now(rt).ok()?,
-            a: Reading::of(a),
-            b: Reading::of(b),
+            a: ReadSoFar::of(a),
+            b: ReadSoFar::of(b),
             written: AtomicU64::new(0),
         })
     }
 
-    fn reading(&self, network: Network) -> &Reading {
+    fn reading(&self, network: Network) -> &ReadSoFar {
         match network {
             Network::A => &self.a,
             Network::B => &self.b,
@@ -146,42 +147,25 @@ impl Display for ProgressLine {
     }
 }
 
-/// A recording whose reading is shown, or isn't.
+/// A file of a recording whose reading is shown, or isn't, and whose first bytes are kept.
 #[derive(Drop)]
 pub struct Recording<'p> {
-    input: Digesting<Input>,
-    network: Network,
-    shown: Option<(&'p HostRuntime, &'p Progress)>,
-    noted: Option<(&'p HostRuntime, &'p Pauses)>,
+    input: Digesting<LiveInput>,
+    reading: Reading<'p>,
     packets: PacketCount,
+    head: [u8; FORMAT_LEN],
+    kept: usize,
 }
 
 impl<'p> Recording<'p> {
-    /// A recording of a network, with the progress that it is part of.
-    pub fn new(
-        rt: &'p HostRuntime,
-        input: Input,
-        network: Network,
-        progress: Option<&'p Progress>,
-    ) -> Recording<'p> {
-        Recording::with_pauses(rt, input, false, network, progress, None)
-    }
-
-    /// A recording whose pauses are noted too, and which is hashed, or isn't.
-    pub fn with_pauses(
-        rt: &'p HostRuntime,
-        input: Input,
-        hashed: bool,
-        network: Network,
-        progress: Option<&'p Progress>,
-        pauses: Option<&'p Pauses>,
-    ) -> Recording<'p> {
+    /// A file of which nothing was read.
+    pub fn new(input: LiveInput, reading: Reading<'p>) -> Recording<'p> {
         Recording {
-            input: Digesting::new(input, hashed),
-            network,
-            shown: progress.map(|progress| (rt, progress)),
-            noted: pauses.map(|pauses| (rt, pauses)),
+            input: Digesting::new(input, reading.hashed),
+            reading,
             packets: PacketCount::new(),
+            head: [0; FORMAT_LEN],
+            kept: 0,
         }
     }
 
@@ -190,17 +174,37 @@ impl<'p> Recording<'p> {
         self.input.tally.end()
     }
 
+    /// The format that its first bytes tell, if so many were read.
+    pub fn format(&self) -> Option<Format> {
+        if self.kept < FORMAT_LEN {
+            None
+        } else {
+            format_of(self.head)
+        }
+    }
+
+    fn keep(&mut self, bytes: &[u8]) {
+        for byte in bytes {
+            if let Some(kept) = self.head.get_mut(self.kept) {
+                *kept = *byte;
+                self.kept += 1;
+            } else {
+                break;
+            }
+        }
+    }
+
     /// A read is about to begin.
     fn note_begin(&self) {
-        if let Some((rt, pauses)) = self.noted {
-            pauses.begin_read(rt, self.network);
+        if let Some(pauses) = self.reading.pauses {
+            pauses.begin_read(self.reading.rt, self.reading.network);
         }
     }
 
     /// A read has ended, and maybe the recording with it.
     fn note_end(&self, has_ended: bool) {
-        if let Some((rt, pauses)) = self.noted {
-            pauses.end_read(rt, self.network, has_ended);
+        if let Some(pauses) = self.reading.pauses {
+            pauses.end_read(self.reading.rt, self.reading.network, has_ended);
         }
     }
 }
@@ -211,9 +215,12 @@ impl Read for Recording<'_> {
         let read = self.input.read(buf);
         self.note_end(!matches!(read, Ok(1..)));
         let count = read?;
-        if let (Some((rt, progress)), Some(bytes)) = (self.shown, buf.get(..count)) {
+        let bytes = &buf[..count];
+        self.keep(bytes);
+        if let Some(progress) = self.reading.progress {
             let frames = self.packets.pass(bytes);
-            progress.count(rt, self.network, bytes.len() as u64, frames);
+            let Reading { rt, network, .. } = self.reading;
+            progress.count(rt, network, bytes.len() as u64, frames);
         }
         Ok(count)
     }

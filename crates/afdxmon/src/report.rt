@@ -1,12 +1,15 @@
 //! The page on what a ledger says.
+use crate::ended::{Ended, Refused};
 use crate::files::refuse_shared;
-use crate::{Ended, Refused, create, is_at_terminal, open, text_of};
+use crate::streams::Input;
+use crate::taps::Taps;
+use crate::{create, is_at_terminal, open, text_of};
 use analyser::{
     Contradiction, Exit, Fault, FileOption, Invocation, ManifestFault, ReportArguments,
     ReportFault, read_config,
 };
 use ledger_report::{Report, WrongLine, read_report};
-use ledger_text::LineFault;
+use ledger_text::{LedgerStop, LineFault};
 use pcap_io::ReadSource;
 use report_page::{has_sizes, json_of, page_of, summary_of};
 use run_manifest::{Digesting, Manifest, Sum, read_manifest, sum_of};
@@ -33,13 +36,21 @@ fn line_fault(line: u64, wrong: WrongLine) -> ReportFault {
     ReportFault::Contradiction { line, found }
 }
 
-/// What the program tells where there is no report.
-fn fault_of(fault: ledger_report::ReportFault) -> Fault {
-    Fault::Report(match fault {
+/// Why there is no report.
+fn fault_of(fault: ledger_report::ReportFault) -> ReportFault {
+    match fault {
         ledger_report::ReportFault::Line { line, wrong } => line_fault(line, wrong),
         ledger_report::ReportFault::Read => ReportFault::Read,
         ledger_report::ReportFault::Memory => ReportFault::Memory,
-    })
+    }
+}
+
+/// What the program tells where there is no report of a baseline.
+fn baseline_fault(fault: ReportFault) -> Fault {
+    match fault {
+        ReportFault::Memory => NO_REPORT,
+        fault => Fault::Baseline(fault),
+    }
 }
 
 /// What the program tells of a manifest that isn't that of the report's files.
@@ -90,6 +101,27 @@ fn refuse_other(rt: &HostRuntime, manifest: Option<&Manifest>, ledger: Sum) -> R
     }
 }
 
+/// The ledger of the baseline, if one is given.
+fn open_baseline(rt: &HostRuntime, given: &ReportArguments<'_>) -> Result<Option<Input>, Fault> {
+    match given.baseline {
+        Some(path) => Ok(Some(open(rt, path, FileOption::Baseline)?)),
+        None => Ok(None),
+    }
+}
+
+/// The report of the baseline's ledger, if there is one.
+fn baseline_of(
+    rt: &HostRuntime,
+    ledger: Option<Input>,
+    config: &Config,
+) -> Result<Option<Report>, Fault> {
+    let Some(mut ledger) = ledger else {
+        return Ok(None);
+    };
+    let report = read_report(rt.alloc(), config, ReadSource::new(&mut ledger));
+    Ok(Some(report.map_err(|fault| baseline_fault(fault_of(fault)))?))
+}
+
 /// The page, the numbers, or at a terminal the first part as text.
 fn text_for(
     rt: &HostRuntime,
@@ -97,44 +129,57 @@ fn text_for(
     report: &Report,
     config: &Config,
     manifest: Option<&Manifest>,
+    baseline: Option<&Report>,
 ) -> Result<String, Fault> {
-    let sizes = has_sizes(config);
+    let (alloc, sizes) = (rt.alloc(), has_sizes(config));
     if given.json {
-        return json_of(rt.alloc(), report, config, sizes, manifest).map_err(|_| NO_REPORT);
+        return json_of(alloc, report, config, sizes, manifest, baseline).map_err(|_| NO_REPORT);
     }
     if is_at_terminal(rt, given.output) {
-        return summary_of(rt.alloc(), report, config).map_err(|_| NO_REPORT);
+        return summary_of(alloc, report, config, baseline).map_err(|_| NO_REPORT);
     }
-    page_of(rt.alloc(), report, config, sizes, manifest).map_err(|_| NO_REPORT)
+    page_of(alloc, report, config, sizes, manifest, baseline).map_err(|_| NO_REPORT)
+}
+
+/// How the program ends that has told of a ledger.
+fn exit_at(stop: Option<LedgerStop>) -> Exit {
+    match stop {
+        None => Exit::Success,
+        Some(stop) => Exit::WithoutTotal(stop),
+    }
 }
 
 /// Writes a page on what a ledger says, or its numbers. The output is touched only once there is something to
 /// write.
-pub fn report(rt: &HostRuntime, given: &ReportArguments<'_>) -> Result<Ended, Refused> {
+pub fn report(
+    rt: &HostRuntime,
+    given: &ReportArguments<'_>,
+    taps: &Taps,
+) -> Result<Ended, Refused> {
     let table = text_of(rt, given.config, FileOption::Config)?;
     let manifest = manifest_of(rt, given, &table)?;
     let manifest = manifest.as_ref();
     let config = read_config(rt.alloc(), &table)?;
     let hashed = manifest.is_some_and(|manifest| manifest.outputs.ledger.sha256.is_some());
     let mut ledger = Digesting::new(open(rt, given.ledger, FileOption::Ledger)?, hashed);
-    refuse_shared(rt, Invocation::Report(*given))?;
+    let baseline = open_baseline(rt, given)?;
+    refuse_shared(rt, Invocation::Report(*given), taps)?;
     let report = read_report(rt.alloc(), &config, ReadSource::new(&mut ledger)).map_err(
-        |fault| fault_of(fault),
+        |fault| Fault::Report(fault_of(fault)),
     )?;
     refuse_other(rt, manifest, ledger.tally.end())?;
-    let text = text_for(rt, given, &report, &config, manifest)?;
+    let baseline = baseline_of(rt, baseline, &config)?;
+    let text = text_for(rt, given, &report, &config, manifest, baseline.as_ref())?;
     let mut output = create(rt, given.output, FileOption::Output)?;
     let written = match output.write_all(text.as_bytes()) {
         Ok(()) => output.flush(),
         Err(error) => Err(error),
     };
     match written {
-        Ok(()) if report.whole => Ok(Ended::from(Exit::Success)),
-        Ok(()) => Ok(Ended::from(Exit::WithoutTotal)),
+        Ok(()) => Ok(Ended::from(exit_at(report.stop))),
         Err(error) => Err(Refused {
-            fault: Fault::File(FileOption::Output),
-            source: None,
             reason: Some(error),
+            ..Refused::from(Fault::File(FileOption::Output))
         }),
     }
 }

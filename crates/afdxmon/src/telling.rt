@@ -1,20 +1,21 @@
 //! What standard error is told of a command's end: the fault line or the notes, and at a terminal which file
 //! it is about, why, and what to do. What a file is found to be by then is only told, and decides nothing.
 use crate::disorder::Disorder;
-use crate::interface::Choices;
+use crate::disputed::Disputed;
 use crate::streams::Output;
+use crate::taps::{Tap, Taps};
 use afdx_frame::Network;
 use analyser::{
-    Advice, CutFault, EndingAdvice, Exit, Fault, FileOption, GivenFile, HEAD_LEN, Invocation,
-    MAX_TEXT, ManifestFault, Note, ReportFault, TO_A_TERMINAL, TapNote, WITHOUT_TOTAL, WatchFault,
+    Advice, Contradiction, CutFault, EndingAdvice, Exit, Fault, FileOption, GivenFile, HEAD_LEN,
+    Invocation, MAX_TEXT, ManifestFault, Note, ReportFault, TO_A_TERMINAL, TapNote, WatchFault,
     caret_at, compressed_advice, file_of, header_advice, is_standard, load_offset, numeric_advice,
     numeric_offset, place_at, source_offset, written_as,
 };
 use bpf_asm::AsmFault;
 use config_place::{key_offset, slip_of};
 use icd_links::IcdFault;
+use ledger_text::LedgerStop;
 use pcap_io::{BadReason, Ending, HeaderFault};
-use pcapng::Choice;
 use run_manifest::read_manifest;
 use std::fmt::{Display, Formatter};
 use std::fs::File;
@@ -43,6 +44,30 @@ impl Display for Reason {
     }
 }
 
+/// Where a ledger ends whose run was stopped, or goes on.
+#[derive(Clone, Copy)]
+struct StopNote<'a> {
+    name: &'a str,
+    stop: LedgerStop,
+}
+
+impl Display for StopNote<'_> {
+    fn fmt<W: fmt::Write>(&self, f: &mut Formatter<W>) -> fmt::Result {
+        let name = self.name;
+        let LedgerStop { lines, within_line } = self.stop;
+        write!(f, "afdxmon: note: {name} ")?;
+        if within_line {
+            let next = lines.saturating_add(1);
+            write!(f, "ends within line {next}")?;
+        } else if lines == 0 {
+            f.write_str("is empty")?;
+        } else {
+            write!(f, "ends after line {lines}, without its total")?;
+        }
+        write!(f, ": its run was stopped, or goes on; whole lines: {lines}")
+    }
+}
+
 /// What the program knows of a command's end, beside how it ended.
 #[derive(Clone, Copy)]
 pub struct Known<'a> {
@@ -50,8 +75,9 @@ pub struct Known<'a> {
     pub source: Option<&'a str>,
     /// Why the system took an output no longer.
     pub reason: Option<io::Error>,
-    /// What was read of the recordings.
-    pub choices: Choices,
+    pub taps: &'a Taps,
+    /// The numbers of the files that were read last.
+    pub at: [usize; 2],
     /// Is a person told all of it? Else there is the fault line, or the notes.
     pub full: bool,
 }
@@ -69,6 +95,7 @@ fn needs_to_be_read(command: Invocation<'_>, file: FileOption) -> Option<&'stati
     }
     match file {
         FileOption::Ledger => Some(LEDGER_ADVICE),
+        FileOption::Baseline => Some(BASELINE_ADVICE),
         FileOption::Manifest => Some(MANIFEST_ADVICE),
         _ => None,
     }
@@ -224,6 +251,10 @@ fn show_caret(rt: &HostRuntime, text: &str, at: usize) -> io::Result<()> {
 /// What a ledger that is read needs.
 const LEDGER_ADVICE: &str = "--ledger needs a ledger that can be read: a file of watch, or a pipe";
 
+/// What the ledger of an earlier flight needs.
+const BASELINE_ADVICE: &str =
+    "--baseline needs a ledger that can be read: a file of watch, or a pipe";
+
 /// What a manifest that is read needs.
 const MANIFEST_ADVICE: &str =
     "--manifest needs a manifest that can be read: a file of watch, at most 16 MiB of UTF-8";
@@ -305,6 +336,28 @@ fn explain_manifest(
             rt.eprintln(Advice(fault))
         }
         _ => advise(rt, name, Advice(fault)),
+    }
+}
+
+/// Tells which link's line contradicts the table, where ledger and table can be read again.
+fn explain_link(
+    rt: &HostRuntime,
+    command: Invocation<'_>,
+    line: u64,
+    fault: &Fault,
+) -> io::Result<()> {
+    let (ledger, table) = (FileOption::Ledger, FileOption::Config);
+    let (Some(ledger), Some(table)) = (path_of(command, ledger), path_of(command, table)) else {
+        return advise(rt, name_of(command, ledger), Advice(fault));
+    };
+    let config = text_again(rt, table).and_then(|text| Config::read(rt.alloc(), &text).ok());
+    let disputed = match &config {
+        Some(config) => Disputed::of(rt, ledger, line, table, config),
+        None => None,
+    };
+    match disputed {
+        Some(disputed) => eprintln!(rt; "{ledger}: line {line}: {disputed}"),
+        None => advise(rt, Some(ledger), Advice(fault)),
     }
 }
 
@@ -450,9 +503,12 @@ fn explain(
         (Fault::File(_) | Fault::Watch(WatchFault::Read { .. }), Some(file)) => {
             explain_file(rt, command, file, fault)
         }
-        (Fault::Cut(CutFault::Read { .. }) | Fault::Report(ReportFault::Read), Some(file)) => {
-            explain_file(rt, command, file, fault)
-        }
+        (
+            Fault::Cut(CutFault::Read { .. })
+            | Fault::Report(ReportFault::Read)
+            | Fault::Baseline(ReportFault::Read),
+            Some(file),
+        ) => explain_file(rt, command, file, fault),
         (Fault::Watch(WatchFault::Header { fault, .. }), Some(file)) => {
             explain_header(rt, command, file, fault)
         }
@@ -462,6 +518,15 @@ fn explain(
         (Fault::Report(ReportFault::Manifest(ManifestFault::Form { .. })), _) => {
             explain_manifest(rt, command, name, fault)
         }
+        (
+            Fault::Report(
+                ReportFault::Contradiction {
+                    line,
+                    found: Contradiction::Link,
+                },
+            ),
+            _,
+        ) => { explain_link(rt, command, line, fault) }
         (Fault::Config(fault), _) => explain_table(rt, command, fault),
         (Fault::Icd(fault), _) => explain_icd(rt, name, fault),
         (Fault::Asm(fault), _) => explain_source(rt, command, fault, known.source),
@@ -476,19 +541,39 @@ fn explain(
 fn tell_ending<D: Display + Drop>(
     rt: &HostRuntime,
     command: Invocation<'_>,
-    (file, choice): (FileOption, Choice),
+    (tap, at): (&Tap, usize),
     ending: Ending,
     note: D,
 ) -> io::Result<()> {
-    let disorder = match (ending, path_of(command, file)) {
-        (Ending::Bad(count, BadReason::StampBack), Some(path)) => {
-            Disorder::of(rt, command, (path, choice), count)
-        }
+    let disorder = match ending {
+        Ending::Bad(count, BadReason::StampBack) => Disorder::of(rt, command, tap, count),
         _ => None,
     };
     match disorder {
-        Some(disorder) => eprintln!(rt; "{note}{disorder}"),
-        None => rt.eprintln(note),
+        Some(disorder) => eprintln!(rt; "{note}{disorder}")?,
+        None => rt.eprintln(note)?,
+    }
+    tell_unread(rt, tap, at)
+}
+
+/// Notes which of a recording's files ended it, and how many after it weren't read.
+fn tell_unread(rt: &HostRuntime, tap: &Tap, at: usize) -> io::Result<()> {
+    let (Some(path), true) = (tap.path_at(at), tap.is_of_several()) else {
+        return Ok(());
+    };
+    let (number, count) = (at.saturating_add(1), tap.files.len());
+    match count.saturating_sub(number) {
+        0 => eprintln!(rt; "afdxmon: note: it ended in {path}, the last of its {count} files"),
+        1 => {
+            eprintln!(rt;
+                "afdxmon: note: it ended in {path}, file {number} of {count}: 1 was not read"
+            )
+        }
+        unread => {
+            eprintln!(rt;
+                "afdxmon: note: it ended in {path}, file {number} of {count}: {unread} were not read"
+            )
+        }
     }
 }
 
@@ -520,12 +605,12 @@ fn note_ending(
     if let Ending::Clean(_) = ending {
         return Ok(());
     }
-    let (file, choice) = match network {
-        Network::A => (FileOption::A, known.choices.a),
-        Network::B => (FileOption::B, known.choices.b),
+    let (file, at) = match network {
+        Network::A => (FileOption::A, known.at[0]),
+        Network::B => (FileOption::B, known.at[1]),
     };
-    let note = TapNote(network, ending);
-    tell_ending(rt, command, (file, choice), ending, note)?;
+    let recording = (known.taps.of_network(network), at);
+    tell_ending(rt, command, recording, ending, TapNote(network, ending))?;
     explain_ending(rt, command, file, ending, known.full)
 }
 
@@ -541,7 +626,7 @@ pub fn tell(
         Exit::Success => Ok(()),
         Exit::Terminal => rt.eprintln(TO_A_TERMINAL),
         Exit::Note(ending) => {
-            let recording = (FileOption::A, known.choices.a);
+            let recording = (known.taps.of_network(Network::A), known.at[0]);
             tell_ending(rt, command, recording, *ending, Note(*ending))?;
             explain_ending(rt, command, FileOption::A, *ending, known.full)
         }
@@ -549,10 +634,15 @@ pub fn tell(
             note_ending(rt, command, Network::A, run.a, known)?;
             note_ending(rt, command, Network::B, run.b, known)
         }
-        Exit::WithoutTotal => rt.eprintln(WITHOUT_TOTAL),
+        Exit::WithoutTotal(stop) => {
+            let name = name_of(command, FileOption::Ledger).unwrap_or("ledger");
+            rt.eprintln(StopNote { name, stop: *stop })
+        }
         Exit::Fault(fault) => {
             match (fault, known.source) {
-                (Fault::Interfaces(_), Some(listed)) => eprintln!(rt; "{fault}: {listed}")?,
+                (Fault::Interfaces(_) | Fault::Order(_), Some(listed)) => {
+                    eprintln!(rt; "{fault}: {listed}")?
+                }
                 _ => rt.eprintln(*fault)?,
             }
             if !known.full {

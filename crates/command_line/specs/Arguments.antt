@@ -96,11 +96,12 @@ pub record LinksWords : Type 0 where
   pub constant : Option Text
   pub icd : Option Text
 
--- a table, a ledger and the manifest of its run, and what is written of them
+-- a table, a ledger, the manifest of its run and the ledger that it is compared with, and what is written of them
 pub record ReportWords : Type 0 where
   pub config : Text
   pub ledger : Text
   pub manifest : Option Text
+  pub baseline : Option Text
   pub json : Bool
   pub output : Text
 
@@ -325,16 +326,16 @@ links_in rows = record {
 abbrev pub checked_links : LinksWords → Result LinksWords Misuse
 checked_links w = if not (is_some w.a) && not (is_some w.b) && not (is_some w.icd) then Err misuse.NoLinks else Ok w
 
-abbrev pub report_with : Option Text → Option Text → Option Text → Option Bool → Option Text → Option ReportWords
-report_with (Some config) (Some ledger) manifest (Some json) (Some output) =
-    Some (record { config = config; ledger = ledger; manifest = manifest; json = json; output = output })
-report_with _ _ _ _ _ = None
+abbrev pub report_with : Option Text → Option Text → Option Text → Option Text → Option Bool → Option Text → Option ReportWords
+report_with (Some config) (Some ledger) manifest baseline (Some json) (Some output) =
+    Some (record { config = config; ledger = ledger; manifest = manifest; baseline = baseline; json = json; output = output })
+report_with _ _ _ _ _ _ = None
 
 -- what the options of report give
 abbrev pub report_in : List Row → Option ReportWords
 report_in rows =
-    report_with (first_of (codes "config") rows) (first_of (codes "ledger") rows) (first_of (codes "manifest") rows) (flag_at (codes "json") rows)
-    (first_of (codes "output") rows)
+    report_with (first_of (codes "config") rows) (first_of (codes "ledger") rows) (first_of (codes "manifest") rows)
+    (first_of (codes "baseline") rows) (flag_at (codes "json") rows) (first_of (codes "output") rows)
 
 abbrev pub check_with : Option Text → Option Text → Option Text → Option Text → Option Bool → Option Bool → Option CheckWords
 check_with (Some config) filter a b (Some whole) (Some json) =
@@ -478,6 +479,7 @@ report_words r = record {
   config = r.config.now;
   ledger = r.ledger.now;
   manifest = option_map text_of r.manifest;
+  baseline = option_map text_of r.baseline;
   json = r.json;
   output = r.output.now;
 }

@@ -56,13 +56,13 @@ abbrev pub cut_exit : Result CutEnding Fault → Bool → Exit
 cut_exit (Err f) flushed = exit.Fault f
 cut_exit (Ok end) false = exit.Fault (fault.Cut cut.Write)
 cut_exit (Ok ending.Complete) true = exit.Success
-cut_exit (Ok ending.Incomplete) true = exit.WithoutTotal
+cut_exit (Ok (ending.Incomplete stop)) true = exit.WithoutTotal stop
 
 abbrev pub status_of : Exit → ℕ
 status_of exit.Success = 0
 status_of (exit.Note ending) = 0
 status_of (exit.Watched summary) = 0
-status_of exit.WithoutTotal = 0
+status_of (exit.WithoutTotal stop) = 0
 status_of (exit.Fault f) = 1
 status_of exit.Terminal = 2
 
@@ -85,6 +85,8 @@ reason_text reasons.StampRange = codes "timestamp before 1970 or after 2106"
 reason_text reasons.SeveralInterfaces = codes "packets of several interfaces, and none is chosen"
 reason_text reasons.TooManyInterfaces = codes "too many interfaces"
 reason_text reasons.NoSuchInterface = codes "the chosen interface isn't there"
+reason_text reasons.FileHeader = codes "another pcap file begins here"
+reason_text reasons.NextFile = codes "the next file has no header that is read"
 
 -- how a recording ends: in what way, after how many frames, and why
 abbrev pub ending_part : Ending → List ℕ

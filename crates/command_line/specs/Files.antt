@@ -69,8 +69,8 @@ files_of (words.Report r) =
     read file.Config (Some r.config)
     ∷ read file.Manifest r.manifest
     ∷ read file.Ledger (Some r.ledger)
+    ∷ read file.Baseline r.baseline
     ∷ written file.Output (Some r.output)
-    ∷ none
     ∷ none
     ∷ none
     ∷ []

@@ -118,6 +118,7 @@ file_part file.Recording = codes "RECORDING"
 file_part file.Output = codes "--output"
 file_part file.Icd = codes "--icd"
 file_part file.Manifest = codes "--manifest"
+file_part file.Baseline = codes "--baseline"
 
 abbrev pub header_part : HeaderFault → List ℕ
 header_part header.Short = codes "1 Short"
@@ -246,7 +247,10 @@ line_of (fault.Debug f) = codes "afdxmon: debug " ++ debug_part f
 line_of (fault.Cut f) = codes "afdxmon: cut " ++ cut_part f
 line_of (fault.Selection option item) = codes "afdxmon: cut 8 Selection " ++ (selection_part option ++ (codes " at " ++ decimal item))
 line_of (fault.Interfaces f) = codes "afdxmon: interfaces " ++ file_part f
+line_of (fault.Order f) = codes "afdxmon: order " ++ file_part f
+line_of (fault.Repeated f) = codes "afdxmon: repeated " ++ file_part f
 line_of (fault.Report f) = codes "afdxmon: report " ++ report_part f
+line_of (fault.Baseline f) = codes "afdxmon: report 6 Baseline " ++ report_part f
 line_of fault.Constant = codes "afdxmon: links 1 Constant"
 line_of (fault.Icd f) = codes "afdxmon: links " ++ icd_part f
 line_of (fault.Draft f) = codes "afdxmon: links 3 Draft " ++ config_part f

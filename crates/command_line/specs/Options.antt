@@ -109,6 +109,7 @@ report_rules =
     needed_rule (codes "config")
     ∷ needed_rule (codes "ledger")
     ∷ option_rule (codes "manifest")
+    ∷ option_rule (codes "baseline")
     ∷ flag_rule (codes "json")
     ∷ output_rule (codes "output")
     ∷ verbose_rule

@@ -74,6 +74,14 @@ file_of_report report.Read = Some file.Ledger
 file_of_report report.Memory = None
 file_of_report (report.Manifest f) = Some (file_of_manifest f)
 
+-- the ledger of an earlier flight, where a report of it has a fault of a file
+abbrev pub baseline_of : Option FileOption → Option FileOption
+baseline_of None = None
+baseline_of (Some f) = Some file.Baseline
+
+abbrev pub file_of_baseline : ReportFault → Option FileOption
+file_of_baseline f = baseline_of (file_of_report f)
+
 -- the document, whose line it is
 abbrev pub file_of_icd : IcdFault → Option FileOption
 file_of_icd (icd.Head at) = Some file.Icd
@@ -98,7 +106,10 @@ file_of (fault.Debug f) = None
 file_of (fault.Cut f) = file_of_cut f
 file_of (fault.Selection option item) = None
 file_of (fault.Interfaces f) = Some f
+file_of (fault.Order f) = Some f
+file_of (fault.Repeated f) = Some f
 file_of (fault.Report f) = file_of_report f
+file_of (fault.Baseline f) = file_of_baseline f
 file_of fault.Constant = None
 file_of (fault.Icd f) = file_of_icd f
 file_of (fault.Draft f) = None

@@ -166,6 +166,8 @@ pub struct ReportArguments<'a> {
     pub ledger: &'a str,
     /// The manifest of the ledger's run, if it is known.
     pub manifest: Option<&'a str>,
+    /// The ledger of an earlier flight that the ledger is compared with, of the same table.
+    pub baseline: Option<&'a str>,
     /// Are the numbers written as JSON in place of a page?
     pub json: bool,
     /// Where the page or the numbers are written.
@@ -459,6 +461,7 @@ fn report_arguments<'a>(given: &ArgMatches<'a>) -> Option<ReportArguments<'a>>
         config: text(given, "config")?,
         ledger: text(given, "ledger")?,
         manifest: text(given, "manifest"),
+        baseline: text(given, "baseline"),
         json: flag(given, "json")?,
         output: text(given, "output")?,
     })

@@ -5,6 +5,7 @@ ghost use Rattle.command_line.specs.Exit.{cut_exit, exit_at, exit_of, session_ex
 use crate::fault::{Fault, FileOption};
 use crate::summary::Summary;
 use cut_run::{CutEnding, CutFault};
+use ledger_text::LedgerStop;
 use pcap_io::Ending;
 use run_outcome::{Output, WatchFault};
 
@@ -15,9 +16,6 @@ pub const USAGE: u8 = 2;
 pub const TO_A_TERMINAL: &str = "\
 afdxmon: packets aren't written to a terminal: name a file by -o (of watch by --capture), or use a pipe";
 
-/// What is noted of a ledger whose run was aborted.
-pub const WITHOUT_TOTAL: &str = "afdxmon: note: ledger ends without its total";
-
 /// How a command ended.
 #[derive(Clone, Copy)]
 pub enum Exit {
@@ -27,8 +25,8 @@ pub enum Exit {
     Note(Ending),
     /// Status 0: both recordings were read up to their endings.
     Watched(Summary),
-    /// Status 0: the ledger of a cut ended before its line `total`. What stands there was cut.
-    WithoutTotal,
+    /// Status 0: the ledger that was read ends before its line `total`. What stands there was taken.
+    WithoutTotal(LedgerStop),
     /// Status 1.
     Fault(Fault),
     /// Status 2: packets would be written to a terminal. Nothing was opened.
@@ -109,7 +107,7 @@ impl Exit {
             Err(fault) => Exit::Fault(fault),
             Ok(_) if !flushed => Exit::Fault(Fault::Cut(CutFault::Write)),
             Ok(CutEnding::Complete) => Exit::Success,
-            Ok(CutEnding::Incomplete) => Exit::WithoutTotal,
+            Ok(CutEnding::Incomplete(stop)) => Exit::WithoutTotal(stop),
         }
     }
 
@@ -118,7 +116,7 @@ impl Exit {
         ensures { result ≡ status_of self.now }
     {
         match self {
-            Exit::Success | Exit::Note(_) | Exit::Watched(_) | Exit::WithoutTotal => 0,
+            Exit::Success | Exit::Note(_) | Exit::Watched(_) | Exit::WithoutTotal(_) => 0,
             Exit::Fault(_) => 1,
             Exit::Terminal => USAGE,
         }

@@ -32,6 +32,8 @@ pub enum FileOption {
     Icd,
     /// The facts of a run.
     Manifest,
+    /// The ledger of an earlier flight.
+    Baseline,
 }
 
 /// An option whose text selects frames of a ledger.
@@ -126,7 +128,13 @@ pub enum Fault {
     },
     /// A pcapng file with packets of more than one Ethernet interface, of which none is chosen.
     Interfaces(FileOption),
+    /// A recording's files whose first timestamps don't rise in the order in which they are given.
+    Order(FileOption),
+    /// A recording that is given a file twice.
+    Repeated(FileOption),
     Report(ReportFault),
+    /// The ledger of an earlier flight, which is read as the report's own.
+    Baseline(ReportFault),
     /// A text that isn't the constant field of a draft's links.
     Constant,
     /// The document that specifies a draft's links.

@@ -18,13 +18,14 @@ mod place;
 mod refused;
 mod summary;
 mod usage;
+mod words;
 
 pub use arguments::{
     CaptureArguments, CheckArguments, CommandLine, CutArguments, DebugArguments, FilterArgument,
     Invocation, LinksArguments, ReportArguments, WatchArguments, read_arguments,
 };
 pub use caret::{Caret, Place, caret_at, place_at};
-pub use exit::{Exit, TO_A_TERMINAL, USAGE, WITHOUT_TOTAL};
+pub use exit::{Exit, TO_A_TERMINAL, USAGE};
 pub use fault::{Contradiction, Fault, FileOption, ManifestFault, ReportFault, SelectionOption};
 pub use files::{GivenFile, Inode, MAX_FILES, Named, NamedFile, is_standard, refuse_shared};
 pub use lateness::{Lateness, MAX_LATE_MICROS};
@@ -40,3 +41,4 @@ pub use options::version;
 pub use place::file_of;
 pub use refused::{Written, load_offset, numeric_offset, source_offset, written_as};
 pub use summary::{Hint, Summary, hint_of};
+pub use words::{BETWEEN_FILES, gathered};

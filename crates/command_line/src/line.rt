@@ -208,6 +208,7 @@ pub(crate) fn file_name(file: FileOption) -> &'static str
         FileOption::Output => "--output",
         FileOption::Icd => "--icd",
         FileOption::Manifest => "--manifest",
+        FileOption::Baseline => "--baseline",
     }
 }
 
@@ -465,7 +466,10 @@ fn line_for(fault: &Fault) -> Line
             Line::Part("cut 8 Selection", placed_at(selection_name(option), item))
         }
         Fault::Interfaces(file) => Line::Word("interfaces", file_name(file)),
+        Fault::Order(file) => Line::Word("order", file_name(file)),
+        Fault::Repeated(file) => Line::Word("repeated", file_name(file)),
         Fault::Report(fault) => Line::Part("report", report_part(fault)),
+        Fault::Baseline(fault) => Line::Part("report 6 Baseline", report_part(fault)),
         Fault::Constant => Line::Word("links", "1 Constant"),
         Fault::Icd(fault) => Line::Part("links", icd_part(fault)),
         Fault::Draft(fault) => Line::Part("links 3 Draft", config_part(fault)),

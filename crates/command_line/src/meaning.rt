@@ -142,42 +142,57 @@ pub fn header_advice(fault: HeaderFault, head: &[u8]) -> &'static str {
     }
 }
 
+/// What to do where a recording ends bad for a reason that has an advice of its own.
+fn reason_advice(reason: BadReason) -> Option<&'static str> {
+    Some(match reason {
+        BadReason::StampBack => {
+            "the frames from there on are left out: reordercap in.pcap out.pcap sorts them"
+        }
+        BadReason::TooMany => {
+            "the rest is left out: editcap -F nsecpcap -c 1000000000 in.pcap out.pcap splits it"
+        }
+        BadReason::SimplePacket => {
+            "simple packets have no time: record with enhanced packets, as dumpcap does"
+        }
+        BadReason::StampRange => {
+            "the recorder's clock was wrong: the frames from there on are left out"
+        }
+        BadReason::SeveralInterfaces => CHOOSE_INTERFACE,
+        BadReason::TooManyInterfaces => {
+            "the rest is left out: a section has at most 256 interfaces"
+        }
+        BadReason::NoSuchInterface => "capinfos in.pcapng lists the interfaces of a file",
+        BadReason::FileHeader => {
+            "the rest is left out: give the files one after the other, as --a FIRST SECOND"
+        }
+        BadReason::NextFile => "that file and those after it are left out: is it a recording?",
+        _ => return None,
+    })
+}
+
 /// What to do with a recording that ends early.
 #[derive(Clone, Copy)]
 pub struct EndingAdvice(pub Ending);
 
 impl Display for EndingAdvice {
     fn fmt<W: fmt::Write>(&self, f: &mut Formatter<W>) -> fmt::Result {
-        match self.0 {
-            Ending::Clean(_) => Ok(()),
-            Ending::Cut(_) => f.write_str("record again, or go on with the frames before it"),
-            Ending::Bad(_, BadReason::StampBack) => f.write_str(
-                "the frames from there on are left out: reordercap in.pcap out.pcap sorts them",
-            ),
-            Ending::Bad(_, BadReason::TooMany) => f.write_str(
-                "the rest is left out: editcap -F nsecpcap -c 1000000000 in.pcap out.pcap splits it",
-            ),
-            Ending::Bad(_, BadReason::SimplePacket) => f.write_str(
-                "simple packets have no time: record with enhanced packets, as dumpcap does",
-            ),
-            Ending::Bad(_, BadReason::StampRange) => {
-                f.write_str("the recorder's clock was wrong: the frames from there on are left out")
+        let (count, reason) = match self.0 {
+            Ending::Clean(_) => return Ok(()),
+            Ending::Cut(_) => {
+                return f.write_str("record again, or go on with the frames before it");
             }
-            Ending::Bad(_, BadReason::SeveralInterfaces) => { f.write_str(CHOOSE_INTERFACE) }
-            Ending::Bad(_, BadReason::TooManyInterfaces) => {
-                f.write_str("the rest is left out: a section has at most 256 interfaces")
-            }
-            Ending::Bad(_, BadReason::NoSuchInterface) => {
-                f.write_str("capinfos in.pcapng lists the interfaces of a file")
-            }
-            Ending::Bad(0, _) => {
-                f.write_str("the file is damaged at its first packet: record again")
-            }
-            Ending::Bad(count, _) => write!(
-                f,
-                "damaged there: editcap -F nsecpcap -r in.pcap out.pcap 1-{count} keeps what is before"
-            ),
+            Ending::Bad(count, reason) => (count, reason),
+        };
+        if let Some(advice) = reason_advice(reason) {
+            return f.write_str(advice);
         }
+        if count == 0 {
+            return f.write_str("the file is damaged at its first packet: record again");
+        }
+        write!(
+            f,
+            "damaged there: editcap -F nsecpcap -r in.pcap out.pcap 1-{count} keeps what is before"
+        )
     }
 }
 
@@ -226,6 +241,7 @@ fn needs(file: FileOption) -> &'static str {
         FileOption::Capture | FileOption::Ledger | FileOption::Output | FileOption::Manifest => {
             "needs a file that can be written, in a directory that is there"
         }
+        FileOption::Baseline => "needs a ledger that can be read: a file of watch, or a pipe",
     }
 }
 
@@ -282,7 +298,7 @@ fn line_advice(fault: LineFault) -> &'static str {
         LineFault::Head => "no ledger of version 2: afdxmon watch writes one by --ledger",
         LineFault::Frame(_) => "a line of no frame's form: was the ledger changed?",
         LineFault::Order => "no line of a ledger stands there: was the ledger changed?",
-        LineFault::Newline => "the last line is cut off: what stands before it was taken",
+        LineFault::Newline => "nothing may stand after the line total: was the ledger changed?",
         LineFault::Long => "no line of a ledger is so long",
         LineFault::TooMany => "no ledger has so many lines",
     }
@@ -407,7 +423,9 @@ fn fixed_advice(fault: &Fault) -> &'static str {
         Fault::Cut(fault) => cut_advice(fault),
         Fault::Selection { option, .. } => selection_advice(option),
         Fault::Interfaces(_) => CHOOSE_INTERFACE,
-        Fault::Report(fault) => report_advice(fault),
+        Fault::Order(_) => "give the files of a recording in the order of their first timestamps",
+        Fault::Repeated(_) => "give each file of a recording once",
+        Fault::Report(fault) | Fault::Baseline(fault) => report_advice(fault),
         Fault::Icd(fault) => icd_advice(fault),
         Fault::Draft(fault) => draft_advice(fault),
         Fault::Constant => "--constant is a number of 32 bits, as 0x03000000 or 50331648",

@@ -47,6 +47,8 @@ pub fn reason_words(reason: BadReason) -> &'static str
         BadReason::SeveralInterfaces => "packets of several interfaces, and none is chosen",
         BadReason::TooManyInterfaces => "too many interfaces",
         BadReason::NoSuchInterface => "the chosen interface isn't there",
+        BadReason::FileHeader => "another pcap file begins here",
+        BadReason::NextFile => "the next file has no header that is read",
     }
 }
 

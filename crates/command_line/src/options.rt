@@ -80,13 +80,13 @@ const SOURCE: Argument = Argument(
 const A: Argument = Argument(
     "a",
     FILE,
-    "The recording of network A, a pcap or pcapng file",
+    "The recording of network A, pcap or pcapng files, or @LIST of paths",
 );
 
 const B: Argument = Argument(
     "b",
     FILE,
-    "The recording of network B, a pcap or pcapng file",
+    "The recording of network B, pcap or pcapng files, or @LIST of paths",
 );
 
 /// The help of what writes a capture.
@@ -127,7 +127,7 @@ const CAPTURE: [Argument; 8] = [
     Argument(
         "recording",
         Form::Word("RECORDING"),
-        "The recording, a pcap or pcapng file",
+        "The recording, pcap or pcapng files, or @LIST of paths",
     ),
     VERBOSE,
 ];
@@ -180,7 +180,7 @@ const DEBUG: [Argument; 5] = [
     Argument(
         "tap",
         Form::Needed("FILE"),
-        "The recording, a pcap or pcapng file",
+        "The recording, pcap or pcapng files, or @LIST of paths",
     ),
     LATE,
     VERBOSE,
@@ -257,7 +257,7 @@ const LINKS: [Argument; 5] = [
     VERBOSE,
 ];
 
-const REPORT: [Argument; 6] = [
+const REPORT: [Argument; 7] = [
     CONFIG,
     Argument(
         "ledger",
@@ -268,6 +268,11 @@ const REPORT: [Argument; 6] = [
         "manifest",
         FILE,
         "The manifest of the run, as `afdxmon watch` writes it",
+    ),
+    Argument(
+        "baseline",
+        FILE,
+        "The ledger of an earlier flight, of the same table, to compare with",
     ),
     Argument(
         "json",
@@ -299,6 +304,17 @@ const CHECK: [Argument; 7] = [
     ),
     VERBOSE,
 ];
+
+/// Does an option of `capture` take the next word as its value?
+pub(crate) fn takes_value(option: &str) -> bool {
+    if option == "-o" {
+        return true;
+    }
+    CAPTURE.iter().any(|Argument(name, form, _)| match form {
+        Form::Flag | Form::ShortFlag(_) | Form::Word(_) => false,
+        _ => option.strip_prefix("--") == Some(*name),
+    })
+}
 
 /// The commands in the order of the help.
 const COMMANDS: [CommandRow; 8] = [

@@ -1,6 +1,6 @@
 //! Which file a fault is of, for a person who is told its path.
 ghost use Rattle.std.specs.Prelude.{◌≡◌};
-ghost use Rattle.command_line.specs.Place.{file_of, file_of_cut, file_of_icd, file_of_manifest, file_of_report, file_of_source, input_of, output_of, refused_filter};
+ghost use Rattle.command_line.specs.Place.{file_of, file_of_baseline, file_of_cut, file_of_icd, file_of_manifest, file_of_report, file_of_source, input_of, output_of, refused_filter};
 
 use crate::fault::{Fault, FileOption, ManifestFault, ReportFault};
 use afdx_frame::Network;
@@ -84,6 +84,16 @@ fn report_file(fault: ReportFault) -> Option<FileOption>
     }
 }
 
+/// The ledger of an earlier flight, where a report of it would have a fault of a file.
+fn baseline_file(fault: ReportFault) -> Option<FileOption>
+    ensures { result ≡ file_of_baseline fault }
+{
+    match report_file(fault) {
+        Some(_) => Some(FileOption::Baseline),
+        None => None,
+    }
+}
+
 /// The document that a fault is of.
 fn icd_file(fault: IcdFault) -> Option<FileOption>
     ensures { result ≡ file_of_icd fault }
@@ -103,7 +113,9 @@ pub fn file_of(fault: &Fault) -> Option<FileOption>
         Fault::File(file)
         | Fault::Shared { output: file, .. }
         | Fault::Taken { file, .. }
-        | Fault::Interfaces(file) => Some(file),
+        | Fault::Interfaces(file)
+        | Fault::Order(file)
+        | Fault::Repeated(file) => Some(file),
         Fault::Config(_) => Some(FileOption::Config),
         Fault::Icd(fault) => icd_file(fault),
         Fault::Asm(_) => Some(FileOption::Standard),
@@ -127,5 +139,6 @@ pub fn file_of(fault: &Fault) -> Option<FileOption>
         | Fault::Unsound => None,
         Fault::Cut(fault) => cut_file(fault),
         Fault::Report(fault) => report_file(fault),
+        Fault::Baseline(fault) => baseline_file(fault),
     }
 }

@@ -18,6 +18,9 @@ pub enum Hint {
     OtherTable,
     /// The recorders: more than one frame in a hundred is cut short.
     CutFrames,
+    /// The recordings: more than a quarter of the frames are out, and fewer are excess. Where one holds
+    /// check sequences, their last byte is taken for the sequence number.
+    CheckSequences,
     /// The clocks of the taps: both networks have frames, and none is the copy of another.
     Clocks,
     /// The recordings: one of them may be given as both.
@@ -54,6 +57,8 @@ pub fn hint_of(a: Ending, b: Ending, totals: &Totals) -> Option<Hint>
         Some(Hint::OtherTable)
     } else if totals.frames / 100 < totals.cut {
         Some(Hint::CutFrames)
+    } else if totals.frames / 4 < totals.out && totals.excess < totals.out {
+        Some(Hint::CheckSequences)
     } else if 0 < a && 0 < b && 0 < totals.delivered && totals.copy == 0 {
         Some(Hint::Clocks)
     } else if a == b && 0 < totals.copy && totals.copy == totals.delivered {
@@ -78,6 +83,10 @@ fn hint_words(hint: Hint) -> &'static str
         }
         Hint::CutFrames => {
             "more than one frame in a hundred is cut short: record frames whole, tcpdump -s 0"
+        }
+        Hint::CheckSequences => {
+            "more than a quarter of the frames are out: does a recording hold frame check \
+             sequences? Take them off: editcap -L -C -4"
         }
         Hint::Clocks => "no frame is a copy of another: are the clocks of the taps apart?",
         Hint::OneRecording => {

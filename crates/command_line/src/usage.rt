@@ -2,7 +2,7 @@
 
 /// How `capture` is called.
 pub const CAPTURE_USAGE: &str = "\
-afdxmon capture [OPTIONS] <--code <TEXT>|--filter <FILE>|--source <FILE>> [RECORDING]";
+afdxmon capture [OPTIONS] <--code <TEXT>|--filter <FILE>|--source <FILE>> [RECORDING]...";
 
 /// What stands after the options in the help of `capture`.
 pub const CAPTURE_EXAMPLE: &str = "\
@@ -18,7 +18,7 @@ Example: keep the frames of virtual link 5
 
 /// How `watch` is called.
 pub const WATCH_USAGE: &str = "\
-afdxmon watch [OPTIONS] --config <FILE> --ledger <FILE> <--a <FILE>|--b <FILE>>";
+afdxmon watch [OPTIONS] --config <FILE> --ledger <FILE> <--a <FILE>...|--b <FILE>...>";
 
 /// What stands after the options in the help of `watch`.
 pub const WATCH_EXAMPLE: &str = "\
@@ -31,7 +31,7 @@ Example: keep the frames that examples/flight.filter accepts, and judge them all
 
 /// How `debug` is called.
 pub const DEBUG_USAGE: &str = "\
-afdxmon debug [OPTIONS] --tap <FILE> <--filter <FILE>|--source <FILE>>";
+afdxmon debug [OPTIONS] --tap <FILE>... <--filter <FILE>|--source <FILE>>";
 
 /// What stands after the options in the help of `debug`.
 pub const DEBUG_EXAMPLE: &str = "\
@@ -42,7 +42,7 @@ Example: the state before the filter's first three instructions on frame 0
 
 /// How `cut` is called.
 pub const CUT_USAGE: &str = "\
-afdxmon cut [OPTIONS] --ledger <FILE> <--a <FILE>|--b <FILE>|--ledger-only>";
+afdxmon cut [OPTIONS] --ledger <FILE> <--a <FILE>...|--b <FILE>...|--ledger-only>";
 
 /// What stands after the options in the help of `cut`.
 pub const CUT_EXAMPLE: &str = "\
@@ -58,7 +58,7 @@ Example: keep the frames that policing discarded
 
 /// How `links` is called.
 pub const LINKS_USAGE: &str = "\
-afdxmon links [OPTIONS] <--a <FILE>|--b <FILE>|--icd <FILE>>";
+afdxmon links [OPTIONS] <--a <FILE>...|--b <FILE>...|--icd <FILE>>";
 
 /// What stands after the options in the help of `links`.
 pub const LINKS_EXAMPLE: &str = "\
@@ -81,8 +81,9 @@ pub const REPORT_EXAMPLE: &str = "\
 The page is one file without scripts and links. Without -o a terminal is shown the first part as text.
 '-' is standard input, or standard output.
 
-Example: a page on a run
-  afdxmon report --config flight.toml --ledger verdicts.ledger -o report.html";
+Example: a page on a run, and one that compares it with the flight before
+  afdxmon report --config flight.toml --ledger verdicts.ledger -o report.html
+  afdxmon report --config flight.toml --ledger today.ledger --baseline yesterday.ledger -o two.html";
 
 /// How `check` is called.
 pub const CHECK_USAGE: &str = "afdxmon check [OPTIONS] --config <FILE>";

@@ -97,11 +97,12 @@ abbrev pub is_within_day : ℕ → ℕ → Bool
 is_within_day from length = nat_lt (capped (from + length)) day
 
 -- The first moment of a span from a time of day on: it is one of the day of the ledger's first frame, or where a span within a day is over before that
--- frame, of the next day. `Next` with the span's end and its length says so.
+-- frame, of the next day. `Next` with the span's end and its length says so. Without an end that is a time of day or a length, it is the first such
+-- moment from twelve hours before that frame on.
 abbrev pub first_of_day : ℕ → Last → Moment
 first_of_day from (last.At (texts.OfDay to)) = if nat_le from to then moments.Next to 0 (to - from) else moments.OfDay from
 first_of_day from (last.After length) = if is_within_day from length then moments.Next (capped (from + length)) 0 length else moments.OfDay from
-first_of_day from _ = moments.OfDay from
+first_of_day from _ = moments.Near from
 
 abbrev pub first_of : Option MomentText → Last → Option Moment
 first_of None end = None

@@ -139,7 +139,8 @@ fn is_within_day(from: u64, length: u64) -> bool
 }
 
 /// The first moment of a span from a time of day on, on the day of the ledger's first frame. Where a span
-/// within a day is over before that frame, it is the next day's.
+/// within a day is over before that frame, it is the next day's. A span whose end isn't told by a time of day
+/// or a length begins at the first such moment from twelve hours before that frame on.
 fn first_of_day(from: u64, last: Last) -> Moment
     ensures { result ≡ first_of_day from last }
 {
@@ -154,7 +155,8 @@ fn first_of_day(from: u64, last: Last) -> Moment
             after: 0,
             before: length,
         },
-        _ => Moment::OfDay(from),
+        Last::At(MomentText::OfDay(_)) | Last::After(_) => Moment::OfDay(from),
+        Last::Open | Last::At(_) => Moment::Near(from),
     }
 }
 

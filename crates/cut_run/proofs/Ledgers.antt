@@ -1,13 +1,12 @@
 -- One more line of the ledger beside what is cut of it.
 use Rattle.std.proofs.Common.{◌≡◌, ◌∙◌, ℕ, ◌+◌, ◌<◌, ◌≤◌, false, List, [], ◌∷◌, ◌++◌, length, Option, Some, None, refl, sym, ap, subst, arith, length-append}
 use Rattle.std.proofs.lemmas.List.{append-nil}
-use Rattle.std.specs.Io.KnownBytes.{Consumes, IsAtEnd, Keeps, prepend_known}
+use Rattle.std.specs.Io.KnownBytes.{Consumes, Keeps, prepend_known}
 use Rattle.afdx_frame.specs.Frame.{Frame}
 use Rattle.afdx_frame.specs.declared.key.Network.{Network}
 use Rattle.afdx_frame.specs.declared.key.Network.TheVariants.{A, B}
 use Rattle.frame_finder.specs.Finder.{finding_of}
-use Rattle.ledger_text.specs.Ledger.{HasReadLines, ReadLine, frame_lines, frames_in, has_failed as ledger_failed, left_of, lent_of, number_of, stage_of}
-use Rattle.ledger_text.specs.Places.{end_at}
+use Rattle.ledger_text.specs.Ledger.{EndsAt, HasReadLines, ReadLine, frame_lines, frames_in, has_failed as ledger_failed, left_of, lent_of, number_of, stage_of}
 use Rattle.ledger_text.specs.Lines.{unread_of}
 use Rattle.ledger_text.specs.Reader.{IsBadLine, IsFound, IsReadFault, reading_of, source_of}
 use Rattle.ledger_text.specs.declared.bounds.TheConstants.{MOST_LINES}
@@ -16,18 +15,17 @@ use Rattle.ledger_text.specs.declared.fault.LineFault.TheVariants as wrong
 use Rattle.ledger_text.specs.declared.fault.ReadFault.{ReadFault}
 use Rattle.ledger_text.specs.declared.fault.ReadFault.TheVariants as read
 use Rattle.ledger_text.specs.declared.frame.FrameLine.{FrameLine}
-use Rattle.ledger_text.specs.declared.order.Counts.TheVariants as counts
 use Rattle.ledger_text.specs.declared.order.LedgerLine.{LedgerLine}
 use Rattle.ledger_text.specs.declared.order.LedgerLine.TheVariants as lines
 use Rattle.ledger_text.specs.declared.order.Stage.{Stage}
-use Rattle.ledger_text.specs.declared.order.Stage.TheVariants as stages
 use Rattle.ledger_text.specs.declared.reader.Found.TheVariants as found
 use Rattle.ledger_text.specs.declared.reader.LedgerReader.{LedgerReader}
-use Rattle.ledger_text.proofs.Ledgers.{found_line, found_one_more, frame_lines_one_more}
+use Rattle.ledger_text.specs.declared.reader.LedgerStop.{LedgerStop}
+use Rattle.ledger_text.proofs.Ledgers.{found_complete, found_incomplete, found_line, found_one_more, frame_lines_one_more}
 use Rattle.pcap_io.specs.Writer.{sink_of}
 use Rattle.run_outcome.specs.Device.{SinkMembers, SourceMembers, SourceView}
 use Rattle.run_outcome.specs.Fault.{FailsWhere}
-use Rattle.cut_run.specs.Cut.{CutDevices, HasWritten, IsBadNext, IsLineFault, NextSays, ReadsNext, ending_at, ledger_fault, place_at}
+use Rattle.cut_run.specs.Cut.{CutDevices, HasWritten, IsBadNext, IsLineFault, NextSays, ReadsNext, ledger_fault, place_at, stop_of}
 use Rattle.cut_run.specs.Cutting.{EndsCut, HasCut, HasTaken, IsTakeFault, StopsCut, StopsTaking, TakesMore, WritesUpTo}
 use Rattle.cut_run.specs.Faults.{LedgerSource, names}
 use Rattle.cut_run.specs.Lines.{Choice, read_lines}
@@ -109,27 +107,11 @@ other_cut l s t w choice before rs fs taken fa fb old new taking line none h is 
 
 -- ---- the end
 
-pub complete_at : (stage : Stage) → found.Complete ≡ end_at stage → ending.Complete ≡ ending_at stage
-complete_at (stages.Counts counts.Total) e = refl
-complete_at (stages.Counts counts.Link) e = cc
-complete_at (stages.Counts counts.Filter) e = cc
-complete_at (stages.Counts counts.Tap) e = cc
-complete_at stages.Head e = cc
-complete_at stages.Frames e = cc
-
-pub incomplete_at : (stage : Stage) → found.Incomplete ≡ end_at stage → ending.Incomplete ≡ ending_at stage
-incomplete_at (stages.Counts counts.Total) e = cc
-incomplete_at (stages.Counts counts.Link) e = refl
-incomplete_at (stages.Counts counts.Filter) e = refl
-incomplete_at (stages.Counts counts.Tap) e = refl
-incomplete_at stages.Head e = refl
-incomplete_at stages.Frames e = refl
-
 ends_with : {L S T W : Type 0} (l : SourceMembers L) (s : SourceMembers S) (t : SourceMembers T) (w : SinkMembers W) (choice : Choice) (before : CutDevices)
-    (rs : List ReadLine) (fs taken fa fb : List Frame) (old new : LedgerReader L) (taking : Taking S T W) (e : CutEnding) → e ≡ ending_at (stage_of old)
-    → IsAtEnd (left_of l old) → l.failures (source_of new) ≡ l.failures (source_of old)
+    (rs : List ReadLine) (fs taken fa fb : List Frame) (old new : LedgerReader L) (taking : Taking S T W) (e : CutEnding)
+    → EndsAt rs (stage_of old) (left_of l old) (stop_of e) → l.failures (source_of new) ≡ l.failures (source_of old)
     → HasCut l s t w choice before rs fs taken fa fb old taking → EndsCut l s t w choice e before new taking
-ends_with l s t w choice before rs fs taken fa fb old new taking e is at same h = record {
+ends_with l s t w choice before rs fs taken fa fb old new taking e at same h = record {
   rs = rs;
   stage = stage_of old;
   left = left_of l old;
@@ -140,7 +122,6 @@ ends_with l s t w choice before rs fs taken fa fb old new taking e is at same h 
   lines = h.read.lines;
   took = h.took;
   ends = at;
-  ending_is = is;
   no_failure = same ∙ h.read.no_failure;
 }
 
@@ -149,14 +130,16 @@ pub ends_complete : {L S T W : Type 0} (l : SourceMembers L) (s : SourceMembers 
     → IsFound (reading_of l.remaining l.failures old) (reading_of l.remaining l.failures new) (lent_of new) found.Complete
     → HasCut l s t w choice before rs fs taken fa fb old taking → EndsCut l s t w choice ending.Complete before new taking
 ends_complete l s t w choice before rs fs taken fa fb old new taking is h =
-    ends_with l s t w choice before rs fs taken fa fb old new taking ending.Complete (complete_at (stage_of old) is.0) is.1 is.5 h
+    ends_with l s t w choice before rs fs taken fa fb old new taking ending.Complete
+    (found_complete l before.ledger.remaining before.ledger.failures rs old new h.read is) is.2.2 h
 
 pub ends_incomplete : {L S T W : Type 0} (l : SourceMembers L) (s : SourceMembers S) (t : SourceMembers T) (w : SinkMembers W) (choice : Choice)
-    (before : CutDevices) (rs : List ReadLine) (fs taken fa fb : List Frame) (old new : LedgerReader L) (taking : Taking S T W)
-    → IsFound (reading_of l.remaining l.failures old) (reading_of l.remaining l.failures new) (lent_of new) found.Incomplete
-    → HasCut l s t w choice before rs fs taken fa fb old taking → EndsCut l s t w choice ending.Incomplete before new taking
-ends_incomplete l s t w choice before rs fs taken fa fb old new taking is h =
-    ends_with l s t w choice before rs fs taken fa fb old new taking ending.Incomplete (incomplete_at (stage_of old) is.0) is.1 is.5 h
+    (before : CutDevices) (rs : List ReadLine) (fs taken fa fb : List Frame) (old new : LedgerReader L) (taking : Taking S T W) (stop : LedgerStop)
+    → IsFound (reading_of l.remaining l.failures old) (reading_of l.remaining l.failures new) (lent_of new) (found.Incomplete stop)
+    → HasCut l s t w choice before rs fs taken fa fb old taking → EndsCut l s t w choice (ending.Incomplete stop) before new taking
+ends_incomplete l s t w choice before rs fs taken fa fb old new taking stop is h =
+    ends_with l s t w choice before rs fs taken fa fb old new taking (ending.Incomplete stop)
+    (found_incomplete l before.ledger.remaining before.ledger.failures rs old new stop h.read is) is.3.2 h
 
 -- ---- a line that stops the cut
 

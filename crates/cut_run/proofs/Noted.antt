@@ -1,8 +1,7 @@
 -- One more line of the ledger beside what is noted of it.
-use Rattle.std.proofs.Common.{◌≡◌, ◌∙◌, ℕ, false, List, [], ◌∷◌, ◌++◌, None, sym, ap, subst, inr}
+use Rattle.std.proofs.Common.{◌≡◌, ◌∙◌, ℕ, false, List, [], ◌∷◌, ◌++◌, Option, None, sym, ap, subst, inr}
 use Rattle.std.proofs.lemmas.List.{append-nil}
-use Rattle.std.specs.Io.KnownBytes.{IsAtEnd}
-use Rattle.ledger_text.specs.Ledger.{ReadLine, frame_lines, frames_in, has_failed as ledger_failed, left_of, lent_of, stage_of}
+use Rattle.ledger_text.specs.Ledger.{EndsAt, ReadLine, frame_lines, frames_in, has_failed as ledger_failed, left_of, lent_of, stage_of}
 use Rattle.ledger_text.specs.Lines.{unread_of}
 use Rattle.ledger_text.specs.Reader.{IsFound, IsReadFault, reading_of, source_of}
 use Rattle.ledger_text.specs.declared.fault.ReadFault.{ReadFault}
@@ -12,6 +11,7 @@ use Rattle.ledger_text.specs.declared.order.LedgerLine.{LedgerLine}
 use Rattle.ledger_text.specs.declared.order.LedgerLine.TheVariants as lines
 use Rattle.ledger_text.specs.declared.reader.Found.TheVariants as found
 use Rattle.ledger_text.specs.declared.reader.LedgerReader.{LedgerReader}
+use Rattle.ledger_text.specs.declared.reader.LedgerStop.{LedgerStop}
 use Rattle.ledger_text.proofs.Ledgers.{found_line, found_one_more, frame_lines_one_more}
 use Rattle.line_selection.specs.Neighbours.{HasAsked, HasNoted}
 use Rattle.line_selection.specs.declared.chooser.Chooser.{Chooser}
@@ -62,14 +62,14 @@ other_noted l selection count before rs old new chooser neighbours line none h i
 -- ---- the end
 
 pub ends_noting : {L : Type 0} (l : SourceMembers L) (selection : Selection) (count : ℕ) (before : SourceView) (rs : List ReadLine) (old new : LedgerReader L)
-    (chooser : Chooser) (neighbours : Neighbours) → HasNotedLines l selection count before rs old chooser neighbours → IsAtEnd (left_of l old)
-    → l.failures (source_of new) ≡ l.failures (source_of old) → EndsNoting l selection count before new neighbours
-ends_noting l selection count before rs old new chooser neighbours h at same = record {
+    (chooser : Chooser) (neighbours : Neighbours) (stop : Option LedgerStop) → HasNotedLines l selection count before rs old chooser neighbours
+    → EndsAt rs (stage_of old) (left_of l old) stop → l.failures (source_of new) ≡ l.failures (source_of old) → EndsNoting l selection count before new neighbours
+ends_noting l selection count before rs old new chooser neighbours stop h at same = record {
   rs = rs;
   stage = stage_of old;
   left = left_of l old;
   lines = h.read.lines;
-  ends = at;
+  ends = (stop, at);
   noted = h.noted;
   no_failure = same ∙ h.read.no_failure;
 }

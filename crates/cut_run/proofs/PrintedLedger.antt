@@ -1,12 +1,12 @@
 -- One more line of the ledger beside what is printed of it, and its end.
 use Rattle.std.proofs.Common.{◌≡◌, ◌∙◌, ◌≢◌, ℕ, ◌+◌, false, List, [], ◌∷◌, ◌++◌, length, Option, None, Some, Ok, Err, refl, sym, ap, subst, inl, inr, arith, append_assoc}
 use Rattle.std.proofs.lemmas.List.{append-nil}
-use Rattle.std.specs.Io.KnownBytes.{Appends, IsAtEnd}
+use Rattle.std.specs.Io.KnownBytes.{Appends}
 use Rattle.afdx_frame.specs.Frame.{Frame}
 use Rattle.afdx_frame.specs.declared.key.Network.{Network}
 use Rattle.afdx_frame.specs.declared.key.Network.TheVariants.{A, B}
 use Rattle.frame_finder.specs.Finder.{finding_of}
-use Rattle.ledger_text.specs.Ledger.{ReadLine, frame_lines, frames_in, has_failed as ledger_failed, left_of, lent_of, number_of, stage_of}
+use Rattle.ledger_text.specs.Ledger.{EndsAt, ReadLine, frame_lines, frames_in, has_failed as ledger_failed, left_of, lent_of, number_of, stage_of}
 use Rattle.ledger_text.specs.Lines.{unread_of}
 use Rattle.ledger_text.specs.Reader.{IsFound, IsReadFault, reading_of, source_of}
 use Rattle.ledger_text.specs.declared.fault.LineFault.{LineFault}
@@ -21,7 +21,7 @@ use Rattle.ledger_text.specs.declared.reader.LedgerReader.{LedgerReader}
 use Rattle.ledger_text.proofs.Ledgers.{found_line, found_one_more, frame_lines_one_more}
 use Rattle.run_outcome.specs.Device.{SinkMembers, SinkView, SourceMembers, sink_at, source_at}
 use Rattle.run_outcome.specs.Fault.{FailsWhere}
-use Rattle.cut_run.specs.Cut.{AreRefused, CutDevices, FailsInLine, FailsOnly, IsLineFault, ReadsNext, ending_at, ledger_fault}
+use Rattle.cut_run.specs.Cut.{AreRefused, CutDevices, FailsInLine, FailsOnly, IsLineFault, ReadsNext, ledger_fault, stop_of}
 use Rattle.cut_run.specs.Faults.{LedgerSource, OutputSink, names}
 use Rattle.cut_run.specs.Lines.{Choice, read_lines}
 use Rattle.cut_run.specs.Naming.{HasNamed, opening_at}
@@ -109,10 +109,10 @@ checked_back s t (Some b) vs (Some r) (Some x) h back =
 -- ---- the end
 
 pub ends_printing : {L S T W : Type 0} (l : SourceMembers L) (s : SourceMembers S) (t : SourceMembers T) (w : SinkMembers W) (choice : Choice) (before : LineDevices)
-    (rs : List ReadLine) (printed : List (List ℕ)) (old new : LedgerReader L) (printing : Printing S T W) (e : CutEnding) → e ≡ ending_at (stage_of old)
-    → IsAtEnd (left_of l old) → l.failures (source_of new) ≡ l.failures (source_of old) → HasPrintedLedger l s t w choice before rs printed old printing
+    (rs : List ReadLine) (printed : List (List ℕ)) (old new : LedgerReader L) (printing : Printing S T W) (e : CutEnding)
+    → EndsAt rs (stage_of old) (left_of l old) (stop_of e) → l.failures (source_of new) ≡ l.failures (source_of old) → HasPrintedLedger l s t w choice before rs printed old printing
     → LeavesLines l s t w choice (Ok e) before new printing
-ends_printing l s t w choice before rs printed old new printing e is at same h = λ sources back. record {
+ends_printing l s t w choice before rs printed old new printing e at same h = λ sources back. record {
   rs = rs;
   stage = stage_of old;
   left = left_of l old;
@@ -121,7 +121,6 @@ ends_printing l s t w choice before rs printed old new printing e is at same h =
   checked = checked_back s t before.recordings (read_lines choice.skips (frame_lines rs)) printing.recordings sources h.print.checked back;
   takes = h.print.takes;
   ends = at;
-  ending_is = is;
   written = h.print.written;
   ledger_failures = same ∙ h.read.no_failure;
   output_failures = h.print.no_failure;

@@ -92,7 +92,6 @@ run_of l s t w choice (Ok e) before ledger taking few_a few_b ends =
       };
       takes = ends.took.takes;
       ends = ends.ends;
-      ending_is = ends.ending_is;
       written = ends.took.written;
       no_failure = record { ledger = ends.no_failure; a = named.read_a.no_failure; b = named.read_b.no_failure; output = ends.took.no_failure };
     }

@@ -1,10 +1,10 @@
 -- What a cut leaves, and why it was aborted (this project's profile; the output is pcap savefile 2.4).
-use Rattle.std.specs.Prelude.{◌≡◌, ◌⊎◌, ℕ, true, ◌+◌, ◌-◌, ◌^◌, ◌<◌, List, ◌++◌, length, take, Option, None, Result, Ok, Err}
-use Rattle.std.specs.Io.KnownBytes.{Appends, Consumes, IsAtEnd}
+use Rattle.std.specs.Prelude.{◌≡◌, ◌⊎◌, ℕ, true, ◌+◌, ◌-◌, ◌^◌, ◌<◌, List, ◌++◌, length, take, Option, Some, None, Result, Ok, Err}
+use Rattle.std.specs.Io.KnownBytes.{Appends, Consumes}
 use Rattle.afdx_frame.specs.Frame.{Frame}
 use Rattle.afdx_frame.specs.declared.key.Network.{Network}
 use Rattle.afdx_frame.specs.declared.key.Network.TheVariants.{A, B}
-use Rattle.ledger_text.specs.Ledger.{ReadLine, ReadsLines, TakesLine, frame_lines}
+use Rattle.ledger_text.specs.Ledger.{EndsAt, ReadLine, ReadsLines, TakesLine, frame_lines}
 use Rattle.ledger_text.specs.Newlines.{NoNewline}
 use Rattle.ledger_text.specs.Reader.{IsBadLine, Reading}
 use Rattle.ledger_text.specs.declared.fault.LineFault.{LineFault}
@@ -12,9 +12,9 @@ use Rattle.ledger_text.specs.declared.fault.ReadFault.{ReadFault}
 use Rattle.ledger_text.specs.declared.fault.ReadFault.TheVariants as read
 use Rattle.ledger_text.specs.declared.frame.FrameLine.{FrameLine}
 use Rattle.ledger_text.specs.declared.order.LedgerLine.TheVariants as lines
-use Rattle.ledger_text.specs.declared.order.Counts.TheVariants as counts
 use Rattle.ledger_text.specs.declared.order.Stage.{Stage}
 use Rattle.ledger_text.specs.declared.order.Stage.TheVariants as stages
+use Rattle.ledger_text.specs.declared.reader.LedgerStop.{LedgerStop}
 use Rattle.pcap_io.specs.Capture.{capture_header}
 use Rattle.pcap_io.specs.Device.{AppendsPrefix}
 use Rattle.run_outcome.specs.Device.{SinkMembers, SinkView, SourceMembers, SourceView, sink_at, source_at}
@@ -47,10 +47,10 @@ any_lateness = 2 ^ 64 - 1
 abbrev pub place_at : Stage → ℕ → Option (List ℕ) → Reading
 place_at stage number left = record { stage = stage; number = number; left = left; failures = 0 }
 
--- a ledger is complete where it ends after its line `total`
-abbrev pub ending_at : Stage → CutEnding
-ending_at (stages.Counts counts.Total) = ending.Complete
-ending_at stage = ending.Incomplete
+-- where a ledger ends that isn't complete
+abbrev pub stop_of : CutEnding → Option LedgerStop
+stop_of ending.Complete = None
+stop_of (ending.Incomplete stop) = Some stop
 
 -- ---- what was cut
 
@@ -89,8 +89,7 @@ pub record IsCut (choice : Choice) (e : CutEnding) (before after : CutDevices) :
   pub taken : List Frame
   pub found : HasFound choice.skips before after rs stage left frames_a frames_b frames
   pub takes : TakesOf choice (frame_lines rs) frames taken
-  pub ends : IsAtEnd left
-  pub ending_is : e ≡ ending_at stage
+  pub ends : EndsAt rs stage left (stop_of e)
   pub written : Appends before.output.contents after.output.contents (whole_capture taken)
   pub no_failure : NoFailures before after
 

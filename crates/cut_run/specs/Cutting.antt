@@ -1,10 +1,10 @@
 -- A cut between its first line and its last.
 use Rattle.std.specs.Prelude.{◌≡◌, ◌<◌, ℕ, true, false, List, [], ◌∷◌, ◌++◌, length, take, Option, None, Result, Ok, ◌⊎◌, ⊤}
-use Rattle.std.specs.Io.KnownBytes.{Appends, IsAtEnd}
+use Rattle.std.specs.Io.KnownBytes.{Appends}
 use Rattle.afdx_frame.specs.Frame.{Frame}
 use Rattle.afdx_frame.specs.declared.key.Network.TheVariants.{A, B}
 use Rattle.frame_finder.specs.Finder.{finding_of}
-use Rattle.ledger_text.specs.Ledger.{HasReadLines, ReadLine, ReadsLines, frame_lines}
+use Rattle.ledger_text.specs.Ledger.{EndsAt, HasReadLines, ReadLine, ReadsLines, frame_lines}
 use Rattle.ledger_text.specs.Reader.{source_of}
 use Rattle.ledger_text.specs.declared.frame.FrameLine.{FrameLine}
 use Rattle.ledger_text.specs.declared.order.Stage.{Stage}
@@ -15,7 +15,7 @@ use Rattle.pcap_io.specs.Device.{Writes}
 use Rattle.pcap_io.specs.Writer.{has_failed, sink_of}
 use Rattle.run_outcome.specs.Device.{SinkMembers, SinkView, SourceMembers, SourceView}
 use Rattle.run_outcome.specs.Fault.{FailsWhere}
-use Rattle.cut_run.specs.Cut.{CutDevices, HasWritten, IsLineFault, ending_at}
+use Rattle.cut_run.specs.Cut.{CutDevices, HasWritten, IsLineFault, stop_of}
 use Rattle.cut_run.specs.Faults.{LedgerSource, OutputSink, RecordingSource, names}
 use Rattle.cut_run.specs.Lines.{AreFramesOf, AreSpread, Choice, IsTakenNext, Rise, TakesOf, is_read, read_lines, whole_capture, whole_packet}
 use Rattle.cut_run.specs.Naming.{HasNamed, IsNameFault, ReadsPart, opening_at}
@@ -104,8 +104,7 @@ pub record EndsCut {L S T W : Type 0} (l : SourceMembers L) (s : SourceMembers S
   pub frames_b : List Frame
   pub lines : ReadsLines stages.Head before.ledger.remaining rs stage left
   pub took : HasTaken s t w choice before.a before.b before.output (frame_lines rs) fs taken frames_a frames_b taking
-  pub ends : IsAtEnd left
-  pub ending_is : e ≡ ending_at stage
+  pub ends : EndsAt rs stage left (stop_of e)
   pub no_failure : l.failures (source_of ledger) ≡ before.ledger.failures
 
 -- The cut stopped at the line after these.

@@ -1,12 +1,12 @@
 -- What is noted of a ledger's lines for their neighbours, and why it isn't (this project's profile).
 use Rattle.std.specs.Prelude.{◌≡◌, ◌⊎◌, ℕ, List, [], Option, None, Result, Ok, Err}
-use Rattle.std.specs.Io.KnownBytes.{IsAtEnd}
-use Rattle.ledger_text.specs.Ledger.{HasReadLines, ReadLine, ReadsLines, frame_lines}
+use Rattle.ledger_text.specs.Ledger.{EndsAt, HasReadLines, ReadLine, ReadsLines, frame_lines}
 use Rattle.ledger_text.specs.Reader.{source_of}
 use Rattle.ledger_text.specs.declared.frame.FrameLine.{FrameLine}
 use Rattle.ledger_text.specs.declared.order.Stage.{Stage}
 use Rattle.ledger_text.specs.declared.order.Stage.TheVariants as stages
 use Rattle.ledger_text.specs.declared.reader.LedgerReader.{LedgerReader}
+use Rattle.ledger_text.specs.declared.reader.LedgerStop.{LedgerStop}
 use Rattle.line_selection.specs.Neighbours.{Around, HasAsked, HasNoted}
 use Rattle.line_selection.specs.declared.chooser.Chooser.{Chooser}
 use Rattle.line_selection.specs.declared.neighbours.Neighbours.{Neighbours}
@@ -29,7 +29,7 @@ pub record NotesLines (selection : Selection) (count : ℕ) (before after : Sour
   pub stage : Stage
   pub left : Option (List ℕ)
   pub lines : ReadsLines stages.Head before.remaining rs stage left
-  pub ends : IsAtEnd left
+  pub ends : (stop : Option LedgerStop) × EndsAt rs stage left stop
   pub noted : HasNoted selection (around_lines count rs) neighbours
   pub no_failure : after.failures ≡ before.failures
 

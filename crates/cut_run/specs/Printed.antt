@@ -1,12 +1,12 @@
 -- What is printed of a ledger's lines, and why it was aborted (this project's format).
 use Rattle.std.specs.Prelude.{◌≡◌, ◌≢◌, ◌⊎◌, ℕ, true, ◌<◌, ◌≤◌, List, [], ◌∷◌, ◌++◌, length, flat_map, take, Option, None, Some, Result, Ok, Err, ⊤}
-use Rattle.std.specs.Io.KnownBytes.{Appends, IsAtEnd}
+use Rattle.std.specs.Io.KnownBytes.{Appends}
 use Rattle.afdx_frame.specs.Frame.{Frame}
 use Rattle.afdx_frame.specs.declared.bounds.TheConstants.{MAX_SNAPLEN}
 use Rattle.afdx_frame.specs.declared.key.Network.{Network}
 use Rattle.afdx_frame.specs.declared.key.Network.TheVariants.{A, B}
 use Rattle.frame_finder.specs.Finder.{finder_source, finding_of}
-use Rattle.ledger_text.specs.Ledger.{HasReadLines, ReadLine, ReadsLines, TakesLine, frame_lines}
+use Rattle.ledger_text.specs.Ledger.{EndsAt, HasReadLines, ReadLine, ReadsLines, TakesLine, frame_lines}
 use Rattle.ledger_text.specs.Reader.{source_of}
 use Rattle.ledger_text.specs.declared.frame.FrameLine.{FrameLine}
 use Rattle.ledger_text.specs.declared.order.LedgerLine.{LedgerLine}
@@ -19,7 +19,7 @@ use Rattle.pcap_io.specs.Device.{Writes}
 use Rattle.run_outcome.specs.Device.{SinkMembers, SinkView, SourceMembers, SourceView, sink_at, source_at}
 use Rattle.run_outcome.specs.Fault.{FailsWhere}
 use Rattle.run_outcome.specs.Recording.{IsReadPart}
-use Rattle.cut_run.specs.Cut.{CutDevices, FailsInLine, IsBadNext, IsLineFault, StopsAtOpening, any_lateness, ending_at}
+use Rattle.cut_run.specs.Cut.{CutDevices, FailsInLine, IsBadNext, IsLineFault, StopsAtOpening, any_lateness, stop_of}
 use Rattle.cut_run.specs.Cutting.{IsTakeFault}
 use Rattle.cut_run.specs.Faults.{LedgerSource, OutputSink, RecordingSource, names}
 use Rattle.cut_run.specs.Lines.{AreFramesOf, Choice, Chooses, Rise, TakesOf, is_read, read_lines}
@@ -105,8 +105,7 @@ pub record ArePrinted (choice : Choice) (e : CutEnding) (before after : LineDevi
   pub lines : ReadsLines stages.Head before.ledger.remaining rs stage left
   pub checked : AreChecked before.recordings after.recordings (read_lines choice.skips (frame_lines rs))
   pub takes : TakesOf choice (frame_lines rs) (frame_texts rs) printed
-  pub ends : IsAtEnd left
-  pub ending_is : e ≡ ending_at stage
+  pub ends : EndsAt rs stage left (stop_of e)
   pub written : Appends before.output.contents after.output.contents (whole_lines printed)
   pub ledger_failures : after.ledger.failures ≡ before.ledger.failures
   pub output_failures : after.output.failures ≡ before.output.failures

@@ -19,7 +19,9 @@ use crate::fault::{CutFault, CutSource};
 use crate::observer::LineObserver;
 use crate::recordings::{Recordings, Unopened, is_read};
 use afdx_frame::{Network, TapFrame};
-use ledger_text::{Found, FrameLine, LedgerLine, LedgerReader, LinesRefused, ReadFault};
+use ledger_text::{
+    Found, FrameLine, LedgerLine, LedgerReader, LedgerStop, LinesRefused, ReadFault,
+};
 use line_selection::{Chooser, Neighbours, Selection};
 use pcap_io::{CaptureWriter, OutSink, TapSource};
 use std::alloc::Global;
@@ -29,8 +31,8 @@ use std::alloc::Global;
 pub enum CutEnding {
     /// After its line `total`.
     Complete,
-    /// Before that: its run was aborted.
-    Incomplete,
+    /// Before that, maybe within a line: its run was stopped, or goes on.
+    Incomplete(LedgerStop),
 }
 
 /// A cut that has ended, with the devices that it was given.
@@ -196,7 +198,7 @@ fn cut_lines<L: TapSource, S: TapSource, T: TapSource, W: OutSink, O: LineObserv
             Ok(Found::Line(LedgerLine::Head)) => {}
             Ok(Found::Line(LedgerLine::Counts(_))) => {}
             Ok(Found::Complete) => return Ok(CutEnding::Complete),
-            Ok(Found::Incomplete) => return Ok(CutEnding::Incomplete),
+            Ok(Found::Incomplete(stop)) => return Ok(CutEnding::Incomplete(stop)),
             Err(fault) => return Err(ledger_fault(fault)),
         }
     }

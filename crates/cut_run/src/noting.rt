@@ -46,7 +46,7 @@ fn note_lines<L: TapSource>(
             Ok(Found::Line(LedgerLine::Head)) => {}
             Ok(Found::Line(LedgerLine::Counts(_))) => {}
             Ok(Found::Complete) => return Ok(()),
-            Ok(Found::Incomplete) => return Ok(()),
+            Ok(Found::Incomplete(_)) => return Ok(()),
             Err(fault) => return Err(ledger_fault(fault)),
         }
     }

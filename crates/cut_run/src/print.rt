@@ -201,7 +201,7 @@ fn print_all<L: TapSource, S: TapSource, T: TapSource, W: OutSink, O: LineObserv
             Ok(Found::Line(LedgerLine::Head)) => {}
             Ok(Found::Line(LedgerLine::Counts(_))) => {}
             Ok(Found::Complete) => return Ok(CutEnding::Complete),
-            Ok(Found::Incomplete) => return Ok(CutEnding::Incomplete),
+            Ok(Found::Incomplete(stop)) => return Ok(CutEnding::Incomplete(stop)),
             Err(fault) => return Err(ledger_fault(fault)),
         }
     }

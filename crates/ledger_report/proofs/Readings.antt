@@ -1,18 +1,19 @@
 -- One more line of the ledger beside the numbers of its report.
 use Rattle.std.proofs.Common.{get_or, ◌&&◌, ◌^◌, ◌≡◌, ◌∙◌, ℕ, ◌<◌, ◌≤◌, false, List, [], ◌∷◌, ◌++◌, length, reverse, Option, Some, None, refl, sym, ap, subst, arith, length-append}
 use Rattle.std.proofs.lemmas.List.{append-nil, length-reverse, reverse-append}
-use Rattle.std.specs.Io.KnownBytes.{IsAtEnd, prepend_known}
+use Rattle.std.specs.Io.KnownBytes.{prepend_known}
 use Rattle.vl_config.specs.Link.{VirtualLink}
 use Rattle.ledger_text.specs.FrameText.{IsFrameLine}
 use Rattle.ledger_text.specs.Order.{IsLineAt}
 use Rattle.ledger_text.specs.declared.order.Stage.{Stage}
-use Rattle.ledger_text.specs.Ledger.{HasReadLines, ReadLine, frame_lines, frames_in, has_failed as ledger_failed, left_of, lent_of, stage_of}
+use Rattle.ledger_text.specs.Ledger.{EndsAt, HasReadLines, ReadLine, frame_lines, frames_in, has_failed as ledger_failed, left_of, lent_of, stage_of}
 use Rattle.ledger_text.specs.Lines.{unread_of}
 use Rattle.ledger_text.specs.Reader.{IsFound, reading_of, source_of}
 use Rattle.ledger_text.specs.declared.bounds.TheConstants.{MOST_LINES}
 use Rattle.ledger_text.specs.declared.frame.FrameLine.{FrameLine}
 use Rattle.ledger_text.specs.declared.order.LedgerLine.{LedgerLine}
 use Rattle.ledger_text.specs.declared.reader.LedgerReader.{LedgerReader}
+use Rattle.ledger_text.specs.declared.reader.LedgerStop.{LedgerStop}
 use Rattle.ledger_text.proofs.Ledgers.{found_one_more, frame_lines_one_more}
 use Rattle.pcap_io.specs.declared.device.TapSource.{Ghosts as SourceMembers}
 use Rattle.ledger_report.specs.Absent.{GainAbsences}
@@ -183,8 +184,8 @@ few_delivered links lines reports are few i report within =
 
 abbrev pub ends_noting : {S : Type 0} (s : SourceMembers S) (bytes : Option (List ℕ)) (failures : ℕ) (links : List VirtualLink) (rs : List ReadLine)
     (old : LedgerReader S) (counts : FrameCounts) (statistics : Statistics) (counted : CountsLines) → HasNoted s bytes failures links rs old counts statistics counted
-    → IsAtEnd (left_of s old) → HasRead bytes links counts statistics counted
-ends_noting s bytes failures links rs old counts statistics counted h at = record {
+    → (stop : Option LedgerStop) → EndsAt rs (stage_of old) (left_of s old) stop → HasRead bytes links stop counts statistics counted
+ends_noting s bytes failures links rs old counts statistics counted h stop at = record {
   rs = rs;
   stage = stage_of old;
   left = left_of s old;
@@ -224,15 +225,15 @@ reads_nothing {S = S} s source reader same none (stage, number, sound) = record 
   no_failure = ap (λ (x : S). s.failures x) same;
 }
 
-abbrev pub tells_ledger : (bytes : Option (List ℕ)) (links : List VirtualLink) (counts : FrameCounts) (old new : Statistics) (counted : CountsLines) → KeepsAccount old new → KeepsSpan old new
+abbrev pub tells_ledger : (bytes : Option (List ℕ)) (links : List VirtualLink) (counts : FrameCounts) (old new : Statistics) (counted : CountsLines) (stop : Option LedgerStop) → KeepsAccount old new → KeepsSpan old new
     → GainFates old.links.items new.links.items → GainMedians old.links.items new.links.items →
     EndAlone old.start old.width old.networks old.links.items new.links.items
     → KeepsSigns old new → KeepsSums (AllFit old.start old.width old.links.items) old.links.items new.links.items old.networks new.networks
     → GainAbsences old.networks old.links.items new.links.items → KeepTimes old.networks new.networks
     → AllLanesKeep old.links.items new.links.items → AllSkewsKeep old.links.items new.links.items →
-    KeepLinkMarks old.networks new.networks → HasRead bytes links counts old counted
-    → TellsLedger bytes links (report_of counts new counted)
-tells_ledger bytes links counts old new counted keeps kept gain middle alone signs sums absent times lane_times skew_times link_kept h =
+    KeepLinkMarks old.networks new.networks → HasRead bytes links stop counts old counted
+    → TellsLedger bytes links (report_of counts new counted stop)
+tells_ledger bytes links counts old new counted stop keeps kept gain middle alone signs sums absent times lane_times skew_times link_kept h =
     let lines = reverse (frame_lines h.rs) in
     let few : length lines ≤ MOST_LINES = omega (arith, h.few, length-reverse (frame_lines h.rs)) in
     let told_met : AreEach HasMet links lines new.links.items =

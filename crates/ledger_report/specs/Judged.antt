@@ -2,6 +2,7 @@
 use Rattle.std.specs.Prelude.{◌≡◌, ℕ, true, List, reverse, Option}
 use Rattle.vl_config.specs.Document.{VlTable}
 use Rattle.ledger_text.specs.Ledger.{ReadLine, frame_lines}
+use Rattle.ledger_text.specs.declared.reader.LedgerStop.{LedgerStop}
 use Rattle.ledger_report.specs.CountsRight.{HasAllCounts, HasEndings, taps_of}
 use Rattle.ledger_report.specs.Reading.{HasRead, TellsLedger}
 use Rattle.ledger_report.specs.Refused.{AreLinesRight}
@@ -20,9 +21,9 @@ pub record TellsRight (bytes : Option (List ℕ)) (table : VlTable) (report : Re
   pub whole : report.whole ≡ true → HasAllCounts table (reverse told.rs)
 
 -- The same, where the deliveries aren't settled yet.
-pub record HasReadRight (bytes : Option (List ℕ)) (table : VlTable) (counts : FrameCounts) (statistics : Statistics)
+pub record HasReadRight (bytes : Option (List ℕ)) (table : VlTable) (stop : Option LedgerStop) (counts : FrameCounts) (statistics : Statistics)
     (counted : CountsLines) : Type 0 where
-  pub read : HasRead bytes table.links counts statistics counted
+  pub read : HasRead bytes table.links stop counts statistics counted
   pub right : AreLinesRight table read.rs
   pub endings : HasEndings (taps_of (reverse read.rs)) counted.endings
 

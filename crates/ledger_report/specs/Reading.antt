@@ -1,15 +1,15 @@
 -- A ledger that is read to its end, and the numbers of its report.
 use Rattle.std.specs.Prelude.{◌≡◌, ℕ, ◌≤◌, List, Option, None, length, reverse, unwrap_or}
 use Rattle.std.specs.Option.{option_map_or}
-use Rattle.std.specs.Io.KnownBytes.{IsAtEnd}
 use Rattle.pcap_io.specs.declared.device.TapSource.{Ghosts as SourceMembers}
 use Rattle.afdx_frame.specs.declared.key.TheConstants.{VL_ID_COUNT}
 use Rattle.vl_config.specs.Link.{VirtualLink}
-use Rattle.ledger_text.specs.Ledger.{HasReadLines, ReadLine, ReadsLines, frame_lines}
+use Rattle.ledger_text.specs.Ledger.{EndsAt, HasReadLines, ReadLine, ReadsLines, frame_lines}
 use Rattle.ledger_text.specs.declared.bounds.TheConstants.{MOST_LINES}
 use Rattle.ledger_text.specs.declared.order.Stage.{Stage}
 use Rattle.ledger_text.specs.declared.order.Stage.TheVariants as stages
 use Rattle.ledger_text.specs.declared.reader.LedgerReader.{LedgerReader}
+use Rattle.ledger_text.specs.declared.reader.LedgerStop.{LedgerStop}
 use Rattle.ledger_report.specs.AloneBins.{HasAloneBins, HasAloneSums, bins_of}
 use Rattle.ledger_report.specs.AloneLines.{HasAlone}
 use Rattle.ledger_report.specs.AloneSums.{NetworksAreAlone, SumsAlone}
@@ -37,7 +37,8 @@ use Rattle.ledger_report.specs.declared.counts_lines.CountsLines.{CountsLines}
 use Rattle.ledger_report.specs.declared.report.Report.{Report}
 use Rattle.ledger_report.specs.declared.statistics.Statistics.{Statistics}
 
--- The bytes are the lines of a ledger from its head on, and nothing is left after them. These are the counts of its lines of frames, and the
+-- The bytes are the lines of a ledger from its head on, and nothing is left after them, or where its last line doesn't stand, the beginning of a
+-- line. These are the counts of its lines of frames, and the
 -- numbers of both networks and of the table's links over them, with the median of each link's skews; each delivery of a link has one fate, by
 -- definition over the lines, and at most as many links outside the table are kept as there are identifiers, each with its lines. Each line of
 -- counts is that of the lines before it. The report starts and ends with the first and the last line of a frame, at 0 where there is none; its
@@ -50,7 +51,7 @@ pub record TellsLedger (bytes : Option (List ℕ)) (links : List VirtualLink) (r
   pub stage : Stage
   pub left : Option (List ℕ)
   pub lines : ReadsLines stages.Head bytes rs stage left
-  pub ends : IsAtEnd left
+  pub ends : EndsAt rs stage left report.stop
   pub counts_are : AreCountsOf (frame_lines rs) report.counts
   pub networks_are : AreNetworksOf (reverse (frame_lines rs)) report.networks
   pub links_are : AreLinksOf links (reverse (frame_lines rs)) report.links.items
@@ -77,12 +78,12 @@ pub record TellsLedger (bytes : Option (List ℕ)) (links : List VirtualLink) (r
   pub marks_are : HaveMarks report.start report.width links (reverse (frame_lines rs)) report.links.items report.networks
 
 -- The same, where the deliveries aren't settled yet.
-pub record HasRead (bytes : Option (List ℕ)) (links : List VirtualLink) (counts : FrameCounts) (statistics : Statistics) (counted : CountsLines) : Type 0 where
+pub record HasRead (bytes : Option (List ℕ)) (links : List VirtualLink) (stop : Option LedgerStop) (counts : FrameCounts) (statistics : Statistics) (counted : CountsLines) : Type 0 where
   pub rs : List ReadLine
   pub stage : Stage
   pub left : Option (List ℕ)
   pub lines : ReadsLines stages.Head bytes rs stage left
-  pub ends : IsAtEnd left
+  pub ends : EndsAt rs stage left stop
   pub counts_are : AreCountsOf (frame_lines rs) counts
   pub account : IsAccountOf links (reverse (frame_lines rs)) statistics
   pub span : HasSpan (reverse (frame_lines rs)) statistics
@@ -123,8 +124,8 @@ pub record HasNoted {S : Type 0} (s : SourceMembers S) (bytes : Option (List ℕ
 abbrev pub end_stamp : Statistics → ℕ
 end_stamp statistics = option_map_or (λ latest. latest.0.stamp) statistics.latest statistics.start
 
-abbrev pub report_of : FrameCounts → Statistics → CountsLines → Report
-report_of counts statistics counted = record {
+abbrev pub report_of : FrameCounts → Statistics → CountsLines → Option LedgerStop → Report
+report_of counts statistics counted stop = record {
   start = statistics.start;
   end = end_stamp statistics;
   width = statistics.width;
@@ -134,4 +135,5 @@ report_of counts statistics counted = record {
   counts = counts;
   endings = counted.endings;
   whole = counted.whole;
+  stop = stop;
 }

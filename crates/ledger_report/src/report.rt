@@ -32,7 +32,7 @@ use crate::network::NetworkReport;
 use crate::sides::Sides;
 use crate::statistics::Statistics;
 use afdx_frame::{Network, VlId};
-use ledger_text::{Found, LedgerLine, LedgerReader, LinesRefused, ReadFault};
+use ledger_text::{Found, LedgerLine, LedgerReader, LedgerStop, LinesRefused, ReadFault};
 use pcap_io::TapSource;
 use std::alloc::{AllocError, Global};
 use vl_config::Config;
@@ -99,6 +99,8 @@ pub struct Report {
     pub endings: Sides<Option<TapEnding>>,
     /// Does the ledger have its last line?
     pub whole: bool,
+    /// Where it ends, if it doesn't.
+    pub stop: Option<LedgerStop>,
 }
 
 impl Report {
@@ -146,25 +148,27 @@ struct Reading {
     lines: CountsLines,
 }
 
-/// Reads up to the ledger's end.
+/// Reads up to the ledger's end. Some: where it ends before its last line.
 fn read_lines<S: TapSource>(
     alloc: Global,
     config: &Config,
     ledger: &mut LedgerReader<S>,
     reading: &mut Reading,
-) -> Result<(), ReportFault>
+) -> Result<Option<LedgerStop>, ReportFault>
     requires sound { ledger_failed ledger.old ≡ false }
     ensures read { (bytes : Option (List ℕ)) (failures : ℕ) (links : List VirtualLink)
         → links ≡ config.now.links
         → HasNoted S.TapSource bytes failures links [] ledger.old reading.old.counts reading.old.statistics
         reading.old.lines
-        → IfOk result (λ _. HasRead bytes links reading.new.counts reading.new.statistics reading.new.lines) }
+        → IfOk result (λ stop. HasRead bytes links stop
+        reading.new.counts reading.new.statistics reading.new.lines) }
     ensures judged { (bytes : Option (List ℕ)) (failures : ℕ) (table : VlTable) → table ≡ config.now
         → HasNoted S.TapSource bytes failures table.links [] ledger.old reading.old.counts
         reading.old.statistics reading.old.lines
         → HasJudged table [] reading.old.statistics reading.old.lines
         → MatchResult result
-        (λ _. HasReadRight bytes table reading.new.counts reading.new.statistics reading.new.lines)
+        (λ stop. HasReadRight bytes table stop
+        reading.new.counts reading.new.statistics reading.new.lines)
         (λ fault. IsRefused table (record { remaining = bytes; failures = failures })
         (source_at S.TapSource (source_of ledger.new)) fault) }
 {
@@ -186,8 +190,8 @@ fn read_lines<S: TapSource>(
                     return Err(line_fault(ledger.number(), refusal));
                 }
             }
-            Ok(Found::Complete) => return Ok(()),
-            Ok(Found::Incomplete) => return Ok(()),
+            Ok(Found::Complete) => return Ok(None),
+            Ok(Found::Incomplete(stop)) => return Ok(Some(stop)),
             Err(fault) => return Err(read_fault(fault)),
         }
     }
@@ -220,9 +224,9 @@ pub fn read_report<S: TapSource + Drop>(
         Ok(reading) => reading,
         Err(AllocError) => return Err(ReportFault::Memory),
     };
-    read_lines(alloc, config, &mut ledger, &mut reading)?;
+    let stop = read_lines(alloc, config, &mut ledger, &mut reading)?;
     match reading.statistics.end() {
-        Ok(()) => Ok(reading.into_report()),
+        Ok(()) => Ok(reading.into_report(stop)),
         Err(AllocError) => Err(ReportFault::Memory),
     }
 }
@@ -253,8 +257,8 @@ impl Reading {
         })
     }
 
-    fn into_report(self) -> Report
-        ensures { result ≡ report_of self.counts self.statistics self.lines }
+    fn into_report(self, stop: Option<LedgerStop>) -> Report
+        ensures { result ≡ report_of self.counts self.statistics self.lines stop }
     {
         let Reading {
             counts,
@@ -272,6 +276,7 @@ impl Reading {
             counts,
             endings: lines.endings,
             whole: lines.whole,
+            stop,
         }
     }
 }

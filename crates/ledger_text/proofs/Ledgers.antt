@@ -1,8 +1,8 @@
 -- A ledger's lines, one more after those that were read.
-use Rattle.std.proofs.Common.{◌≡◌, ◌∙◌, ℕ, ◌+◌, false, List, [], ◌∷◌, ◌++◌, Option, refl, subst, sym, ap, append_assoc}
+use Rattle.std.proofs.Common.{◌≡◌, ◌∙◌, ℕ, ◌+◌, false, List, [], ◌∷◌, ◌++◌, Option, Some, None, refl, subst, sym, ap, append_assoc}
 use Rattle.std.proofs.lemmas.List.{append-nil, length-append}
 use Rattle.pcap_io.specs.declared.device.TapSource.{Ghosts as SourceMembers}
-use Rattle.ledger_text.specs.Ledger.{HasReadLines, ReadLine, ReadsLines, TakesLine, frame_lines, frames_in, has_failed, left_of, lent_of, stage_of}
+use Rattle.ledger_text.specs.Ledger.{EndsAt, HasReadLines, ReadLine, ReadsLines, TakesLine, frame_lines, frames_in, has_failed, left_of, lent_of, stage_of}
 use Rattle.ledger_text.specs.Places.{stage_after}
 use Rattle.ledger_text.specs.declared.frame.FrameLine.{FrameLine}
 use Rattle.ledger_text.specs.Reader.{IsFound, reading_of}
@@ -11,6 +11,7 @@ use Rattle.ledger_text.specs.declared.order.Stage.{Stage}
 use Rattle.ledger_text.specs.declared.order.Stage.TheVariants as stages
 use Rattle.ledger_text.specs.declared.reader.Found.TheVariants as found
 use Rattle.ledger_text.specs.declared.reader.LedgerReader.{LedgerReader}
+use Rattle.ledger_text.specs.declared.reader.LedgerStop.{LedgerStop}
 
 pub reads_one_more : (stage here : Stage) (bytes mid after : Option (List ℕ)) (rs : List ReadLine) (r : ReadLine)
     → ReadsLines stage bytes rs here mid → TakesLine here mid after r → ReadsLines stage bytes (rs ++ r ∷ []) (stage_after r.line) after
@@ -47,3 +48,17 @@ found_one_more s bytes failures rs old new read h is sound = record {
   sound = sound;
   no_failure = is.2 ∙ h.no_failure;
 }
+
+-- ---- the end
+
+pub found_complete : {S : Type 0} (s : SourceMembers S) (bytes : Option (List ℕ)) (failures : ℕ) (rs : List ReadLine) (old new : LedgerReader S)
+    → HasReadLines s bytes failures rs old
+    → IsFound (reading_of s.remaining s.failures old) (reading_of s.remaining s.failures new) (lent_of new) found.Complete
+    → EndsAt rs (stage_of old) (left_of s old) None
+found_complete s bytes failures rs old new h is = (is.0, (lent_of new, left_of s new, is.1))
+
+pub found_incomplete : {S : Type 0} (s : SourceMembers S) (bytes : Option (List ℕ)) (failures : ℕ) (rs : List ReadLine) (old new : LedgerReader S) (stop : LedgerStop)
+    → HasReadLines s bytes failures rs old
+    → IsFound (reading_of s.remaining s.failures old) (reading_of s.remaining s.failures new) (lent_of new) (found.Incomplete stop)
+    → EndsAt rs (stage_of old) (left_of s old) (Some stop)
+found_incomplete s bytes failures rs old new stop h is = (is.0, is.1 ∙ h.number, (lent_of new, left_of s new, is.2))

@@ -1,12 +1,12 @@
 -- A ledger as its lines: what a reader has read from its beginning on (this project's format).
-use Rattle.std.specs.Prelude.{◌≡◌, ℕ, ◌<◌, List, [], ◌∷◌, ◌++◌, length, flat_map, Bool, false, Option}
+use Rattle.std.specs.Prelude.{◌≡◌, ℕ, ◌<◌, List, [], ◌∷◌, ◌++◌, length, flat_map, Bool, true, false, Option, Some, None}
 use Rattle.std.specs.Io.KnownBytes.{Consumes}
 use Rattle.pcap_io.specs.declared.device.TapSource.{Ghosts as SourceMembers}
-use Rattle.ledger_text.specs.Lines.{lent_line, lines_left}
+use Rattle.ledger_text.specs.Lines.{IsNextLine, lent_line, lines_left}
 use Rattle.ledger_text.specs.Newlines.{NoNewline}
 use Rattle.ledger_text.specs.Order.{IsLineAt}
-use Rattle.ledger_text.specs.Places.{stage_after}
-use Rattle.ledger_text.specs.Reader.{source_of}
+use Rattle.ledger_text.specs.Places.{has_total, stage_after}
+use Rattle.ledger_text.specs.Reader.{last_of, source_of}
 use Rattle.ledger_text.specs.declared.bounds.TheConstants.{BLOCK_LEN}
 use Rattle.ledger_text.specs.declared.frame.FrameLine.{FrameLine}
 use Rattle.ledger_text.specs.declared.order.LedgerLine.{LedgerLine}
@@ -14,6 +14,7 @@ use Rattle.ledger_text.specs.declared.order.LedgerLine.TheVariants as lines
 use Rattle.ledger_text.specs.declared.order.Stage.{Stage}
 use Rattle.ledger_text.specs.declared.order.Stage.TheVariants as stages
 use Rattle.ledger_text.specs.declared.reader.LedgerReader.{LedgerReader}
+use Rattle.ledger_text.specs.declared.reader.LedgerStop.{LedgerStop}
 
 -- a line without its newline, and what it says
 pub record ReadLine : Type 0 where
@@ -27,11 +28,21 @@ pub record TakesLine (stage : Stage) (before after : Option (List ℕ)) (r : Rea
   pub gone : Consumes before after (r.text ++ 10 ∷ [])
   pub stands : IsLineAt stage r.text r.line
 
+-- Nothing is left; or the beginning of a line, and nothing after it.
+abbrev pub LeavesPart : Bool → Option (List ℕ) → Type 0
+LeavesPart within left = (part : List ℕ) × (rest : Option (List ℕ)) × IsNextLine left rest part (last_of within)
+
 -- The bytes begin with these lines, one after another, which lead from the first place and bytes to the last.
 abbrev pub ReadsLines : Stage → Option (List ℕ) → List ReadLine → Stage → Option (List ℕ) → Type 0
 ReadsLines stage before [] stage2 after = (stage ≡ stage2) × (before ≡ after)
 ReadsLines stage before (r ∷ rs) stage2 after =
     (mid : Option (List ℕ)) × TakesLine stage before mid r × ReadsLines (stage_after r.line) mid rs stage2 after
+
+-- How a ledger ends after these lines: after its line `total`, and nothing is left; or before it, and nothing is left or the beginning of a
+-- line, which has no newline.
+abbrev pub EndsAt : List ReadLine → Stage → Option (List ℕ) → Option LedgerStop → Type 0
+EndsAt rs stage left None = (has_total stage ≡ true) × LeavesPart false left
+EndsAt rs stage left (Some stop) = (has_total stage ≡ false) × (stop.lines ≡ length rs) × LeavesPart stop.within_line left
 
 -- what the lines of frames say, in their order
 abbrev pub frames_in : LedgerLine → List FrameLine

@@ -1,5 +1,5 @@
 -- Where a reader stands in a ledger: what stands before the next line, and how many lines do.
-use Rattle.std.specs.Prelude.{◌≡◌, ℕ, ◌+◌, ◌<◌, List}
+use Rattle.std.specs.Prelude.{◌≡◌, ℕ, ◌+◌, ◌<◌, List, Bool, true, false, Result, Ok, Err}
 use Rattle.ledger_text.specs.Order.{IsLineAt, IsLineFaultAt}
 use Rattle.ledger_text.specs.declared.order.Counts.TheVariants as counts
 use Rattle.ledger_text.specs.declared.order.Stage.{Stage}
@@ -20,17 +20,29 @@ stage_after lines.Head = stages.Frames
 stage_after (lines.Frame v) = stages.Frames
 stage_after (lines.Counts kind) = stages.Counts kind
 
--- a ledger is complete where it ends after its line `total`
-abbrev pub end_at : Stage → Found
-end_at (stages.Counts counts.Total) = found.Complete
-end_at _ = found.Incomplete
+-- the line `total` stands before
+abbrev pub has_total : Stage → Bool
+has_total (stages.Counts counts.Total) = true
+has_total _ = false
+
+-- what the end is at this place, after so many lines: a ledger is complete after its line `total`
+abbrev pub IsEnd : Stage → ℕ → Bool → Found → Type 0
+IsEnd stage number within found.Complete = has_total stage ≡ true
+IsEnd stage number within (found.Incomplete stop) = (has_total stage ≡ false) × (stop.lines ≡ number) × (stop.within_line ≡ within)
+IsEnd stage number within (found.Line _) = ⊥
+
+-- what a last line without a newline is, after so many lines: the end within it, and where the line `total` stands before, a fault
+abbrev pub IsUnended : Stage → ℕ → Result Found ReadFault → Type 0
+IsUnended stage number (Ok (found.Incomplete stop)) = (has_total stage ≡ false) × (stop.lines ≡ number) × (stop.within_line ≡ true)
+IsUnended stage number (Err (faults.Line n wrong.Newline)) = (has_total stage ≡ true) × (n ≡ number + 1)
+IsUnended stage number other = ⊥
 
 -- the line is what is found at a place, and the next place is that after it
 abbrev pub IsRead : Stage → ℕ → List ℕ → Stage → ℕ → Found → Type 0
 IsRead stage number line stage2 number2 (found.Line read) =
     IsLineAt stage line read × (stage2 ≡ stage_after read) × (number2 ≡ number + 1) × (number < MOST_LINES)
 IsRead stage number line stage2 number2 found.Complete = ⊥
-IsRead stage number line stage2 number2 found.Incomplete = ⊥
+IsRead stage number line stage2 number2 (found.Incomplete stop) = ⊥
 
 -- As many lines stand before the line as a ledger may have; or it is none that stands at its place.
 abbrev pub IsLineRefused : Stage → ℕ → List ℕ → LineFault → Type 0

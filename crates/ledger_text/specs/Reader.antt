@@ -1,10 +1,11 @@
 -- What contracts see of a reader of a ledger.
-use Rattle.std.specs.Prelude.{◌≡◌, ℕ, ◌+◌, List, Option}
-use Rattle.std.specs.Io.KnownBytes.{IsAtEnd, Keeps}
+use Rattle.std.specs.Prelude.{◌≡◌, ℕ, ◌+◌, List, Option, Bool, true, false}
+use Rattle.std.specs.Io.KnownBytes.{Keeps}
 use Rattle.pcap_io.specs.Device.{CountsFailure}
 use Rattle.ledger_text.specs.Newlines.{NoNewline}
 use Rattle.ledger_text.specs.Lines.{IsNextLine, line_source, lines_left}
-use Rattle.ledger_text.specs.Places.{IsLineRefused, IsRead, end_at}
+use Rattle.ledger_text.specs.Places.{IsLineRefused, IsRead, has_total}
+use Rattle.ledger_text.specs.declared.lines.LineFound.{LineFound}
 use Rattle.ledger_text.specs.declared.lines.LineFound.TheVariants as next
 use Rattle.ledger_text.specs.declared.order.Stage.{Stage}
 use Rattle.ledger_text.specs.declared.fault.LineFault.{LineFault}
@@ -35,17 +36,27 @@ reading_of remaining failures reader = record {
   failures = failures (source_of reader);
 }
 
--- The next line of the bytes is the one that is lent, and stands at its place; or nothing is left, and the reader stays.
+-- the reader stands at the same place
+abbrev pub Stays : Reading → Reading → Type 0
+Stays old new = (new.stage ≡ old.stage) × (new.number ≡ old.number) × (new.failures ≡ old.failures)
+
+-- what is found last: a line without a newline, or nothing
+abbrev pub last_of : Bool → LineFound
+last_of true = next.Unended
+last_of false = next.End
+
+-- The next line of the bytes is the one that is lent, and stands at its place; or nothing is left after the line `total`; or before it nothing
+-- or the beginning of a line is, which is lent.
 abbrev pub IsFound : Reading → Reading → List ℕ → Found → Type 0
 IsFound old new line (found.Line read) =
     IsNextLine old.left new.left line next.Line × IsRead old.stage old.number line new.stage new.number (found.Line read) × (new.failures ≡ old.failures)
-IsFound old new line end =
-    (end ≡ end_at old.stage) × IsAtEnd old.left × IsAtEnd new.left
-    × (new.stage ≡ old.stage) × (new.number ≡ old.number) × (new.failures ≡ old.failures)
+IsFound old new line found.Complete = (has_total old.stage ≡ true) × IsNextLine old.left new.left line next.End × Stays old new
+IsFound old new line (found.Incomplete stop) =
+    (has_total old.stage ≡ false) × (stop.lines ≡ old.number) × IsNextLine old.left new.left line (last_of stop.within_line) × Stays old new
 
 -- what is wrong with the next line of the bytes
 abbrev pub IsBadLine : Reading → Reading → List ℕ → LineFault → Type 0
-IsBadLine old new line wrong.Newline = IsNextLine old.left new.left line next.Unended
+IsBadLine old new line wrong.Newline = (has_total old.stage ≡ true) × IsNextLine old.left new.left line next.Unended
 IsBadLine old new line wrong.Long = IsNextLine old.left new.left line next.Long
 IsBadLine old new line fault = IsNextLine old.left new.left line next.Line × IsLineRefused old.stage old.number line fault
 

@@ -60,7 +60,7 @@ pub enum LineFault {
     /// After a line of counts another line stands than one that may follow it.
     #[error("the order of lines")]
     Order,
-    /// The last line ends without a newline.
+    /// After the line `total` more stands, without a newline.
     #[error("no newline at the end")]
     Newline,
     /// The line and its newline have no room in a block of [`BLOCK_LEN`](crate::BLOCK_LEN) bytes.

@@ -38,4 +38,4 @@ pub use frame::{FrameLine, read_frame};
 pub use laws::{entries_read_back, line_reads_one_way};
 pub use lines::{LineFound, LineSource, LinesRefused};
 pub use order::{Counts, LedgerLine, Stage, read_line};
-pub use reader::{Found, LedgerReader};
+pub use reader::{Found, LedgerReader, LedgerStop};

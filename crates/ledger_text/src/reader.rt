@@ -10,6 +10,15 @@ use crate::order::{Counts, LedgerLine, Stage, read_line};
 use pcap_io::TapSource;
 use std::alloc::Global;
 
+/// Where a ledger ends that has no line `total`: its run was stopped, or goes on.
+#[derive(Clone, Copy, PartialEq, Eq)]
+pub struct LedgerStop {
+    /// How many whole lines stand, with the head.
+    pub lines: u64,
+    /// Does the next line begin after them? It has no newline then.
+    pub within_line: bool,
+}
+
 /// What a reader finds next.
 #[derive(Clone, Copy, PartialEq, Eq)]
 pub enum Found {
@@ -17,8 +26,8 @@ pub enum Found {
     Line(LedgerLine),
     /// The end, after the line `total`.
     Complete,
-    /// The end of a ledger that has no line `total`: the run was aborted.
-    Incomplete,
+    /// The end of a ledger that has no line `total`. What stands of a line without a newline is lent.
+    Incomplete(LedgerStop),
 }
 
 /// What stands before the line after this one.
@@ -48,7 +57,7 @@ impl<S: TapSource> LedgerReader<S> {
     ghost use Rattle.std.specs.Io.KnownBytes.{Keeps};
     ghost use Rattle.ledger_text.specs.Lines.{lent_line, line_source, lines_left, unread_of};
     ghost use Rattle.ledger_text.specs.Reader.{IsFound, IsReadFault, reading_of, source_of};
-    ghost use Rattle.ledger_text.specs.Places.{IsRead, IsReadRefused, end_at};
+    ghost use Rattle.ledger_text.specs.Places.{IsEnd, IsRead, IsReadRefused, IsUnended, has_total};
     ghost use Rattle.ledger_text.specs.declared.fault.ReadFault.TheVariants as faults;
     ghost use Rattle.ledger_text.specs.declared.order.Stage.TheVariants as stages;
 
@@ -102,8 +111,8 @@ impl<S: TapSource> LedgerReader<S> {
     {
         match self.lines.advance()? {
             LineFound::Line => self.read(),
-            LineFound::End => Ok(self.end()),
-            LineFound::Unended => Err(self.fault(LineFault::Newline)),
+            LineFound::End => Ok(self.end(false)),
+            LineFound::Unended => self.unended(),
             LineFound::Long => Err(self.fault(LineFault::Long)),
         }
     }
@@ -142,13 +151,26 @@ impl<S: TapSource> LedgerReader<S> {
         }
     }
 
-    /// What the end is.
-    fn end(&self) -> Found
-        ensures { result ≡ end_at self.now.stage }
+    /// What the end is, within a line or not.
+    fn end(&self, within_line: bool) -> Found
+        ensures { IsEnd self.now.stage self.now.number within_line result }
     {
         match self.stage {
             Stage::Counts(Counts::Total) => Found::Complete,
-            _ => Found::Incomplete,
+            _ => Found::Incomplete(LedgerStop {
+                lines: self.number,
+                within_line,
+            }),
+        }
+    }
+
+    /// What a last line without a newline is. After the line `total` nothing may stand.
+    fn unended(&self) -> Result<Found, ReadFault>
+        ensures { IsUnended self.now.stage self.now.number result }
+    {
+        match self.end(true) {
+            Found::Complete => Err(self.fault(LineFault::Newline)),
+            end => Ok(end),
         }
     }
 

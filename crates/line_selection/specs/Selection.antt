@@ -7,7 +7,7 @@ use Rattle.ledger_text.specs.declared.frame.FrameLine.{FrameLine}
 use Rattle.line_selection.specs.Links.{has_link}
 use Rattle.line_selection.specs.declared.link_set.LinkSet.{LinkSet}
 use Rattle.line_selection.specs.declared.moment.Moment.{Moment}
-use Rattle.line_selection.specs.declared.moment.Moment.TheVariants.{At, Next, OfDay, Since}
+use Rattle.line_selection.specs.declared.moment.Moment.TheVariants.{At, Near, Next, OfDay, Since}
 use Rattle.line_selection.specs.declared.selection.Selection.{Selection}
 use Rattle.line_selection.specs.declared.word.Word.{Word}
 use Rattle.line_selection.specs.declared.word.Word.TheVariants as words
@@ -15,6 +15,9 @@ use Rattle.line_selection.specs.declared.word.Word.TheVariants as words
 -- a day has 86400 seconds, here in nanoseconds
 abbrev pub day : ℕ
 day = 86400000000000
+
+abbrev pub half_day : ℕ
+half_day = 43200000000000
 
 -- Midnight UTC of the day of a timestamp. Timestamps count from a midnight, and leap seconds are not counted.
 abbrev pub midnight : Stamp → ℕ
@@ -30,6 +33,7 @@ moment_of first (At stamp) = stamp.0
 moment_of first (Since after) = first.0 + after
 moment_of first (Next of_day after before) = ((first.0 + after) + until_of_day (first.0 + after) of_day) - before
 moment_of first (OfDay since) = midnight first + since
+moment_of first (Near of_day) = (first.0 - half_day) + until_of_day (first.0 - half_day) of_day
 
 -- the line's field has this word
 abbrev pub Says : FrameLine → Word → Type 0

@@ -7,6 +7,9 @@ use afdx_frame::Stamp;
 /// The length of a day, in nanoseconds.
 const DAY: u64 = 86_400_000_000_000;
 
+/// Half of it.
+const HALF_DAY: u64 = DAY / 2;
+
 /// A moment that a person names.
 #[derive(Clone, Copy, PartialEq, Eq)]
 pub enum Moment {
@@ -16,6 +19,10 @@ pub enum Moment {
     Since(u64),
     /// Nanoseconds since midnight UTC of the day of the ledger's first frame. They may be more than a day's.
     OfDay(u64),
+    /// The first moment of this time of day (nanoseconds since midnight UTC) that is at most twelve hours
+    /// earlier than the ledger's first frame. So a flight that goes past midnight has both of its days, and
+    /// a time just before the first frame is of the same day.
+    Near(u64),
     /// So many nanoseconds before the first moment of this time of day (nanoseconds since midnight UTC) that
     /// isn't earlier than so many nanoseconds after the ledger's first frame.
     Next {
@@ -46,6 +53,10 @@ impl Moment {
             Moment::At(stamp) => u128::from(stamp.0),
             Moment::Since(after) => u128::from(first.0) + u128::from(after),
             Moment::OfDay(since) => u128::from(first.0 - first.0 % DAY) + u128::from(since),
+            Moment::Near(of_day) => {
+                let earliest = u128::from(first.0.saturating_sub(HALF_DAY));
+                earliest + u128::from(until_of_day(earliest, of_day))
+            }
             Moment::Next {
                 of_day,
                 after,

@@ -11,13 +11,14 @@ ghost use Rattle.link_draft.specs.declared.draft.DraftFault.TheVariants.{Memory}
 use crate::beside::{Comparison, write_beside};
 use crate::checked::is_draft_of;
 use crate::known::Known;
+use crate::left_out::LeftOut;
 use crate::recordings::Recordings;
 use crate::refusals::have_fault;
 use crate::text::{HEADER, ICD_HEADER, write_constants, write_ending, write_keys, write_seen};
 use afdx_frame::VlId;
 use icd_links::IcdLinks;
 use std::alloc::{AllocError, Global};
-use survey_run::{Field, Survey};
+use survey_run::{CutLinks, Field, Survey};
 use vl_config::{Config, ConfigFault};
 
 /// The constant field of a draft where none was seen or asked for: the bits of a group address, locally
@@ -29,6 +30,8 @@ pub const USUAL_CONSTANT: u32 = 0x0300_0000;
 pub struct Sources<'a> {
     /// What was seen.
     pub survey: &'a Survey,
+    /// The links of frames that weren't recorded whole.
+    pub cut: &'a CutLinks,
     pub recordings: Recordings,
     /// The constant field that was asked for.
     pub constant: Option<u32>,
@@ -110,11 +113,21 @@ fn write_head(text: &mut String, sources: &Sources<'_>) -> Result<(), AllocError
     if unusable > 0 {
         write!(
             text,
-            "# {unusable} frames weren't recorded whole, or aren't of 60 to 1514 bytes. \
-A link that has no others isn't here.\n"
+            "# {unusable} frames weren't recorded whole, or aren't of 60 to 1514 bytes.\n"
         )?;
     }
-    Ok(())
+    write_left_out(text, LeftOut(sources))
+}
+
+/// Which links the draft leaves out.
+fn write_left_out(text: &mut String, links: LeftOut<'_>) -> Result<(), AllocError> {
+    if links.is_empty() {
+        return Ok(());
+    }
+    write!(
+        text,
+        "# Links that aren't here, since all their frames are cut short: {links}.\n"
+    )
 }
 
 /// Why a draft has a constant field that no frame has.

@@ -206,10 +206,7 @@ fn write_need(
         return Ok(());
     }
     let at = Moment(need.at());
-    write!(
-        text,
-        "# {network}: the largest jitter needed is {needed} us, first at {at}"
-    )?;
+    write!(text, "# {network}: largest need {needed} us, at {at}")?;
     if needed > MAX_JITTER_US {
         text.push_str(", more than a table allows")?;
     }

@@ -1,13 +1,13 @@
 -- The capture of frames in time order holds these frames.
-use Rattle.std.proofs.Common.{◌≡◌, ℕ, ◌+◌, ◌*◌, ◌/◌, ◌%◌, ◌<◌, ◌≤◌, ◌^◌, max, List, [], ◌∷◌, ◌++◌, length, take, drop, Some, Ok, refl, sym, ap, ◌∙◌, subst, arith, add-zero, length-take-le}
+use Rattle.std.proofs.Common.{◌≡◌, ℕ, ◌+◌, ◌*◌, ◌/◌, ◌%◌, ◌<◌, ◌≤◌, ◌^◌, max, false, List, [], ◌∷◌, ◌++◌, length, take, drop, Some, Ok, refl, sym, ap, ◌∙◌, subst, arith, add-zero, length-take-le}
 use Rattle.std.proofs.lemmas.List.{drop_at}
 use Rattle.std.specs.List.{flat_map}
 use Rattle.afdx_frame.specs.Frame.{Frame, IsFrame, frame_with}
 use Rattle.afdx_frame.specs.declared.key.Network.{Network}
-use Rattle.pcap_io.specs.Capture.{AreCapturable, IsCapturable, capture_frames, capture_header, capture_layout, capture_of, packet_text}
+use Rattle.pcap_io.specs.Capture.{AreCapturable, IsCapturable, capture_frames, capture_header, capture_layout, capture_of, kept_fields, packet_text}
 use Rattle.pcap_io.specs.Layout.{header_of}
 use Rattle.pcap_io.specs.Position.{Holds, TakesFrame, start_at}
-use Rattle.pcap_io.specs.Recording.{Packet, IsGood, header_bytes, packet_bytes, frame_of}
+use Rattle.pcap_io.specs.Recording.{Packet, IsGood, header_bytes, is_file_header, packet_bytes, frame_of}
 use Rattle.pcap_io.specs.declared.layout.TheConstants.{FILE_HEADER_LEN}
 use Rattle.pcap_io.specs.declared.position.Position.{Position}
 use Rattle.pcap_io.specs.declared.recording.Ending.TheVariants.{Clean}
@@ -29,12 +29,13 @@ unfolding packet_text
 text_is f keep within =
     ap (λ (n : ℕ). header_bytes capture_layout (f.stamp / 1000000000) (f.stamp % 1000000000) n f.whole ++ take keep f.bytes) (sym (length-take-le keep f.bytes within))
 
-is_good : (f : Frame) (keep late high : ℕ) → IsFrame f → keep ≤ length f.bytes → high ≤ f.stamp → f.whole < 2 ^ 32 → IsGood capture_layout late high (cut_packet f keep)
-is_good f keep late high fits within in_time whole = record {
+is_good : (f : Frame) (keep late high : ℕ) → IsFrame f → keep ≤ length f.bytes → high ≤ f.stamp → f.whole < 2 ^ 32 → is_file_header capture_layout (kept_fields f keep) ≡ false → IsGood capture_layout late high (cut_packet f keep)
+is_good f keep late high fits within in_time whole packet = record {
   few_bytes = omega (arith, length-take-le keep f.bytes within, fits.few_bytes);
   seconds_fit = omega (arith, fits.stamp_fits);
   original_len_fits = whole;
   within_second = omega arith;
+  no_file_header = ap (λ (n : ℕ). is_file_header capture_layout (kept_fields f n)) (length-take-le keep f.bytes within) ∙ packet;
   in_time = omega arith;
 }
 
@@ -63,7 +64,7 @@ takes_first : (network : Network) (most late n high : ℕ) (keep : Frame → ℕ
     → TakesFrame (position_at network most late n high) (Some (packet_text f (keep f) ++ more)) (Some more) (frame_with network n f.stamp f.whole (take (keep f) f.bytes))
 takes_first network most late n high keep f more can few = record {
   taken = cut_packet f (keep f);
-  good = is_good f (keep f) late high can.fits can.within can.in_time can.whole_fits;
+  good = is_good f (keep f) late high can.fits can.within can.in_time can.whole_fits can.no_file_header;
   bounded = few;
   same = frame_is network n f (keep f) can.fits can.within;
   gone = ap (λ (l : List ℕ). l ++ more) (text_is f (keep f) can.within);

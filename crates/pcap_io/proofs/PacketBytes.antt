@@ -8,7 +8,7 @@ use Rattle.byteorder.specs.Numbers.{little_number-reads_back, big_number-reads_b
 use Rattle.afdx_frame.specs.declared.bounds.TheConstants.{MAX_SNAPLEN}
 use Rattle.pcap_io.specs.Layout.{number_in, bytes_in, fractions_of}
 use Rattle.pcap_io.specs.Bytes.{IsBytes}
-use Rattle.pcap_io.specs.Recording.{Packet, IsGood, header_bytes, packet_bytes, stamp_at, header_fields, reason_at, ending_at}
+use Rattle.pcap_io.specs.Recording.{Packet, IsGood, header_bytes, packet_bytes, stamp_at, header_fields, is_file_header, reason_at, ending_at}
 use Rattle.pcap_io.specs.declared.layout.ByteOrder.{ByteOrder}
 use Rattle.pcap_io.specs.declared.layout.ByteOrder.TheVariants.{Little, Big}
 use Rattle.pcap_io.specs.declared.layout.Precision.{Precision}
@@ -123,13 +123,13 @@ header_bytes_read_back l head size fits =
 
 -- what is wrong with a packet's fields
 
-pub reason_none : (l : Layout) (late high : ℕ) (head : PacketHeader) → head.captured_len ≤ MAX_SNAPLEN → head.fraction < fractions_of l.precision
+pub reason_none : (l : Layout) (late high : ℕ) (head : PacketHeader) → is_file_header l head ≡ false → head.captured_len ≤ MAX_SNAPLEN → head.fraction < fractions_of l.precision
     → high ≤ stamp_at l head.seconds head.fraction + late → reason_at l late high head ≡ None
-reason_none l late high head few within in_time =
+reason_none l late high head packet few within in_time =
     let long : nat_lt MAX_SNAPLEN head.captured_len ≡ false = le-ltb MAX_SNAPLEN head.captured_len few in
     let whole : nat_le (fractions_of l.precision) head.fraction ≡ false = lt-leb (fractions_of l.precision) head.fraction within in
     let back : nat_lt (stamp_at l head.seconds head.fraction + late) high ≡ false = le-ltb _ high in_time in
-    rw (long, whole, back) refl
+    rw (packet, long, whole, back) refl
 
 pub none_of : {A : Type 0} (b : Bool) (x : A) (o : Option A) → cond b (Some x) o ≡ None → (b ≡ false) × (o ≡ None)
 none_of true x o e = cc
@@ -137,16 +137,18 @@ none_of false x o e = (refl, e)
 
 -- nothing is wrong with the fields
 pub record IsFine (l : Layout) (late high : ℕ) (head : PacketHeader) : Type 0 where
+  pub no_file_header : is_file_header l head ≡ false
   pub few : head.captured_len ≤ MAX_SNAPLEN
   pub within : head.fraction < fractions_of l.precision
   pub in_time : high ≤ stamp_at l head.seconds head.fraction + late
 
 pub fine_from_none : (l : Layout) (late high : ℕ) (head : PacketHeader) → reason_at l late high head ≡ None → IsFine l late high head
 fine_from_none l late high head e =
-    let long = none_of _ _ _ e in
+    let packet = none_of _ _ _ e in
+    let long = none_of _ _ _ packet.1 in
     let whole = none_of _ _ _ long.1 in
     let back = none_of _ _ _ whole.1 in
-    record { few = ltb-false MAX_SNAPLEN head.captured_len long.0; within = leb-false (fractions_of l.precision) head.fraction whole.0; in_time = ltb-false _ high back.0 }
+    record { no_file_header = packet.0; few = ltb-false MAX_SNAPLEN head.captured_len long.0; within = leb-false (fractions_of l.precision) head.fraction whole.0; in_time = ltb-false _ high back.0 }
 
 pub fractions_fit : (p : Precision) (n : ℕ) → n < fractions_of p → n < 2 ^ 32
 fractions_fit Nanoseconds n h = omega arith
@@ -174,7 +176,7 @@ good_goes_on l most late n high r more good few =
     let more_read : nat_eq n most ≡ false = ne_eqb n most (λ e. absurd (omega (arith, few, e))) in
     let long : nat_lt (length rest) 16 ≡ false = le-ltb (length rest) 16 (omega (arith, size)) in
     let fine : reason_at l late high (header_fields l (take 16 rest)) ≡ None =
-    ap (reason_at l late high) head ∙ reason_none l late high (header_with r.seconds r.fraction (length r.bytes) r.original_len) good.few_bytes good.within_second good.in_time in
+    ap (reason_at l late high) head ∙ reason_none l late high (header_with r.seconds r.fraction (length r.bytes) r.original_len) good.no_file_header good.few_bytes good.within_second good.in_time in
     let whole : nat_lt (length rest - 16) (header_fields l (take 16 rest)).captured_len ≡ false =
     ap (λ (h : PacketHeader). nat_lt (length rest - 16) h.captured_len) head ∙ le-ltb (length rest - 16) (length r.bytes) (omega (arith, size)) in
     rw (some, more_read, long, fine, whole) refl

@@ -5,7 +5,7 @@ use Rattle.std.proofs.lemmas.Bool.{cases_lt, ltb-false, eqb-false}
 use Rattle.std.proofs.lemmas.List.{append_assoc, append_cancel_left, length-append, take_at, drop_at, take-append-drop, length-take-le, length-drop, length-take, get_or-take, get_or_past}
 use Rattle.afdx_frame.specs.Frame.{Frame}
 use Rattle.pcap_io.specs.Bytes.{IsBytes}
-use Rattle.pcap_io.specs.Recording.{Packet, IsGood, Parses, packet_bytes, stamp_of, high_after, frames_of, frame_of, header_fields, ending_after, ending_at, header_bytes}
+use Rattle.pcap_io.specs.Recording.{Packet, IsGood, Parses, packet_bytes, stamp_of, high_after, frames_of, frame_of, header_fields, is_file_header, ending_after, ending_at, header_bytes}
 use Rattle.pcap_io.proofs.PacketBytes.{good_goes_on, header-packet_bytes, header_with, length-packet_bytes, fractions_fit, fine_from_none, IsFine, header_bytes_read_back, number_fits, none_of, IsBytes-drop}
 use Rattle.pcap_io.specs.Position.{Holds, IsNext, Reads, TakesFrame, after_frame, after_item, ending_here}
 use Rattle.pcap_io.specs.declared.layout.Layout.{Layout}
@@ -166,6 +166,7 @@ goes_on l most late n high bytes fits e =
         seconds_fit = number_fits l.order head head_fits;
         original_len_fits = number_fits l.order (drop 12 head) (IsBytes-drop 12 head head_fits);
         within_second = stands.fine.within;
+        no_file_header = ap (λ (n : ℕ). is_file_header l (header_with fields.seconds fields.fraction n fields.original_len)) held ∙ stands.fine.no_file_header;
         in_time = stands.fine.in_time;
       };
       few = stands.few;

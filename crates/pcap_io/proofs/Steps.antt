@@ -8,7 +8,8 @@ use Rattle.afdx_frame.specs.Frame.{Frame, frame_with}
 use Rattle.pcap_io.specs.Block.{IsDrawFault}
 use Rattle.pcap_io.specs.Bytes.{IsBytes}
 use Rattle.pcap_io.specs.Device.{CountsFailure, TakesAtMost}
-use Rattle.pcap_io.specs.Recording.{header_bytes, header_fields, reason_at, stamp_at}
+use Rattle.pcap_io.specs.Layout.{fractions_of}
+use Rattle.pcap_io.specs.Recording.{header_bytes, header_fields, is_file_header, reason_at, stamp_at}
 use Rattle.pcap_io.specs.Position.{EndsShort, IsReadFault, IsStart, IsStartOf, LacksBytes, LacksMemory, StartLeaves, TakesFrame, TakesHeader, ending_here, frame_at}
 use Rattle.pcap_io.specs.declared.packet_header.PacketHeader.{PacketHeader}
 use Rattle.pcap_io.specs.declared.recording.BadReason.{BadReason}
@@ -18,7 +19,7 @@ use Rattle.pcap_io.specs.declared.position.Start.{Start}
 use Rattle.pcap_io.specs.declared.position.Start.TheVariants as starts
 use Rattle.pcap_io.specs.declared.item.ReadFault.{ReadFault}
 use Rattle.pcap_io.specs.declared.item.ReadFault.TheVariants as faults
-use Rattle.pcap_io.proofs.PacketBytes.{header_bytes_read_back, fine_from_none, number_fits, IsBytes-drop}
+use Rattle.pcap_io.proofs.PacketBytes.{header_bytes_read_back, header_with, fine_from_none, number_fits, IsBytes-drop}
 
 -- 16 bytes whose fields are wrong end the recording, whatever follows
 pub bad_at_head : (p : Position) (head more : List ℕ) (reason : BadReason) → length head ≡ 16 → p.count ≢ p.most
@@ -80,7 +81,7 @@ step_frame p before mid after head body f within t size gone same =
     let held : header_bytes p.layout h.seconds h.fraction (length body) h.original_len ≡ head = ap (λ (n : ℕ). header_bytes p.layout h.seconds h.fraction n h.original_len) size ∙ text in
     record {
       taken = record { seconds = h.seconds; fraction = h.fraction; original_len = h.original_len; bytes = body };
-      good = record { few_bytes = omega (arith, size, fine.few); seconds_fit = number_fits p.layout.order head t.are_bytes; original_len_fits = number_fits p.layout.order (drop 12 head) (IsBytes-drop 12 head t.are_bytes); within_second = fine.within; in_time = fine.in_time };
+      good = record { few_bytes = omega (arith, size, fine.few); seconds_fit = number_fits p.layout.order head t.are_bytes; original_len_fits = number_fits p.layout.order (drop 12 head) (IsBytes-drop 12 head t.are_bytes); within_second = fine.within; no_file_header = ap (λ (n : ℕ). is_file_header p.layout (header_with h.seconds h.fraction n h.original_len)) size ∙ fine.no_file_header; in_time = fine.in_time };
       bounded = omega (arith, t.bounded);
       same = same;
       gone = subst (λ (l : List ℕ). Consumes before after (l ++ body)) (sym held) (Consumes-trans before mid after head body t.gone gone);
@@ -119,6 +120,14 @@ start_leaves before after came (starts.End (Cut n)) end taken short = end short
 start_leaves before after came (starts.End (Bad n reason)) end taken short = taken
 
 -- ---- a packet whose header was read
+
+-- its fraction makes no second
+pub within_second : (p q : Position) (before mid : Option (List ℕ)) (fields : PacketHeader) → q ≡ p → IsStart p before mid (starts.Header fields)
+    → fields.fraction < fractions_of q.layout.precision
+within_second p q before mid fields stands (head, t, same) =
+    let fine = fine_from_none p.layout p.late p.high (header_fields p.layout head) t.fine in
+    subst (λ (x : Position). fields.fraction < fractions_of x.layout.precision) (sym stands)
+    (subst (λ (h : PacketHeader). h.fraction < fractions_of p.layout.precision) (sym same) fine.within)
 
 -- all of its bytes came
 pub frame_found : (p : Position) (before mid after : Option (List ℕ)) (fields : PacketHeader) (body : List ℕ) (f : Frame) → p.count ≤ p.most

@@ -1,11 +1,12 @@
 -- The bytes of a capture: a recording in nanoseconds, little-endian (pcap savefile format 2.4).
-use Rattle.std.specs.Prelude.{ℕ, ◌+◌, ◌/◌, ◌%◌, ◌^◌, ◌<◌, ◌≤◌, max, List, [], ◌∷◌, ◌++◌, length, take, flat_map, ⊤}
+use Rattle.std.specs.Prelude.{ℕ, ◌+◌, ◌/◌, ◌%◌, ◌^◌, ◌<◌, ◌≤◌, max, ◌≡◌, false, List, [], ◌∷◌, ◌++◌, length, take, flat_map, ⊤}
 use Rattle.afdx_frame.specs.Frame.{Frame, IsFrame, frame_with}
 use Rattle.afdx_frame.specs.declared.key.Network.{Network}
-use Rattle.pcap_io.specs.Recording.{header_bytes}
+use Rattle.pcap_io.specs.Recording.{header_bytes, is_file_header}
 use Rattle.pcap_io.specs.declared.layout.ByteOrder.TheVariants.{Little}
 use Rattle.pcap_io.specs.declared.layout.Precision.TheVariants.{Nanoseconds}
 use Rattle.pcap_io.specs.declared.layout.Layout.{Layout}
+use Rattle.pcap_io.specs.declared.packet_header.PacketHeader.{PacketHeader}
 
 abbrev pub capture_layout : Layout
 capture_layout = record { order = Little; precision = Nanoseconds }
@@ -19,6 +20,10 @@ capture_header =
 abbrev pub packet_header : Frame → ℕ → List ℕ
 packet_header f keep =
     header_bytes capture_layout (f.stamp / 1000000000) (f.stamp % 1000000000) keep f.whole
+
+-- the fields of this header
+abbrev pub kept_fields : Frame → ℕ → PacketHeader
+kept_fields f keep = record { seconds = f.stamp / 1000000000; fraction = f.stamp % 1000000000; captured_len = keep; original_len = f.whole }
 
 -- the packet of a frame of which `keep` bytes are kept
 unfoldable pub packet_text : Frame → ℕ → List ℕ
@@ -40,6 +45,7 @@ pub record IsCapturable (keep : Frame → ℕ) (high : ℕ) (f : Frame) : Type 0
   pub whole_fits : f.whole < 2 ^ 32
   pub within : keep f ≤ length f.bytes
   pub in_time : high ≤ f.stamp
+  pub no_file_header : is_file_header capture_layout (kept_fields f (keep f)) ≡ false
 
 -- each of these can follow those before it
 abbrev pub AreCapturable : (Frame → ℕ) → ℕ → List Frame → Type 0

@@ -49,6 +49,8 @@ reason_code reasons.StampRange = 10
 reason_code reasons.SeveralInterfaces = 11
 reason_code reasons.TooManyInterfaces = 12
 reason_code reasons.NoSuchInterface = 13
+reason_code reasons.FileHeader = 14
+reason_code reasons.NextFile = 15
 
 -- the reason of a code: an unknown one is a wrong fraction
 abbrev pub reason_of : ℕ → BadReason
@@ -66,6 +68,8 @@ reason_of code =
     else if code == 11 then reasons.SeveralInterfaces
     else if code == 12 then reasons.TooManyInterfaces
     else if code == 13 then reasons.NoSuchInterface
+    else if code == 14 then reasons.FileHeader
+    else if code == 15 then reasons.NextFile
     else reasons.Fraction
 
 -- what a fraction of a second or more tells

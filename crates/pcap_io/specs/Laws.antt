@@ -1,17 +1,20 @@
 -- After its header each recording parses in one way into good packets and a rest that ends it; a reader's calls give that parse;
 -- and the capture of frames is a recording that gives the frames back.
-use Rattle.std.specs.Prelude.{◌≡◌, ℕ, ◌≤◌, List, ◌++◌, length, drop, Option, Some, Ok, IfSome}
+use Rattle.std.specs.Prelude.{◌≡◌, ℕ, ◌≤◌, true, List, ◌++◌, length, drop, Option, Some, Ok, IfSome}
 use Rattle.afdx_frame.specs.Frame.{Frame}
 use Rattle.afdx_frame.specs.declared.key.Network.{Network}
 use Rattle.pcap_io.specs.Bytes.{IsBytes}
 use Rattle.pcap_io.specs.Capture.{AreCapturable, capture_frames, capture_layout, capture_of}
-use Rattle.pcap_io.specs.Layout.{header_of}
+use Rattle.pcap_io.specs.Layout.{bytes_in, header_of, is_pcap}
 use Rattle.pcap_io.specs.Position.{Holds, IsNext, Reads, start_at}
-use Rattle.pcap_io.specs.Recording.{Packet, Parses}
+use Rattle.pcap_io.specs.Recording.{Packet, Parses, header_fields, reason_at}
 use Rattle.pcap_io.specs.declared.item.Item.TheVariants as items
 use Rattle.pcap_io.specs.declared.layout.Layout.{Layout}
+use Rattle.pcap_io.specs.declared.layout.Precision.{Precision}
+use Rattle.pcap_io.specs.declared.layout.Precision.TheVariants.{Nanoseconds, Microseconds, Converted}
 use Rattle.pcap_io.specs.declared.layout.TheConstants.{FILE_HEADER_LEN}
 use Rattle.pcap_io.specs.declared.position.Position.{Position}
+use Rattle.pcap_io.specs.declared.recording.BadReason.TheVariants.{FileHeader}
 use Rattle.pcap_io.specs.declared.recording.Ending.{Ending}
 use Rattle.pcap_io.specs.declared.recording.Ending.TheVariants.{Clean}
 
@@ -39,6 +42,21 @@ abbrev pub ReadsPrefix : Type 0
 ReadsPrefix = (p q : Position) (bytes : List ℕ) (left : Option (List ℕ)) (frames all : List Frame) (ending : Ending)
     → Reads p (Some bytes) frames q left → Holds p bytes all ending
     → (others : List Frame) × (all ≡ frames ++ others) × IfSome left (λ rest. Holds q rest others ending)
+
+-- the magic number of a pcap file; one that was converted is none
+abbrev pub magic_of : Precision → ℕ
+magic_of Nanoseconds = 0xa1b23c4d
+magic_of Microseconds = 0xa1b2c3d4
+magic_of Converted = 0x70636e67
+
+-- what a pcap file begins with: its magic number, version 2.4, and the fields thiszone and sigfigs, which are 0
+abbrev pub file_start : Layout → List ℕ
+file_start file = bytes_in file.order 4 (magic_of file.precision) ++ (bytes_in file.order 2 2 ++ (bytes_in file.order 2 4 ++ bytes_in file.order 8 0))
+
+-- A reader of a pcap file is told where another one begins, of any byte order and precision.
+abbrev pub FileHeaderIsTold : Type 0
+FileHeaderIsTold = (file : Layout) (layout : Layout) (late high : ℕ) → is_pcap file.precision ≡ true → is_pcap layout.precision ≡ true
+    → reason_at layout late high (header_fields layout (file_start file)) ≡ Some FileHeader
 
 -- The capture of frames in time order is a recording of these frames, cut to what is kept, that ends clean.
 abbrev pub CaptureIsRead : Type 0

@@ -1,6 +1,6 @@
 -- The header of a recording (pcap savefile format 2.4): 24 bytes, of which the first four say in which order and how
 -- finely all numbers are written.
-use Rattle.std.specs.Prelude.{ℕ, ◌&&◌, List, length, take, drop, Option, Some, None, Result, Ok, Err, nat_lt, ◌==◌, if◌then◌else◌}
+use Rattle.std.specs.Prelude.{ℕ, Bool, true, false, ◌&&◌, List, length, take, drop, Option, Some, None, Result, Ok, Err, nat_lt, ◌==◌, if◌then◌else◌}
 use Rattle.byteorder.specs.Endian.{little_number, big_number, little_bytes, big_bytes}
 use Rattle.pcap_io.specs.Converted.{header_fault_of}
 use Rattle.pcap_io.specs.declared.layout.ByteOrder.{ByteOrder}
@@ -33,6 +33,12 @@ abbrev pub fractions_of : Precision → ℕ
 fractions_of Nanoseconds = 1000000000
 fractions_of Microseconds = 1000000
 fractions_of Converted = 1000000000
+
+-- it is a pcap file's own: nothing was converted
+abbrev pub is_pcap : Precision → Bool
+is_pcap Nanoseconds = true
+is_pcap Microseconds = true
+is_pcap Converted = false
 
 -- the layout that the magic number names, read with its most significant byte first
 abbrev pub layout_of_magic : ℕ → Option Layout

@@ -1,15 +1,15 @@
 -- What a recording holds (pcap savefile format 2.4): good packets, one after another, and then a rest that ends it.
-use Rattle.std.specs.Prelude.{◌≡◌, ℕ, ◌+◌, ◌-◌, ◌*◌, ◌^◌, ◌<◌, ◌≤◌, max, List, [], ◌∷◌, ◌++◌, length, take, drop, flat_map, Option, Some, None, nat_lt, nat_le, ◌==◌, if◌then◌else◌}
+use Rattle.std.specs.Prelude.{◌≡◌, ℕ, ◌+◌, ◌-◌, ◌*◌, ◌^◌, ◌<◌, ◌≤◌, max, Bool, false, ◌&&◌, ◌||◌, List, [], ◌∷◌, ◌++◌, length, take, drop, flat_map, Option, Some, None, nat_lt, nat_le, ◌==◌, if◌then◌else◌}
 use Rattle.afdx_frame.specs.Frame.{Frame, frame_with}
 use Rattle.afdx_frame.specs.declared.bounds.TheConstants.{MAX_SNAPLEN}
 use Rattle.afdx_frame.specs.declared.key.Network.{Network}
 use Rattle.pcap_io.specs.Converted.{fraction_reason}
-use Rattle.pcap_io.specs.Layout.{number_in, bytes_in, nanoseconds_of, fractions_of}
+use Rattle.pcap_io.specs.Layout.{number_in, bytes_in, nanoseconds_of, fractions_of, is_pcap}
 use Rattle.pcap_io.specs.declared.layout.Layout.{Layout}
 use Rattle.pcap_io.specs.declared.packet_header.PacketHeader.{PacketHeader}
 use Rattle.pcap_io.specs.declared.packet_header.TheConstants.{PACKET_HEADER_LEN}
 use Rattle.pcap_io.specs.declared.recording.BadReason.{BadReason}
-use Rattle.pcap_io.specs.declared.recording.BadReason.TheVariants.{Length, StampBack, TooMany}
+use Rattle.pcap_io.specs.declared.recording.BadReason.TheVariants.{FileHeader, Length, StampBack, TooMany}
 use Rattle.pcap_io.specs.declared.recording.Ending.{Ending}
 use Rattle.pcap_io.specs.declared.recording.Ending.TheVariants.{Clean, Cut, Bad}
 
@@ -49,6 +49,23 @@ abbrev pub frames_of : Network → Layout → ℕ → List Packet → List Frame
 frames_of network layout n [] = []
 frames_of network layout n (r ∷ rs) = frame_of network layout n r ∷ frames_of network layout (n + 1) rs
 
+-- The seconds and the fraction that the first eight bytes of a pcap file make, where they are read as a packet's: a magic number of
+-- microseconds or of nanoseconds, and then version 2.4, in the order of the bytes that they are read in or in the other one.
+abbrev pub is_file_start : ℕ → ℕ → Bool
+is_file_start seconds fraction =
+    ((seconds == 0xa1b2c3d4 || seconds == 0xa1b23c4d) && (fraction == 0x00020004 || fraction == 0x00040002))
+    || ((seconds == 0xd4c3b2a1 || seconds == 0x4d3cb2a1) && (fraction == 0x02000400 || fraction == 0x04000200))
+
+-- A pcap file's header stands where a packet's should, with its fields thiszone and sigfigs at 0. A recording that was converted holds none
+-- (this project's rule).
+abbrev pub is_file_header : Layout → PacketHeader → Bool
+is_file_header layout head =
+    is_pcap layout.precision && (head.captured_len == 0 && (head.original_len == 0 && is_file_start head.seconds head.fraction))
+
+-- the fields of a packet's header
+abbrev pub fields_of : Packet → PacketHeader
+fields_of r = record { seconds = r.seconds; fraction = r.fraction; captured_len = length r.bytes; original_len = r.original_len }
+
 -- A packet that may follow others whose greatest timestamp is `high`, 0 where there are none. A timestamp may come late, by no more than
 -- `late` nanoseconds.
 pub record IsGood (layout : Layout) (late high : ℕ) (r : Packet) : Type 0 where
@@ -56,6 +73,7 @@ pub record IsGood (layout : Layout) (late high : ℕ) (r : Packet) : Type 0 wher
   pub seconds_fit : r.seconds < 2 ^ 32
   pub original_len_fits : r.original_len < 2 ^ 32
   pub within_second : r.fraction < fractions_of layout.precision
+  pub no_file_header : is_file_header layout (fields_of r) ≡ false
   pub in_time : high ≤ stamp_of layout r + late
 
 -- the greatest timestamp, with those of more packets
@@ -80,7 +98,8 @@ header_fields layout bytes = record {
 -- what is wrong with a header: the first reason that fits
 abbrev pub reason_at : Layout → ℕ → ℕ → PacketHeader → Option BadReason
 reason_at layout late high head =
-    if nat_lt MAX_SNAPLEN head.captured_len then Some Length
+    if is_file_header layout head then Some FileHeader
+    else if nat_lt MAX_SNAPLEN head.captured_len then Some Length
     else if nat_le (fractions_of layout.precision) head.fraction then Some (fraction_reason layout.precision head.fraction)
     else if nat_lt (stamp_at layout head.seconds head.fraction + late) high then Some StampBack
     else None

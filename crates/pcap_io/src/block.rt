@@ -392,6 +392,13 @@ impl<S: TapSource> BlockSource<S> {
         &self.bytes()[start..end]
     }
 
+    /// The source, from which more may have been read than was drawn.
+    pub fn source(&self) -> &S
+        ensures { result.now ≡ block_source self.now }
+    {
+        &self.source
+    }
+
     /// The source. What was read ahead is lost.
     pub fn into_source(self) -> S
         ensures { result ≡ block_source self }

@@ -52,7 +52,7 @@ impl BadReason {
     /// Its code, which a converted recording adds to the nanoseconds of a second.
     pub fn code(self) -> u32
         ensures value { result ≡ reason_code self }
-        ensures bound { result ≤ 13 }
+        ensures bound { result ≤ 15 }
         ensures back { reason_of result ≡ self }
     {
         match self {
@@ -70,6 +70,8 @@ impl BadReason {
             BadReason::SeveralInterfaces => 11,
             BadReason::TooManyInterfaces => 12,
             BadReason::NoSuchInterface => 13,
+            BadReason::FileHeader => 14,
+            BadReason::NextFile => 15,
         }
     }
 
@@ -91,6 +93,8 @@ impl BadReason {
             11 => BadReason::SeveralInterfaces,
             12 => BadReason::TooManyInterfaces,
             13 => BadReason::NoSuchInterface,
+            14 => BadReason::FileHeader,
+            15 => BadReason::NextFile,
             _ => BadReason::Fraction,
         }
     }

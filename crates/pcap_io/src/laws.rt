@@ -1,5 +1,5 @@
 //! Laws of recordings, which hold of the definitions alone.
-ghost use Rattle.pcap_io.specs.Laws.{CaptureIsRead, EveryRecordingParses, HoldsOne, OneParse, ReadsPrefix, ReadsToEnd};
+ghost use Rattle.pcap_io.specs.Laws.{CaptureIsRead, EveryRecordingParses, FileHeaderIsTold, HoldsOne, OneParse, ReadsPrefix, ReadsToEnd};
 
 /// The bytes after a file header parse into good packets, and a rest that ends the recording.
 pub fn every_recording_parses()
@@ -17,6 +17,11 @@ pub fn one_parse()
 pub fn reading_gives_the_parse()
     ensures all { ReadsToEnd }
     ensures prefix { ReadsPrefix }
+{}
+
+/// Where another pcap file's header stands in a packet's place, a reader says so.
+pub fn file_header_is_told()
+    ensures { FileHeaderIsTold }
 {}
 
 /// A capture of frames in time order is a recording of these frames, with the bytes that were kept of

@@ -24,8 +24,8 @@
 //! - [`TapSource`] and [`OutSink`], the devices: [`ReadSource`] and [`WriteSink`] over the readers and
 //!   writers of std, [`MemSource`] and [`MemSink`] over memory, which fail as a [`Script`] says.
 //! - Laws: each recording parses in one way ([`every_recording_parses`], [`one_parse`]), a reader's
-//!   calls give that parse ([`reading_gives_the_parse`]), and a capture gives its frames back
-//!   ([`capture_is_read`]).
+//!   calls give that parse ([`reading_gives_the_parse`]), they tell where another file begins
+//!   ([`file_header_is_told`]), and a capture gives its frames back ([`capture_is_read`]).
 #![tactic(auto)]
 
 mod block;
@@ -47,14 +47,18 @@ mod transfer;
 mod write_sink;
 mod writer;
 
+pub use block::BlockSource;
 pub use converted::CONVERTED_MAGIC;
 pub use device::{DeviceFault, OutSink, TapSource};
 pub use item::{Found, Item, ReadFault};
-pub use laws::{capture_is_read, every_recording_parses, one_parse, reading_gives_the_parse};
-pub use layout::{ByteOrder, HeaderFault, read_u16, read_u32};
+pub use laws::{
+    capture_is_read, every_recording_parses, file_header_is_told, one_parse,
+    reading_gives_the_parse,
+};
+pub use layout::{ByteOrder, HeaderFault, Layout, Precision, layout_of, read_u16, read_u32};
 pub use mem_sink::MemSink;
 pub use mem_source::MemSource;
-pub use packet_header::MAX_PACKET_LEN;
+pub use packet_header::{MAX_PACKET_LEN, PacketHeader};
 pub use read_source::ReadSource;
 pub use reader::{OpenFault, OpenRefused, TapReader};
 pub use recording::{BadReason, Ending};

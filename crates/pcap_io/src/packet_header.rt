@@ -1,7 +1,7 @@
 //! The 16 bytes before the captured bytes of each frame: how they are read, and what may be wrong.
 ghost use Rattle.std.specs.Prelude.{◌≡◌, ◌<◌, ◌*◌, ◌^◌, length};
 ghost use Rattle.pcap_io.specs.Layout.{fractions_of};
-ghost use Rattle.pcap_io.specs.Recording.{header_fields, stamp_at, reason_at};
+ghost use Rattle.pcap_io.specs.Recording.{header_fields, is_file_header, is_file_start, stamp_at, reason_at};
 
 use crate::layout::{Layout, Precision, read_u32};
 use crate::recording::BadReason;
@@ -56,6 +56,34 @@ impl PacketHeader {
         u64::from(self.seconds) * 1_000_000_000 + u64::from(self.fraction) * unit
     }
 
+    /// Whether its first two fields are the first eight bytes of a pcap file: a magic number of
+    /// microseconds or of nanoseconds, and version 2.4, in the reader's byte order or in the other.
+    #[cold]
+    #[inline(never)]
+    fn is_file_start(&self) -> bool
+        ensures { result ≡ is_file_start self.now.seconds self.now.fraction }
+    {
+        match self.seconds {
+            0xa1b2_c3d4 | 0xa1b2_3c4d => self.fraction == 0x0002_0004
+                || self.fraction == 0x0004_0002,
+            0xd4c3_b2a1 | 0x4d3c_b2a1 => self.fraction == 0x0200_0400
+                || self.fraction == 0x0400_0200,
+            _ => false,
+        }
+    }
+
+    /// Whether a pcap file's header stands here, with its fields `thiszone` and `sigfigs` at 0. What
+    /// was converted holds none.
+    #[inline(always)]
+    fn is_file_header(&self, layout: Layout) -> bool
+        ensures { result ≡ is_file_header layout self.now }
+    {
+        self.captured_len == 0
+            && self.original_len == 0
+            && layout.precision != Precision::Converted
+            && self.is_file_start()
+    }
+
     /// What is wrong with the header after packets whose greatest timestamp is `high`, where a timestamp may
     /// come `late` nanoseconds late: the first reason that fits.
     #[inline(always)]
@@ -66,7 +94,9 @@ impl PacketHeader {
             Precision::Nanoseconds | Precision::Converted => 1_000_000_000,
             Precision::Microseconds => 1_000_000,
         };
-        if self.captured_len as usize > MAX_SNAPLEN {
+        if self.is_file_header(layout) {
+            Some(BadReason::FileHeader)
+        } else if self.captured_len as usize > MAX_SNAPLEN {
             Some(BadReason::Length)
         } else if self.fraction >= fractions {
             Some(BadReason::of_fraction(layout.precision, self.fraction))

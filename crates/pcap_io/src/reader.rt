@@ -365,6 +365,13 @@ impl<S: TapSource> TapReader<S> {
         header.captured_len as usize <= unread.len() - PACKET_HEADER_LEN
     }
 
+    /// The source, which stands after what was read ahead.
+    pub fn source(&self) -> &S
+        ensures { result.now ≡ source_of self.now }
+    {
+        self.input.source()
+    }
+
     /// The source. What was read ahead of the reader's position is lost, at most
     /// [`MAX_SNAPLEN`](afdx_frame::MAX_SNAPLEN) bytes.
     pub fn into_source(self) -> S

@@ -33,6 +33,10 @@ pub enum BadReason {
     TooManyInterfaces,
     /// The chosen interface was never described.
     NoSuchInterface,
+    /// A pcap file's header stands where a packet's should: two files were put together.
+    FileHeader,
+    /// The next file of a recording in several has no header that is read.
+    NextFile,
 }
 
 /// How a recording ends. The number is that of the frames before the ending.

@@ -234,13 +234,13 @@ good_from : (late high : ℕ) (ps : List Packet) → AllFit ps → AreInTime lat
 unfolding Fits AllFit
 good_from late high [] a b = tt
 good_from late high (p ∷ ps) a b = (
-  record { few_bytes = a.0.0; seconds_fit = a.0.1; original_len_fits = a.0.2; within_second = a.0.3; in_time = b.0 },
+  record { few_bytes = a.0.0; seconds_fit = a.0.1; original_len_fits = a.0.2; within_second = a.0.3; no_file_header = refl; in_time = b.0 },
   good_from late (max high (recording.stamp_of converted_layout p)) ps a.1 b.1,
 )
 
 -- ---- the ending
 
-bad-ends : (most late n high : ℕ) (reason : BadReason) → n < most → ending_at converted_layout most late n high (reason_bytes reason) ≡ Some (Bad n reason)
+pub bad-ends : (most late n high : ℕ) (reason : BadReason) → n < most → ending_at converted_layout most late n high (reason_bytes reason) ≡ Some (Bad n reason)
 bad-ends most late n high reasons.Fraction few = rw (ne_eqb n most (λ same. omega (arith, same, few))) refl
 bad-ends most late n high reasons.Length few = rw (ne_eqb n most (λ same. omega (arith, same, few))) refl
 bad-ends most late n high reasons.StampBack few = rw (ne_eqb n most (λ same. omega (arith, same, few))) refl
@@ -255,6 +255,8 @@ bad-ends most late n high reasons.StampRange few = rw (ne_eqb n most (λ same. o
 bad-ends most late n high reasons.SeveralInterfaces few = rw (ne_eqb n most (λ same. omega (arith, same, few))) refl
 bad-ends most late n high reasons.TooManyInterfaces few = rw (ne_eqb n most (λ same. omega (arith, same, few))) refl
 bad-ends most late n high reasons.NoSuchInterface few = rw (ne_eqb n most (λ same. omega (arith, same, few))) refl
+bad-ends most late n high reasons.FileHeader few = rw (ne_eqb n most (λ same. omega (arith, same, few))) refl
+bad-ends most late n high reasons.NextFile few = rw (ne_eqb n most (λ same. omega (arith, same, few))) refl
 
 end-ends : (b : Bool) (most late n high : ℕ) → n < most
     → ending_at converted_layout most late n high (ending_bytes (if b then Clean n else Bad n reasons.NoSuchInterface)) ≡ Some (if b then Clean n else Bad n reasons.NoSuchInterface)
@@ -296,7 +298,7 @@ file_parses k bytes most late packets fits e readable =
       ends = ap (λ (m : ℕ). ending_at converted_layout most late m high (ending_bytes ending)) (sym zero_n) ∙ blocks-end blocks k most late n high readable.1;
     }
 
-fault-told : (fault : HeaderFault) → header_of (file_header_bytes (Some fault)) ≡ Err fault
+pub fault-told : (fault : HeaderFault) → header_of (file_header_bytes (Some fault)) ≡ Err fault
 fault-told headers.Short = refl
 fault-told headers.Magic = refl
 fault-told headers.Version = refl

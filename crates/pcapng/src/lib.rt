@@ -32,3 +32,4 @@ pub use interface::{Interface, Offset, Resolution};
 pub use laws::{block_is_read_first, bounds_are_documented, file_is_read, header_fault_is_told};
 pub use section::MAX_INTERFACES;
 pub use source::{RecordingSource, Refused};
+pub use text::{FILE_HEADER_LEN, PACKET_HEADER_LEN, file_header, packet_header, reason_header};

@@ -14,3 +14,5 @@ mod pcapng_files;
 mod recording;
 #[cfg(test)]
 mod rings;
+#[cfg(test)]
+mod several;

@@ -1,16 +1,18 @@
 //! What to look at first: sentences of fixed forms in a fixed order.
 
+use crate::comparison::push_change;
 use crate::gaps::{
     end_of, gap_of, is_lower_bound, is_told, missing_between, silent_on_both, stop_of,
 };
-use crate::head::{first_of, has_strip, pair, push_name, push_place};
+use crate::head::{drift_parts, first_of, has_strip, pair, push_name, push_place};
 use crate::numbers::share;
-use crate::ranks::{Level, is_never_on, level_mark};
+use crate::ranks::{Level, Rank, is_never_on, level_mark};
 use crate::tiles::{is_clean, push_ending};
 use crate::view::{NETWORKS, SENTENCES, View, counts_of, letter_of, other, sum};
 use crate::writer::{Page, Part, seconds};
 use afdx_frame::{Network, VlId};
-use ledger_report::{Interval, LinkReport, Place, STOPPED_LINES, Sign, Silence};
+use ledger_report::{Interval, LinkReport, Place, Report, STOPPED_LINES, Sign, Silence};
+use report_comparison::{Count, Worse, is_new_outside};
 
 /// The sentences so far.
 #[derive(Drop)]
@@ -91,6 +93,22 @@ impl Findings<'_> {
                 );
                 self.end();
             }
+        }
+    }
+
+    /// That the clocks of the taps drift.
+    fn drift(&mut self, view: &View<'_>) {
+        let Some(drift) = view.drift else {
+            return;
+        };
+        if self.begin(Level::Trouble) {
+            self.page.fill(
+                "<b>The clocks of the taps drift</b>: that of @ is about @ ppm faster, say @ of @ links. \
+                 Synchronise them (PTP), or judge short parts: \
+                 cut the recordings with editcap -F nsecpcap -i",
+                &drift_parts(drift),
+            );
+            self.end();
         }
     }
 
@@ -199,7 +217,7 @@ impl Findings<'_> {
             let Some((report, link)) = view.link(rank.index) else {
                 continue;
             };
-            if !which.holds(view, report, rank.level) {
+            if !which.holds(view, report, rank) {
                 continue;
             }
             if named == 0 && !self.begin(level) {
@@ -208,7 +226,7 @@ impl Findings<'_> {
             if named < NAMED {
                 self.before_name(about, named);
                 push_name(self.page, link, has_strip(view, rank, at));
-                which.push_about(self.page, view, report);
+                which.push_about(self.page, view, report, rank);
             }
             named = named.saturating_add(1);
         }
@@ -227,6 +245,41 @@ impl Findings<'_> {
             self.page.fill("<b>@:</b> ", &[Part::Text(about)]);
         } else {
             self.page.text("; ");
+        }
+    }
+
+    /// What got worse since the baseline, if there is one.
+    fn worse(&mut self, view: &View<'_>) {
+        if let Some(baseline) = view.baseline {
+            for (level, about, which) in SENTENCES_ON_WORSE {
+                self.links(view, level, about, which);
+            }
+            self.new_outside(view, baseline);
+        }
+    }
+
+    /// Links outside the table that the baseline doesn't have.
+    fn new_outside(&mut self, view: &View<'_>, baseline: &Report) {
+        let mut named = 0usize;
+        for id in 0..=u16::MAX {
+            if !is_new_outside(view.report, baseline, VlId(id)) {
+                continue;
+            }
+            if named == 0 {
+                if !self.begin(Level::Notice) {
+                    return;
+                }
+                self.page
+                    .text("<b>New since the baseline, outside the table:</b> ");
+            }
+            if named < NAMED {
+                self.page.fill("link @; ", &[Part::Number(u64::from(id))]);
+            }
+            named = named.saturating_add(1);
+        }
+        if named > 0 {
+            self.page.fill("@ in all", &[Part::Number(named as u64)]);
+            self.end();
         }
     }
 
@@ -296,6 +349,7 @@ enum Which {
     Silent,
     Gap,
     Ends,
+    Worse(Worse),
 }
 
 /// Appends a time of a link without a delivery, beside what is usual.
@@ -322,7 +376,7 @@ fn push_signs(page: &mut Page, report: &LinkReport, sign: Sign) {
 }
 
 impl Which {
-    fn holds(self, view: &View<'_>, report: &LinkReport, level: Level) -> bool {
+    fn holds(self, view: &View<'_>, report: &LinkReport, rank: &Rank) -> bool {
         match self {
             Which::NeverOn(network) => is_never_on(view.report, report, network),
             Which::StoppedOn(network) => match report.stopped {
@@ -335,14 +389,18 @@ impl Which {
             },
             Which::Has(sign) => sum(&counts_of(report, sign)) > 0,
             Which::LostOnBoth => report.lost_both > 0,
-            Which::Silent => level == Level::Silent,
+            Which::Silent => rank.level == Level::Silent,
             Which::Gap => gap_of(report).is_some(),
             Which::Ends => stop_of(view.report, report).is_some(),
+            Which::Worse(how) => match view.compared(rank.index) {
+                Some(link) => link.is_worse(how),
+                None => false,
+            },
         }
     }
 
     /// Appends what is said of a link beside its name.
-    fn push_about(self, page: &mut Page, view: &View<'_>, report: &LinkReport) {
+    fn push_about(self, page: &mut Page, view: &View<'_>, report: &LinkReport, rank: &Rank) {
         match self {
             Which::NeverOn(network) => {
                 let frames = Part::Grouped(report.lanes.of(other(network)).frames);
@@ -370,6 +428,11 @@ impl Which {
             Which::Ends => {
                 if let Some(stop) = stop_of(view.report, report) {
                     push_gap(page, view, report, stop);
+                }
+            }
+            Which::Worse(how) => {
+                if let Some(link) = view.compared(rank.index) {
+                    push_change(page, &link, how);
                 }
             }
         }
@@ -442,6 +505,70 @@ const SENTENCES_ON_LINKS: [(Level, &str, Which); 14] = [
     (Level::Silent, "In the table, never seen", Which::Silent),
 ];
 
+/// The sentences on links that got worse since the baseline, in their order.
+const SENTENCES_ON_WORSE: [(Level, &str, Which); 12] = [
+    (
+        Level::Trouble,
+        "Lost its copies since the baseline",
+        Which::Worse(Worse::LostCopies),
+    ),
+    (
+        Level::Notice,
+        "New since the baseline",
+        Which::Worse(Worse::New),
+    ),
+    (
+        Level::Trouble,
+        "Silent since the baseline",
+        Which::Worse(Worse::Silent),
+    ),
+    (
+        Level::Trouble,
+        "More missing on both networks (lost) than in the baseline",
+        Which::Worse(Worse::Grew(Count::LostBoth)),
+    ),
+    (
+        Level::Trouble,
+        "More excess than in the baseline",
+        Which::Worse(Worse::Grew(Count::Excess)),
+    ),
+    (
+        Level::Trouble,
+        "More toolong than in the baseline",
+        Which::Worse(Worse::Grew(Count::TooLong)),
+    ),
+    (
+        Level::Trouble,
+        "More late than in the baseline",
+        Which::Worse(Worse::Grew(Count::Late)),
+    ),
+    (
+        Level::Trouble,
+        "More lost than in the baseline",
+        Which::Worse(Worse::Grew(Count::Lost)),
+    ),
+    (
+        Level::Trouble,
+        "More out than in the baseline",
+        Which::Worse(Worse::Grew(Count::Out)),
+    ),
+    (
+        Level::Trouble,
+        "More alone than in the baseline",
+        Which::Worse(Worse::Grew(Count::Alone)),
+    ),
+    (
+        Level::Trouble,
+        "More repeat than in the baseline",
+        Which::Worse(Worse::Grew(Count::Repeat)),
+    ),
+    (
+        Level::Notice,
+        "More reset than in the baseline",
+        Which::Worse(Worse::Grew(Count::Reset)),
+    ),
+];
+
 /// The reasons that lie in the inputs, where more than half of all frames have them.
 const CAUSES: [(Sign, &str); 2] = [
     (
@@ -465,9 +592,11 @@ const SENTENCES_ON_CLASSES: [(Sign, &str); 4] = [
 /// Appends the sentences, and says how many there are.
 pub fn push_findings(page: &mut Page, view: &View<'_>) -> usize {
     let mut found = Findings { page, count: 0 };
+    found.worse(view);
     found.endings(view);
     found.causes(view);
     found.doubles(view);
+    found.drift(view);
     found.silences(view);
     found.ends(view);
     for (level, about, which) in SENTENCES_ON_LINKS {

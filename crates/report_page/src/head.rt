@@ -1,11 +1,13 @@
 //! The head of the page, and parts of sentences that several sections share.
 
+use crate::drift::Drift;
 use crate::provenance::push_run;
 use crate::ranks::{LEVELS, Level, Rank, count_of};
 use crate::view::{STRIPS, View, letter_of};
 use crate::writer::{Page, Part, seconds};
 use afdx_frame::Network;
-use ledger_report::{LinkReport, Place, Sides, Sign};
+use ledger_report::{LinkReport, Place, Report, Sides, Sign};
+use ledger_text::LedgerStop;
 use run_manifest::Manifest;
 use vl_config::Link;
 
@@ -80,13 +82,44 @@ recorded &#183; pairs of numbers are \
 <span class=\"a\">A</span><i>/</i><span class=\"b\">B</span> &#183; #n is the frame's \
 number in that recording, from 0</p></header>";
 
+/// When the recording begins.
+pub fn start_of(report: &Report) -> Part<'static> {
+    if report.counts.all().frames == 0 {
+        Part::Text("no frames")
+    } else {
+        Part::Utc(report.start)
+    }
+}
+
+/// Whose clock is faster, by how many parts in a million, and how many links say so.
+pub fn drift_parts(drift: Drift) -> [Part<'static>; 4] {
+    [
+        Part::Text(letter_of(drift.faster)),
+        Part::Tenths(drift.parts / 100_000),
+        Part::Number(drift.links),
+        Part::Number(drift.of),
+    ]
+}
+
+/// Appends where a ledger ends that isn't whole.
+pub fn push_stop(page: &mut Page, stop: LedgerStop) {
+    let lines = Part::Number(stop.lines);
+    page.text("The ledger isn't whole: its run was stopped, or goes on. ");
+    if stop.within_line {
+        let next = Part::Number(stop.lines.saturating_add(1));
+        page.fill("It ends within line @; whole lines: @. ", &[next, lines]);
+    } else {
+        page.fill("It ends without its total; whole lines: @. ", &[lines]);
+    }
+}
+
 /// Appends the head.
 pub fn push_head(page: &mut Page, view: &View<'_>, manifest: Option<&Manifest>) {
     let report = view.report;
     page.fill(
         "<header><h1>AFDX recording</h1><p>@ <b>t = 0</b> &#183; @ &#183; @ links &#183; ledger version 2",
         &[
-            Part::Utc(report.start),
+            start_of(report),
             Part::Duration(report.end.saturating_sub(report.start)),
             Part::Grouped(report.links.len() as u64),
         ],

@@ -1,5 +1,8 @@
 //! The report as JSON.
 
+mod baseline;
+
+use self::baseline::{JsonBaseline, baseline_if};
 use crate::gaps::{gap_of, missing_in_silences, stop_of};
 use crate::ranks::{level_of, level_word, open_signs, signs_of};
 use crate::view::{letter_of, text, word_of};
@@ -165,9 +168,24 @@ struct JsonOutside {
 }
 
 #[derive(Drop, Serialize)]
+struct JsonStopped {
+    lines: u64,
+    within_line: bool,
+}
+
+fn stopped_of(report: &Report) -> Option<JsonStopped> {
+    let stop = report.stop?;
+    Some(JsonStopped {
+        lines: stop.lines,
+        within_line: stop.within_line,
+    })
+}
+
+#[derive(Drop, Serialize)]
 struct JsonReport<'a> {
     version: u8,
     whole: bool,
+    stopped: Option<JsonStopped>,
     sizes: bool,
     start: Option<String>,
     end: Option<String>,
@@ -179,6 +197,8 @@ struct JsonReport<'a> {
     links: Vec<JsonLink<'a>>,
     outside: Vec<JsonOutside>,
     manifest: Option<&'a Manifest>,
+    #[serde(skip_serializing_if = "Option::is_none")]
+    baseline: Option<JsonBaseline<'a>>,
 }
 
 fn stamp_of(alloc: Global, stamp: u64) -> Result<String, AllocError> {
@@ -486,6 +506,7 @@ fn report_of<'a>(
     config: &'a Config,
     sizes: bool,
     manifest: Option<&'a Manifest>,
+    baseline: Option<&Report>,
 ) -> Result<JsonReport<'a>, AllocError> {
     let some = report.counts.all().frames > 0;
     let filters = config.filters().len().saturating_add(1);
@@ -496,6 +517,7 @@ fn report_of<'a>(
     Ok(JsonReport {
         version: 1,
         whole: report.whole,
+        stopped: stopped_of(report),
         sizes,
         start: stamp_if(alloc, some, report.start)?,
         end: stamp_if(alloc, some, report.end)?,
@@ -507,10 +529,12 @@ fn report_of<'a>(
         links: links_of(alloc, report, config, sizes)?,
         outside: outside_of(alloc, report)?,
         manifest,
+        baseline: baseline_if(alloc, report, config, baseline)?,
     })
 }
 
-/// The report's numbers as one JSON object, with the manifest of the ledger's run, if it is known. Timestamps
+/// The report's numbers as one JSON object, with the manifest of the ledger's run, if it is known, and beside
+/// those of a baseline, the report of an earlier flight against the same table, if there is one. Timestamps
 /// are decimal strings.
 ///
 /// # Errors
@@ -522,7 +546,8 @@ pub fn json_of(
     config: &Config,
     sizes: bool,
     manifest: Option<&Manifest>,
+    baseline: Option<&Report>,
 ) -> Result<String, Error> {
-    let json = report_of(alloc, report, config, sizes, manifest)?;
+    let json = report_of(alloc, report, config, sizes, manifest, baseline)?;
     serde_json::to_string(alloc, &json)
 }

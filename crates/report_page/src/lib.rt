@@ -4,9 +4,13 @@
 //! - [`summary_of`]: at most [`SUMMARY_LINES`] lines: what to look at first.
 //! - [`has_sizes`]: whether the ledger tells the sizes of frames.
 //! - [`json_of`]: the same numbers as one JSON object; docs/REPORT.md has its members.
+//!
+//! Each takes the report of an earlier flight, a baseline, and then tells what got worse.
 #![tactic(auto)]
 
 mod charts;
+mod comparison;
+mod drift;
 mod findings;
 mod gaps;
 mod head;

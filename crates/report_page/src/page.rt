@@ -1,7 +1,8 @@
 //! The page.
 
+use crate::comparison::push_comparison;
 use crate::findings::push_findings;
-use crate::head::{level_counts, push_head};
+use crate::head::{level_counts, push_head, push_stop, start_of};
 use crate::legend::push_legend;
 use crate::provenance::tie_of;
 use crate::ranks::ranks_of;
@@ -35,14 +36,15 @@ No filter of the table takes every frame whole, so the ledger doesn't tell sizes
 
 const SIZES: &str = "Sizes are those kept by a filter of the table that takes every frame whole. ";
 
-/// What the page says of a ledger that is whole, and of one that isn't.
+/// What the page says of a ledger that is whole.
 const WHOLE: &str = "The lines of counts agree with the lines of frames. ";
 
-const NOT_WHOLE: &str = "The ledger has no total line: it is not whole. ";
+/// The foot of every page, from the facts of its ledger on.
+const FOOT: &str = "<footer><p>@";
 
 /// The end of every page.
 const END: &str = "\
-<footer><p>@@@Numbers count to 255 and go on with 1: in a gap of more than 127 numbers lost is a lower bound. \
+@Numbers count to 255 and go on with 1: in a gap of more than 127 numbers lost is a lower bound. \
 This page has no script and fetches nothing.</p></footer></body></html>\n";
 
 fn push_first_things(page: &mut Page, view: &View<'_>) {
@@ -70,29 +72,30 @@ fn push_links(page: &mut Page, view: &View<'_>) -> Result<(), AllocError> {
 }
 
 fn push_foot(page: &mut Page, view: &View<'_>, manifest: Option<&Manifest>) {
-    let whole = if view.report.whole { WHOLE } else { NOT_WHOLE };
+    page.fill(FOOT, &[Part::Text(tie_of(manifest))]);
+    match view.report.stop {
+        None => page.text(WHOLE),
+        Some(stop) => push_stop(page, stop),
+    }
     let sizes = if view.sizes { SIZES } else { NO_SIZES };
-    let tie = tie_of(manifest);
-    page.fill(
-        END,
-        &[Part::Text(tie), Part::Text(whole), Part::Text(sizes)],
-    );
+    page.fill(END, &[Part::Text(sizes)]);
 }
 
 /// The page of a report against its table. `sizes` says whether a filter of the table takes every frame
 /// whole, so that the bytes kept are those of the frames. The manifest is that of the ledger's run, if it is
-/// known.
+/// known. The baseline is the report of an earlier flight against the same table, if there is one.
 pub fn page_of(
     alloc: Global,
     report: &Report,
     config: &Config,
     sizes: bool,
     manifest: Option<&Manifest>,
+    baseline: Option<&Report>,
 ) -> Result<String, AllocError> {
     let ranks = ranks_of(alloc, report)?;
-    let view = View::new(alloc, report, config, sizes, ranks);
+    let view = View::new(alloc, report, config, sizes, ranks, baseline)?;
     let mut page = Page::new(alloc);
-    page.fill(BEGIN, &[Part::Utc(report.start)]);
+    page.fill(BEGIN, &[start_of(report)]);
     page.text(STYLE);
     page.text("</style></head><body>");
     push_head(&mut page, &view, manifest);
@@ -100,6 +103,7 @@ pub fn page_of(
     push_first_things(&mut page, &view);
     push_timeline(&mut page, &view)?;
     push_links(&mut page, &view)?;
+    push_comparison(&mut page, &view);
     push_legend(&mut page);
     push_foot(&mut page, &view, manifest);
     page.into_text()

@@ -1,19 +1,23 @@
 //! The first part of the report as lines for a terminal.
 
+use crate::comparison::{count_word, worse_word};
 use crate::gaps::{end_of, gap_of, is_told, silent_on_both, stop_of};
-use crate::head::level_counts;
+use crate::head::{drift_parts, level_counts, push_stop};
 use crate::ranks::{Level, Rank, frames_of, level_word, ranks_of};
 use crate::view::{NETWORKS, View, counts_of, letter_of, sum};
 use crate::writer::{Page, Part, seconds};
 use afdx_frame::Network;
 use ledger_report::{Interval, LinkReport, Report, Sign};
+use report_comparison::{LinkComparison, WORSE, Worse};
 use std::alloc::{AllocError, Global};
 use vl_config::{Config, Link};
 
-/// The most lines.
+/// The most lines, without those on what got worse since a baseline.
 pub const SUMMARY_LINES: usize = 24;
 /// How many of them are links.
-const LINKS: usize = 14;
+const LINKS: usize = 13;
+/// How many links that got worse since a baseline have a line.
+const WORSE_LINKS: usize = 14;
 /// How many are silences, on each network.
 const SILENCES: usize = 2;
 
@@ -39,8 +43,18 @@ fn push_head(page: &mut Page, view: &View<'_>) {
             clean,
         ],
     );
-    if !view.report.whole {
-        page.text("the ledger is not whole: it has no line total\n");
+    if let Some(stop) = view.report.stop {
+        push_stop(page, stop);
+        page.text("\n");
+    }
+}
+
+fn push_drift(page: &mut Page, view: &View<'_>) {
+    if let Some(drift) = view.drift {
+        page.fill(
+            "the clocks of the taps drift: that of @ is about @ ppm faster, say @ of @ links\n",
+            &drift_parts(drift),
+        );
     }
 }
 
@@ -125,12 +139,93 @@ fn push_link(page: &mut Page, view: &View<'_>, rank: &Rank, report: &LinkReport,
     page.text("\n");
 }
 
-/// The first part of a report as text: at most [`SUMMARY_LINES`] lines.
-pub fn summary_of(alloc: Global, report: &Report, config: &Config) -> Result<String, AllocError> {
+/// Appends frames by second today and in the baseline.
+fn push_rates(page: &mut Page, link: &LinkComparison) {
+    for (word, numbers) in [("frames/s", link.today), ("baseline", link.baseline)] {
+        let rate = match numbers {
+            Some(numbers) => numbers.rate(),
+            None => Some(0),
+        };
+        match rate {
+            Some(rate) => page.fill(" @ @", &[Part::Text(word), Part::Thousandths(rate)]),
+            None => page.fill(" @ -", &[Part::Text(word)]),
+        }
+    }
+}
+
+/// Appends a way in which a link got worse, with the count that grew today and in the baseline.
+fn push_worse(page: &mut Page, link: &LinkComparison, how: Worse) {
+    match (how, link.today, link.baseline) {
+        (Worse::Grew(count), Some(today), Some(before)) => {
+            let (now, then) = (today.count(count), before.count(count));
+            page.fill(
+                " @ @ baseline @",
+                &[
+                    Part::Text(count_word(count)),
+                    Part::Number(now),
+                    Part::Number(then),
+                ],
+            );
+        }
+        _ => page.fill(" @", &[Part::Text(worse_word(how))]),
+    }
+}
+
+/// Appends the line of a link that got worse.
+fn push_worse_link(page: &mut Page, link: &LinkComparison, configured: &Link) {
+    page.columns("worse", u64::from(link.link.0));
+    page.fill(" @", &[Part::Text(configured.name.as_str())]);
+    push_rates(page, link);
+    for how in WORSE {
+        if link.is_worse(how) {
+            push_worse(page, link, how);
+        }
+    }
+    page.text("\n");
+}
+
+/// Appends a line for each of the first links that got worse since the baseline.
+fn push_comparison(page: &mut Page, view: &View<'_>) {
+    if view.baseline.is_none() {
+        return;
+    }
+    let worse = view.worse_links();
+    let number = Part::Number(worse as u64);
+    page.fill("links worse than in the baseline: @\n", &[number]);
+    let mut left = worse.min(WORSE_LINKS);
+    for rank in view.ranks.iter() {
+        if left == 0 || !view.is_worse(rank.index) {
+            continue;
+        }
+        if let (Some(link), Some((_, configured))) = (
+            view.compared(rank.index),
+            view.link(rank.index),
+        ) {
+            push_worse_link(page, &link, configured);
+        }
+        left = left.saturating_sub(1);
+    }
+    if worse > WORSE_LINKS {
+        let more = Part::Number(worse.saturating_sub(WORSE_LINKS) as u64);
+        page.fill("and @ more links got worse\n", &[more]);
+    }
+}
+
+/// The first part of a report as text: at most [`SUMMARY_LINES`] lines. Where there is a baseline,
+/// the report of an earlier flight against the same table, a line for each of the first links that
+/// got worse stands after the head.
+pub fn summary_of(
+    alloc: Global,
+    report: &Report,
+    config: &Config,
+    baseline: Option<&Report>,
+) -> Result<String, AllocError> {
     let ranks = ranks_of(alloc, report)?;
-    let view = View::new(alloc, report, config, false, ranks);
+    let view = View::new(alloc, report, config, false, ranks, baseline)?;
     let mut page = Page::new(alloc);
     push_head(&mut page, &view);
+    push_comparison(&mut page, &view);
+    push_drift(&mut page, &view);
     push_silences(&mut page, &view);
     let bad = view.ranks.iter().filter(|rank| rank.level != Level::Clean);
     let mut more = bad.count();

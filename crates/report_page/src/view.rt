@@ -1,9 +1,11 @@
 //! What the page's parts share.
 
+use crate::drift::{Drift, drift_of};
 use crate::numbers::{quotient, share};
 use crate::ranks::Rank;
 use afdx_frame::Network;
 use ledger_report::{BINS, LinkReport, Report, Sides, Sign};
+use report_comparison::{LinkComparison, WORSE, comparison_at};
 use std::alloc::{AllocError, Global};
 use vl_config::{Config, Link};
 
@@ -27,6 +29,10 @@ pub struct View<'a> {
     pub sizes: bool,
     /// The links, worst first.
     pub ranks: Vec<Rank>,
+    /// The report of an earlier flight, against the same table.
+    pub baseline: Option<&'a Report>,
+    /// How fast the clocks of the taps drift, if they do.
+    pub drift: Option<Drift>,
 }
 
 /// The eight reasons to discard a frame, in the order of judgement.
@@ -81,20 +87,23 @@ pub fn other(network: Network) -> Network {
 pub const NETWORKS: [Network; 2] = [Network::A, Network::B];
 
 impl<'a> View<'a> {
-    /// What the parts of a page are made of: a report, its table, and the links in the order of the page.
-    /// `sizes` says whether the bytes kept are those of the frames.
+    /// What the parts of a page are made of: a report, its table, the links in the order of the
+    /// page, and the report of an earlier flight. `sizes` says whether the bytes kept are those of
+    /// the frames.
     pub fn new(
         alloc: Global,
         report: &'a Report,
         config: &'a Config,
         sizes: bool,
         ranks: Vec<Rank>,
-    ) -> View<'a> {
+        baseline: Option<&'a Report>,
+    ) -> Result<View<'a>, AllocError> {
         let length = report.end.saturating_sub(report.start).max(1);
         let used = quotient(length, report.width)
             .saturating_add(1)
             .min(BINS as u64);
-        View {
+        let drift = drift_of(alloc, report, used as usize)?;
+        Ok(View {
             alloc,
             report,
             config,
@@ -102,7 +111,9 @@ impl<'a> View<'a> {
             span: used.saturating_mul(report.width),
             sizes,
             ranks,
-        }
+            baseline,
+            drift,
+        })
     }
 
     /// The counts of a sign on both networks.
@@ -124,6 +135,25 @@ impl<'a> View<'a> {
             (Some(report), Some(link)) => Some((report, link)),
             _ => None,
         }
+    }
+
+    /// A link's numbers beside those of the baseline, if there is one.
+    pub fn compared(&self, index: usize) -> Option<LinkComparison> {
+        comparison_at(self.report, self.baseline?, index)
+    }
+
+    /// Did a link get worse since the baseline?
+    pub fn is_worse(&self, index: usize) -> bool {
+        match self.compared(index) {
+            Some(link) => WORSE.iter().any(|how| link.is_worse(*how)),
+            None => false,
+        }
+    }
+
+    /// How many links got worse since the baseline.
+    pub fn worse_links(&self) -> usize {
+        let worse = self.ranks.iter().filter(|rank| self.is_worse(rank.index));
+        worse.count()
     }
 
     /// How much of its allocation a link uses on a network, in tenths of a percent.

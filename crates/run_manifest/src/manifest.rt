@@ -65,7 +65,10 @@ pub struct FileRecord {
 /// A recording. Of a run that met a fault nothing but its path and its bytes is known, and maybe not these.
 #[derive(Drop, Serialize, Deserialize)]
 pub struct RecordingRecord {
+    /// Of several files the first one's.
     pub path: String,
+    /// The files of a recording of several that were read, in their order.
+    pub files: Option<Vec<FileRecord>>,
     /// How many bytes were read: all, unless it ends `bad`.
     pub bytes: Option<u64>,
     pub sha256: Option<String>,
@@ -167,6 +170,7 @@ impl RecordingRecord {
     pub fn new(alloc: Global, path: &str, sum: Option<Sum>) -> Result<RecordingRecord, AllocError> {
         Ok(RecordingRecord {
             path: owned(alloc, path)?,
+            files: None,
             bytes: sum.map(|sum| sum.bytes),
             sha256: match sum {
                 Some(sum) => hex_of(alloc, sum)?,
@@ -180,6 +184,15 @@ impl RecordingRecord {
             last: None,
             last_utc: None,
         })
+    }
+
+    /// Adds a file of several. The recording's bytes are those of all.
+    pub fn add_file(&mut self, alloc: Global, file: FileRecord) -> Result<(), AllocError> {
+        self.bytes = Some(self.bytes.unwrap_or(0).saturating_add(file.bytes));
+        self.files
+            .get_or_insert_with(|| Vec::new(alloc))
+            .push(file)?;
+        Ok(())
     }
 
     /// Says how it ended, in the ledger's words.

@@ -4,6 +4,7 @@ ghost use Rattle.std.specs.Prelude.{◌≡◌, ◌≤◌, ℕ, List, length, IfO
 ghost use Rattle.afdx_frame.specs.Frame.{Frame};
 ghost use Rattle.survey_run.specs.Short.{kept_by, short_bytes, short_of};
 
+use crate::cut_links::CutLinks;
 use crate::links::MAX_LINKS;
 use crate::survey::is_ethernet;
 use afdx_frame::{FrameBytes, TapFrame, VL_ID_COUNT};
@@ -51,6 +52,8 @@ pub(crate) struct KeepsShort {
     places: Vec<u16>,
     /// Of a link: its frames' first six bytes, and a last one, for each last one.
     blocks: Vec<Arc<Vec<u8>>>,
+    /// The links of frames that weren't recorded whole.
+    pub(crate) cut: CutLinks,
 }
 
 impl KeepsShort {
@@ -59,6 +62,7 @@ impl KeepsShort {
         KeepsShort {
             places: Vec::new(alloc),
             blocks: Vec::new(alloc),
+            cut: CutLinks::new(alloc),
         }
     }
 
@@ -161,6 +165,7 @@ impl Keeper for KeepsShort {
         let kept = if is_ethernet(&frame) {
             self.short(alloc, frame.view().bytes())?
         } else {
+            self.cut.note(alloc, &frame)?;
             FrameBytes::own(Vec::new(alloc))
         };
         let (network, number) = (frame.network(), frame.number());

@@ -6,6 +6,7 @@
 //! bytes of a frame, which frames of one link and number share.
 #![tactic(auto)]
 
+mod cut_links;
 mod keeper;
 mod links;
 mod observer;
@@ -15,6 +16,7 @@ mod run;
 mod survey;
 mod tap;
 
+pub use cut_links::CutLinks;
 pub use links::{LinkSurvey, Links, MAX_LINKS};
 pub use observer::Observer;
 pub use recorded::{Extent, Recorded, Span};

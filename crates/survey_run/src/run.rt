@@ -9,6 +9,7 @@ ghost use Rattle.survey_run.specs.Pass.{IsShown, IsShownSome, ShowsBoth, StopsSh
 ghost use Rattle.survey_run.specs.Reading.{AgreeTo, AreOver, IsPair, StopsPair};
 ghost use Rattle.survey_run.specs.declared.recorded.Extent.{Extent};
 
+use crate::cut_links::CutLinks;
 use crate::keeper::{Keeper, KeepsAll, KeepsShort};
 use crate::observer::{Observer, ShortSurvey};
 use crate::pair::Pair;
@@ -37,6 +38,8 @@ pub struct Pass<S, T> {
 pub struct SurveyRun<S, T> {
     /// What was seen, and how the recordings of networks A and B were read, or why the survey was aborted.
     pub outcome: Result<(Survey, Recorded, Recorded), WatchFault>,
+    /// The links of frames that weren't recorded whole; none where the survey was aborted.
+    pub cut: CutLinks,
     /// The source of network A.
     pub a: S,
     /// The source of network B.
@@ -90,6 +93,7 @@ fn show_rounds<S: TapSource, T: TapSource, K: Keeper, O: Observer>(
 }
 
 /// Reads both recordings once, as far as it is told, and shows what is kept of their frames to the observer.
+/// The keeper comes back where the pass wasn't aborted.
 fn show_kept<S: TapSource, T: TapSource, K: Keeper, O: Observer>(
     alloc: Global,
     extent: Extent,
@@ -97,24 +101,25 @@ fn show_kept<S: TapSource, T: TapSource, K: Keeper, O: Observer>(
     b: T,
     keeper: K,
     observer: &mut O,
-) -> Pass<S, T>
-    ensures shown { IfOk result.outcome (λ recorded. ShowsKept K.kept_bytes O.Observer extent
+) -> (Pass<S, T>, Option<K>)
+    ensures shown { IfOk result.0.outcome (λ recorded. ShowsKept K.kept_bytes O.Observer extent
         (source_at S.TapSource a) (source_at T.TapSource b)
-        (source_at S.TapSource result.a) (source_at T.TapSource result.b)
+        (source_at S.TapSource result.0.a) (source_at T.TapSource result.0.b)
         recorded.0 recorded.1 observer.old observer.new) }
-    ensures stopped { IfErr result.outcome (λ fault. StopsKept K.kept_bytes O.Observer extent fault
+    ensures stopped { IfErr result.0.outcome (λ fault. StopsKept K.kept_bytes O.Observer extent fault
         (source_at S.TapSource a) (source_at T.TapSource b)
-        (source_at S.TapSource result.a) (source_at T.TapSource result.b)
+        (source_at S.TapSource result.0.a) (source_at T.TapSource result.0.b)
         observer.old observer.new) }
 {
     let mut pair = match Pair::open(alloc, extent, a, b, keeper) {
         Ok(pair) => pair,
         Err(Unopened { fault, a, b }) => {
-            return Pass {
+            let pass = Pass {
                 outcome: Err(fault),
                 a,
                 b,
             };
+            return (pass, None);
         }
     };
     let shown = show_rounds(alloc, &mut pair, observer);
@@ -122,23 +127,27 @@ fn show_kept<S: TapSource, T: TapSource, K: Keeper, O: Observer>(
         a,
         b,
         merger: _,
-        keeper: _,
+        keeper,
     } = pair;
     match shown {
         Ok(()) => {
             let (a, of_a) = a.finish(extent.frames);
             let (b, of_b) = b.finish(extent.frames);
-            Pass {
+            let pass = Pass {
                 outcome: Ok((of_a, of_b)),
                 a,
                 b,
-            }
+            };
+            (pass, Some(keeper))
         }
-        Err(fault) => Pass {
-            outcome: Err(fault),
-            a: a.into_source(),
-            b: b.into_source(),
-        },
+        Err(fault) => {
+            let pass = Pass {
+                outcome: Err(fault),
+                a: a.into_source(),
+                b: b.into_source(),
+            };
+            (pass, None)
+        }
     }
 }
 
@@ -166,7 +175,16 @@ pub fn show_recordings<S: TapSource, T: TapSource, O: Observer>(
         (source_at S.TapSource result.a) (source_at T.TapSource result.b)
         observer.old observer.new) }
 {
-    show_kept(alloc, extent, a, b, KeepsAll, observer)
+    let (pass, _) = show_kept(alloc, extent, a, b, KeepsAll, observer);
+    pass
+}
+
+/// The links that a keeper has noted.
+fn cut_links(alloc: Global, keeper: Option<KeepsShort>) -> CutLinks {
+    match keeper {
+        Some(keeper) => keeper.cut,
+        None => CutLinks::new(alloc),
+    }
 }
 
 /// Reads both recordings to their endings, once, and says what was seen. Both sources come back.
@@ -195,15 +213,19 @@ pub fn survey_recordings<S: TapSource, T: TapSource>(
         survey: Survey::new(alloc, wanted),
     };
     let keeper = KeepsShort::new(alloc);
-    let Pass { outcome, a, b } = show_kept(alloc, Extent::whole(), a, b, keeper, &mut short);
+    let (pass, keeper) = show_kept(alloc, Extent::whole(), a, b, keeper, &mut short);
+    let Pass { outcome, a, b } = pass;
+    let cut = cut_links(alloc, keeper);
     match outcome {
         Ok((of_a, of_b)) => SurveyRun {
             outcome: Ok((short.survey, of_a, of_b)),
+            cut,
             a,
             b,
         },
         Err(fault) => SurveyRun {
             outcome: Err(fault),
+            cut,
             a,
             b,
         },

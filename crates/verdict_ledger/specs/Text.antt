@@ -73,6 +73,8 @@ reason_word reason.StampRange = codes "stamprange"
 reason_word reason.SeveralInterfaces = codes "severalinterfaces"
 reason_word reason.TooManyInterfaces = codes "toomanyinterfaces"
 reason_word reason.NoSuchInterface = codes "nosuchinterface"
+reason_word reason.FileHeader = codes "fileheader"
+reason_word reason.NextFile = codes "nextfile"
 
 -- ---- fields: a space, and a word or a number; `-` where there is none
 

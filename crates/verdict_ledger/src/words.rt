@@ -89,5 +89,7 @@ pub fn reason_field(reason: BadReason) -> &'static str
         BadReason::SeveralInterfaces => " severalinterfaces",
         BadReason::TooManyInterfaces => " toomanyinterfaces",
         BadReason::NoSuchInterface => " nosuchinterface",
+        BadReason::FileHeader => " fileheader",
+        BadReason::NextFile => " nextfile",
     }
 }

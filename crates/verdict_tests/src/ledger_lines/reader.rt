@@ -1,9 +1,9 @@
 //! Ledgers that a reader by the written rules has judged: the number of lines that are read, or that of the
-//! first wrong line, and what is found there. `C` is the end of a complete ledger and `I` that of an
-//! incomplete one, `H` a wrong head, `O` a wrong order, `N` a missing newline, `X` a line that is too long,
-//! `M` one line more than are read, and `a` to `l` a wrong field.
+//! first wrong line, and what is found there. `C` is the end of a complete ledger, `I` that of an incomplete
+//! one and `P` that of one that ends within a line, `H` a wrong head, `O` a wrong order, `N` a missing
+//! newline, `X` a line that is too long, `M` one line more than are read, and `a` to `l` a wrong field.
 use crate::ledger_lines::frames::letter;
-use ledger_text::{Found, LedgerReader, LineFault, ReadFault};
+use ledger_text::{Found, LedgerReader, LedgerStop, LineFault, ReadFault};
 use pcap_io::{MemSource, Script};
 use std::alloc::Global;
 use std::process::Abort;
@@ -24,13 +24,14 @@ const PARTS: [&[u8]; 10] = [
 ];
 
 /// Whole ledgers, and what is found in them.
-const LEDGERS: [(&[u8], u64, u8); 18] = [
+const LEDGERS: [(&[u8], u64, u8); 19] = [
     (b"", 0, b'I'),
     (b"\n", 1, b'H'),
     (b"afdx-ledger 2\n", 1, b'I'),
     (b"afdx-ledger 1\n", 1, b'H'),
     (b"afdx-ledger 2\r\n", 1, b'H'),
-    (b"afdx-ledger 2", 1, b'N'),
+    (b"afdx-ledger 2", 0, b'P'),
+    (b"afdx-ledger 2\n7 A", 1, b'P'),
     (b"afdx-ledger 2\ntotal\n", 2, b'C'),
     (
         b"afdx-ledger 2\ntap A clean 0\nfilter 0 accepted 1\n",
@@ -82,6 +83,23 @@ fn fault_letter(fault: LineFault) -> u8 {
     }
 }
 
+/// The letter of an end, and what the next call finds: the same end, behind what stands of a line.
+fn end_letter(end: Found) -> (u8, Found) {
+    match end {
+        Found::Incomplete(
+            LedgerStop {
+                lines,
+                within_line: true,
+            },
+        ) => {
+            let within_line = false;
+            (b'P', Found::Incomplete(LedgerStop { lines, within_line }))
+        }
+        Found::Complete => (b'C', end),
+        Found::Line(_) | Found::Incomplete(_) => (b'I', end),
+    }
+}
+
 /// Reads the bytes to their end or their first fault, which are found again at the next call.
 pub fn outcome(
     rt: &impl Abort,
@@ -97,8 +115,8 @@ pub fn outcome(
         match reader.advance() {
             Ok(Found::Line(_)) => assert!(rt; reader.number() == (lines as u64).saturating_add(1)),
             Ok(end) => {
-                assert!(rt; reader.advance() == Ok(end));
-                let letter = if end == Found::Complete { b'C' } else { b'I' };
+                let (letter, again) = end_letter(end);
+                assert!(rt; reader.advance() == Ok(again));
                 return Ok((reader.number(), letter));
             }
             Err(ReadFault::Line { number, fault }) => {
@@ -154,24 +172,24 @@ fn reads_up_to_a_failure(rt: HostRuntime) -> Result<(), Fail> {
     Ok(())
 }
 
-/// How many bytes a line after the head has, whether a newline, and what is found.
-const LONG_LINES: [(usize, bool, u8); 4] = [
-    (65_535, true, b'a'),
-    (65_536, true, b'X'),
-    (65_535, false, b'N'),
-    (65_536, false, b'X'),
+/// How many bytes a line after the head has, whether a newline, and what is found, at which line.
+const LONG_LINES: [(usize, bool, u64, u8); 4] = [
+    (65_535, true, 2, b'a'),
+    (65_536, true, 2, b'X'),
+    (65_535, false, 1, b'P'),
+    (65_536, false, 2, b'X'),
 ];
 
 #[test]
 fn bounds_long_lines(rt: HostRuntime) -> Result<(), Fail> {
-    for (len, newline, letter) in &LONG_LINES {
+    for (len, newline, number, letter) in &LONG_LINES {
         let mut bytes = Vec::from_slice(rt.alloc(), b"afdx-ledger 2\n")?;
         bytes.resize(len.saturating_add(14), b'7')?;
         if *newline {
             bytes.push(b'\n')?;
         }
         let found = outcome(&rt, rt.alloc(), &bytes, pieces(1000))?;
-        assert!(rt; found.0 == 2 && found.1 == *letter, "{len} bytes");
+        assert!(rt; found.0 == *number && found.1 == *letter, "{len} bytes");
     }
     Ok(())
 }

@@ -65,7 +65,7 @@ type Part = (
     bool,
 );
 
-const PARTS: [Part; 23] = [
+const PARTS: [Part; 26] = [
     (None, None, None, None, true, true),
     (Some(Network::A), None, None, None, false, true),
     (Some(Network::B), None, None, None, true, false),
@@ -104,6 +104,16 @@ const PARTS: [Part; 23] = [
         false,
         false,
     ),
+    (None, Some(Moment::Near(3 * HOUR)), None, None, true, true),
+    (
+        None,
+        Some(Moment::Near(3 * HOUR + 1)),
+        None,
+        None,
+        false,
+        false,
+    ),
+    (None, Some(Moment::Near(15 * HOUR)), None, None, true, true),
     (None, None, Some(Moment::At(Stamp(NOW))), None, true, true),
     (
         None,

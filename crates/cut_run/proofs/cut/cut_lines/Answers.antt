@@ -68,7 +68,7 @@ returns-in-Ok-Incomplete g c = λ around before begun.
     (let choice : Choice = record { selection = c.args.selection.now; around = around; skips = c.args.skips } in
     let at = c.loop-line.invariant.cut around before begun in
     ends_incomplete g.L.TapSource g.S.TapSource g.T.TapSource g.W.OutSink choice before at.0 at.1 at.2 at.3 at.4 c.loop-line.ledger c.advance.new.self
-    c.loop-line.taking (rw c.in-Ok-Incomplete.field-0-is at (c.in-Ok-Incomplete.ensures.found c.loop-line.invariant.sound)) at.5)
+    c.loop-line.taking c.in-Ok-Incomplete.stop (rw c.in-Ok-Incomplete.field-0-is at (c.in-Ok-Incomplete.ensures.found c.loop-line.invariant.sound)) at.5)
 
 pub returns-in-Err : goal.returns-in-Err
 returns-in-Err g c = λ around before begun.

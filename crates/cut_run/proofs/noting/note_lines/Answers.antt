@@ -1,6 +1,7 @@
-use Rattle.std.proofs.Common.{◌++◌, ◌∷◌, [], ℕ, None, refl, subst, sym}
+use Rattle.std.proofs.Common.{◌++◌, ◌∷◌, [], ℕ, None, Some, refl, subst, sym}
 use Rattle.ledger_text.specs.Ledger.{frame_lines, lent_of}
 use Rattle.ledger_text.specs.declared.order.LedgerLine.TheVariants as lines
+use Rattle.ledger_text.proofs.Ledgers.{found_complete, found_incomplete}
 use Rattle.line_selection.specs.Neighbours.{HasNoted}
 use Rattle.cut_run.proofs.Ledgers.{few_before}
 use Rattle.cut_run.proofs.Noted.{ends_noting, frame_noted, ledger_stops_noting, no_memory, other_noted}
@@ -54,13 +55,16 @@ pub returns-in-Ok-Complete : goal.returns-in-Ok-Complete
 returns-in-Ok-Complete g c = λ count before begun.
     (let at = c.loop-line.invariant.noted count before begun in
     let found = rw c.in-Ok-Complete.field-0-is at (c.in-Ok-Complete.ensures.found c.loop-line.invariant.sound) in
-    ends_noting g.L.TapSource c.args.selection.now count before at.0 c.loop-line.ledger c.advance.new.self c.loop-line.chooser c.loop-line.neighbours at.1 found.1 found.5)
+    ends_noting g.L.TapSource c.args.selection.now count before at.0 c.loop-line.ledger c.advance.new.self c.loop-line.chooser c.loop-line.neighbours None at.1
+    (found_complete g.L.TapSource before.remaining before.failures at.0 c.loop-line.ledger c.advance.new.self at.1.read found) found.2.2)
 
 pub returns-in-Ok-Incomplete : goal.returns-in-Ok-Incomplete
 returns-in-Ok-Incomplete g c = λ count before begun.
     (let at = c.loop-line.invariant.noted count before begun in
     let found = rw c.in-Ok-Incomplete.field-0-is at (c.in-Ok-Incomplete.ensures.found c.loop-line.invariant.sound) in
-    ends_noting g.L.TapSource c.args.selection.now count before at.0 c.loop-line.ledger c.advance.new.self c.loop-line.chooser c.loop-line.neighbours at.1 found.1 found.5)
+    let stop = c.in-Ok-Incomplete.field-0-0 in
+    ends_noting g.L.TapSource c.args.selection.now count before at.0 c.loop-line.ledger c.advance.new.self c.loop-line.chooser c.loop-line.neighbours (Some stop) at.1
+    (found_incomplete g.L.TapSource before.remaining before.failures at.0 c.loop-line.ledger c.advance.new.self stop at.1.read found) found.3.2)
 
 pub returns-in-Err : goal.returns-in-Err
 returns-in-Err g c = λ count before begun.

@@ -1,11 +1,12 @@
 use Rattle.std.proofs.Common.{refl}
 use Rattle.std.proofs.lemmas.Result.{err_from_is_err_and}
-use Rattle.ledger_text.specs.Ledger.{frame_lines, lent_of, stage_of}
+use Rattle.ledger_text.specs.Ledger.{frame_lines, lent_of}
 use Rattle.ledger_text.specs.declared.order.LedgerLine.TheVariants as lines
 use Rattle.cut_run.specs.Lines.{Choice}
 use Rattle.cut_run.specs.Printed.{frame_texts}
 use Rattle.cut_run.specs.declared.cut.CutEnding.TheVariants as ending
-use Rattle.cut_run.proofs.Ledgers.{complete_at, few_before, incomplete_at}
+use Rattle.ledger_text.proofs.Ledgers.{found_complete, found_incomplete}
+use Rattle.cut_run.proofs.Ledgers.{few_before}
 use Rattle.cut_run.proofs.PrintedLedger.{ends_printing, frame_printed, ledger_stops_printing, other_printed, stops_printing}
 use Rattle.cut_run.proofs.print.print_all.Goals as goal
 
@@ -64,7 +65,8 @@ returns-in-Ok-Complete g c = λ around before begun.
     let at = c.loop-line.invariant.printed around before begun in
     let found = rw c.in-Ok-Complete.field-0-is at (c.in-Ok-Complete.ensures.found c.loop-line.invariant.sound) in
     ends_printing g.L.TapSource g.S.TapSource g.T.TapSource g.W.OutSink choice before at.0 at.1 c.loop-line.ledger c.advance.new.self
-    c.loop-line.printing ending.Complete (complete_at (stage_of c.loop-line.ledger) found.0) found.1 found.5 at.2)
+    c.loop-line.printing ending.Complete
+    (found_complete g.L.TapSource before.ledger.remaining before.ledger.failures at.0 c.loop-line.ledger c.advance.new.self at.2.read found) found.2.2 at.2)
 
 pub returns-in-Ok-Incomplete : goal.returns-in-Ok-Incomplete
 returns-in-Ok-Incomplete g c = λ around before begun.
@@ -72,7 +74,8 @@ returns-in-Ok-Incomplete g c = λ around before begun.
     let at = c.loop-line.invariant.printed around before begun in
     let found = rw c.in-Ok-Incomplete.field-0-is at (c.in-Ok-Incomplete.ensures.found c.loop-line.invariant.sound) in
     ends_printing g.L.TapSource g.S.TapSource g.T.TapSource g.W.OutSink choice before at.0 at.1 c.loop-line.ledger c.advance.new.self
-    c.loop-line.printing ending.Incomplete (incomplete_at (stage_of c.loop-line.ledger) found.0) found.1 found.5 at.2)
+    c.loop-line.printing (ending.Incomplete c.in-Ok-Incomplete.stop)
+    (found_incomplete g.L.TapSource before.ledger.remaining before.ledger.failures at.0 c.loop-line.ledger c.advance.new.self c.in-Ok-Incomplete.stop at.2.read found) found.3.2 at.2)
 
 pub returns-in-Err : goal.returns-in-Err
 returns-in-Err g c = λ around before begun.

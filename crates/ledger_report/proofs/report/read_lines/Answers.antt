@@ -1,6 +1,7 @@
-use Rattle.std.proofs.Common.{Err, ap, refl, reverse, subst, sym}
+use Rattle.std.proofs.Common.{Err, None, Some, ap, refl, reverse, subst, sym}
 use Rattle.vl_config.specs.Document.{VlTable}
 use Rattle.ledger_text.specs.Ledger.{frame_lines, lent_of}
+use Rattle.ledger_text.proofs.Ledgers.{found_complete, found_incomplete}
 use Rattle.ledger_report.proofs.CountsSteps.{counted_head, counted_more, said_of}
 use Rattle.ledger_report.proofs.Judgings.{counts_judged, frame_judged, head_judged, refused_counts, refused_frame, refused_read}
 use Rattle.ledger_report.specs.CountsRight.{IsRightLine, TakesWhere, taps_in}
@@ -12,13 +13,15 @@ pub returns-in-Ok-Complete-clause-read : goal.returns-in-Ok-Complete-clause-read
 returns-in-Ok-Complete-clause-read g c = λ bytes failures links table begun.
     (let at = c.loop-frame.invariant.noted bytes failures links table begun in
     let found = rw c.in-Ok-Complete.field-0-is at (c.in-Ok-Complete.ensures.found c.loop-frame.invariant.sound) in
-    ends_noting g.S.TapSource bytes failures links at.0 c.loop-frame.ledger c.loop-frame.reading.counts c.loop-frame.reading.statistics c.loop-frame.reading.lines at.1 found.1)
+    ends_noting g.S.TapSource bytes failures links at.0 c.loop-frame.ledger c.loop-frame.reading.counts c.loop-frame.reading.statistics c.loop-frame.reading.lines at.1
+    None (found_complete g.S.TapSource bytes failures at.0 c.loop-frame.ledger c.advance.new.self at.1.read found))
 
 pub returns-in-Ok-Incomplete-clause-read : goal.returns-in-Ok-Incomplete-clause-read
 returns-in-Ok-Incomplete-clause-read g c = λ bytes failures links table begun.
     (let at = c.loop-frame.invariant.noted bytes failures links table begun in
     let found = rw c.in-Ok-Incomplete.field-0-is at (c.in-Ok-Incomplete.ensures.found c.loop-frame.invariant.sound) in
-    ends_noting g.S.TapSource bytes failures links at.0 c.loop-frame.ledger c.loop-frame.reading.counts c.loop-frame.reading.statistics c.loop-frame.reading.lines at.1 found.1)
+    ends_noting g.S.TapSource bytes failures links at.0 c.loop-frame.ledger c.loop-frame.reading.counts c.loop-frame.reading.statistics c.loop-frame.reading.lines at.1
+    (Some c.in-Ok-Incomplete.stop) (found_incomplete g.S.TapSource bytes failures at.0 c.loop-frame.ledger c.advance.new.self c.in-Ok-Incomplete.stop at.1.read found))
 
 pub loop-frame-preserved-in-Ok : goal.loop-frame-preserved-in-Ok
 loop-frame-preserved-in-Ok g c = record {
@@ -101,7 +104,8 @@ returns-in-Ok-Complete-clause-judged g c = λ bytes failures table is begun fres
     let judged = c.loop-frame.invariant.judged bytes failures table is begun fresh in
     let reading = c.loop-frame.reading in
     let found = rw c.in-Ok-Complete.field-0-is at (c.in-Ok-Complete.ensures.found c.loop-frame.invariant.sound) in record {
-      read = ends_noting g.S.TapSource bytes failures table.links at.0 c.loop-frame.ledger reading.counts reading.statistics reading.lines at.1 found.1;
+      read = ends_noting g.S.TapSource bytes failures table.links at.0 c.loop-frame.ledger reading.counts reading.statistics reading.lines at.1
+          None (found_complete g.S.TapSource bytes failures at.0 c.loop-frame.ledger c.advance.new.self at.1.read found);
       right = judged.right;
       endings = judged.endings;
     })
@@ -112,7 +116,8 @@ returns-in-Ok-Incomplete-clause-judged g c = λ bytes failures table is begun fr
     let judged = c.loop-frame.invariant.judged bytes failures table is begun fresh in
     let reading = c.loop-frame.reading in
     let found = rw c.in-Ok-Incomplete.field-0-is at (c.in-Ok-Incomplete.ensures.found c.loop-frame.invariant.sound) in record {
-      read = ends_noting g.S.TapSource bytes failures table.links at.0 c.loop-frame.ledger reading.counts reading.statistics reading.lines at.1 found.1;
+      read = ends_noting g.S.TapSource bytes failures table.links at.0 c.loop-frame.ledger reading.counts reading.statistics reading.lines at.1
+          (Some c.in-Ok-Incomplete.stop) (found_incomplete g.S.TapSource bytes failures at.0 c.loop-frame.ledger c.advance.new.self c.in-Ok-Incomplete.stop at.1.read found);
       right = judged.right;
       endings = judged.endings;
     })

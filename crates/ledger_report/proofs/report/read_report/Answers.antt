@@ -34,9 +34,9 @@ returns-in-Ok-end-clause-told g c =
       counted_are = c.in-Ok-new.ensures.lines links;
       few = omega arith;
     } in
-    let right = c.in_ok-read_lines.ensures.judged bytes failures c.args.config.now refl begun (c.in-Ok-new.ensures.judged c.args.config.now) in
+    let right = c.in_ok-stop.ensures.judged bytes failures c.args.config.now refl begun (c.in-Ok-new.ensures.judged c.args.config.now) in
     let read = right.read in
-    let told = tells_ledger bytes links c.read_lines.new.reading.counts c.read_lines.new.reading.statistics c.end.new.self c.read_lines.new.reading.lines
+    let told = tells_ledger bytes links c.read_lines.new.reading.counts c.read_lines.new.reading.statistics c.end.new.self c.read_lines.new.reading.lines c.in_ok-stop.stop
     c.in-Ok-end.ensures.account c.in-Ok-end.ensures.span c.in-Ok-end.ensures.fates c.in-Ok-end.ensures.medians c.in-Ok-end.ensures.alone
     c.in-Ok-end.ensures.signs c.in-Ok-end.ensures.sums c.in-Ok-end.ensures.absences c.in-Ok-end.ensures.times
     c.in-Ok-end.ensures.lane_times c.in-Ok-end.ensures.skews c.in-Ok-end.ensures.link_marks read in
@@ -48,8 +48,8 @@ returns-in-Ok-end-clause-told g c =
       whole = λ whole. whole_counts c.args.config.now (reverse read.rs) right.right.counts (sym told.whole_is ∙ whole);
     })
 
-pub returns-in_err-read_lines-clause-refused : goal.returns-in_err-read_lines-clause-refused
-returns-in_err-read_lines-clause-refused g c =
+pub returns-in_err-stop-clause-refused : goal.returns-in_err-stop-clause-refused
+returns-in_err-stop-clause-refused g c =
     let bytes = g.S.TapSource.remaining c.args.source in
     let failures = g.S.TapSource.failures c.args.source in
     let table = c.args.config.now in
@@ -71,8 +71,8 @@ returns-in_err-read_lines-clause-refused g c =
       counted_are = c.in-Ok-new.ensures.lines table.links;
       few = omega arith;
     } in
-    let refused = c.in_err-read_lines.ensures.judged bytes failures table refl begun (c.in-Ok-new.ensures.judged table) in
-    handed_on _ c.in_err-read_lines.field-0.0 c.from_residual.result c.from_residual.ensures.1 (source_of c.read_lines.new.ledger, refused)
+    let refused = c.in_err-stop.ensures.judged bytes failures table refl begun (c.in-Ok-new.ensures.judged table) in
+    handed_on _ c.in_err-stop.field-0.0 c.from_residual.result c.from_residual.ensures.1 (source_of c.read_lines.new.ledger, refused)
 
 pub returns-in-Err-clause-refused : goal.returns-in-Err-clause-refused
 returns-in-Err-clause-refused g c =

@@ -20,7 +20,7 @@ map_reverse f (x ∷ l) =
 
 pub returns-in-Ok-clause-surveyed : goal.returns-in-Ok-clause-surveyed
 returns-in-Ok-clause-surveyed g c =
-    let shown = rw c.in-Ok.is at c.show_kept-outcome.ensures.shown in
+    let shown = rw c.in-Ok.is at c.show_kept-pass.ensures.shown in
     let a = source_at g.S.TapSource c.args.a in
     let b = source_at g.T.TapSource c.args.b in
     let first : Survey = c.new.result in
@@ -28,8 +28,8 @@ returns-in-Ok-clause-surveyed g c =
       frames_a = shown.frames_a;
       frames_b = shown.frames_b;
       frames = shown.frames;
-      read_a = subst (λ (extent : Extent). IsRecorded A extent a (source_at g.S.TapSource c.show_kept-outcome.result.a) shown.frames_a c.in-Ok.of_a) c.whole.ensures shown.read_a;
-      read_b = subst (λ (extent : Extent). IsRecorded B extent b (source_at g.T.TapSource c.show_kept-outcome.result.b) shown.frames_b c.in-Ok.of_b) c.whole.ensures shown.read_b;
+      read_a = subst (λ (extent : Extent). IsRecorded A extent a (source_at g.S.TapSource c.show_kept-pass.result.0.a) shown.frames_a c.in-Ok.of_a) c.whole.ensures shown.read_a;
+      read_b = subst (λ (extent : Extent). IsRecorded B extent b (source_at g.T.TapSource c.show_kept-pass.result.0.b) shown.frames_b c.in-Ok.of_b) c.whole.ensures shown.read_b;
       order = shown.order;
       surveys = λ few.
           (let same : reverse (map (kept_by short_bytes) shown.frames) ++ [] ≡ map (kept_by short_bytes) (reverse shown.frames) =

@@ -3,8 +3,12 @@ use Rattle.std.proofs.lemmas.Result.{err_from_is_err_and}
 use Rattle.pcap_io.specs.Position.{frame_at}
 use Rattle.pcap_io.specs.declared.position.Position.{Position}
 use Rattle.pcap_io.specs.Reader.{position_of}
-use Rattle.pcap_io.proofs.Steps.{body_fault, cut_found, frame_found, takes_packet}
+use Rattle.pcap_io.proofs.Steps.{body_fault, cut_found, frame_found, takes_packet, within_second}
 use Rattle.pcap_io.proofs.reader.TapReader.take.Goals as goal
+
+pub frame-requires-clause-within_second : goal.frame-requires-clause-within_second
+frame-requires-clause-within_second g c =
+    within_second _ _ _ _ _ c.read_header.ensures.position (rw c.in-Header.is at c.in_ok-header.ensures.start)
 
 pub returns-in_err-bytes-clause-fault : goal.returns-in_err-bytes-clause-fault
 returns-in_err-bytes-clause-fault g c =

@@ -1,0 +1,356 @@
+//! The recordings of a command: the files of each in their order, and what a command line says of them.
+use crate::ended::Refused;
+use crate::interface::{chosen_in, refused_interfaces, start_of};
+use crate::streams::Input;
+use afdx_frame::Network;
+use analyser::{
+    BETWEEN_FILES, CaptureArguments, CheckArguments, CutArguments, DebugArguments, Fault,
+    FileOption, Inode, Invocation, LinksArguments, WatchArguments,
+};
+use pcap_io::{Found, ReadSource, TapReader, TapSource};
+use pcapng::Choice;
+use std::alloc::AllocError;
+use std::fmt::Write;
+use std::fs;
+use std::fs::File;
+use std::os::unix::fs::MetadataExt;
+
+/// A file of a recording, and the interface that is read of it.
+#[derive(Drop)]
+pub struct TapFile {
+    pub path: String,
+    pub choice: Choice,
+}
+
+/// A recording: one file after another. One that isn't given has none.
+#[derive(Drop)]
+pub struct Tap {
+    pub files: Vec<TapFile>,
+}
+
+/// The recordings of a command: that of network A, or its one recording, and that of network B.
+#[derive(Drop)]
+pub struct Taps {
+    a: Tap,
+    b: Tap,
+}
+
+/// The recordings that a command names, as its words have them.
+fn recordings_of<'a>(command: Invocation<'a>) -> (Option<&'a str>, Option<&'a str>) {
+    match command {
+        Invocation::Capture(given) => (Some(given.recording), None),
+        Invocation::Debug(given) => (Some(given.tap), None),
+        Invocation::Watch(given) => (given.a, given.b),
+        Invocation::Cut(given) => (given.a, given.b),
+        Invocation::Links(given) => (given.a, given.b),
+        Invocation::Check(given) => (given.a, given.b),
+        Invocation::Asm | Invocation::Report(_) => (None, None),
+    }
+}
+
+/// The option that names a network's recording, or a command's one recording.
+pub fn option_of(command: Invocation<'_>, network: Network) -> FileOption {
+    match (command, network) {
+        (Invocation::Capture(_), _) => FileOption::Recording,
+        (Invocation::Debug(_), _) => FileOption::Tap,
+        (_, Network::A) => FileOption::A,
+        (_, Network::B) => FileOption::B,
+    }
+}
+
+impl Tap {
+    /// The recording that a command line names, if it names one. What names a list that can't be read, or has
+    /// no path, is taken for the path of a file.
+    fn of(rt: &HostRuntime, words: Option<&str>) -> Result<Tap, AllocError> {
+        let mut tap = Tap {
+            files: Vec::new(rt.alloc()),
+        };
+        let Some(words) = words else {
+            return Ok(tap);
+        };
+        for word in words.split(BETWEEN_FILES) {
+            match word
+                .strip_prefix('@')
+                .map(|list| fs::read_to_string(rt, list))
+            {
+                Some(Ok(list)) if !list.trim().is_empty() => tap.add_listed(rt, &list)?,
+                Some(_) | None => tap.add(rt, word)?,
+            }
+        }
+        Ok(tap)
+    }
+
+    fn add(&mut self, rt: &HostRuntime, word: &str) -> Result<(), AllocError> {
+        let (path, choice) = chosen_in(rt, word);
+        let path = String::from_str(rt.alloc(), path)?;
+        self.files.push(TapFile { path, choice })?;
+        Ok(())
+    }
+
+    /// Adds the files of a list: a path a line. Lines without one are passed over.
+    fn add_listed(&mut self, rt: &HostRuntime, list: &str) -> Result<(), AllocError> {
+        for line in list.lines().filter(|line| !line.is_empty()) {
+            self.add(rt, line)?;
+        }
+        Ok(())
+    }
+
+    /// The path of the file of this number, or of the last one.
+    pub fn path_at(&self, number: usize) -> Option<&str> {
+        let file = self.files.get(number).or(self.files.last())?;
+        Some(file.path.as_str())
+    }
+
+    /// Are all its files regular ones, which may be read again?
+    pub fn is_of_regular_files(&self, rt: &HostRuntime) -> bool {
+        self.files.iter().all(|file| fs::metadata(rt, &file.path).is_ok_and(
+            |found| found.is_file(),
+        ))
+    }
+
+    pub fn is_of_several(&self) -> bool {
+        self.files.len() > 1
+    }
+
+    /// What is read of its first file.
+    pub fn choice(&self) -> Choice {
+        self.files.first().map_or(Choice::Any, |file| file.choice)
+    }
+}
+
+impl Taps {
+    /// The recordings of a command.
+    pub fn of(rt: &HostRuntime, command: Invocation<'_>) -> Result<Taps, AllocError> {
+        let (a, b) = recordings_of(command);
+        Ok(Taps {
+            a: Tap::of(rt, a)?,
+            b: Tap::of(rt, b)?,
+        })
+    }
+
+    pub fn of_network(&self, network: Network) -> &Tap {
+        match network {
+            Network::A => &self.a,
+            Network::B => &self.b,
+        }
+    }
+
+    /// Looks at both recordings, of which the first files are open. How many bytes each has, if it is of
+    /// regular files.
+    ///
+    /// # Errors
+    ///
+    /// Those of [`Tap::look`].
+    pub fn look(
+        &self,
+        rt: &HostRuntime,
+        a: &Input,
+        b: &Input,
+        late: u64,
+    ) -> Result<[Option<u64>; 2], Refused> {
+        let a = self.a.look(rt, (FileOption::A, a), late)?;
+        let b = self.b.look(rt, (FileOption::B, b), late)?;
+        Ok([a, b])
+    }
+
+    /// The command, each of whose recordings is named by one of its files: that of this number.
+    pub fn named<'t>(&'t self, command: Invocation<'t>, [a, b]: [usize; 2]) -> Invocation<'t> {
+        let (a, b) = (self.a.path_at(a), self.b.path_at(b));
+        match command {
+            Invocation::Capture(given) => Invocation::Capture(CaptureArguments {
+                recording: a.unwrap_or(given.recording),
+                ..given
+            }),
+            Invocation::Debug(given) => Invocation::Debug(DebugArguments {
+                tap: a.unwrap_or(given.tap),
+                ..given
+            }),
+            Invocation::Watch(given) => Invocation::Watch(WatchArguments { a, b, ..given }),
+            Invocation::Cut(given) => Invocation::Cut(CutArguments { a, b, ..given }),
+            Invocation::Links(given) => Invocation::Links(LinksArguments { a, b, ..given }),
+            Invocation::Check(given) => Invocation::Check(CheckArguments { a, b, ..given }),
+            Invocation::Asm | Invocation::Report(_) => command,
+        }
+    }
+}
+
+/// How many bytes at the start of a file are read at once, for its first frame.
+const LOOKED_AT: usize = 4096;
+
+/// How many files are listed at most.
+const MOST_LISTED: usize = 32;
+
+/// The timestamp of the first frame of a reader that has given none.
+fn first_of<S: TapSource + Drop>(rt: &HostRuntime, reader: TapReader<S>) -> Option<u64> {
+    let mut reader = reader.with_block_len(LOOKED_AT);
+    match reader.advance(rt.alloc()) {
+        Ok(Found::Frame) => Some(reader.frame().stamp().0),
+        Ok(Found::End(_)) | Err(_) => None,
+    }
+}
+
+/// A regular file of a recording: which it is, how many bytes it has, and when its first frame came, if it
+/// has one.
+#[derive(Clone, Copy)]
+pub struct Looked {
+    inode: Inode,
+    length: u64,
+    pub first: Option<u64>,
+}
+
+impl TapFile {
+    /// Looks at the file, if it is a regular one: a pipe's bytes are read once.
+    pub fn look(&self, rt: &HostRuntime, option: FileOption) -> Result<Option<Looked>, Refused> {
+        let Ok(found) = fs::metadata(rt, &self.path) else {
+            return Err(Refused::from(Fault::File(option)));
+        };
+        if !found.is_file() {
+            return Ok(None);
+        }
+        let Ok(file) = File::open(rt, &self.path) else {
+            return Err(Refused::from(Fault::File(option)));
+        };
+        let first = match TapReader::open(ReadSource::new(file), Network::A, 1, u64::MAX) {
+            Ok(reader) => first_of(rt, reader),
+            Err(_) => self.first_of_pcapng(rt, option)?,
+        };
+        Ok(Some(Looked {
+            inode: Inode {
+                device: found.dev(),
+                number: found.ino(),
+            },
+            length: found.len(),
+            first,
+        }))
+    }
+
+    /// Refuses a file that begins with packets of several interfaces, if none is chosen, and one that doesn't
+    /// describe the one that is.
+    fn refuse_several(&self, rt: &HostRuntime, option: FileOption) -> Result<(), Refused> {
+        match refused_interfaces(rt, &self.path, self.choice) {
+            Some(listed) => Err(Refused {
+                source: Some(listed),
+                ..Refused::from(Fault::Interfaces(option))
+            }),
+            None => Ok(()),
+        }
+    }
+
+    /// The timestamp of the first frame of a pcapng file, which has packets of one interface, or describes
+    /// the chosen one.
+    fn first_of_pcapng(
+        &self,
+        rt: &HostRuntime,
+        option: FileOption,
+    ) -> Result<Option<u64>, Refused> {
+        self.refuse_several(rt, option)?;
+        match start_of(rt, &self.path, self.choice, u64::MAX) {
+            Some(reader) => Ok(first_of(rt, reader)),
+            None => Ok(None),
+        }
+    }
+}
+
+/// What was seen of a recording's files so far.
+#[derive(Drop)]
+struct Sight {
+    files: Vec<Looked>,
+    /// When the first frame of each file came that has one, and the file's number.
+    firsts: Vec<(u64, usize)>,
+    greatest: u64,
+    is_in_order: bool,
+}
+
+impl Sight {
+    fn add(&mut self, number: usize, found: Looked, late: u64) -> Result<(), AllocError> {
+        if let Some(first) = found.first {
+            self.firsts.push((first, number))?;
+            self.is_in_order &= first.saturating_add(late) >= self.greatest;
+            self.greatest = self.greatest.max(first);
+        }
+        self.files.push(found)?;
+        Ok(())
+    }
+
+    fn has(&self, inode: Inode) -> bool {
+        self.files.iter().any(|file| file.inode == inode)
+    }
+}
+
+impl Tap {
+    /// Looks at the recording before it is read, of which the first file is open. How many bytes it has, if
+    /// it is of regular files.
+    ///
+    /// # Errors
+    ///
+    /// A file that can't be opened, or of whose interfaces none or an absent one is chosen. Of several files
+    /// one that is given twice, or first timestamps that don't rise but for `late` nanoseconds.
+    pub fn look(
+        &self,
+        rt: &HostRuntime,
+        (option, first): (FileOption, &Input),
+        late: u64,
+    ) -> Result<Option<u64>, Refused> {
+        match self.files.as_slice() {
+            [] => Ok(None),
+            [file] => {
+                file.refuse_several(rt, option)?;
+                Ok(first.length(rt))
+            }
+            _ => self.look_at_several(rt, option, late),
+        }
+    }
+
+    fn look_at_several(
+        &self,
+        rt: &HostRuntime,
+        option: FileOption,
+        late: u64,
+    ) -> Result<Option<u64>, Refused> {
+        let mut sight = Sight {
+            files: Vec::new(rt.alloc()),
+            firsts: Vec::new(rt.alloc()),
+            greatest: 0,
+            is_in_order: true,
+        };
+        for (number, file) in self.files.iter().enumerate() {
+            let looked = file
+                .look(rt, option)
+                .map_err(|refused| refused.at(option, number))?;
+            let Some(found) = looked else {
+                continue;
+            };
+            if sight.has(found.inode) {
+                let refused = Refused::from(Fault::Repeated(option));
+                return Err(refused.at(option, number));
+            }
+            sight.add(number, found, late)?;
+        }
+        if !sight.is_in_order {
+            return Err(Refused {
+                source: self.by_time(rt, sight.firsts),
+                ..Refused::from(Fault::Order(option))
+            });
+        }
+        if sight.files.len() < self.files.len() {
+            return Ok(None);
+        }
+        let lengths = sight.files.iter().map(|file| file.length);
+        Ok(Some(lengths.fold(0, |sum: u64, length| sum.saturating_add(length))))
+    }
+
+    /// The files in the order of their first frames.
+    fn by_time(&self, rt: &HostRuntime, mut firsts: Vec<(u64, usize)>) -> Option<String> {
+        firsts.sort().ok()?;
+        let mut listed = String::from_str(rt.alloc(), "by time they are").ok()?;
+        for (_, number) in firsts.iter().take(MOST_LISTED) {
+            let path = self.path_at(*number)?;
+            write!(listed, " {path}").ok()?;
+        }
+        let more = firsts.len().saturating_sub(MOST_LISTED);
+        if more > 0 {
+            write!(listed, " and {more} more").ok()?;
+        }
+        Some(listed)
+    }
+}

@@ -1,0 +1,6 @@
+pub mod Endings
+pub mod Given
+pub mod Joining
+pub mod Joins
+pub mod Reading
+pub mod Starts

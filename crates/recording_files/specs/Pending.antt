@@ -1,0 +1,7 @@
+-- What contracts see of a header that is given.
+use Rattle.std.specs.Prelude.{ℕ, List, slice_range}
+use Rattle.recording_files.specs.declared.pending.Pending.{Pending}
+
+-- what is left of it
+abbrev pub waiting_of : Pending → List ℕ
+waiting_of p = slice_range p.header p.from p.to

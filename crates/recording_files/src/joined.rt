@@ -1,0 +1,330 @@
+//! The source that gives the files of a recording as one.
+ghost use Rattle.std.specs.Prelude.{◌≡◌, ◌≤◌, ◌<◌, ◌-◌, min, [], length, take, IfSome, IfOk, OnOk, OnErr, IsTrue};
+ghost use Rattle.std.specs.Io.KnownBytes.{Consumes, Keeps};
+ghost use Rattle.pcap_io.specs.Device.{CountsFailure};
+
+use crate::input::{draw, drawn, read_file_header, read_header};
+use crate::pending::{Pending, copy_some};
+use crate::stage::{Packet, Place, Stage};
+use crate::supply::{FileSupply, ReadFile};
+use pcap_io::{BlockSource, DeviceFault, Ending, HeaderFault, Layout, TapSource};
+use pcapng::{FILE_HEADER_LEN, PACKET_HEADER_LEN};
+use std::alloc::Global;
+
+/// The files of a supply, as one recording.
+///
+/// Of each file it reads 64 KiB ahead, or a packet that is longer. It allocates where a file's first
+/// bytes are read, and where a packet is longer than any before it in its file: memory that is missing
+/// counts as a failure of the device. After a failure the next call goes on where this one stopped.
+#[derive(Drop)]
+pub struct JoinedSource<P, F> {
+    alloc: Global,
+    supply: P,
+    /// How often the supply or a file has failed, or memory was missing.
+    failures: u64,
+    /// The file that is read.
+    input: Option<BlockSource<F>>,
+    /// How many frames the file gave, and their greatest timestamp.
+    frames: u64,
+    greatest: u64,
+    /// How many files were opened.
+    opened: u64,
+    stage: Stage,
+    /// What is given next.
+    pending: Pending,
+}
+
+impl<F: TapSource + Drop, P: FileSupply<F>> JoinedSource<P, F> {
+    ghost use Rattle.pcap_io.specs.Bytes.{bytes_of};
+    ghost use Rattle.recording_files.specs.Given.{given_of};
+    ghost use Rattle.recording_files.specs.Handed.{GivesBody, body_of, known_of, pending_of};
+    ghost use Rattle.recording_files.specs.Handed.{remaining_of};
+    ghost use Rattle.recording_files.specs.Input.{drawn_of};
+    ghost use Rattle.recording_files.specs.declared.stage.Stage.TheVariants as stages;
+
+    /// Reads the files of a supply. It takes none yet, and allocates nothing.
+    pub fn new(alloc: Global, supply: P) -> JoinedSource<P, F>
+        ensures no_failure { ⟦<JoinedSource<P, F> as TapSource>⟧.failures result ≡ 0 }
+        // What is given for the files, where each of it is a byte.
+        ensures whole { IfSome (P.files supply) (λ files.
+            remaining_of F.remaining P.files result ≡ bytes_of (given_of files)) }
+    {
+        JoinedSource {
+            alloc,
+            supply,
+            failures: 0,
+            input: None,
+            frames: 0,
+            greatest: 0,
+            opened: 0,
+            stage: Stage::File(Place::First),
+            pending: Pending::nothing(),
+        }
+    }
+
+    /// The supply, and the file that is read, if one is. What was read ahead of that is lost.
+    pub fn into_parts(self) -> (P, Option<F>)
+        ensures { result.0 ≡ self.supply }
+    {
+        (self.supply, self.input.map(BlockSource::into_source))
+    }
+
+    /// Which file is read, or was read last, counted from 0.
+    pub fn file(&self) -> u64
+        ensures { result ≡ self.now.opened - 1 }
+    {
+        self.opened.saturating_sub(1)
+    }
+
+    /// A device failed, or memory was missing.
+    fn count_failure(&mut self) -> DeviceFault
+        ensures failures { CountsFailure self.old.failures self.new.failures }
+        ensures kept { known_of F.remaining P.files self.new
+            ≡ known_of F.remaining P.files self.old }
+    {
+        self.failures = self.failures.saturating_add(1);
+        DeviceFault
+    }
+
+    /// Moves bytes of the packet that was read into the buffer, as many as fit. Returns how many.
+    #[inline]
+    fn give_body(&mut self, buf: &mut [u8]) -> usize
+        ensures count { result ≡ min (length (body_of self.old.stage (drawn_of self.old.input)))
+            (length buf.new) }
+        ensures bytes { take result buf.new
+            ≡ take result (body_of self.old.stage (drawn_of self.old.input)) }
+        ensures given { GivesBody self.old self.new result }
+    {
+        let Stage::Given(layout, from) = self.stage else {
+            return 0;
+        };
+        let bytes = drawn(&self.input);
+        let from = from.min(bytes.len());
+        let count = copy_some(buf, &bytes[from..]);
+        self.stage = Stage::Given(layout, from + count);
+        count
+    }
+
+    /// Moves what is given next into the buffer, as much as fits, and returns how much.
+    #[inline]
+    fn give(&mut self, buf: &mut [u8]) -> usize
+        ensures bound { result ≤ length buf.new }
+        ensures bytes { Consumes (known_of F.remaining P.files self.old)
+            (known_of F.remaining P.files self.new) (take result buf.new) }
+        ensures all { result < length buf.new → pending_of self.new ≡ [] }
+        ensures failures { self.new.failures ≡ self.old.failures }
+    {
+        let header = self.pending.give(buf);
+        header + self.give_body(&mut buf[header..])
+    }
+
+    /// Takes away the file that was read.
+    fn take_read(&mut self) -> Option<ReadFile<F>>
+        ensures { self.new ≡ record self.old { input = None; frames = 0; greatest = 0 } }
+    {
+        let (frames, greatest) = (self.frames, self.greatest);
+        self.frames = 0;
+        self.greatest = 0;
+        let source = self.input.take()?.into_source();
+        Some(ReadFile {
+            source,
+            frames,
+            greatest,
+        })
+    }
+
+    /// Opens the next file.
+    fn open_next(&mut self, place: Place) -> Result<(), DeviceFault>
+        requires stage { self.old.stage ≡ stages.File place }
+        requires given { pending_of self.old ≡ [] }
+        ensures kept { Keeps (known_of F.remaining P.files self.old)
+            (known_of F.remaining P.files self.new) }
+        ensures failures { self.new.failures ≡ self.old.failures }
+    {
+        let last = self.take_read();
+        match (self.supply.next_file(last)?, place) {
+            (Some(file), _) => {
+                self.input = Some(BlockSource::new(file));
+                self.opened = self.opened.saturating_add(1);
+                self.stage = Stage::FileHeader(place);
+            }
+            (None, Place::First) => {
+                self.pending = Pending::no_header(Place::First, HeaderFault::Short);
+                self.stage = Stage::Ended;
+            }
+            (None, Place::Next) => self.stage = Stage::Ended,
+        }
+        Ok(())
+    }
+
+    /// Reads the header of the file.
+    fn begin_file(&mut self, place: Place) -> Result<(), DeviceFault>
+        requires stage { self.old.stage ≡ stages.FileHeader place }
+        requires given { pending_of self.old ≡ [] }
+        ensures kept { Keeps (known_of F.remaining P.files self.old)
+            (known_of F.remaining P.files self.new) }
+        ensures failures { self.new.failures ≡ self.old.failures }
+    {
+        match read_file_header(self.alloc, &mut self.input)? {
+            Ok(layout) => {
+                self.pending = Pending::file(place);
+                self.stage = Stage::Header(layout);
+            }
+            Err(fault) => {
+                self.pending = Pending::no_header(place, fault);
+                self.stage = Stage::Ended;
+            }
+        }
+        Ok(())
+    }
+
+    /// Reads the header of the next packet. The file may end here.
+    #[inline]
+    fn next_packet(&mut self, layout: Layout) -> Result<(), DeviceFault>
+        requires stage { self.old.stage ≡ stages.Header layout }
+        requires given { pending_of self.old ≡ [] }
+        ensures kept { Keeps (known_of F.remaining P.files self.old)
+            (known_of F.remaining P.files self.new) }
+        ensures failures { self.new.failures ≡ self.old.failures }
+    {
+        match read_header(self.alloc, layout, &mut self.input)? {
+            Ok(packet) => {
+                self.pending = Pending::packet(&packet.header);
+                self.stage = Stage::Body(packet);
+            }
+            Err(Ending::Clean(_)) => self.stage = Stage::File(Place::Next),
+            Err(Ending::Cut(_)) => {
+                self.pending = Pending::cut();
+                self.stage = Stage::Ended;
+            }
+            Err(Ending::Bad(_, reason)) => {
+                self.pending = Pending::reason(reason);
+                self.stage = Stage::Ended;
+            }
+        }
+        Ok(())
+    }
+
+    /// Reads the bytes of the packet, or those that its file has of it.
+    #[inline]
+    fn read_body(&mut self, packet: Packet) -> Result<(), DeviceFault>
+        requires stage { self.old.stage ≡ stages.Body packet }
+        requires given { pending_of self.old ≡ [] }
+        ensures kept { Keeps (known_of F.remaining P.files self.old)
+            (known_of F.remaining P.files self.new) }
+        ensures failures { self.new.failures ≡ self.old.failures }
+    {
+        let len = packet.header.captured_len as usize;
+        if draw(self.alloc, &mut self.input, len)? {
+            self.frames = self.frames.saturating_add(1);
+            // The header that is given counts nanoseconds.
+            let stamp = u64::from(packet.header.seconds) * 1_000_000_000
+                + u64::from(packet.header.fraction);
+            self.greatest = self.greatest.max(stamp);
+            self.stage = Stage::Given(Some(packet.layout), 0);
+        } else {
+            self.stage = Stage::Given(None, 0);
+        }
+        Ok(())
+    }
+
+    /// Goes on where nothing is left to give.
+    #[inline]
+    fn step(&mut self) -> Result<(), DeviceFault>
+        requires given { pending_of self.old ≡ [] }
+        ensures kept { Keeps (known_of F.remaining P.files self.old)
+            (known_of F.remaining P.files self.new) }
+        ensures failures { self.new.failures ≡ self.old.failures }
+    {
+        match self.stage {
+            Stage::File(place) => self.open_next(place),
+            Stage::FileHeader(place) => self.begin_file(place),
+            Stage::Header(layout) => self.next_packet(layout),
+            Stage::Body(packet) => self.read_body(packet),
+            Stage::Given(Some(layout), _) => {
+                self.stage = Stage::Header(layout);
+                Ok(())
+            }
+            Stage::Given(None, _) => {
+                self.stage = Stage::Ended;
+                Ok(())
+            }
+            Stage::Ended => Ok(()),
+        }
+    }
+
+    /// Whether what comes next may have to wait for a device.
+    #[inline]
+    fn waits(&self) -> bool {
+        let needed = match self.stage {
+            Stage::File(_) => return true,
+            Stage::FileHeader(_) => FILE_HEADER_LEN,
+            Stage::Header(_) => PACKET_HEADER_LEN,
+            Stage::Body(packet) => packet.header.captured_len as usize,
+            Stage::Given(_, _) | Stage::Ended => 0,
+        };
+        match &self.input {
+            Some(input) => input.unread().len() < needed,
+            None => true,
+        }
+    }
+
+    /// Nothing more is read.
+    #[inline]
+    fn is_ended(&self) -> bool
+        ensures { IsTrue result → self.now.stage ≡ stages.Ended }
+    {
+        matches!(self.stage, Stage::Ended)
+    }
+
+    /// What a read that meets a fault comes to: after some bytes it comes again at the next call.
+    fn fault_after(&mut self, done: usize) -> Result<usize, DeviceFault>
+        ensures done { IfOk result (λ n. (n ≡ done) × (0 < done)) }
+        ensures none { OnErr result (done ≡ 0) }
+        ensures no_failure { OnOk result (self.new.failures ≡ self.old.failures) }
+        ensures fault { OnErr result (CountsFailure self.old.failures self.new.failures) }
+        ensures kept { known_of F.remaining P.files self.new
+            ≡ known_of F.remaining P.files self.old }
+    {
+        if done > 0 {
+            Ok(done)
+        } else {
+            Err(self.count_failure())
+        }
+    }
+}
+
+impl<F: TapSource + Drop, P: FileSupply<F>> TapSource for JoinedSource<P, F> {
+    ghost use Rattle.pcap_io.specs.Bytes.{known_bytes-are_bytes};
+    ghost use Rattle.recording_files.specs.Handed.{known_of, remaining_of};
+
+    ghost remaining = { λ s. remaining_of F.remaining P.files s };
+
+    ghost failures = { λ s. s.failures };
+
+    ghost gives_bytes = { λ s. known_bytes-are_bytes (known_of F.remaining P.files s) };
+
+    fn read(&mut self, buf: &mut [u8]) -> Result<usize, DeviceFault> {
+        if self.failures == u64::MAX {
+            return Err(DeviceFault);
+        }
+        let mut done = 0;
+        for _ in 0..u64::MAX {
+            done += self.give(&mut buf[done..]);
+            if done == buf.len() {
+                return Ok(done);
+            }
+            if self.is_ended() {
+                return Ok(done);
+            }
+            if done > 0 && self.waits() {
+                return Ok(done);
+            }
+            if self.step().is_err() {
+                return self.fault_after(done);
+            }
+        }
+        // So many steps are never taken.
+        self.fault_after(done)
+    }
+}

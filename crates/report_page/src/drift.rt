@@ -1,0 +1,178 @@
+//! Whether the clocks of the taps drift: the skews of nearly all links move steadily, and alike.
+
+use crate::numbers::{SECOND, share};
+use afdx_frame::Network;
+use ledger_report::{LinkReport, Report, Series};
+use std::alloc::{AllocError, Global};
+
+/// How fast the clock of one tap moves away from the other's.
+#[derive(Clone, Copy)]
+pub struct Drift {
+    /// The tap whose clock runs faster.
+    pub faster: Network,
+    /// By how many parts in 10^12.
+    pub parts: u64,
+    /// How many links say so, to a quarter of it.
+    pub links: u64,
+    /// How many links have skews that are a second apart or more.
+    pub of: u64,
+}
+
+/// The least and the greatest drift, in parts in 10^12, as of the question of `check`.
+const LEAST_DRIFT: u64 = 10_000_000;
+
+const MOST_DRIFT: u64 = 1_000_000_000;
+
+/// So many links at least tell a drift.
+const LEAST_LINKS: u64 = 4;
+
+/// The level of no skew. On both sides of it there is room for any skew.
+const LEVEL: u64 = 1 << 62;
+
+/// Where the skews of a link stand in a bin.
+#[derive(Clone, Copy)]
+struct Mark {
+    bin: u64,
+    /// Above [`LEVEL`] by the greatest skew where that came on B, and below it where it came on A.
+    level: u64,
+}
+
+/// The rate at which a link's skews move.
+#[derive(Clone, Copy)]
+struct Rate {
+    faster: Network,
+    parts: u64,
+}
+
+/// What a bin of two series has at most.
+fn greatest_in(copies: &Series, late: &Series, bin: u64) -> u64 {
+    let bin = bin as usize;
+    let copy = copies.bins().get(bin).map_or(0, |skew| *skew);
+    let late = late.bins().get(bin).map_or(0, |skew| *skew);
+    copy.max(late)
+}
+
+/// Where a link's skews stand in a bin. None: no second frame came there.
+fn level_in(link: &LinkReport, bin: u64) -> Option<u64> {
+    let a = greatest_in(&link.skews.a, &link.late_skews.a, bin);
+    let b = greatest_in(&link.skews.b, &link.late_skews.b, bin);
+    if a == 0 && b == 0 {
+        None
+    } else if a < b {
+        Some(LEVEL.saturating_add(b))
+    } else {
+        Some(LEVEL.saturating_sub(a))
+    }
+}
+
+/// Where a link's skews stand in the first bin that has some, and in the last.
+fn ends_of(link: &LinkReport, used: u64) -> Option<(Mark, Mark)> {
+    let mut ends: Option<(Mark, Mark)> = None;
+    for bin in 0..used {
+        let Some(level) = level_in(link, bin) else {
+            continue;
+        };
+        let mark = Mark { bin, level };
+        ends = match ends {
+            None => Some((mark, mark)),
+            Some((first, _)) => Some((first, mark)),
+        };
+    }
+    ends
+}
+
+/// The level of a bin on the line from one mark to another.
+fn line_at(first: Mark, last: Mark, bin: u64) -> u64 {
+    let moved = first.level.abs_diff(last.level);
+    let passed = share(
+        moved,
+        bin.saturating_sub(first.bin),
+        last.bin.saturating_sub(first.bin),
+    );
+    if first.level < last.level {
+        first.level.saturating_add(passed)
+    } else {
+        first.level.saturating_sub(passed)
+    }
+}
+
+/// Do the skews between two marks stand on the line between them, to a quarter of what they move?
+fn is_steady(link: &LinkReport, first: Mark, last: Mark) -> bool {
+    let most = first.level.abs_diff(last.level) / 4;
+    for bin in first.bin..last.bin {
+        if let Some(level) = level_in(link, bin) {
+            if level.abs_diff(line_at(first, last, bin)) > most {
+                return false;
+            }
+        }
+    }
+    true
+}
+
+/// The rate between two marks, if the skews move steadily there.
+fn rate_of(link: &LinkReport, first: Mark, last: Mark, time: u64) -> Option<Rate> {
+    let faster = if first.level < last.level {
+        Network::B
+    } else {
+        Network::A
+    };
+    let moved = first.level.abs_diff(last.level);
+    let parts = share(moved, 1_000_000_000_000, time);
+    if parts < LEAST_DRIFT || parts > MOST_DRIFT || !is_steady(link, first, last) {
+        return None;
+    }
+    Some(Rate { faster, parts })
+}
+
+/// The rates of links whose skews move steadily, and how many links could have one.
+fn rates_of(alloc: Global, report: &Report, used: u64) -> Result<(Vec<Rate>, u64), AllocError> {
+    let (mut rates, mut of) = (Vec::new(alloc), 0u64);
+    for link in report.links.iter().filter(|link| link.redundancy) {
+        let Some((first, last)) = ends_of(link, used) else {
+            continue;
+        };
+        let time = last
+            .bin
+            .saturating_sub(first.bin)
+            .saturating_mul(report.width);
+        if time < SECOND {
+            continue;
+        }
+        of = of.saturating_add(1);
+        if let Some(rate) = rate_of(link, first, last, time) {
+            rates.push(rate)?;
+        }
+    }
+    Ok((rates, of))
+}
+
+/// Are two rates those of one drift, to a quarter of the greater?
+fn are_alike(one: &Rate, other: &Rate) -> bool {
+    one.faster == other.faster && one.parts.abs_diff(other.parts) <= one.parts.max(other.parts) / 4
+}
+
+/// The drift that nearly all links tell, nine in ten of those that have skews a second apart.
+pub fn drift_of(alloc: Global, report: &Report, used: usize) -> Result<Option<Drift>, AllocError> {
+    let (rates, of) = rates_of(alloc, report, used as u64)?;
+    let mut found: Option<Drift> = None;
+    for rate in &rates {
+        let links = rates.iter().filter(|other| are_alike(rate, other)).count() as u64;
+        let most = match found {
+            Some(drift) => drift.links,
+            None => 0,
+        };
+        if links > most {
+            let Rate { faster, parts } = *rate;
+            found = Some(Drift {
+                faster,
+                parts,
+                links,
+                of,
+            });
+        }
+    }
+    let enough = |drift: &Drift| {
+        drift.links >= LEAST_LINKS && drift.of.saturating_sub(drift.links) <= drift.of / 10
+    };
+    Ok(found.filter(enough))
+}

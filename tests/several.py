@@ -1,0 +1,403 @@
+"""A recording in several files: any cut of a recording into files, in any mixture of formats, is the recording.
+
+Expected ledgers and captures are those of the slow analyser over the whole recording; the cuts are made here. Recorders' own
+cuts come from editcap, dumpcap's companion, and tcpdump, where they are there.
+"""
+import glob
+import json
+import os
+import random
+import re
+import shutil
+import struct
+import subprocess
+import tempfile
+
+import pairs
+from analyser import watch
+from blocks import Blocks
+from harness import EVERY, FAULT, LINK5, SUCCESS, USAGE, difference, frame, header, record, run, run_at_terminal, say, skip
+from reference import FILE_STARTS, HEADER, LAYOUTS, MAX_CAPTURED, capture, parse
+from watching import REASONS, TABLE, Desk
+
+MAGIC = {("<", 1): 0xA1B23C4D, (">", 1): 0xA1B23C4D, ("<", 1000): 0xA1B2C3D4, (">", 1000): 0xA1B2C3D4}
+
+
+def packets_of(recording):
+    """The layout of a recording, its whole packets that any reader takes, as fields and bytes, and what stands after them."""
+    order, unit, fractions = LAYOUTS[recording[:4]]
+    packets, at = [], 24
+    while at + 16 <= len(recording):
+        seconds, fraction, captured, original = struct.unpack_from(order + "IIII", recording, at)
+        # A file header within a recording is one in a pcap file alone: of another format it would be a packet.
+        starts = not captured and not original and recording[at : at + 8] in FILE_STARTS
+        if starts or captured > MAX_CAPTURED or fraction >= fractions or at + 16 + captured > len(recording):
+            break
+        packets.append((seconds * 10**9 + fraction * unit, original, recording[at + 16 : at + 16 + captured]))
+        at += 16 + captured
+    return (order, unit), packets, recording[at:]
+
+
+def pcap(packets, order, unit, rest=b""):
+    return header(order, MAGIC[order, unit]) + b"".join(record(stamp, data, order, unit, original) for stamp, original, data in packets) + rest
+
+
+def pcapng(chance, packets):
+    blocks = Blocks(chance.choice("<>")).section().interface("eth0", 9)
+    for stamp, original, data in packets:
+        blocks.packet(stamp, data, original=max(original, len(data)))
+    return blocks.bytes()
+
+
+def in_some_format(chance, packets):
+    fine = any(stamp % 1000 for stamp, *_ in packets)
+    forms = [("<", 1), (">", 1)] + ([] if fine else [("<", 1000), (">", 1000)])
+    return pcapng(chance, packets) if chance.random() < 0.3 else pcap(packets, *chance.choice(forms))
+
+
+def pieces(chance, recording, most=6):
+    """The files of a recording that is cut anywhere between packets: some without any, the last with what ends it."""
+    (order, unit), packets, rest = packets_of(recording)
+    places = sorted(chance.randrange(len(packets) + 1) for _ in range(chance.randrange(most)))
+    files = [in_some_format(chance, packets[first:last]) for first, last in zip([0, *places], places)]
+    return [*files, pcap(packets[places[-1] if places else 0 :], order, unit, rest)]
+
+
+def lay(directory, name, files):
+    """Writes files, and returns their paths in their order."""
+    paths = [os.path.join(directory, f"{name}_{number:04}") for number in range(len(files))]
+    for path, content in zip(paths, files):
+        with open(path, "wb") as out:
+            out.write(content)
+    return paths
+
+
+def named(form, directory, option, paths):
+    """The words of a command line that name files: as a pattern gives them, by a list, or by both."""
+    if form == "words":
+        return [f"--{option}", *paths]
+    half = 0 if form == "list" else len(paths) // 2
+    listed = os.path.join(directory, f"{option}.list")
+    with open(listed, "w") as out:
+        out.write("\n".join(paths[half:]) + "\n\n")
+    return [f"--{option}", *paths[:half], f"@{listed}"]
+
+
+def told_of(ledger, counts):
+    """How the note on each recording begins that its ledger doesn't call clean, and the note on its files."""
+    lines = []
+    for line in ledger.decode().splitlines():
+        if line.startswith("tap ") and " clean " not in line:
+            network, way, count, *reason = line.split()[1:]
+            frames = f"{count} frame{'' if count == '1' else 's'}"
+            why = REASONS[reason[0]] if reason else "truncated within a record"
+            lines.append(f"afdxmon: note: recording of network {network} ends {way} after {frames}: {why}")
+            if counts[network] > 1:
+                lines.append("afdxmon: note: it ended in ")
+    return lines
+
+
+def fits(told, beginnings):
+    lines = told.splitlines()
+    return len(lines) == len(beginnings) and all(line.startswith(begin) for line, begin in zip(lines, beginnings))
+
+
+def rise(files, config):
+    """Whether the first timestamps of files rise but for the table's window."""
+    late = re.search(r"^late_us = (\d+)$", config, re.M)
+    high = 0
+    for file in files:
+        first = first_stamp(file)
+        if first is not None:
+            if first + (int(late[1]) * 1000 if late else 0) < high:
+                return False
+            high = max(high, first)
+    return True
+
+
+def first_stamp(file):
+    if file[:4] in LAYOUTS:
+        frames, _ = parse(file, 1 << 64)
+        return frames[0][0] if frames else None
+    order, at = "<" if file[8:12] == b"\x4d\x3c\x2b\x1a" else ">", 0
+    while at + 12 <= len(file):
+        kind, length = struct.unpack_from(order + "II", file, at)
+        if kind == 6:
+            high, low = struct.unpack_from(order + "II", file, at + 12)
+            return high << 32 | low
+        at += length
+    return None
+
+
+def generated(desk):
+    """Hundreds of cuts, within the window of late timestamps and anywhere else."""
+    for seed in range(200):
+        chance = random.Random(1000 + seed)
+        config, code, a, b = pairs.pair(chance)
+        files = {network: pieces(chance, recording) for network, recording in (("A", a), ("B", b))}
+        expected = watch(config, code, a, b)
+        desk.lay(config=config, filter=code)
+        words = []
+        for network in "AB":
+            paths = lay(desk.directory, network, files[network])
+            words += named(chance.choice(("words", "list", "both")), desk.directory, network.lower(), paths)
+        words.insert(0 if chance.random() < 0.5 else len(words), "--quiet")
+        ran = desk.watch(*words, a=None, b=None)
+        out_of_order = [network for network in "AB" if not rise(files[network], config)]
+        if out_of_order:
+            told = f"afdxmon: order --{out_of_order[0].lower()}: by time they are "
+            fault = difference(ran, FAULT, lambda text, told=told: text.startswith(told), b"")
+            say(f"several: watch, cut {seed}, where a file begins with a frame out of order", fault)
+            continue
+        ledger = expected.lines + expected.summary
+        beginnings = told_of(ledger, {network: len(files[network]) for network in "AB"})
+        fault = difference(ran, SUCCESS, lambda told, lines=beginnings: fits(told, lines), b"")
+        say(f"several: watch, cut {seed}", fault or desk.compared("capture", expected.capture) or desk.compared("ledger", ledger))
+
+
+def long_list(desk):
+    """A thousand files a network, of a few frames each."""
+    frames = [(10**18 + i * 10**5, frame(5 + i % 3, 60, i // 3 % 255 + 1)) for i in range(5000)]
+    whole = header() + b"".join(record(*one) for one in frames)
+    files = [header() + b"".join(record(*one) for one in frames[first : first + 5]) for first in range(0, 5000, 5)]
+    expected = watch(TABLE, EVERY, whole, whole)
+    for form in ("words", "list"):
+        desk.lay(config=TABLE, filter=EVERY)
+        words = [word for name in "ab" for word in named(form, desk.directory, name, lay(desk.directory, name, files))]
+        ran = desk.watch(*words, a=None, b=None)
+        fault = difference(ran, SUCCESS, "", b"")
+        say(f"several: a thousand files as {form}", fault or desk.compared("capture", expected.capture) or desk.compared("ledger", expected.lines + expected.summary))
+
+
+STEADY = [(10**18 + i * 10**6, frame(5 + i % 2, 60, i // 2 % 255 + 1)) for i in range(60)]
+WHOLE = header() + b"".join(record(*one) for one in STEADY)
+THREE = [header() + b"".join(record(*one) for one in STEADY[first : first + 20]) for first in (0, 20, 40)]
+
+
+def other_commands(desk):
+    """What the commands print or write of the files is what they do of the whole."""
+    desk.lay(config=TABLE, filter=LINK5, a=WHOLE, b=WHOLE)
+    paths = lay(desk.directory, "three", THREE)
+    desk.watch()
+    kept = desk.left("capture")
+    ledger = desk.paths["ledger"]
+    cases = {
+        "capture, after the options": ["capture", "--code", LINK5, *paths],
+        "capture, before the options": ["capture", *paths, "--code", LINK5],
+        "capture, between options": ["capture", "--code", LINK5, *paths, "-o", "-"],
+        "capture, after a flag": ["capture", f"--code={LINK5}", "-v", *paths],
+        "capture, after two hyphens": ["capture", "--code", LINK5, "--", *paths],
+        "cut": ["cut", "--ledger", ledger, "--a", *paths, "--network", "A", "--filters", "01"],
+    }
+    for name, arguments in cases.items():
+        ran = run(arguments, stdin=subprocess.DEVNULL, stdout=subprocess.PIPE)
+        expected = kept if name == "cut" else capture(WHOLE, LINK5)
+        wanted = expected[: 24 + (len(expected) - 24) // 2] if name == "cut" else expected
+        fault = difference(ran, SUCCESS, lambda told: "note" not in told or "passed over" in told)
+        say(f"several: {name}", fault or ("" if ran.stdout[:24] == HEADER and (name == "cut" or ran.stdout == wanted) else "another capture"))
+    alone = run(["cut", "--ledger", ledger, "--a", desk.paths["a"], "--network", "A", "--filters", "01"], stdin=subprocess.DEVNULL, stdout=subprocess.PIPE)
+    ran = run(cases["cut"], stdin=subprocess.DEVNULL, stdout=subprocess.PIPE)
+    say("several: cut is that of the whole", "" if ran.stdout == alone.stdout and len(alone.stdout) > 24 else "another capture")
+    for command in (["links"], ["check", "--config", desk.paths["config"]], ["check", "--config", desk.paths["config"], "--whole", "--json"]):
+        both = [run([*command, *words], stdin=subprocess.DEVNULL, stdout=subprocess.PIPE) for words in (("--a", desk.paths["a"]), ("--a", *paths))]
+        name = f"{paths[0]} and 2 more files"
+        expected = both[0].stdout.replace(desk.paths["a"].encode(), name.encode())
+        fault = difference(both[1], both[0].returncode, both[0].stderr.decode().rstrip("\n"), expected)
+        say(f"several: {' '.join(command[:1] + command[3:])}", fault)
+    session = b"select 45\nstep 1\nquit\n"
+    both = [run(["debug", "--filter", desk.paths["filter"], "--tap", *words], input=session, stdout=subprocess.PIPE) for words in ([desk.paths["a"]], paths)]
+    say("several: debug", difference(both[1], SUCCESS, "", both[0].stdout))
+
+
+def endings(desk):
+    """A file that ends cut or bad ends the recording, and one whose header isn't read; the note names it."""
+    desk.lay(config=TABLE, filter=EVERY)
+    late = header() + record(10**18, frame(5, 60, 1))
+    length = header() + struct.pack("<IIII", 10**9, 0, 262145, 262145)
+    middle = {
+        "cut": (THREE[1][:-1], "cut 39", "truncated within a record"),
+        "cut in a header": (THREE[1] + bytes(15), "cut 40", "truncated within a record"),
+        "a wrong length": (length, "bad 20 length", "captured length over 262144 bytes"),
+        "out of order": (THREE[1] + late[24:], "bad 40 stampback", "timestamp out of order by 39000 us (--late-us 39000 takes it)"),
+        "no header": (b"1", "bad 20 nextfile", "the next file has no header that is read"),
+        "no bytes": (b"", "bad 20 nextfile", "the next file has no header that is read"),
+        "another format": (b"PK\3\4" + bytes(40), "bad 20 nextfile", "the next file has no header that is read"),
+        "another link type": (header(link_type=105), "bad 20 nextfile", "the next file has no header that is read"),
+        "another file's header within": (THREE[1] + THREE[2], "bad 40 fileheader", "another pcap file begins here"),
+    }
+    for name, (content, tap, why) in middle.items():
+        for last in (False, True):
+            paths = lay(desk.directory, "end", [THREE[0], content] + ([] if last else [THREE[2]]))
+            ran = desk.watch("--a", *paths, a=None, b=None, capture=None, filter=None)
+            way, count, *_ = tap.split()
+            told = f"afdxmon: note: recording of network A ends {way} after {count} frames: {why}"
+            where = f"afdxmon: note: it ended in {paths[1]}, " + ("the last of its 2 files" if last else "file 2 of 3: 1 was not read")
+            fault = difference(ran, SUCCESS, lambda text, told=told, where=where: fits(text, [told, where]), b"")
+            found = [line for line in desk.left("ledger").decode().splitlines() if line.startswith("tap A")]
+            say(f"several: {name}{', the last file' if last else ''}", fault or ("" if found == [f"tap A {tap}"] else repr(found)))
+    desk.lay(config=TABLE, filter=EVERY)
+    ran = desk.watch("--a", *lay(desk.directory, "first", [b"1", *THREE]), a=None, b=None, capture=None, filter=None)
+    say("several: the first file has no header", difference(ran, FAULT, "afdxmon: watch 2 Header A 1 Short", b"") or desk.compared("ledger", b"older"))
+
+
+def refused(desk):
+    """What is found before a run begins: nothing is written."""
+    paths = lay(desk.directory, "three", THREE)
+    swapped = [paths[1], paths[0], paths[2]]
+    link = os.path.join(desk.directory, "link")
+    os.symlink(paths[0], link)
+    absent = os.path.join(desk.directory, "absent")
+    empty = os.path.join(desk.directory, "empty")
+    open(empty, "w").close()
+    by_time = f"afdxmon: order --a: by time they are {' '.join(paths)}"
+    order = "give the files of a recording in the order of their first timestamps"
+    reads = "--a needs a recording that can be read: a pcap or pcapng file, or a pipe"
+    missing = "No such file or directory (os error 2)"
+    cases = {
+        "another order": (swapped, by_time, f"{swapped[0]}: {order}"),
+        "a file twice": ([*paths, paths[0]], "afdxmon: repeated --a", f"{paths[0]}: give each file of a recording once"),
+        "a file twice by a link": ([*paths, link], "afdxmon: repeated --a", f"{link}: give each file of a recording once"),
+        "a file that isn't there": ([*paths, absent], "afdxmon: file --a", f"{absent}: {missing}\n{reads}"),
+        "a list that isn't there": ([f"@{absent}"], "afdxmon: file --a", f"@{absent}: {missing}\n{reads}"),
+        "a list without a path": ([f"@{empty}"], "afdxmon: file --a", f"@{empty}: {missing}\n{reads}"),
+    }
+    for command in ("watch", "check"):
+        for name, (files, line, advice) in cases.items():
+            desk.lay(config=TABLE, filter=EVERY)
+            arguments = desk.arguments(a=None, b=None) if command == "watch" else ["check", "--config", desk.paths["config"]]
+            for full in (False, True):
+                ran = run([*arguments, "--a", *files, *(["-v"] if full else [])], stdin=subprocess.DEVNULL, stdout=subprocess.PIPE)
+                fault = difference(ran, FAULT, f"{line}\n{advice}" if full else line, b"")
+                say(f"several: {command}: {name}{', in full' if full else ''}", fault or desk.compared("ledger", b"older"))
+    desk.lay(config=TABLE, filter=EVERY)
+    ran = run([*desk.arguments(a=None, b=None, ledger=paths[1]), "--a", *paths], stdin=subprocess.DEVNULL, stdout=subprocess.PIPE)
+    say("several: an output that is a file of them", difference(ran, FAULT, "afdxmon: file --ledger", b""))
+    ran = run([*desk.arguments(), "--a", *paths], stdin=subprocess.DEVNULL, stdout=subprocess.PIPE)
+    say("several: the option twice", difference(ran, USAGE, lambda told: "cannot be used multiple times" in told, b""))
+    ran = run([*desk.arguments(a=None, b=None), f"--a={paths[0]}", paths[1]], stdin=subprocess.DEVNULL, stdout=subprocess.PIPE)
+    say("several: a word that is no option's", difference(ran, USAGE, lambda told: "unexpected argument" in told, b""))
+
+
+def gaps(desk):
+    """`check` tells where nothing was recorded for more than a second between two files, across files without frames too."""
+    desk.lay(config=TABLE)
+    starts = (0, 5 * 10**7, 5 * 10**7 + 10**9 + 4 * 10**6, 4 * 10**9)
+    files = [header() + b"".join(record(10**18 + start + i * 10**6, frame(5, 60, i + 1)) for i in range(5)) for start in starts]
+    files.insert(3, header())
+    files.insert(0, header())
+    paths = lay(desk.directory, "gaps", files)
+    gap = f"afdxmon: note: network A: a gap of 2.942 s between {paths[4]} and {paths[5]}"
+    ran = run(["check", "--config", desk.paths["config"], "--a", *paths], stdin=subprocess.DEVNULL, stdout=subprocess.PIPE)
+    say("several: check tells a gap", "" if ran.stderr.decode().splitlines()[:1] == [gap] and ran.stderr.count(b"a gap of") == 1 else repr(ran.stderr))
+
+
+def windows(desk):
+    """First timestamps may lie below earlier ones by the run's window."""
+    late = [header() + record(10**18 + stamp, frame(5, 60, i + 1)) for i, stamp in enumerate((10**6, 10**6 - 1000, 10**6))]
+    for window, status in ((None, FAULT), ("0", FAULT), ("1", SUCCESS), ("2", SUCCESS)):
+        desk.lay(config=TABLE, filter=EVERY)
+        paths = lay(desk.directory, "late", late)
+        ran = desk.watch("--a", *paths, *(["--late-us", window] if window else []), a=None, b=None, capture=None, filter=None)
+        say(f"several: first timestamps out of order, --late-us {window}", "" if ran.returncode == status else repr(ran.stderr))
+        ran = run(["capture", "--code", EVERY, *(["--late-us", window] if window else []), *paths], stdin=subprocess.DEVNULL, stdout=subprocess.PIPE)
+        say(f"several: the same of capture, --late-us {window}", "" if ran.returncode == status else repr(ran.stderr))
+    ran = run(["capture", "--code", EVERY, "--late-us", "any", *lay(desk.directory, "any", THREE[::-1])], stdin=subprocess.DEVNULL, stdout=subprocess.PIPE)
+    expected = HEADER + b"".join(part[24:] for part in THREE[::-1])
+    say("several: capture --late-us any takes every order", difference(ran, SUCCESS, "", expected))
+
+
+def lists(desk):
+    """A path that begins with @ is given after ./, and one in a list as it stands; a file in a list has its interface too."""
+    desk.lay(config=TABLE, filter=EVERY)
+    plain = lay(desk.directory, "three", THREE)
+    at = os.path.join(desk.directory, "@odd")
+    shutil.copy(plain[0], at)
+    ran = run(["capture", "--code", EVERY, "./@odd", *plain[1:]], cwd=desk.directory, stdin=subprocess.DEVNULL, stdout=subprocess.PIPE)
+    say("several: a path that begins with @", difference(ran, SUCCESS, "", WHOLE))
+    two = Blocks("<").section().interface("eth0", 9).interface("eth1", 9)
+    for stamp, data in STEADY[20:40]:
+        two.packet(stamp, data, interface=1).packet(stamp, data, interface=0)
+    with open(plain[1], "wb") as out:
+        out.write(two.bytes())
+    chosen = os.path.join(desk.directory, "chosen")
+    with open(chosen, "w") as out:
+        out.write(f"@odd\r\n{plain[1]}:eth1\r\n{plain[2]}\r\n")
+    ran = run(["capture", "--code", EVERY, f"@{chosen}"], cwd=desk.directory, stdin=subprocess.DEVNULL, stdout=subprocess.PIPE)
+    say("several: a list with an interface", difference(ran, SUCCESS, "", WHOLE))
+    ran = run(["capture", "--code", EVERY, *plain], stdin=subprocess.DEVNULL, stdout=subprocess.PIPE)
+    say("several: a file of several interfaces", difference(ran, FAULT, "afdxmon: interfaces RECORDING: 0 eth0, 1 eth1", b""))
+
+
+def manifests(desk):
+    """The manifest has each file that was read."""
+    desk.lay(config=TABLE, filter=EVERY)
+    paths = lay(desk.directory, "three", THREE)
+    path = os.path.join(desk.directory, "run.json")
+    ran = desk.watch("--a", *paths, "--manifest", path, a=None, b=None, capture=None, filter=None)
+    with open(path) as text:
+        record_of_a = json.load(text)["inputs"]["a"]
+    files = [(file["path"], file["bytes"]) for file in record_of_a["files"]]
+    found = (record_of_a["path"], record_of_a["bytes"], record_of_a["frames"], files)
+    expected = (paths[0], sum(map(len, THREE)), 60, [(path, len(content)) for path, content in zip(paths, THREE)])
+    say("several: manifest", difference(ran, SUCCESS, "", b"") or ("" if found == expected else repr(found)))
+
+
+def pipes(desk):
+    """A pipe may be one of the files, and is opened when it is its turn."""
+    desk.lay(config=TABLE, filter=EVERY)
+    paths = lay(desk.directory, "three", THREE)
+    os.remove(paths[1])
+    os.mkfifo(paths[1])
+    writer = subprocess.Popen(["bash", "-c", f"cat > '{paths[1]}'"], stdin=subprocess.PIPE)
+    process = subprocess.Popen(desk_command(paths), stdin=subprocess.DEVNULL, stdout=subprocess.PIPE, stderr=subprocess.PIPE)
+    writer.communicate(THREE[1], timeout=60)
+    out, told = process.communicate(timeout=60)
+    say("several: a pipe between files", "" if (process.returncode, out, told) == (SUCCESS, WHOLE, b"") else repr((process.returncode, len(out), told)))
+
+
+def desk_command(paths):
+    from harness import PROGRAM
+
+    return [PROGRAM, "capture", "--code", EVERY, *paths]
+
+
+def at_terminal(desk):
+    """A terminal shows progress of all files, and nothing of it stays."""
+    desk.lay(config=TABLE, filter=EVERY)
+    paths = lay(desk.directory, "three", THREE)
+    ran = run_at_terminal([*desk.arguments(a=None, b=None, capture=None, filter=None), "--a", *paths], stdin=subprocess.DEVNULL)
+    say("several: at a terminal", "" if ran.returncode == SUCCESS and ran.stderr.startswith("afdxmon: summary: frames 60,") else repr(ran.stderr))
+
+
+def recorders(desk):
+    """Files as editcap and tcpdump cut them."""
+    frames = [(10**18 + i * 10**7, frame(5 + i % 3, 560 + i % 40, i // 3 % 255 + 1)) for i in range(4000)]
+    whole = header() + b"".join(record(*one) for one in frames)
+    desk.lay(config=TABLE, filter=EVERY, a=whole)
+    expected = watch(TABLE, EVERY, whole, header())
+    cutters = {
+        "editcap -c": ["editcap", "-F", "nsecpcap", "-c", "500", desk.paths["a"], "{}/cut.pcap"],
+        "editcap -c, pcapng": ["editcap", "-c", "500", desk.paths["a"], "{}/cut.pcapng"],
+        "editcap -i": ["editcap", "-F", "nsecpcap", "-i", "7", desk.paths["a"], "{}/cut.pcap"],
+        "tcpdump -C": ["tcpdump", "--nano", "-r", desk.paths["a"], "-w", "{}/cut.pcap", "-C", "1", "-Z", "root"],
+    }
+    for name, command in cutters.items():
+        if not shutil.which(command[0]):
+            skip(f"several: {name}", f"no {command[0]} here")
+            continue
+        with tempfile.TemporaryDirectory() as folder:
+            os.chmod(folder, 0o777)
+            made = subprocess.run([word.replace("{}", folder) for word in command], capture_output=True, timeout=60)
+            paths = sorted(glob.glob(f"{folder}/*"), key=lambda path: (len(path), path))
+            if made.returncode or len(paths) < 3:
+                skip(f"several: {name}", f"it makes {len(paths)} files")
+                continue
+            ran = desk.watch("--a", *paths, a=None, b=None)
+            fault = difference(ran, SUCCESS, "", b"")
+            say(f"several: {name}", fault or desk.compared("capture", expected.capture) or desk.compared("ledger", expected.lines + expected.summary))
+
+
+def cases():
+    for part in (generated, long_list, other_commands, endings, refused, gaps, windows, lists, manifests, pipes, at_terminal, recorders):
+        with tempfile.TemporaryDirectory() as directory:
+            part(Desk(directory))
