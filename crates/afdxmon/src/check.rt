@@ -256,5 +256,8 @@ fn tell_answer(
     } else {
         Exit::Fault(Fault::Unsound)
     };
-    Ok(Ended::from(exit))
+    Ok(Ended {
+        unread: answer.unread,
+        ..Ended::from(exit)
+    })
 }

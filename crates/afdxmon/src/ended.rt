@@ -2,6 +2,7 @@
 use crate::NO_RUN;
 use crate::interface::Skipped;
 use crate::recordings::TapEnd;
+use crate::taps::Taps;
 use crate::worst::WorstLinks;
 use afdx_frame::Network;
 use analyser::{Exit, Fault, FileOption};
@@ -56,6 +57,8 @@ pub struct Ended {
     pub worst: Option<WorstLinks>,
     pub skipped: Skipped,
     pub reason: Option<io::Error>,
+    /// Why a recording wasn't read that the answer of `check` is about.
+    pub unread: Option<Fault>,
     /// The numbers of the files that were read last of the recordings.
     pub at: [usize; 2],
 }
@@ -67,6 +70,7 @@ impl From<Exit> for Ended {
             worst: None,
             skipped: Skipped::none(),
             reason: None,
+            unread: None,
             at: [0, 0],
         }
     }
@@ -82,12 +86,20 @@ pub fn file_in(end: &TapEnd, exit: &Exit, network: Network) -> usize {
     }
 }
 
+/// What a person is told where both recordings may be one.
+const ONE_RECORDING: &str =
+    "afdxmon: hint: each frame has its copy: are --a and --b two names of one recording?";
+
 /// Tells a person what a run over two recordings came to.
-pub fn summarise(rt: &HostRuntime, ended: &Ended) -> io::Result<()> {
+pub fn summarise(rt: &HostRuntime, ended: &Ended, taps: &Taps) -> io::Result<()> {
     let Exit::Watched(summary) = &ended.exit else {
         return Ok(());
     };
     rt.eprintln(*summary)?;
+    let totals = &summary.totals;
+    if totals.copy > 0 && totals.copy == totals.delivered && taps.may_be_one(rt) {
+        rt.eprintln(ONE_RECORDING)?;
+    }
     match &ended.worst {
         Some(worst) if !worst.is_empty() => eprintln!(rt; "{worst}"),
         Some(_) | None => Ok(()),

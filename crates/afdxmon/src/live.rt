@@ -244,6 +244,7 @@ impl<'a> Watcher<'a> {
         let known = Known {
             source: None,
             reason,
+            unread: None,
             taps: self.taps,
             at: [0, 0],
             full: self.full,

@@ -8,6 +8,7 @@ mod annotated;
 mod captures;
 mod check;
 mod cutting;
+mod debugging;
 mod disorder;
 mod disputed;
 mod ended;
@@ -29,20 +30,20 @@ mod taps;
 mod telling;
 mod worst;
 
-use afdx_frame::{Network, TapFrame};
+use afdx_frame::Network;
 use analyser::{
-    AsmRun, CaptureArguments, CaptureRun, CommandLine, DebugArguments, Exit, Fault, FileOption,
-    FilterArgument, HeldTap, Invocation, Lateness, MAX_LATE_MICROS, Plan, RunSizes, Summary,
-    TapRead, USAGE, WatchArguments, WatchFault, WatchRefused, Watched, answer_line, begin_session,
-    capture_by, filter_of, filter_of_source, gathered, is_standard, load_filters, read_arguments,
-    read_config, read_file, read_tap, run_asm, run_session, sized_watch,
+    AsmRun, CaptureArguments, CaptureRun, CommandLine, Exit, Fault, FileOption, FilterArgument,
+    Invocation, Lateness, MAX_LATE_MICROS, Plan, RunSizes, Summary, USAGE, WatchArguments,
+    WatchFault, WatchRefused, Watched, capture_by, filter_of, filter_of_source, gathered,
+    is_standard, load_filters, read_arguments, read_config, read_file, run_asm, sized_watch,
 };
 use annotated::Joining;
-use bpf_debugger::DebugFault;
+use bpf_asm::AsmFault;
 use bpf_loader::Program;
 use captures::CaptureOutput;
 use check::check;
 use cutting::cut;
+use debugging::debug;
 use ended::{Ended, Refused, file_in, summarise};
 use files::{refuse_closed, refuse_shared};
 use interface::{Skipped, status_of};
@@ -59,8 +60,8 @@ use recordings::{Reading, TapEnd, TapFiles, end_of, files_of};
 use report::report;
 use run_manifest::sum_of;
 use spans::Spans;
-use std::alloc::{AllocError, Global};
-use std::io::{BufRead, BufReader, BufWriter, ErrorKind, IsTerminal, Write};
+use std::alloc::AllocError;
+use std::io::{BufWriter, ErrorKind, IsTerminal, Write};
 use std::process::ExitCode;
 use std::sync::Wait;
 use std::sync::atomic::{AtomicBool, Ordering};
@@ -77,6 +78,9 @@ const BLOCK: usize = 65536;
 
 /// Assembles the filter's source on standard input, and prints its numeric form to standard output.
 fn asm(rt: &HostRuntime) -> Result<Exit, Refused> {
+    let Ok(output) = BufWriter::with_capacity(rt.alloc(), BLOCK, rt.stdout()) else {
+        return Err(Refused::from(Fault::Asm(AsmFault::Memory)));
+    };
     let AsmRun {
         outcome,
         text,
@@ -85,7 +89,7 @@ fn asm(rt: &HostRuntime) -> Result<Exit, Refused> {
     } = run_asm(
         rt.alloc(),
         ReadSource::new(rt.stdin()),
-        WriteSink::new(rt.stdout()),
+        WriteSink::new(output),
     );
     let reason = sink.into_writer().flush().err();
     match Exit::of_text(outcome, reason.is_none()) {
@@ -395,6 +399,7 @@ fn settle<'p>(
         worst,
         skipped: Skipped::two(skipped_in(&a), skipped_in(&b)),
         reason: capture_fails.or(ledger_fails),
+        unread: None,
     };
     let read = [a.map(|end| end.sums), b.map(|end| end.sums)];
     (ended, RunSums::new(read, sums, spans))
@@ -566,109 +571,6 @@ fn watch<R: Threads + Wait + Sync>(
     Ok(ended)
 }
 
-/// There is no memory for a session.
-const NO_SESSION: Fault = Fault::Debug(DebugFault::Memory);
-
-/// Answers the commands on standard input. What was printed before a fault is handed to the system too.
-fn debug_input(rt: &HostRuntime, program: Program, tap: HeldTap) -> Exit {
-    let Ok(output) = BufWriter::with_capacity(rt.alloc(), BLOCK, rt.stdout()) else {
-        return Exit::Fault(NO_SESSION);
-    };
-    let mut commands = ReadSource::new(rt.stdin());
-    let mut sink = WriteSink::new(output);
-    let outcome = run_session(rt.alloc(), program, tap.frames, &mut commands, &mut sink);
-    let flushed = sink.into_writer().flush().is_ok();
-    Exit::of_session(tap.ending, outcome, flushed)
-}
-
-/// What a person is told at the start of a session.
-const COMMANDS: &str =
-    "commands: select N, step [+|-]N, cont, breakpoint N, disassemble, tally, quit";
-
-/// The next line that a person types, with its newline. None at the end.
-fn typed_line<R: BufRead>(alloc: Global, input: &mut R) -> Result<Option<String>, Fault> {
-    let mut line = String::new(alloc);
-    match input.read_line(&mut line) {
-        Ok(0) => Ok(None),
-        Ok(_) => Ok(Some(line)),
-        Err(error) if error.kind() == ErrorKind::OutOfMemory => Err(NO_SESSION),
-        Err(_) => Err(Fault::File(FileOption::Standard)),
-    }
-}
-
-/// Answers the commands that a person types at a terminal, each as soon as it is typed. The prompt and the
-/// help go to standard error, if that is a terminal too.
-fn debug_terminal(rt: &HostRuntime, program: Program, frames: Vec<TapFrame>) -> Result<(), Fault> {
-    let mut sink = WriteSink::new(rt.stdout());
-    let mut session = begin_session(rt.alloc(), program, frames, &mut sink)?;
-    let Ok(mut input) = BufReader::new(rt.alloc(), rt.stdin()) else {
-        return Err(NO_SESSION);
-    };
-    let prompts = rt.stderr().is_terminal();
-    if prompts {
-        let _ = rt.eprintln(COMMANDS);
-    }
-    for _ in 0..u64::MAX {
-        if prompts {
-            let _ = rt.eprint("> ");
-        }
-        let Some(line) = typed_line(rt.alloc(), &mut input)? else {
-            break;
-        };
-        let line = line.strip_suffix('\n').unwrap_or(&line);
-        if !answer_line(rt.alloc(), &mut session, line, &mut sink)? {
-            break;
-        }
-    }
-    Ok(())
-}
-
-/// Reads a recording whole, and shows its progress.
-fn read_tap_shown(
-    rt: &HostRuntime,
-    taps: &Taps,
-    first: Input,
-    late: u64,
-) -> Result<(HeldTap, TapEnd), Refused> {
-    let tap = taps.of_network(Network::A);
-    let length = tap.look(rt, (FileOption::Tap, &first), late)?;
-    let progress = Progress::begin(rt, length, None);
-    let reading = Reading {
-        progress: progress.as_ref(),
-        ..Reading::quiet(rt, Network::A)
-    };
-    let source = files_of(reading, tap, first, None)?;
-    let TapRead { outcome, source } = read_tap(rt.alloc(), late, source);
-    if let Some(progress) = &progress {
-        progress.erase(rt);
-    }
-    match outcome {
-        Ok(held) => Ok((held, end_of(rt, source))),
-        Err(fault) => {
-            let file = end_of(rt, source).file;
-            Err(Refused::from(Fault::Watch(fault)).at(FileOption::Tap, file))
-        }
-    }
-}
-
-/// Steps through a filter on the frames of a recording. An error is a fault that was met before the session.
-fn debug(rt: &HostRuntime, given: &DebugArguments<'_>, taps: &Taps) -> Result<Ended, Refused> {
-    let program = filter(rt, given.filter)?;
-    let first = open(rt, given.tap, FileOption::Tap)?;
-    let (tap, end) = read_tap_shown(rt, taps, first, late_of(given.late))?;
-    let exit = if rt.stdin().is_terminal() {
-        let outcome = debug_terminal(rt, program, tap.frames);
-        Exit::of_session(tap.ending, outcome, true)
-    } else {
-        debug_input(rt, program, tap)
-    };
-    Ok(Ended {
-        skipped: Skipped::one(end.skipped),
-        at: [file_in(&end, &exit, Network::A), 0],
-        ..Ended::from(exit)
-    })
-}
-
 /// Why the arguments can't be had as text.
 fn unreadable(error: &io::Error) -> &'static str {
     match error.kind() {
@@ -721,6 +623,7 @@ fn tell_refused<'x>(
     let known = Known {
         source,
         reason: refused.reason,
+        unread: None,
         taps,
         at: refused.at,
         full,
@@ -740,6 +643,7 @@ fn tell_ended<'x>(
     let known = Known {
         source: None,
         reason: ended.reason,
+        unread: ended.unread,
         taps,
         at: ended.at,
         full,
@@ -773,7 +677,7 @@ fn carry_out<R: Threads + Wait + Sync>(
         Err(refused) => tell_refused(rt, asked.command, &taps, &refused, full),
     };
     if full && !quiet {
-        let _ = summarise(rt, &ended);
+        let _ = summarise(rt, &ended, &taps);
     }
     ended.exit
 }

@@ -108,6 +108,7 @@ impl Tap {
         ))
     }
 
+    /// Has it more than one file?
     pub fn is_of_several(&self) -> bool {
         self.files.len() > 1
     }
@@ -128,6 +129,7 @@ impl Taps {
         })
     }
 
+    /// The recording of a network.
     pub fn of_network(&self, network: Network) -> &Tap {
         match network {
             Network::A => &self.a,
@@ -151,6 +153,20 @@ impl Taps {
         let a = self.a.look(rt, (FileOption::A, a), late)?;
         let b = self.b.look(rt, (FileOption::B, b), late)?;
         Ok([a, b])
+    }
+
+    /// May both recordings be one? Their first files are regular ones of one length, and their first frames have
+    /// one timestamp.
+    pub fn may_be_one(&self, rt: &HostRuntime) -> bool {
+        let (Some(a), Some(b)) = (self.a.files.first(), self.b.files.first()) else {
+            return false;
+        };
+        match (a.look(rt, FileOption::A), b.look(rt, FileOption::B)) {
+            (Ok(Some(a)), Ok(Some(b))) => {
+                a.length == b.length && a.first.is_some() && a.first == b.first
+            }
+            _ => false,
+        }
     }
 
     /// The command, each of whose recordings is named by one of its files: that of this number.

@@ -32,6 +32,8 @@ enum Reason {
     TooLong(u64),
     /// A text that isn't UTF-8 from this byte on.
     NotUtf8(usize),
+    /// A list of a recording's files that has no path.
+    NoPath,
 }
 
 impl Display for Reason {
@@ -40,6 +42,7 @@ impl Display for Reason {
             Reason::System(error) => write!(f, "{error}"),
             Reason::TooLong(len) => write!(f, "it has {len} bytes"),
             Reason::NotUtf8(at) => write!(f, "not UTF-8 at byte {at}"),
+            Reason::NoPath => f.write_str("the list has no path"),
         }
     }
 }
@@ -75,6 +78,8 @@ pub struct Known<'a> {
     pub source: Option<&'a str>,
     /// Why the system took an output no longer.
     pub reason: Option<io::Error>,
+    /// Why a recording wasn't read that the answer of `check` is about.
+    pub unread: Option<Fault>,
     pub taps: &'a Taps,
     /// The numbers of the files that were read last.
     pub at: [usize; 2],
@@ -159,12 +164,22 @@ fn reason_of_recording(rt: &HostRuntime, path: &str) -> Option<Reason> {
     }
 }
 
+/// Why a list of a recording's files can't be had. None: the path isn't that of a list.
+fn reason_of_list(rt: &HostRuntime, path: &str) -> Option<Reason> {
+    match fs::read_to_string(rt, path.strip_prefix('@')?) {
+        Ok(_) => Some(Reason::NoPath),
+        Err(error) => Some(Reason::System(error)),
+    }
+}
+
 /// Why a file that is read can't be had. A pipe or a device isn't opened a second time: that might wait,
 /// and might take what another reader waits for.
 fn reason_of_input(rt: &HostRuntime, path: &str, file: FileOption) -> Option<Reason> {
     let found = match fs::metadata(rt, path) {
         Ok(found) => found,
-        Err(error) => return Some(Reason::System(error)),
+        Err(error) => {
+            return reason_of_list(rt, path).or(Some(Reason::System(error)));
+        }
     };
     if !found.is_file() && !found.is_dir() {
         return None;
@@ -648,7 +663,11 @@ pub fn tell(
             if !known.full {
                 return Ok(());
             }
-            explain(rt, command, fault, known)
+            explain(rt, command, fault, known)?;
+            match known.unread {
+                Some(unread) => explain(rt, command, &unread, known),
+                None => Ok(()),
+            }
         }
     }
 }

@@ -143,7 +143,8 @@ const APART: &str = "do the recordings belong together? One ends before the othe
 
 const CONSTANT: &str = "is the table's 'constant' that of this network? Not that of";
 
-const TAKE_THEM_OFF: &str = "hold frame check sequences? Take them off: editcap -L -C -4";
+const TAKE_THEM_OFF: &str = "\
+hold frame check sequences? editcap -F nsecpcap -L -C -4 in.pcap out.pcap takes them off";
 
 const SMAX: &str = "does 'smax' count a frame without its check sequence?";
 
@@ -160,11 +161,11 @@ tcpdump --nano -r x.pcap -w a.pcap 'ether[11] & 0xe0 = 0x20', and with 0x40 for 
 
 const ONCE: &str = "\
 hold its frames twice? Most links' numbers come again at once. \
-Record each frame once, or take off the second: editcap -F nsecpcap -d";
+Record each frame once, or take off the second: editcap -F nsecpcap -d in.pcap out.pcap";
 
 const DRIFT: &str = "\
 do the clocks of the taps drift? Synchronise them (PTP), or judge short parts: \
-cut the recordings with editcap -F nsecpcap -i";
+editcap -F nsecpcap -i 60 in.pcap out.pcap makes files of a minute";
 
 const CLOCKS: &str = "\
 are the clocks of the taps apart? Hardly a frame is a copy within its SkewMax.";

@@ -20,10 +20,6 @@ is_nearly_all count frames = nat_lt 0 frames && nat_le (frames - count) (frames 
 abbrev pub has_no_copy : ℕ → ℕ → Totals → Bool
 has_no_copy a b totals = nat_lt 0 a && (nat_lt 0 b && (nat_lt 0 totals.delivered && (totals.copy == 0)))
 
--- the networks have as many frames, and each frame that is delivered has a copy
-abbrev pub has_each_copy : ℕ → ℕ → Totals → Bool
-has_each_copy a b totals = (a == b) && (nat_lt 0 totals.copy && (totals.copy == totals.delivered))
-
 -- the first of these that the counts show
 abbrev pub hint_by : ℕ → ℕ → Totals → Option Hint
 hint_by a b totals =
@@ -31,9 +27,9 @@ hint_by a b totals =
     else if is_nearly_all totals.toolong totals.frames then Some hint.FrameLength
     else if nat_lt (totals.frames / 2) totals.unconfigured then Some hint.OtherTable
     else if nat_lt (totals.frames / 100) totals.cut then Some hint.CutFrames
-    else if nat_lt (totals.frames / 4) totals.out && nat_lt totals.excess totals.out then Some hint.CheckSequences
-    else if has_no_copy a b totals then Some hint.Clocks
-    else if has_each_copy a b totals then Some hint.OneRecording else None
+    else if nat_lt (totals.frames / 8) totals.out && nat_lt (totals.out / 10) totals.excess then Some hint.Repeated
+    else if nat_lt (totals.frames / 4) totals.out then Some hint.CheckSequences
+    else if has_no_copy a b totals then Some hint.Clocks else None
 
 unfoldable pub hint_of : Ending → Ending → Totals → Option Hint
 hint_of a b totals = hint_by (frames_before a) (frames_before b) totals
@@ -43,10 +39,11 @@ hint_words hint.Constant = codes "nearly all frames are foreign: is the table's 
 hint_words hint.FrameLength = codes "nearly all frames are too long: does 'smax' count a frame without its check sequence?"
 hint_words hint.OtherTable = codes "more than half of the frames are unconfigured: is the table that of another aircraft?"
 hint_words hint.CutFrames = codes "more than one frame in a hundred is cut short: record frames whole, tcpdump -s 0"
+hint_words hint.Repeated =
+    codes "many frames are out or excess: does a recording hold both networks, or each frame twice? afdxmon check tells"
 hint_words hint.CheckSequences =
-    codes "more than a quarter of the frames are out: does a recording hold frame check sequences? Take them off: editcap -L -C -4"
+    codes "more than a quarter of the frames are out: does a recording hold frame check sequences? editcap -F nsecpcap -L -C -4 in.pcap out.pcap"
 hint_words hint.Clocks = codes "no frame is a copy of another: are the clocks of the taps apart?"
-hint_words hint.OneRecording = codes "each frame has its copy: are --a and --b two names of one recording?"
 
 unfoldable pub hint_part : Option Hint → List ℕ
 hint_part None = []

@@ -18,13 +18,14 @@ pub enum Hint {
     OtherTable,
     /// The recorders: more than one frame in a hundred is cut short.
     CutFrames,
-    /// The recordings: more than a quarter of the frames are out, and fewer are excess. Where one holds
-    /// check sequences, their last byte is taken for the sequence number.
+    /// The recordings: more than an eighth of the frames are out, and more than a tenth as many excess. So it
+    /// is where one holds both networks, or each frame twice: a number that comes again is one or the other.
+    Repeated,
+    /// The recordings: more than a quarter of the frames are out. Where one holds check sequences, their last
+    /// byte is taken for the sequence number.
     CheckSequences,
     /// The clocks of the taps: both networks have frames, and none is the copy of another.
     Clocks,
-    /// The recordings: one of them may be given as both.
-    OneRecording,
 }
 
 /// How many frames stand before a recording's ending.
@@ -57,12 +58,12 @@ pub fn hint_of(a: Ending, b: Ending, totals: &Totals) -> Option<Hint>
         Some(Hint::OtherTable)
     } else if totals.frames / 100 < totals.cut {
         Some(Hint::CutFrames)
-    } else if totals.frames / 4 < totals.out && totals.excess < totals.out {
+    } else if totals.frames / 8 < totals.out && totals.out / 10 < totals.excess {
+        Some(Hint::Repeated)
+    } else if totals.frames / 4 < totals.out {
         Some(Hint::CheckSequences)
     } else if 0 < a && 0 < b && 0 < totals.delivered && totals.copy == 0 {
         Some(Hint::Clocks)
-    } else if a == b && 0 < totals.copy && totals.copy == totals.delivered {
-        Some(Hint::OneRecording)
     } else {
         None
     }
@@ -84,14 +85,15 @@ fn hint_words(hint: Hint) -> &'static str
         Hint::CutFrames => {
             "more than one frame in a hundred is cut short: record frames whole, tcpdump -s 0"
         }
+        Hint::Repeated => {
+            "many frames are out or excess: does a recording hold both networks, or each frame \
+             twice? afdxmon check tells"
+        }
         Hint::CheckSequences => {
             "more than a quarter of the frames are out: does a recording hold frame check \
-             sequences? Take them off: editcap -L -C -4"
+             sequences? editcap -F nsecpcap -L -C -4 in.pcap out.pcap"
         }
         Hint::Clocks => "no frame is a copy of another: are the clocks of the taps apart?",
-        Hint::OneRecording => {
-            "each frame has its copy: are --a and --b two names of one recording?"
-        }
     }
 }
 

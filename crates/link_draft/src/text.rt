@@ -184,7 +184,8 @@ fn write_arrivals(text: &mut String, network: &str, arrivals: &Arrivals) -> Resu
     };
     let least = arrivals.gaps().least() / 1000;
     let greatest = arrivals.gaps().greatest() / 1000;
-    let about = About(median.from);
+    // The median's bucket may begin below the least interval.
+    let about = About(median.from.max(arrivals.gaps().least()));
     write!(
         text,
         "# {network}: intervals {least} to {greatest} us, median about {about}.\n"

@@ -1,8 +1,8 @@
 //! Whether the clocks of the taps drift: the skews of nearly all links move steadily, and alike.
 
-use crate::numbers::{SECOND, share};
+use crate::numbers::{SECOND, quotient, share};
 use afdx_frame::Network;
-use ledger_report::{LinkReport, Report, Series};
+use ledger_report::{BINS, LinkReport, Report, Series};
 use std::alloc::{AllocError, Global};
 
 /// How fast the clock of one tap moves away from the other's.
@@ -151,9 +151,17 @@ fn are_alike(one: &Rate, other: &Rate) -> bool {
     one.faster == other.faster && one.parts.abs_diff(other.parts) <= one.parts.max(other.parts) / 4
 }
 
+/// How many bins a report uses.
+pub fn bins_used(report: &Report) -> u64 {
+    let length = report.end.saturating_sub(report.start).max(1);
+    quotient(length, report.width)
+        .saturating_add(1)
+        .min(BINS as u64)
+}
+
 /// The drift that nearly all links tell, nine in ten of those that have skews a second apart.
-pub fn drift_of(alloc: Global, report: &Report, used: usize) -> Result<Option<Drift>, AllocError> {
-    let (rates, of) = rates_of(alloc, report, used as u64)?;
+pub fn drift_of(alloc: Global, report: &Report) -> Result<Option<Drift>, AllocError> {
+    let (rates, of) = rates_of(alloc, report, bins_used(report))?;
     let mut found: Option<Drift> = None;
     for rate in &rates {
         let links = rates.iter().filter(|other| are_alike(rate, other)).count() as u64;

@@ -1,12 +1,12 @@
 //! What to look at first: sentences of fixed forms in a fixed order.
 
+use crate::causes::CAUSES;
 use crate::comparison::push_change;
 use crate::gaps::{
     end_of, gap_of, is_lower_bound, is_told, missing_between, silent_on_both, stop_of,
 };
-use crate::head::{drift_parts, first_of, has_strip, pair, push_name, push_place};
-use crate::numbers::share;
-use crate::ranks::{Level, Rank, is_never_on, level_mark};
+use crate::head::{first_of, has_strip, links_word, pair, push_name, push_place};
+use crate::ranks::{Level, Rank, is_never_on, level_mark, open_on_both};
 use crate::tiles::{is_clean, push_ending};
 use crate::view::{NETWORKS, SENTENCES, View, counts_of, letter_of, other, sum};
 use crate::writer::{Page, Part, seconds};
@@ -62,53 +62,16 @@ impl Findings<'_> {
         }
     }
 
-    /// The frames that are nearly all discarded for one reason, which lies in the inputs.
+    /// What is wrong with the table or a recording.
     fn causes(&mut self, view: &View<'_>) {
-        let frames = view.report.counts.all().frames;
-        for (sign, about) in CAUSES {
-            let count = sum(&view.total(sign));
-            if frames > 0 && count > frames / 2 && self.begin(Level::Trouble) {
-                let tenths = Part::Tenths(share(count, 1000, frames));
-                self.page
-                    .fill("<b>@ % of all frames @", &[tenths, Part::Text(about)]);
+        for cause in CAUSES {
+            if cause.is_shown(view) && self.begin(Level::Trouble) {
+                self.page.text("<b>");
+                cause.push_seen(self.page, view);
+                self.page.text("</b>");
+                cause.push_advice(self.page, view);
                 self.end();
             }
-        }
-    }
-
-    /// Networks of which a quarter of the frames come too soon or have a number again, as they do where one
-    /// recording holds both networks, or each frame twice.
-    fn doubles(&mut self, view: &View<'_>) {
-        let (excess, repeat) = (view.total(Sign::Excess), view.total(Sign::Repeat));
-        for network in NETWORKS {
-            let frames = view.report.networks.of(network).frames;
-            let count = excess.of(network).saturating_add(*repeat.of(network));
-            if frames > 0 && count > frames / 4 && self.begin(Level::Trouble) {
-                let tenths = Part::Tenths(share(count, 1000, frames));
-                let letter = Part::Text(letter_of(network));
-                self.page.fill(
-                    "<b>@ % of the frames of network @ are excess or have a number again</b>: \
-                     does its recording hold both networks, or each frame twice?",
-                    &[tenths, letter],
-                );
-                self.end();
-            }
-        }
-    }
-
-    /// That the clocks of the taps drift.
-    fn drift(&mut self, view: &View<'_>) {
-        let Some(drift) = view.drift else {
-            return;
-        };
-        if self.begin(Level::Trouble) {
-            self.page.fill(
-                "<b>The clocks of the taps drift</b>: that of @ is about @ ppm faster, say @ of @ links. \
-                 Synchronise them (PTP), or judge short parts: \
-                 cut the recordings with editcap -F nsecpcap -i",
-                &drift_parts(drift),
-            );
-            self.end();
         }
     }
 
@@ -123,8 +86,10 @@ impl Findings<'_> {
         }
         if unknown > 0 {
             let links = Part::Number(unknown);
-            self.page
-                .fill("; of @ links the rate isn't known", &[links]);
+            self.page.fill(
+                "; of @ @ the rate isn't known",
+                &[links, links_word(unknown)],
+            );
         }
     }
 
@@ -375,6 +340,14 @@ fn push_signs(page: &mut Page, report: &LinkReport, sign: Sign) {
     page.fill(" @", &[pair(&counts_of(report, sign))]);
 }
 
+/// Appends how many of a link's lost numbers may be frames cut short, if some may.
+fn push_open(page: &mut Page, open: u64) {
+    if open > 0 {
+        let open = Part::Grouped(open);
+        page.fill(" (up to @ may be frames cut short)", &[open]);
+    }
+}
+
 impl Which {
     fn holds(self, view: &View<'_>, report: &LinkReport, rank: &Rank) -> bool {
         match self {
@@ -417,6 +390,7 @@ impl Which {
             }
             Which::LostOnBoth => {
                 page.fill(" @", &[Part::Grouped(report.lost_both)]);
+                push_open(page, open_on_both(view.report, report));
                 push_at(page, view, " from ", report.first_lost_both);
             }
             Which::Silent => {}
@@ -569,18 +543,6 @@ const SENTENCES_ON_WORSE: [(Level, &str, Which); 12] = [
     ),
 ];
 
-/// The reasons that lie in the inputs, where more than half of all frames have them.
-const CAUSES: [(Sign, &str); 2] = [
-    (
-        Sign::Unconfigured,
-        "are of links outside the table</b>: is it the table of this aircraft?",
-    ),
-    (
-        Sign::Cut,
-        "are cut short by the recorder</b>: what became of them isn't known; record whole frames",
-    ),
-];
-
 /// The sentences on classes that have no link, in their order.
 const SENTENCES_ON_CLASSES: [(Sign, &str); 4] = [
     (Sign::Foreign, "Foreign (another constant field)"),
@@ -595,8 +557,6 @@ pub fn push_findings(page: &mut Page, view: &View<'_>) -> usize {
     found.worse(view);
     found.endings(view);
     found.causes(view);
-    found.doubles(view);
-    found.drift(view);
     found.silences(view);
     found.ends(view);
     for (level, about, which) in SENTENCES_ON_LINKS {

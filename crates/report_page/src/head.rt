@@ -91,6 +91,11 @@ pub fn start_of(report: &Report) -> Part<'static> {
     }
 }
 
+/// The word for so many links.
+pub fn links_word(count: u64) -> Part<'static> {
+    Part::Text(if count == 1 { "link" } else { "links" })
+}
+
 /// Whose clock is faster, by how many parts in a million, and how many links say so.
 pub fn drift_parts(drift: Drift) -> [Part<'static>; 4] {
     [

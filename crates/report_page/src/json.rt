@@ -3,6 +3,7 @@
 mod baseline;
 
 use self::baseline::{JsonBaseline, baseline_if};
+use crate::drift::drift_of;
 use crate::gaps::{gap_of, missing_in_silences, stop_of};
 use crate::ranks::{level_of, level_word, open_signs, signs_of};
 use crate::view::{letter_of, text, word_of};
@@ -181,11 +182,33 @@ fn stopped_of(report: &Report) -> Option<JsonStopped> {
     })
 }
 
+/// How fast the clock of one tap moves away from the other's, in parts in 10^9, and how many links say so.
+#[derive(Drop, Serialize)]
+struct JsonDrift {
+    faster: &'static str,
+    ppb: u64,
+    links: u64,
+    of: u64,
+}
+
+fn drifted_of(alloc: Global, report: &Report) -> Result<Option<JsonDrift>, AllocError> {
+    let Some(drift) = drift_of(alloc, report)? else {
+        return Ok(None);
+    };
+    Ok(Some(JsonDrift {
+        faster: letter_of(drift.faster),
+        ppb: drift.parts / 1000,
+        links: drift.links,
+        of: drift.of,
+    }))
+}
+
 #[derive(Drop, Serialize)]
 struct JsonReport<'a> {
     version: u8,
     whole: bool,
     stopped: Option<JsonStopped>,
+    drift: Option<JsonDrift>,
     sizes: bool,
     start: Option<String>,
     end: Option<String>,
@@ -518,6 +541,7 @@ fn report_of<'a>(
         version: 1,
         whole: report.whole,
         stopped: stopped_of(report),
+        drift: drifted_of(alloc, report)?,
         sizes,
         start: stamp_if(alloc, some, report.start)?,
         end: stamp_if(alloc, some, report.end)?,

@@ -8,6 +8,7 @@
 //! Each takes the report of an earlier flight, a baseline, and then tells what got worse.
 #![tactic(auto)]
 
+mod causes;
 mod charts;
 mod comparison;
 mod drift;

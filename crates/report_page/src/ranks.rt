@@ -55,19 +55,30 @@ pub fn frames_of(link: &LinkReport) -> u64 {
     link.lanes.a.frames.saturating_add(link.lanes.b.frames)
 }
 
-/// How many of a link's signs may be frames cut short by the recorder, whose fate isn't known: as many as
-/// there are on the network where its numbers are lost, or that didn't bring what is alone.
+/// How many frames of a network are cut short by the recorder: what became of them isn't known.
+fn cut_on(report: &Report, network: Network) -> u64 {
+    report.networks.of(network).signs.of(Sign::Cut).count
+}
+
+/// How many of a link's signs may come of frames cut short: as many as there are on the network where its
+/// numbers are lost, where a frame is out after those, or that didn't bring what is alone.
 pub fn open_signs(report: &Report, link: &LinkReport) -> u64 {
     let mut open = 0u64;
     for network in NETWORKS {
-        let cut = report.networks.of(network).signs.of(Sign::Cut).count;
-        let lost = link.lanes.of(network).signs.of(Sign::Lost).count;
+        let cut = cut_on(report, network);
+        let lane = &link.lanes.of(network).signs;
         let alone = link.lanes.of(other(network)).signs.of(Sign::Alone).count;
-        open = open
-            .saturating_add(lost.min(cut))
-            .saturating_add(alone.min(cut));
+        for count in [lane.of(Sign::Lost).count, lane.of(Sign::Out).count, alone] {
+            open = open.saturating_add(count.min(cut));
+        }
     }
     open
+}
+
+/// How many of the numbers that a link lost on both networks may be frames cut short on both.
+pub fn open_on_both(report: &Report, link: &LinkReport) -> u64 {
+    let cut = cut_on(report, Network::A).min(cut_on(report, Network::B));
+    link.lost_both.min(cut)
 }
 
 /// Is redundancy management on for the link, and has it lines, but none on this network, which has some?

@@ -1,9 +1,10 @@
 //! The first part of the report as lines for a terminal.
 
+use crate::causes::CAUSES;
 use crate::comparison::{count_word, worse_word};
 use crate::gaps::{end_of, gap_of, is_told, silent_on_both, stop_of};
-use crate::head::{drift_parts, level_counts, push_stop};
-use crate::ranks::{Level, Rank, frames_of, level_word, ranks_of};
+use crate::head::{level_counts, links_word, push_stop};
+use crate::ranks::{Level, Rank, frames_of, level_word, open_signs, ranks_of};
 use crate::view::{NETWORKS, View, counts_of, letter_of, sum};
 use crate::writer::{Page, Part, seconds};
 use afdx_frame::Network;
@@ -13,7 +14,7 @@ use std::alloc::{AllocError, Global};
 use vl_config::{Config, Link};
 
 /// The most lines, without those on what got worse since a baseline.
-pub const SUMMARY_LINES: usize = 24;
+pub const SUMMARY_LINES: usize = 28;
 /// How many of them are links.
 const LINKS: usize = 13;
 /// How many links that got worse since a baseline have a line.
@@ -49,12 +50,14 @@ fn push_head(page: &mut Page, view: &View<'_>) {
     }
 }
 
-fn push_drift(page: &mut Page, view: &View<'_>) {
-    if let Some(drift) = view.drift {
-        page.fill(
-            "the clocks of the taps drift: that of @ is about @ ppm faster, say @ of @ links\n",
-            &drift_parts(drift),
-        );
+/// Appends what is wrong with the table or a recording, a line each.
+fn push_causes(page: &mut Page, view: &View<'_>) {
+    for cause in CAUSES {
+        if cause.is_shown(view) {
+            cause.push_seen(page, view);
+            cause.push_advice(page, view);
+            page.text("\n");
+        }
     }
 }
 
@@ -136,6 +139,10 @@ fn push_link(page: &mut Page, view: &View<'_>, rank: &Rank, report: &LinkReport,
     if report.lost_both > 0 {
         page.fill(" lost_both @", &[Part::Number(report.lost_both)]);
     }
+    let open = open_signs(view.report, report);
+    if open > 0 {
+        page.fill(" open @", &[Part::Number(open)]);
+    }
     page.text("\n");
 }
 
@@ -206,8 +213,11 @@ fn push_comparison(page: &mut Page, view: &View<'_>) {
         left = left.saturating_sub(1);
     }
     if worse > WORSE_LINKS {
-        let more = Part::Number(worse.saturating_sub(WORSE_LINKS) as u64);
-        page.fill("and @ more links got worse\n", &[more]);
+        let more = worse.saturating_sub(WORSE_LINKS) as u64;
+        page.fill(
+            "and @ more @ got worse\n",
+            &[Part::Number(more), links_word(more)],
+        );
     }
 }
 
@@ -225,7 +235,7 @@ pub fn summary_of(
     let mut page = Page::new(alloc);
     push_head(&mut page, &view);
     push_comparison(&mut page, &view);
-    push_drift(&mut page, &view);
+    push_causes(&mut page, &view);
     push_silences(&mut page, &view);
     let bad = view.ranks.iter().filter(|rank| rank.level != Level::Clean);
     let mut more = bad.count();
@@ -236,7 +246,8 @@ pub fn summary_of(
         }
     }
     if more > 0 {
-        page.fill("and @ more links\n", &[Part::Number(more as u64)]);
+        let more = more as u64;
+        page.fill("and @ more @\n", &[Part::Number(more), links_word(more)]);
     }
     page.into_text()
 }

@@ -1,10 +1,10 @@
 //! What the page's parts share.
 
-use crate::drift::{Drift, drift_of};
+use crate::drift::{Drift, bins_used, drift_of};
 use crate::numbers::{quotient, share};
 use crate::ranks::Rank;
 use afdx_frame::Network;
-use ledger_report::{BINS, LinkReport, Report, Sides, Sign};
+use ledger_report::{LinkReport, Report, Sides, Sign};
 use report_comparison::{LinkComparison, WORSE, comparison_at};
 use std::alloc::{AllocError, Global};
 use vl_config::{Config, Link};
@@ -98,11 +98,8 @@ impl<'a> View<'a> {
         ranks: Vec<Rank>,
         baseline: Option<&'a Report>,
     ) -> Result<View<'a>, AllocError> {
-        let length = report.end.saturating_sub(report.start).max(1);
-        let used = quotient(length, report.width)
-            .saturating_add(1)
-            .min(BINS as u64);
-        let drift = drift_of(alloc, report, used as usize)?;
+        let used = bins_used(report);
+        let drift = drift_of(alloc, report)?;
         Ok(View {
             alloc,
             report,

@@ -1,0 +1,125 @@
+//! Sessions of the debugger: commands of standard input, or typed at a terminal.
+use crate::ended::{Ended, Refused, file_in};
+use crate::interface::Skipped;
+use crate::progress::Progress;
+use crate::recordings::{Reading, TapEnd, end_of, files_of};
+use crate::streams::Input;
+use crate::taps::Taps;
+use crate::{BLOCK, filter, late_of, open};
+use afdx_frame::{Network, TapFrame};
+use analyser::{
+    DebugArguments, Exit, Fault, FileOption, HeldTap, TapRead, answer_line, begin_session,
+    read_tap, run_session,
+};
+use bpf_debugger::DebugFault;
+use bpf_loader::Program;
+use pcap_io::{ReadSource, WriteSink};
+use std::alloc::Global;
+use std::io::{BufRead, BufReader, BufWriter, ErrorKind, IsTerminal, Write};
+
+/// There is no memory for a session.
+const NO_SESSION: Fault = Fault::Debug(DebugFault::Memory);
+
+/// Answers the commands on standard input. What was printed before a fault is handed to the system too.
+fn debug_input(rt: &HostRuntime, program: Program, tap: HeldTap) -> Ended {
+    let Ok(output) = BufWriter::with_capacity(rt.alloc(), BLOCK, rt.stdout()) else {
+        return Ended::from(Exit::Fault(NO_SESSION));
+    };
+    let mut commands = ReadSource::new(rt.stdin());
+    let mut sink = WriteSink::new(output);
+    let outcome = run_session(rt.alloc(), program, tap.frames, &mut commands, &mut sink);
+    let reason = sink.into_writer().flush().err();
+    let exit = Exit::of_session(tap.ending, outcome, reason.is_none());
+    Ended {
+        reason,
+        ..Ended::from(exit)
+    }
+}
+
+/// What a person is told at the start of a session.
+const COMMANDS: &str =
+    "commands: select N, step [+|-]N, cont, breakpoint N, disassemble, tally, quit";
+
+/// The next line that a person types, with its newline. None at the end.
+fn typed_line<R: BufRead>(alloc: Global, input: &mut R) -> Result<Option<String>, Fault> {
+    let mut line = String::new(alloc);
+    match input.read_line(&mut line) {
+        Ok(0) => Ok(None),
+        Ok(_) => Ok(Some(line)),
+        Err(error) if error.kind() == ErrorKind::OutOfMemory => Err(NO_SESSION),
+        Err(_) => Err(Fault::File(FileOption::Standard)),
+    }
+}
+
+/// Answers the commands that a person types at a terminal, each as soon as it is typed. The prompt and the
+/// help go to standard error, if that is a terminal too.
+fn debug_terminal(rt: &HostRuntime, program: Program, frames: Vec<TapFrame>) -> Result<(), Fault> {
+    let mut sink = WriteSink::new(rt.stdout());
+    let mut session = begin_session(rt.alloc(), program, frames, &mut sink)?;
+    let Ok(mut input) = BufReader::new(rt.alloc(), rt.stdin()) else {
+        return Err(NO_SESSION);
+    };
+    let prompts = rt.stderr().is_terminal();
+    if prompts {
+        let _ = rt.eprintln(COMMANDS);
+    }
+    for _ in 0..u64::MAX {
+        if prompts {
+            let _ = rt.eprint("> ");
+        }
+        let Some(line) = typed_line(rt.alloc(), &mut input)? else {
+            break;
+        };
+        let line = line.strip_suffix('\n').unwrap_or(&line);
+        if !answer_line(rt.alloc(), &mut session, line, &mut sink)? {
+            break;
+        }
+    }
+    Ok(())
+}
+
+/// Reads a recording whole, and shows its progress.
+fn read_tap_shown(
+    rt: &HostRuntime,
+    taps: &Taps,
+    first: Input,
+    late: u64,
+) -> Result<(HeldTap, TapEnd), Refused> {
+    let tap = taps.of_network(Network::A);
+    let length = tap.look(rt, (FileOption::Tap, &first), late)?;
+    let progress = Progress::begin(rt, length, None);
+    let reading = Reading {
+        progress: progress.as_ref(),
+        ..Reading::quiet(rt, Network::A)
+    };
+    let source = files_of(reading, tap, first, None)?;
+    let TapRead { outcome, source } = read_tap(rt.alloc(), late, source);
+    if let Some(progress) = &progress {
+        progress.erase(rt);
+    }
+    match outcome {
+        Ok(held) => Ok((held, end_of(rt, source))),
+        Err(fault) => {
+            let file = end_of(rt, source).file;
+            Err(Refused::from(Fault::Watch(fault)).at(FileOption::Tap, file))
+        }
+    }
+}
+
+/// Steps through a filter on the frames of a recording. An error is a fault that was met before the session.
+pub fn debug(rt: &HostRuntime, given: &DebugArguments<'_>, taps: &Taps) -> Result<Ended, Refused> {
+    let program = filter(rt, given.filter)?;
+    let first = open(rt, given.tap, FileOption::Tap)?;
+    let (tap, end) = read_tap_shown(rt, taps, first, late_of(given.late))?;
+    let ended = if rt.stdin().is_terminal() {
+        let outcome = debug_terminal(rt, program, tap.frames);
+        Ended::from(Exit::of_session(tap.ending, outcome, true))
+    } else {
+        debug_input(rt, program, tap)
+    };
+    Ok(Ended {
+        skipped: Skipped::one(end.skipped),
+        at: [file_in(&end, &ended.exit, Network::A), 0],
+        ..ended
+    })
+}
