@@ -3,6 +3,7 @@ import subprocess
 
 from harness import FAULT, SUCCESS
 from harness import judge, run
+from texts import FULL
 
 # Each form as one statement, and its word as Linux's bpf_asm prints it. `then` is 2 statements farther than the next,
 # `else` 3.
@@ -74,7 +75,16 @@ def assembled(name, source, status, line, out):
     judge(name, run(["asm"], input=source.encode(), stdout=subprocess.PIPE), status, line, out.encode())
 
 
+def full_disks():
+    """Of a form that fits into what is handed over at once, and of one that doesn't."""
+    for name, source in (("a filter", "ret #0\n"), ("a filter of 4096 instructions", "ld #4294967295\n" * 4095 + "ret #0\n")):
+        with open("/dev/full", "wb") as full:
+            ran = run(["asm", "-v"], input=source.encode(), stdout=full)
+        judge(f"asm: {name} on a full disk", ran, FAULT, f"afdxmon: file -\nstandard output: {FULL}")
+
+
 def cases():
+    full_disks()
     for statement, word in FORMS:
         assembled(f"the statement {statement}", statement + TAIL, SUCCESS, "", f"5,{word},{TAIL_FORM}\n")
     for name, source, form in FILTERS:

@@ -390,7 +390,7 @@ class Reference:
             constant = max(self.foreign, key=lambda one: self.foreign[one])
             out.append(f"is the table's 'constant' that of this network? Not that of {foreign} of {self.all} frames; {self.foreign[constant]} have {constant}")
         checks = [n for n in "AB" if self.has_checks(n)]
-        out += [f"does the recording of network {n} hold frame check sequences? Take them off: editcap -L -C -4" for n in checks]
+        out += [f"does the recording of network {n} hold frame check sequences? editcap -F nsecpcap -L -C -4 in.pcap out.pcap takes them off" for n in checks]
         if not checks and nearly_all(self.long, self.all):
             out.append(f"does 'smax' count a frame without its check sequence? {self.long} of {self.all} frames are longer")
         out += self.classes()
@@ -561,12 +561,19 @@ def of_inputs(work):
     write(paths[3], b"no recording, but some bytes")
     text = f"table: {config}: 3 links, constant 50331648\nfault: watch 2 Header B 2 Magic\nsound: no, 1 fault and 0 questions\n"
     judged("a file that is no recording", asked("--config", config, "--a", paths[0], "--b", paths[3]), text)
+    packed = write(os.path.join(work, "b.pcap.gz"), b"\x1f\x8b\x08\0" + bytes(30))
+    ran = run(["check", "--config", config, "--a", paths[0], "--b", packed, "-v"], stdout=subprocess.PIPE)
+    told = f"{UNSOUND}\na run with these inputs would not be sound: the answer says why\n{packed}: compressed by gzip: --b <(zcat {packed})\n"
+    say("check: a compressed recording, in full", difference(ran, FAULT, lambda said: said == told, text.encode()))
     for option in ("--config", "--filter", "--a", "--b"):
         given = {"--config": config, option: os.path.join(work, "absent")}
         say(f"check: {option} that isn't there", difference(asked(*(word for pair in given.items() for word in pair)), FAULT, f"afdxmon: file {option}", b""))
     with open("/dev/full", "wb") as full:
         ran = run(["check", "--config", config], stdout=full)
     say("check: a full output", difference(ran, FAULT, "afdxmon: file -"))
+    with open("/dev/full", "wb") as full:
+        ran = run(["check", "--config", config, "-v"], stdout=full)
+    say("check: a full output, in full", difference(ran, FAULT, f"afdxmon: file -\nstandard output: {texts.FULL}"))
     write(config, toml_of(links).replace("bag_ms = ", "bag_ms = 3 #"))
     ran = run_at_terminal(["check", "--config", config])
     advice = "a run with these inputs would not be sound: the answer says why"

@@ -8,7 +8,7 @@ import tempfile
 
 from harness import EVERY, FAULT, HERE, PROGRAM, SUCCESS, USAGE
 from harness import frame, header, judge, record, run, say
-from texts import COMMANDS, advice_on_ending
+from texts import COMMANDS, FULL, advice_on_ending
 
 STORING = "5,0 0 0 7,2 0 0 3,97 0 0 3,135 0 0 0,22 0 0 0,"
 ZEROS = " 0" * 16
@@ -132,6 +132,8 @@ def faults(files):
     command = ["debug", "--filter", sound, "--tap", tap]
     with open("/dev/full", "wb") as full:
         judge("replies on a full disk", run(command, input=b"tally\n", stdout=full), FAULT, "afdxmon: file -")
+        ran = run([*command, "-v"], input=b"tally\n", stdout=full)
+        judge("replies on a full disk, in full", ran, FAULT, f"afdxmon: file -\nstandard output: {FULL}")
     shell = f"'{PROGRAM}' debug --filter '{sound}' --tap '{tap}'"
     for name, redirection in (("debug with closed standard input", "<&-"), ("debug with closed standard output", "< /dev/null >&-")):
         ran = subprocess.run(["bash", "-c", f"{shell} {redirection}"], stdout=subprocess.DEVNULL, stderr=subprocess.PIPE, timeout=60)

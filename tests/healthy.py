@@ -191,14 +191,27 @@ def frames_cut_short(folder):
               (re.fullmatch(r"(\d+/0)missing .* up to \1 of them may be frames cut short", lost) is not None, lost),
               (re.fullmatch(r"(0/\d+)came .* up to \1 of them may be frames cut short", alone) is not None, alone)]
     expect("frames that the tap of A cuts short", judged, *claims)
+    judged = Judged(folder, flight, snaplen={"A": 120})
+    told = judged.json()
+    out = [mark for one in told["links"] for mark in one["a"]["signs"] if mark["sign"] == "out"]
+    claims = [(all(one["open"] == one["signs"] > 0 and one["level"] == "notice" for one in told["links"]), "what is out after them is open"),
+              (len(out) == 3, "no frame is out"), (re.search(r"notice +1 link_1 .* open \d+$", judged.terminal(), re.M) is not None, "terminal")]
+    expect("frames that the tap of A cuts short, some in a row", judged, *claims)
+    judged = Judged(folder, flight, snaplen={"A": 122, "B": 122})
+    both = {one["name"]: one["lost_both"] for one in judged.json()["links"]}
+    said = [f"{name} {both[name]} (up to {both[name]} may be frames cut short)" for name in both]
+    claims = [(all(both.values()), "none is lost on both"), (named(judged.findings(), "Missing on both networks (lost)", *said), "lost on both")]
+    expect("frames that both taps cut short", judged, *claims)
     judged = Judged(folder, flight, snaplen={"A": 60, "B": 60})
-    expect("frames that are nearly all cut short", judged, (named(judged.findings(), "% of all frames are cut short by the recorder"), "a cause"))
+    shown = "% of all frames are cut short by the recorder: what became of them isn't known"
+    expect("frames that are nearly all cut short", judged, (named(judged.findings(), shown), "a cause"), (shown in judged.terminal(), "terminal"))
 
 
 def another_table(folder):
     flight = sending(random.Random(8), 4 * SECOND, [(i, 16, periodic, "AB") for i in range(1, 5)])
     judged = Judged(folder, flight, table=[link(100), link(101)])
-    expect("a table of another aircraft", judged, (named(judged.findings(), "100.0 % of all frames are of links outside the table"), "a cause"))
+    shown = "100.0 % of all frames are of links outside the table: is it the table of this aircraft?"
+    expect("a table of another aircraft", judged, (named(judged.findings(), shown), "a cause"), (shown in judged.terminal(), "terminal"))
 
 
 def doubled(folder):
@@ -208,8 +221,8 @@ def doubled(folder):
     twice = [f for at, data in flight.taps["A"] for f in ((at, data), (at + 2000, data))]
     for name, frames in (("both networks in one recording", mixed), ("frames recorded twice", twice)):
         judged = Judged(folder, flights.Flight(flight.links, {"A": frames, "B": []}))
-        told = ("% of the frames of network A are excess or have a number again", "both networks, or each frame twice")
-        expect(name, judged, (named(judged.findings(), *told), "a cause"))
+        told = "% of the frames of network A are excess or have a number again: does its recording hold both networks, or each frame twice?"
+        expect(name, judged, (named(judged.findings(), told), "a cause"), (told in judged.terminal(), "terminal"))
     found = Judged(folder, flight).findings()
     say("healthy: sound frames have no number again", "; ".join(one for one in found if "number again" in one))
 
@@ -219,9 +232,10 @@ def drifting(name, judged, wanted):
     told = report_reference.drift(judged.path["t.toml"], judged.path["v.ledger"])
     words = ("The clocks of the taps drift",)
     if told:
-        words = (*words, f"that of {told[0]} is about {told[1] // 10}.{told[1] % 10} ppm faster, say {told[2]} of {told[3]} links", "PTP")
-    found, shown = named(judged.findings(), *words), "the clocks of the taps drift" in judged.terminal()
-    planted = told is None if wanted is None else told is not None and told[0] == ("B" if wanted > 0 else "A") and near(told[1], abs(wanted), 0.25)
+        tenths = told["ppb"] // 100
+        words = (*words, f"that of {told['faster']} is about {tenths // 10}.{tenths % 10} ppm faster, say {told['links']} of {told['of']} links", "PTP")
+    found, shown = named(judged.findings(), *words), "The clocks of the taps drift" in judged.terminal()
+    planted = told is None if wanted is None else told is not None and told["faster"] == ("B" if wanted > 0 else "A") and near(tenths, abs(wanted), 0.25)
     expect(name, judged, (planted, f"the reference has {told}"), (found == shown == (told is not None), "a finding"))
 
 

@@ -71,7 +71,7 @@ class Side:
             return f"# {network}: no frame.\n"
         text = f"# {network}: {len(self.stamps)} frames; of their numbers {self.follow} follow, {self.others} don't.\n"
         if self.gaps:
-            reach = f"{min(self.gaps) // 1000} to {max(self.gaps) // 1000} us, median about {about(self.median[0])}"
+            reach = f"{min(self.gaps) // 1000} to {max(self.gaps) // 1000} us, median about {about(max(self.median[0], min(self.gaps)))}"
             text += f"# {network}: intervals {reach}.\n"
         return text
 

@@ -351,7 +351,7 @@ def link_of(ledger, link):
     resets = any(sign == "reset" for n in "AB" for sign, _, _ in hits[n])
     never = link["redundancy"] and any(not lanes[n] and ledger.of[n] for n in "AB")
     said["open"] = sum(min(sum(amount for sign, _, amount in hits[m] if sign == word), sum(l.cls == "cut" for l in ledger.of[n]))
-                       for n in "AB" for m, word in ((n, "lost"), (OTHER[n], "alone")))
+                       for n in "AB" for m, word in ((n, "lost"), (n, "out"), (OTHER[n], "alone")))
     sure = said["signs"] - said["open"]
     many = sure >= 3 and sure * 1000 >= len(seen)
     said["level"] = ("silent" if not seen else "trouble" if never or many or said["gap"] or said["stop"] else "notice" if said["signs"] or resets else "clean")
@@ -398,7 +398,7 @@ def rate_of(levels, width):
 
 
 def drift(table_path, ledger_path):
-    """The faster tap, by how many tenths of a ppm, how many links say so and of how many; None where the clocks don't drift."""
+    """The faster tap, by how many parts in 10^9, how many links say so and of how many; None where the clocks don't drift."""
     with open(table_path, "rb") as table:
         table = tomllib.load(table)
     lines, _, _ = read_lines(ledger_path)
@@ -414,7 +414,7 @@ def drift(table_path, ledger_path):
     best = max(rates, key=like, default=None)
     if best is None or like(best) < 4 or len(held) - like(best) > len(held) // 10:
         return None
-    return "B" if best > 0 else "A", abs(best) // 10**5, like(best), len(held)
+    return {"faster": "B" if best > 0 else "A", "ppb": abs(best) // 1000, "links": like(best), "of": len(held)}
 
 
 def width_of(lines):
@@ -450,7 +450,7 @@ def reference(table_path, ledger_path):
             "filters": [sum(l.mask >> i & 1 for l in lines) for i in range(1 + len(table.get("filters", [])))],
             "a": network_of(ledger, "A", tail, hits["A"], copies["A"], start, width),
             "b": network_of(ledger, "B", tail, hits["B"], copies["B"], start, width),
-            "links": links, "outside": outside}
+            "links": links, "outside": outside, "drift": drift(table_path, ledger_path)}
 
 
 def differences(mine, theirs, path=""):

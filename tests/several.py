@@ -259,7 +259,7 @@ def refused(desk):
         "a file twice by a link": ([*paths, link], "afdxmon: repeated --a", f"{link}: give each file of a recording once"),
         "a file that isn't there": ([*paths, absent], "afdxmon: file --a", f"{absent}: {missing}\n{reads}"),
         "a list that isn't there": ([f"@{absent}"], "afdxmon: file --a", f"@{absent}: {missing}\n{reads}"),
-        "a list without a path": ([f"@{empty}"], "afdxmon: file --a", f"@{empty}: {missing}\n{reads}"),
+        "a list without a path": ([f"@{empty}"], "afdxmon: file --a", f"@{empty}: the list has no path\n{reads}"),
     }
     for command in ("watch", "check"):
         for name, (files, line, advice) in cases.items():

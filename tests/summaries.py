@@ -44,7 +44,8 @@ def summary_of(ledger, hint):
 FOREIGN = "nearly all frames are foreign: is the table's 'constant' that of this network?"
 TOO_LONG = "nearly all frames are too long: does 'smax' count a frame without its check sequence?"
 NO_COPY = "no frame is a copy of another: are the clocks of the taps apart?"
-CHECK_SEQUENCES = "more than a quarter of the frames are out: does a recording hold frame check sequences? Take them off: editcap -L -C -4"
+REPEATED = "many frames are out or excess: does a recording hold both networks, or each frame twice? afdxmon check tells"
+CHECK_SEQUENCES = "more than a quarter of the frames are out: does a recording hold frame check sequences? editcap -F nsecpcap -L -C -4 in.pcap out.pcap"
 OTHER_TABLE = "more than half of the frames are unconfigured: is the table that of another aircraft?"
 CUT_FRAMES = "more than one frame in a hundred is cut short: record frames whole, tcpdump -s 0"
 ONE_RECORDING = "each frame has its copy: are --a and --b two names of one recording?"
@@ -121,7 +122,7 @@ def cases():
         summed(desk, "two taps of which one lost a frame", TABLE, tap(*sound), tap(*late), None)
         summed(desk, "a tap that is empty", TABLE, tap(*sound), tap(), None)
         summed(desk, "two empty taps", TABLE, tap(), tap(), None)
-        summed(desk, "a truncated tap", TABLE, tap(*sound)[:-1], tap(*late), ONE_RECORDING)
+        summed(desk, "a truncated tap", TABLE, tap(*sound)[:-1], tap(*late), None)
         summed(desk, "another constant", foreign, tap(*sound), tap(*sound), FOREIGN)
         summed(desk, "nine foreign frames in ten", other, tap(*few, (10**9, frame(5, 60, 1))), tap(), FOREIGN)
         summed(desk, "nine foreign frames in eleven", other, tap(*few, *frames(2, start=10**9)), tap(), None)
@@ -136,9 +137,18 @@ def cases():
         for held, out, hint in ((15, 5, None), (14, 5, CHECK_SEQUENCES)):
             jumps = [(10**9 + i * 2 * MS, frame(5, 60, 100 if i % 2 else 200)) for i in range(out)]
             summed(desk, f"{out} frames of {held + out} that are out", TABLE, tap(*frames(held), *jumps), tap(), hint)
+        for held, out, excess, hint in ((20, 3, 1, None), (19, 3, 1, REPEATED), (28, 10, 1, CHECK_SEQUENCES), (27, 10, 2, REPEATED), (28, 9, 1, REPEATED)):
+            again = [((held - 1) * 2 * MS + 1 + i, frame(5, 60, 1)) for i in range(excess)]
+            jumps = [(10**9 + i * 2 * MS, frame(5, 60, 100 if i % 2 else 200)) for i in range(out)]
+            summed(desk, f"{held} frames, {out} that are out, {excess} excess", TABLE, tap(*frames(held), *again, *jumps), tap(), hint)
+        both = sorted(sound + frames(20, start=1000), key=lambda one: one[0])
+        summed(desk, "both networks in one recording", TABLE, tap(*both), tap(), REPEATED)
+        summed(desk, "frames recorded twice", TABLE, tap(*both), tap(*both), REPEATED)
         summed(desk, "check sequences in network B's recording", TABLE, tap(*sound), tap(*checked(sound)), CHECK_SEQUENCES)
         summed(desk, "taps a day apart", TABLE, tap(*sound), tap(*day), NO_COPY)
         summed(desk, "one recording twice", TABLE, tap(*sound), tap(*sound), ONE_RECORDING)
+        summed(desk, "each frame with its copy a nanosecond later", TABLE, tap(*sound), tap(*frames(20, start=1)), None)
+        summed(desk, "one recording and its start", TABLE, tap(*sound), tap(*sound)[:-1], None)
         example = [read(os.path.join(TOP, "examples", "flight" + end)) for end in (".toml", "_a.pcap", "_b.pcap")]
         worst(desk)
         summed(desk, "the flight of examples", example[0].decode(), *example[1:], None)
