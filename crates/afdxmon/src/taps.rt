@@ -155,8 +155,8 @@ impl Taps {
         Ok([a, b])
     }
 
-    /// May both recordings be one? Their first files are regular ones of one length, and their first frames have
-    /// one timestamp.
+    /// May both recordings be one? Their first files are regular ones of one length, and their first frames
+    /// have one timestamp.
     pub fn may_be_one(&self, rt: &HostRuntime) -> bool {
         let (Some(a), Some(b)) = (self.a.files.first(), self.b.files.first()) else {
             return false;

@@ -22,8 +22,8 @@ impl Recordings {
         a.max(b).div_ceil(1000)
     }
 
-    /// The window that a draft has for late timestamps, in microseconds: twice what was seen, at least 100 and
-    /// at most 1000000.
+    /// The window that a draft has for late timestamps, in microseconds: twice what was seen, at least 100
+    /// and at most 1000000.
     pub fn window_us(&self) -> u64
         ensures { result ≡ window_micros (late_micros self.now) }
     {

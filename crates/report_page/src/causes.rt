@@ -1,4 +1,4 @@
-//! What the numbers show of the inputs: another table, frames cut short, a mixed recording, clocks that drift.
+//! What the numbers show of the inputs: another table, frames cut short, a mixed recording, drifting clocks.
 
 use crate::head::drift_parts;
 use crate::numbers::share;
