@@ -44,8 +44,7 @@ def summary_of(ledger, hint):
 FOREIGN = "nearly all frames are foreign: is the table's 'constant' that of this network?"
 TOO_LONG = "nearly all frames are too long: does 'smax' count a frame without its check sequence?"
 NO_COPY = "no frame is a copy of another: are the clocks of the taps apart?"
-REPEATED = "many frames are out or excess: does a recording hold both networks, or each frame twice? afdxmon check tells"
-CHECK_SEQUENCES = "more than a quarter of the frames are out: does a recording hold frame check sequences? editcap -F nsecpcap -L -C -4 in.pcap out.pcap"
+NUMBERS = "more than one frame in eight is out: does a recording hold check sequences, both networks, or each frame twice? afdxmon check tells"
 OTHER_TABLE = "more than half of the frames are unconfigured: is the table that of another aircraft?"
 CUT_FRAMES = "more than one frame in a hundred is cut short: record frames whole, tcpdump -s 0"
 ONE_RECORDING = "each frame has its copy: are --a and --b two names of one recording?"
@@ -100,7 +99,7 @@ def worst(desk):
 
     few = {7: "x" * 32, 9: "flap_2", 10: "fuel"}
     desks = late(7, 3) + late(9, 0, 2, 1) + late(10, 0)
-    summed(desk, "three links", table(few), tap(*desks), tap(), None)
+    summed(desk, "three links", table(few), tap(*desks), tap(), NUMBERS)
     seven = {link: f"link_{link}" for link in range(1, 8)}
     more = sum((late(link, excess, 0, toolong) for link, excess, toolong in zip(seven, (1, 4, 2, 2, 0, 3, 1), (1, 0, 0, 0, 2, 1, 0))), [])
     summed(desk, "seven links", table(seven), tap(*more), tap(), None)
@@ -134,17 +133,13 @@ def cases():
             held = header() + b"".join(
                 record(stamp, data[: 50 if k < cut else 60], original=60) for k, (stamp, data) in enumerate(frames(count)))
             summed(desk, f"{cut} cut frames of {count}", TABLE, held, tap(), hint)
-        for held, out, hint in ((15, 5, None), (14, 5, CHECK_SEQUENCES)):
+        for held, out, hint in ((21, 3, None), (20, 3, NUMBERS), (5, 10, NUMBERS)):
             jumps = [(10**9 + i * 2 * MS, frame(5, 60, 100 if i % 2 else 200)) for i in range(out)]
             summed(desk, f"{out} frames of {held + out} that are out", TABLE, tap(*frames(held), *jumps), tap(), hint)
-        for held, out, excess, hint in ((20, 3, 1, None), (19, 3, 1, REPEATED), (28, 10, 1, CHECK_SEQUENCES), (27, 10, 2, REPEATED), (28, 9, 1, REPEATED)):
-            again = [((held - 1) * 2 * MS + 1 + i, frame(5, 60, 1)) for i in range(excess)]
-            jumps = [(10**9 + i * 2 * MS, frame(5, 60, 100 if i % 2 else 200)) for i in range(out)]
-            summed(desk, f"{held} frames, {out} that are out, {excess} excess", TABLE, tap(*frames(held), *again, *jumps), tap(), hint)
         both = sorted(sound + frames(20, start=1000), key=lambda one: one[0])
-        summed(desk, "both networks in one recording", TABLE, tap(*both), tap(), REPEATED)
-        summed(desk, "frames recorded twice", TABLE, tap(*both), tap(*both), REPEATED)
-        summed(desk, "check sequences in network B's recording", TABLE, tap(*sound), tap(*checked(sound)), CHECK_SEQUENCES)
+        summed(desk, "both networks in one recording", TABLE, tap(*both), tap(), NUMBERS)
+        summed(desk, "frames recorded twice", TABLE, tap(*both), tap(*both), NUMBERS)
+        summed(desk, "check sequences in network B's recording", TABLE, tap(*sound), tap(*checked(sound)), NUMBERS)
         summed(desk, "taps a day apart", TABLE, tap(*sound), tap(*day), NO_COPY)
         summed(desk, "one recording twice", TABLE, tap(*sound), tap(*sound), ONE_RECORDING)
         summed(desk, "each frame with its copy a nanosecond later", TABLE, tap(*sound), tap(*frames(20, start=1)), None)

@@ -5,7 +5,7 @@ use crate::recordings::TapEnd;
 use crate::taps::Taps;
 use crate::worst::WorstLinks;
 use afdx_frame::Network;
-use analyser::{Exit, Fault, FileOption};
+use analyser::{Exit, Fault, FileOption, hint_of};
 use std::alloc::AllocError;
 use std::io;
 
@@ -97,7 +97,8 @@ pub fn summarise(rt: &HostRuntime, ended: &Ended, taps: &Taps) -> io::Result<()>
     };
     rt.eprintln(*summary)?;
     let totals = &summary.totals;
-    if totals.copy > 0 && totals.copy == totals.delivered && taps.may_be_one(rt) {
+    let hinted = hint_of(summary.a, summary.b, totals).is_some();
+    if !hinted && totals.copy > 0 && totals.copy == totals.delivered && taps.may_be_one(rt) {
         rt.eprintln(ONE_RECORDING)?;
     }
     match &ended.worst {

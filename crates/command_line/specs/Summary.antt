@@ -27,8 +27,7 @@ hint_by a b totals =
     else if is_nearly_all totals.toolong totals.frames then Some hint.FrameLength
     else if nat_lt (totals.frames / 2) totals.unconfigured then Some hint.OtherTable
     else if nat_lt (totals.frames / 100) totals.cut then Some hint.CutFrames
-    else if nat_lt (totals.frames / 8) totals.out && nat_lt (totals.out / 10) totals.excess then Some hint.Repeated
-    else if nat_lt (totals.frames / 4) totals.out then Some hint.CheckSequences
+    else if nat_lt (totals.frames / 8) totals.out then Some hint.Numbers
     else if has_no_copy a b totals then Some hint.Clocks else None
 
 unfoldable pub hint_of : Ending → Ending → Totals → Option Hint
@@ -39,10 +38,8 @@ hint_words hint.Constant = codes "nearly all frames are foreign: is the table's 
 hint_words hint.FrameLength = codes "nearly all frames are too long: does 'smax' count a frame without its check sequence?"
 hint_words hint.OtherTable = codes "more than half of the frames are unconfigured: is the table that of another aircraft?"
 hint_words hint.CutFrames = codes "more than one frame in a hundred is cut short: record frames whole, tcpdump -s 0"
-hint_words hint.Repeated =
-    codes "many frames are out or excess: does a recording hold both networks, or each frame twice? afdxmon check tells"
-hint_words hint.CheckSequences =
-    codes "more than a quarter of the frames are out: does a recording hold frame check sequences? editcap -F nsecpcap -L -C -4 in.pcap out.pcap"
+hint_words hint.Numbers =
+    codes "more than one frame in eight is out: does a recording hold check sequences, both networks, or each frame twice? afdxmon check tells"
 hint_words hint.Clocks = codes "no frame is a copy of another: are the clocks of the taps apart?"
 
 unfoldable pub hint_part : Option Hint → List ℕ

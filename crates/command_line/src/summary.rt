@@ -18,12 +18,9 @@ pub enum Hint {
     OtherTable,
     /// The recorders: more than one frame in a hundred is cut short.
     CutFrames,
-    /// The recordings: more than an eighth of the frames are out, and more than a tenth as many excess. So it
-    /// is where one holds both networks, or each frame twice: a number that comes again is one or the other.
-    Repeated,
-    /// The recordings: more than a quarter of the frames are out. Where one holds check sequences, their last
-    /// byte is taken for the sequence number.
-    CheckSequences,
+    /// The recordings: more than one frame in eight is out. So it is where one holds check sequences, whose
+    /// last byte is taken for the sequence number, or both networks, or each frame twice.
+    Numbers,
     /// The clocks of the taps: both networks have frames, and none is the copy of another.
     Clocks,
 }
@@ -58,10 +55,8 @@ pub fn hint_of(a: Ending, b: Ending, totals: &Totals) -> Option<Hint>
         Some(Hint::OtherTable)
     } else if totals.frames / 100 < totals.cut {
         Some(Hint::CutFrames)
-    } else if totals.frames / 8 < totals.out && totals.out / 10 < totals.excess {
-        Some(Hint::Repeated)
-    } else if totals.frames / 4 < totals.out {
-        Some(Hint::CheckSequences)
+    } else if totals.frames / 8 < totals.out {
+        Some(Hint::Numbers)
     } else if 0 < a && 0 < b && 0 < totals.delivered && totals.copy == 0 {
         Some(Hint::Clocks)
     } else {
@@ -85,13 +80,9 @@ fn hint_words(hint: Hint) -> &'static str
         Hint::CutFrames => {
             "more than one frame in a hundred is cut short: record frames whole, tcpdump -s 0"
         }
-        Hint::Repeated => {
-            "many frames are out or excess: does a recording hold both networks, or each frame \
-             twice? afdxmon check tells"
-        }
-        Hint::CheckSequences => {
-            "more than a quarter of the frames are out: does a recording hold frame check \
-             sequences? editcap -F nsecpcap -L -C -4 in.pcap out.pcap"
+        Hint::Numbers => {
+            "more than one frame in eight is out: does a recording hold check sequences, both \
+             networks, or each frame twice? afdxmon check tells"
         }
         Hint::Clocks => "no frame is a copy of another: are the clocks of the taps apart?",
     }
