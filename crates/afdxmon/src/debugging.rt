@@ -3,7 +3,7 @@ use crate::ended::{Ended, Refused, file_in};
 use crate::interface::Skipped;
 use crate::progress::Progress;
 use crate::recordings::{Reading, TapEnd, end_of, files_of};
-use crate::streams::Input;
+use crate::streams::{Input, Noting};
 use crate::taps::Taps;
 use crate::{BLOCK, filter, late_of, open};
 use afdx_frame::{Network, TapFrame};
@@ -13,12 +13,25 @@ use analyser::{
 };
 use bpf_debugger::DebugFault;
 use bpf_loader::Program;
-use pcap_io::{ReadSource, WriteSink};
+use pcap_io::{Ending, ReadSource, WriteSink};
 use std::alloc::Global;
-use std::io::{BufRead, BufReader, BufWriter, ErrorKind, IsTerminal, Write};
+use std::io::{BufRead, BufReader, BufWriter, ErrorKind, IsTerminal, Stdout, Write};
 
 /// There is no memory for a session.
 const NO_SESSION: Fault = Fault::Debug(DebugFault::Memory);
+
+/// How a session ended whose replies went to this sink.
+fn ended_by<W: Write>(
+    sink: WriteSink<Noting<W>>,
+    ending: Ending,
+    outcome: Result<(), Fault>,
+) -> Ended {
+    let (flushed, reason) = sink.into_writer().finish();
+    Ended {
+        reason,
+        ..Ended::from(Exit::of_session(ending, outcome, flushed))
+    }
+}
 
 /// Answers the commands on standard input. What was printed before a fault is handed to the system too.
 fn debug_input(rt: &HostRuntime, program: Program, tap: HeldTap) -> Ended {
@@ -26,14 +39,9 @@ fn debug_input(rt: &HostRuntime, program: Program, tap: HeldTap) -> Ended {
         return Ended::from(Exit::Fault(NO_SESSION));
     };
     let mut commands = ReadSource::new(rt.stdin());
-    let mut sink = WriteSink::new(output);
+    let mut sink = WriteSink::new(Noting::new(output));
     let outcome = run_session(rt.alloc(), program, tap.frames, &mut commands, &mut sink);
-    let reason = sink.into_writer().flush().err();
-    let exit = Exit::of_session(tap.ending, outcome, reason.is_none());
-    Ended {
-        reason,
-        ..Ended::from(exit)
-    }
+    ended_by(sink, tap.ending, outcome)
 }
 
 /// What a person is told at the start of a session.
@@ -53,9 +61,13 @@ fn typed_line<R: BufRead>(alloc: Global, input: &mut R) -> Result<Option<String>
 
 /// Answers the commands that a person types at a terminal, each as soon as it is typed. The prompt and the
 /// help go to standard error, if that is a terminal too.
-fn debug_terminal(rt: &HostRuntime, program: Program, frames: Vec<TapFrame>) -> Result<(), Fault> {
-    let mut sink = WriteSink::new(rt.stdout());
-    let mut session = begin_session(rt.alloc(), program, frames, &mut sink)?;
+fn answer_typed(
+    rt: &HostRuntime,
+    program: Program,
+    frames: Vec<TapFrame>,
+    sink: &mut WriteSink<Noting<Stdout>>,
+) -> Result<(), Fault> {
+    let mut session = begin_session(rt.alloc(), program, frames, sink)?;
     let Ok(mut input) = BufReader::new(rt.alloc(), rt.stdin()) else {
         return Err(NO_SESSION);
     };
@@ -71,11 +83,18 @@ fn debug_terminal(rt: &HostRuntime, program: Program, frames: Vec<TapFrame>) -> 
             break;
         };
         let line = line.strip_suffix('\n').unwrap_or(&line);
-        if !answer_line(rt.alloc(), &mut session, line, &mut sink)? {
+        if !answer_line(rt.alloc(), &mut session, line, sink)? {
             break;
         }
     }
     Ok(())
+}
+
+/// Steps through a filter by commands that a person types at a terminal.
+fn debug_terminal(rt: &HostRuntime, program: Program, tap: HeldTap) -> Ended {
+    let mut sink = WriteSink::new(Noting::new(rt.stdout()));
+    let outcome = answer_typed(rt, program, tap.frames, &mut sink);
+    ended_by(sink, tap.ending, outcome)
 }
 
 /// Reads a recording whole, and shows its progress.
@@ -112,8 +131,7 @@ pub fn debug(rt: &HostRuntime, given: &DebugArguments<'_>, taps: &Taps) -> Resul
     let first = open(rt, given.tap, FileOption::Tap)?;
     let (tap, end) = read_tap_shown(rt, taps, first, late_of(given.late))?;
     let ended = if rt.stdin().is_terminal() {
-        let outcome = debug_terminal(rt, program, tap.frames);
-        Ended::from(Exit::of_session(tap.ending, outcome, true))
+        debug_terminal(rt, program, tap)
     } else {
         debug_input(rt, program, tap)
     };

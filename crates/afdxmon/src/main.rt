@@ -38,7 +38,6 @@ use analyser::{
     is_standard, load_filters, read_arguments, read_config, read_file, run_asm, sized_watch,
 };
 use annotated::Joining;
-use bpf_asm::AsmFault;
 use bpf_loader::Program;
 use captures::CaptureOutput;
 use check::check;
@@ -61,13 +60,13 @@ use report::report;
 use run_manifest::sum_of;
 use spans::Spans;
 use std::alloc::AllocError;
-use std::io::{BufWriter, ErrorKind, IsTerminal, Write};
+use std::io::{ErrorKind, IsTerminal};
 use std::process::ExitCode;
 use std::sync::Wait;
 use std::sync::atomic::{AtomicBool, Ordering};
 use std::thread::Threads;
 use std::{io, thread};
-use streams::{Input, Output};
+use streams::{Input, Noting, Output};
 use taps::Taps;
 use telling::{Known, tell};
 use vl_config::Config;
@@ -78,9 +77,6 @@ const BLOCK: usize = 65536;
 
 /// Assembles the filter's source on standard input, and prints its numeric form to standard output.
 fn asm(rt: &HostRuntime) -> Result<Exit, Refused> {
-    let Ok(output) = BufWriter::with_capacity(rt.alloc(), BLOCK, rt.stdout()) else {
-        return Err(Refused::from(Fault::Asm(AsmFault::Memory)));
-    };
     let AsmRun {
         outcome,
         text,
@@ -89,10 +85,10 @@ fn asm(rt: &HostRuntime) -> Result<Exit, Refused> {
     } = run_asm(
         rt.alloc(),
         ReadSource::new(rt.stdin()),
-        WriteSink::new(output),
+        WriteSink::new(Noting::new(rt.stdout())),
     );
-    let reason = sink.into_writer().flush().err();
-    match Exit::of_text(outcome, reason.is_none()) {
+    let (flushed, reason) = sink.into_writer().finish();
+    match Exit::of_text(outcome, flushed) {
         Exit::Fault(fault) => Err(Refused {
             source: text,
             reason,

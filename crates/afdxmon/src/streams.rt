@@ -158,3 +158,40 @@ impl Write for Output {
         }
     }
 }
+
+/// A writer that keeps why the system took no more.
+#[derive(Drop)]
+pub struct Noting<W> {
+    writer: W,
+    refused: Option<io::Error>,
+}
+
+impl<W: Write> Noting<W> {
+    /// Nothing was refused yet.
+    pub fn new(writer: W) -> Noting<W> {
+        Noting {
+            writer,
+            refused: None,
+        }
+    }
+
+    /// Hands the system what is left. Was that taken? And why was something refused, now or before?
+    pub fn finish(mut self) -> (bool, Option<io::Error>) {
+        let left = self.writer.flush().err();
+        (left.is_none(), self.refused.or(left))
+    }
+}
+
+impl<W: Write> Write for Noting<W> {
+    fn write(&mut self, bytes: &[u8]) -> io::Result<usize> {
+        let written = self.writer.write(bytes);
+        if let Err(error) = written {
+            self.refused = Some(error);
+        }
+        written
+    }
+
+    fn flush(&mut self) -> io::Result<()> {
+        self.writer.flush()
+    }
+}
