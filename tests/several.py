@@ -370,7 +370,7 @@ def at_terminal(desk):
 
 
 def recorders(desk):
-    """Files as editcap and tcpdump cut them."""
+    """Files as editcap and tcpdump cut them, and as dumpcap records them."""
     frames = [(10**18 + i * 10**7, frame(5 + i % 3, 560 + i % 40, i // 3 % 255 + 1)) for i in range(4000)]
     whole = header() + b"".join(record(*one) for one in frames)
     desk.lay(config=TABLE, filter=EVERY, a=whole)
@@ -380,6 +380,8 @@ def recorders(desk):
         "editcap -c, pcapng": ["editcap", "-c", "500", desk.paths["a"], "{}/cut.pcapng"],
         "editcap -i": ["editcap", "-F", "nsecpcap", "-i", "7", desk.paths["a"], "{}/cut.pcap"],
         "tcpdump -C": ["tcpdump", "--nano", "-r", desk.paths["a"], "-w", "{}/cut.pcap", "-C", "1", "-Z", "root"],
+        "dumpcap -b filesize": ["dumpcap", "-q", "-i", "-", "-b", "filesize:300", "-w", "{}/cut.pcapng"],
+        "dumpcap -b packets, pcap": ["dumpcap", "-q", "-P", "-i", "-", "-b", "packets:500", "-w", "{}/cut.pcap"],
     }
     for name, command in cutters.items():
         if not shutil.which(command[0]):
@@ -387,7 +389,7 @@ def recorders(desk):
             continue
         with tempfile.TemporaryDirectory() as folder:
             os.chmod(folder, 0o777)
-            made = subprocess.run([word.replace("{}", folder) for word in command], capture_output=True, timeout=60)
+            made = subprocess.run([word.replace("{}", folder) for word in command], input=whole, capture_output=True, timeout=60)
             paths = sorted(glob.glob(f"{folder}/*"), key=lambda path: (len(path), path))
             if made.returncode or len(paths) < 3:
                 skip(f"several: {name}", f"it makes {len(paths)} files")
