@@ -1,18 +1,16 @@
 //! Whether a run of `watch` would be sound, told on standard output.
-use crate::ended::{Ended, Refused};
-use crate::recordings::{TapFiles, end_of, open_both};
-use crate::seams::tell_gaps;
-use crate::taps::{Tap, Taps};
-use crate::{NO_RUN, text_of};
+use crate::text_of;
 use afdx_frame::Network;
 use analyser::{CheckArguments, Exit, Fault, FileOption, WatchFault, filter_of, is_standard};
 use bpf_loader::Program;
 use check_text::{Answer, FilterAnswer, TapAnswer, json_of, text_of as answer_text, verdict_of};
 use input_check::{Inputs, Look, Reach, link_questions, questions_of};
 use run_outcome::MAX_FRAMES;
+use run_outputs::Ended;
 use std::fmt::Write;
 use survey_run::{Extent, Pass, Recorded, show_recordings};
 use table_check::{TableFault, table_faults};
+use tap_inputs::{NO_RUN, Refused, Tap, TapFiles, Taps, end_of, open_both, tell_gaps};
 use vl_config::Config;
 
 /// How many frames of each recording are read at most, where they aren't read whole.

@@ -1,16 +1,6 @@
 //! The frames of a ledger's lines, cut from its recordings.
-use crate::annotated::Joining;
-use crate::captures::CutObserver;
-use crate::ended::{Ended, Refused};
 use crate::files::refuse_shared;
-use crate::interface::Skipped;
-use crate::live::{Blocks, LiveInput};
-use crate::recordings::{Reading, TapFiles, end_of, files_of};
-use crate::seen::Seen;
-use crate::taps::Taps;
-use crate::{
-    MAX_LATE, NO_RUN, capture_output, create, is_at_terminal, live_output, open, open_tap, table_of,
-};
+use crate::{MAX_LATE, is_at_terminal, table_of};
 use afdx_frame::Network;
 use analyser::{
     CutArguments, CutEnding, CutFault, Exit, Fault, FileOption, Invocation, LinesRun, Neighbours,
@@ -18,6 +8,11 @@ use analyser::{
     selection_of,
 };
 use pcap_io::{ReadSource, WriteSink};
+use run_outputs::{CutObserver, Ended, Joining, Seen, capture_output, create, live_output};
+use tap_inputs::{
+    Blocks, LiveInput, NO_RUN, Reading, Refused, Skipped, TapFiles, Taps, end_of, files_of, open,
+    open_tap,
+};
 use vl_config::Config;
 
 /// What is read and written by a cut.

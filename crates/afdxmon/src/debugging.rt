@@ -1,11 +1,5 @@
 //! Sessions of the debugger: commands of standard input, or typed at a terminal.
-use crate::ended::{Ended, Refused, file_in};
-use crate::interface::Skipped;
-use crate::progress::Progress;
-use crate::recordings::{Reading, TapEnd, end_of, files_of};
-use crate::streams::{Input, Noting};
-use crate::taps::Taps;
-use crate::{BLOCK, filter, late_of, open};
+use crate::{filter, late_of};
 use afdx_frame::{Network, TapFrame};
 use analyser::{
     DebugArguments, Exit, Fault, FileOption, HeldTap, TapRead, answer_line, begin_session,
@@ -14,14 +8,18 @@ use analyser::{
 use bpf_debugger::DebugFault;
 use bpf_loader::Program;
 use pcap_io::{Ending, ReadSource, WriteSink};
+use run_outputs::{Ended, file_in};
 use std::alloc::Global;
 use std::io::{BufRead, BufReader, BufWriter, ErrorKind, IsTerminal, Stdout, Write};
+use tap_inputs::{
+    BLOCK, Input, Noting, Progress, Reading, Refused, Skipped, TapEnd, Taps, end_of, files_of, open,
+};
 
 /// There is no memory for a session.
 const NO_SESSION: Fault = Fault::Debug(DebugFault::Memory);
 
 /// How a session ended whose replies went to this sink.
-fn ended_by<W: Write>(
+fn ended_by<W: Write + Drop>(
     sink: WriteSink<Noting<W>>,
     ending: Ending,
     outcome: Result<(), Fault>,

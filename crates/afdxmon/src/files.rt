@@ -1,6 +1,4 @@
 //! That no output is another file of its command, and that the standard streams are there.
-use crate::NO_RUN;
-use crate::taps::{Tap, Taps, option_of};
 use afdx_frame::Network;
 use analyser::{
     Fault, FileOption, GivenFile, Inode, Invocation, Named, NamedFile, WatchArguments, is_standard,
@@ -11,6 +9,7 @@ use std::io::{ErrorKind, Read, Write};
 use std::os::unix::fs::MetadataExt;
 use std::path::Path;
 use std::{fs, io};
+use tap_inputs::{NO_RUN, Tap, Taps, option_of};
 
 fn inode_of(metadata: &Metadata) -> Inode {
     Inode {

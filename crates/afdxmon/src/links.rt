@@ -1,15 +1,13 @@
 //! The table of virtual links that is drafted from recordings and a document.
-use crate::ended::{Ended, Refused};
-use crate::interface::Skipped;
-use crate::recordings::{end_of, open_both};
-use crate::taps::Taps;
-use crate::{MAX_LATE, NO_RUN, text_of};
+use crate::{MAX_LATE, text_of};
 use analyser::{Exit, Fault, FileOption, LinksArguments};
 use icd_links::IcdLinks;
 use link_draft::{Comparison, DraftFault, LeftOut, Recordings, Sources, draft_of};
 use pcap_io::Ending;
+use run_outputs::Ended;
 use std::io;
 use survey_run::{SurveyRun, survey_recordings};
+use tap_inputs::{NO_RUN, Refused, Skipped, Taps, end_of, open_both};
 use vl_config::ConfigFault;
 
 /// The bits that a constant field has set (ARINC 664 Part 7).

@@ -1,9 +1,6 @@
 //! The page on what a ledger says.
-use crate::ended::{Ended, Refused};
 use crate::files::refuse_shared;
-use crate::streams::Input;
-use crate::taps::Taps;
-use crate::{create, is_at_terminal, open, text_of};
+use crate::{is_at_terminal, text_of};
 use analyser::{
     Contradiction, Exit, Fault, FileOption, Invocation, ManifestFault, ReportArguments,
     ReportFault, read_config,
@@ -13,7 +10,9 @@ use ledger_text::{LedgerStop, LineFault};
 use pcap_io::ReadSource;
 use report_page::{has_sizes, json_of, page_of, summary_of};
 use run_manifest::{Digesting, Manifest, Sum, read_manifest, sum_of};
+use run_outputs::{Ended, create};
 use std::io::Write;
+use tap_inputs::{Input, Refused, Taps, open};
 use vl_config::Config;
 
 /// There is no memory for a report.

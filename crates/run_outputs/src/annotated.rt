@@ -1,8 +1,7 @@
 //! Captures as pcapng: what a command writes as pcap becomes blocks, and each packet of `watch` and of `cut`
 //! gets the verdict of its line in the ledger as a comment.
-use crate::live::Blocks;
 use afdx_frame::{LentFrame, Network, Stamp};
-use analyser::LineObserver;
+use cut_run::LineObserver;
 use ledger_text::FrameLine;
 use packet_format::append_comment;
 use pcapng_writer::{Comment, Interfaces, append_head, append_packet};
@@ -10,6 +9,7 @@ use std::alloc::{AllocError, Global};
 use std::io;
 use std::io::{ErrorKind, Write};
 use std::sync::{Arc, Mutex};
+use tap_inputs::Blocks;
 use vl_config::Config;
 
 /// How many bytes a pcap file's header has.

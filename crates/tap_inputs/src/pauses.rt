@@ -2,7 +2,7 @@
 //! one program fills, one after the other, would wait for ever.
 use crate::progress::ERASE;
 use afdx_frame::Network;
-use analyser::{WatchArguments, is_standard};
+use command_line::{WatchArguments, is_standard};
 use std::fmt::{Display, Formatter};
 use std::io::IsTerminal;
 use std::sync::Wait;

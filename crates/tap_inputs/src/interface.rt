@@ -1,7 +1,7 @@
 //! Which interface of a pcapng recording is read: a number or a name after its path and a colon. And what is
 //! told of the others.
 use afdx_frame::Network;
-use analyser::{Exit, SkippedNote, is_standard};
+use command_line::{Exit, SkippedNote, is_standard};
 use pcap_io::{BadReason, Ending, Found, ReadSource, TapReader};
 use pcapng::{Choice, Interface, InterfaceName, RecordingSource};
 use std::fmt::Write;

@@ -1,9 +1,10 @@
 //! What a cut saw of its ledger, and the notes on that: lines of a network without a recording, which are
 //! passed over, and a selection that takes no line.
 use afdx_frame::{Network, Stamp};
-use analyser::{CutArguments, Selection};
+use command_line::CutArguments;
 use jiff::Timestamp;
 use ledger_text::FrameLine;
+use line_selection::Selection;
 use std::fmt::{Display, Formatter};
 use std::sync::atomic::{AtomicU64, Ordering};
 use std::{fmt, io};

@@ -1,11 +1,8 @@
 //! The manifest of a run: what it was of, and what it wrote.
-use crate::arguments;
 use crate::ended::Ended;
-use crate::live::Blocks;
 use crate::spans::Spans;
-use crate::taps::{Tap, Taps};
 use afdx_frame::Network;
-use analyser::{Exit, Fault, WatchArguments, fault_line, version};
+use command_line::{Exit, Fault, WatchArguments, fault_line, version};
 use pcap_io::{BadReason, Ending};
 use run_manifest::{
     FileRecord, Inputs, MANIFEST_VERSION, Manifest, Outputs, Program, RecordingRecord, Span, Sum,
@@ -14,6 +11,7 @@ use run_manifest::{
 use std::alloc::{AllocError, Global};
 use std::io;
 use std::io::{ErrorKind, Write};
+use tap_inputs::{Blocks, Tap, Taps};
 
 /// The sums of the texts that a run is given.
 #[derive(Clone, Copy)]
@@ -167,6 +165,11 @@ fn fault_of(alloc: Global, exit: &Exit) -> Result<Option<String>, AllocError> {
     let line = fault_line(alloc, fault)?;
     let line = line.strip_prefix("afdxmon: ").unwrap_or(&line);
     Ok(Some(String::from_str(alloc, line)?))
+}
+
+/// The arguments that the program was called with, its own name first.
+pub fn arguments(rt: &HostRuntime) -> io::Result<Vec<String>> {
+    Ok(std::env::args(rt)?.collect(rt.alloc())?)
 }
 
 /// The manifest's text.

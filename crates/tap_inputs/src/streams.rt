@@ -26,7 +26,7 @@ impl Input {
 
     /// Opens a file, or standard input for `-`.
     pub fn open(rt: &HostRuntime, path: &str) -> io::Result<Input> {
-        if analyser::is_standard(path) {
+        if command_line::is_standard(path) {
             return Ok(Input::Standard(rt.stdin()));
         }
         Ok(Input::File(File::open(rt, path)?))
@@ -126,7 +126,7 @@ pub enum Output {
 impl Output {
     /// Opens a file as it stands, or standard output for `-`.
     pub fn open(rt: &HostRuntime, path: &str) -> io::Result<Output> {
-        if analyser::is_standard(path) {
+        if command_line::is_standard(path) {
             return Ok(Output::Standard(rt.stdout()));
         }
         Ok(Output::File(OutputFile::open(rt, path)?))
@@ -166,7 +166,7 @@ pub struct Noting<W> {
     refused: Option<io::Error>,
 }
 
-impl<W: Write> Noting<W> {
+impl<W: Write + Drop> Noting<W> {
     /// Nothing was refused yet.
     pub fn new(writer: W) -> Noting<W> {
         Noting {

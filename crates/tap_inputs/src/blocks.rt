@@ -1,23 +1,14 @@
-//! What is written of inputs that pause, as pipes do: it is handed to the system before the program waits for
-//! more, and a fault is told before the program waits for its threads.
-use crate::pauses::Pauses;
-use crate::progress::Progress;
+//! An output that is written in blocks, and handed to the system before the program waits for an input that
+//! pauses, as pipes do.
 use crate::streams::{Input, Output};
-use crate::taps::Taps;
-use crate::telling::{Known, tell};
-use afdx_frame::Network;
-use analyser::{Exit, Fault, Invocation, RunObserver, WatchArguments, WatchFault};
-use filter_workers::RunGate;
 use run_manifest::{Digesting, Sum, Tally};
 use std::alloc::{AllocError, Global};
 use std::io::{BufWriter, ErrorKind, Read, Write};
-use std::sync::atomic::{AtomicBool, Ordering};
 use std::sync::{Arc, Mutex};
 use std::{io, mem};
-use tap_queue::TapGate;
 
 /// How many bytes are handed to the system at once.
-const BLOCK: usize = 65536;
+pub const BLOCK: usize = 65536;
 
 /// What hands an output its bytes in blocks, which are counted, and hashed if that is asked for.
 type BlockWriter = BufWriter<Digesting<Output>>;
@@ -127,7 +118,7 @@ impl SharedBlocks {
     }
 
     /// Hands the system what was written. What it refuses is refused again to the next that is written.
-    fn hand_over(&self) -> io::Result<()> {
+    pub fn hand_over(&self) -> io::Result<()> {
         match self.writer.try_lock() {
             Some(mut writer) => writer.flush(),
             None => Ok(()),
@@ -178,101 +169,4 @@ impl Read for LiveInput {
             Some(_) | None => self.input.read(buf),
         }
     }
-}
-
-/// Watches a run over two recordings: before it waits for them, what was written is handed to the system,
-/// and before it waits for the threads that read them, its fault is told.
-#[derive(Drop)]
-pub struct Watcher<'a> {
-    rt: &'a HostRuntime,
-    given: WatchArguments<'a>,
-    taps: &'a Taps,
-    capture: SharedBlocks,
-    ledger: SharedBlocks,
-    progress: Option<&'a Progress>,
-    pauses: Option<&'a Pauses>,
-    told: &'a AtomicBool,
-    full: bool,
-}
-
-impl<'a> Watcher<'a> {
-    /// Of the capture and the ledger. `told` becomes true once a fault was told, in full if a person is to be
-    /// told all of it.
-    pub fn new(
-        rt: &'a HostRuntime,
-        (given, taps): (WatchArguments<'a>, &'a Taps),
-        outputs: (SharedBlocks, SharedBlocks),
-        progress: Option<&'a Progress>,
-        pauses: Option<&'a Pauses>,
-        (told, full): (&'a AtomicBool, bool),
-    ) -> Watcher<'a> {
-        let (capture, ledger) = outputs;
-        Watcher {
-            rt,
-            given,
-            taps,
-            capture,
-            ledger,
-            progress,
-            pauses,
-            told,
-            full,
-        }
-    }
-
-    /// Hands the system what was written to both outputs. Which doesn't take it, and why?
-    fn hand_over(&self) -> Result<(), (analyser::Output, io::Error)> {
-        let capture = self.capture.hand_over();
-        let ledger = self.ledger.hand_over();
-        capture.map_err(|error| (analyser::Output::Capture, error))?;
-        ledger.map_err(|error| (analyser::Output::Ledger, error))
-    }
-
-    /// Tells standard error of the first fault, and for which reason an output wasn't written.
-    fn tell_fault(&self, fault: WatchFault, reason: Option<io::Error>) {
-        if self.told.load(Ordering::SeqCst) {
-            return;
-        }
-        if let Some(pauses) = self.pauses {
-            pauses.end();
-        }
-        if let Some(progress) = self.progress {
-            progress.erase(self.rt);
-        }
-        // Where standard error can't be written, the status alone tells of it.
-        let command = Invocation::Watch(self.given);
-        let known = Known {
-            source: None,
-            reason,
-            unread: None,
-            taps: self.taps,
-            at: [0, 0],
-            full: self.full,
-        };
-        let _ = tell(self.rt, command, &Exit::Fault(Fault::Watch(fault)), known);
-        self.told.store(true, Ordering::SeqCst);
-    }
-}
-
-impl RunObserver for Watcher<'_> {
-    /// Tells at once that an output can't be written. No thread can end the read that another waits in, so
-    /// the run goes on until that comes to its end.
-    fn waits(&self) {
-        if let Err((output, error)) = self.hand_over() {
-            self.tell_fault(WatchFault::Write { output }, Some(error));
-        }
-    }
-
-    fn aborts(&self, fault: WatchFault) {
-        let reason = self.hand_over().err().map(|(_, error)| error);
-        self.tell_fault(fault, reason);
-    }
-}
-
-impl RunGate for Watcher<'_> {
-    fn run(&self, _worker: u32, _number: u64) {}
-}
-
-impl TapGate for Watcher<'_> {
-    fn tap(&self, _network: Network) {}
 }

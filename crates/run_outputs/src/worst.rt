@@ -1,12 +1,12 @@
 //! The virtual links with the most discards, for a person at a terminal: read off the lines of the links as
 //! they are written to the ledger, so that the counts are the ledger's.
-use crate::live::Blocks;
 use crate::spans::Spans;
 use run_manifest::Sum;
 use std::alloc::{AllocError, Global};
 use std::fmt::{Display, Formatter};
 use std::io::Write;
 use std::{fmt, io, str};
+use tap_inputs::Blocks;
 
 /// How many links are told.
 const MOST: usize = 5;

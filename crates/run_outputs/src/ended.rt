@@ -1,53 +1,9 @@
 //! How a command ended, or why it wasn't begun.
-use crate::NO_RUN;
-use crate::interface::Skipped;
-use crate::recordings::TapEnd;
-use crate::taps::Taps;
 use crate::worst::WorstLinks;
 use afdx_frame::Network;
-use analyser::{Exit, Fault, FileOption, hint_of};
-use std::alloc::AllocError;
+use command_line::{Exit, Fault, hint_of};
 use std::io;
-
-/// Why a command was not begun. Of a filter's source the text shows a person where its fault lies; of a file
-/// of several interfaces it lists them. Of an output that can't be written the system says why.
-#[derive(Drop)]
-pub struct Refused {
-    pub fault: Fault,
-    pub source: Option<String>,
-    pub reason: Option<io::Error>,
-    /// The numbers of the files of the recordings that it is of.
-    pub at: [usize; 2],
-}
-
-impl From<Fault> for Refused {
-    fn from(fault: Fault) -> Refused {
-        Refused {
-            fault,
-            source: None,
-            reason: None,
-            at: [0, 0],
-        }
-    }
-}
-
-impl From<AllocError> for Refused {
-    fn from(_error: AllocError) -> Refused {
-        Refused::from(NO_RUN)
-    }
-}
-
-impl Refused {
-    /// The same, of the file of this number of the recording that an option names.
-    pub fn at(self, option: FileOption, number: usize) -> Refused {
-        let at = if option == FileOption::B {
-            [0, number]
-        } else {
-            [number, 0]
-        };
-        Refused { at, ..self }
-    }
-}
+use tap_inputs::{Skipped, TapEnd, Taps};
 
 /// How a command ended, of `watch` the worst links, if they are to be told, how many packets that are not of
 /// Ethernet its recordings have, and why the system took an output no longer.

@@ -3,7 +3,7 @@ use crate::disorder::Amount;
 use crate::recordings::TapEnd;
 use crate::taps::Tap;
 use afdx_frame::Network;
-use analyser::FileOption;
+use command_line::FileOption;
 use std::io;
 
 /// The longest gap that is no news, in nanoseconds.

@@ -1,12 +1,12 @@
 //! The captures that commands write: pcap files, and pcapng files where these are asked for.
 use crate::annotated::{Annotated, Joining};
-use crate::live::Blocks;
 use crate::seen::Seen;
-use analyser::LineObserver;
+use cut_run::LineObserver;
 use ledger_text::FrameLine;
 use std::alloc::{AllocError, Global};
 use std::io;
 use std::io::Write;
+use tap_inputs::Blocks;
 use vl_config::Config;
 
 /// A capture that is written.

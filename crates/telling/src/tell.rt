@@ -1,26 +1,27 @@
 //! What standard error is told of a command's end: the fault line or the notes, and at a terminal which file
 //! it is about, why, and what to do. What a file is found to be by then is only told, and decides nothing.
-use crate::disorder::Disorder;
 use crate::disputed::Disputed;
-use crate::streams::Output;
-use crate::taps::{Tap, Taps};
 use afdx_frame::Network;
-use analyser::{
-    Advice, Contradiction, CutFault, EndingAdvice, Exit, Fault, FileOption, GivenFile, HEAD_LEN,
-    Invocation, MAX_TEXT, ManifestFault, Note, ReportFault, TO_A_TERMINAL, TapNote, WatchFault,
-    caret_at, compressed_advice, file_of, header_advice, is_standard, load_offset, numeric_advice,
-    numeric_offset, place_at, source_offset, written_as,
-};
 use bpf_asm::AsmFault;
+use command_line::{
+    Advice, Contradiction, EndingAdvice, Exit, Fault, FileOption, GivenFile, HEAD_LEN, Invocation,
+    ManifestFault, Note, ReportFault, TO_A_TERMINAL, TapNote, caret_at, compressed_advice, file_of,
+    header_advice, is_standard, load_offset, numeric_advice, numeric_offset, place_at,
+    source_offset, written_as,
+};
+use commands::MAX_TEXT;
 use config_place::{key_offset, slip_of};
+use cut_run::CutFault;
 use icd_links::IcdFault;
 use ledger_text::LedgerStop;
 use pcap_io::{BadReason, Ending, HeaderFault};
 use run_manifest::read_manifest;
+use run_outcome::WatchFault;
 use std::fmt::{Display, Formatter};
 use std::fs::File;
 use std::io::Read;
 use std::{fmt, fs, io};
+use tap_inputs::{Disorder, Output, Tap, Taps};
 use vl_config::{Config, ConfigFault};
 
 /// Why a file can't be read or written.

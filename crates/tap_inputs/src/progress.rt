@@ -1,6 +1,6 @@
 //! What a person at a terminal sees of the reading: how far it is, on one line that is written over, and
 //! gone at the end.
-use crate::live::LiveInput;
+use crate::blocks::LiveInput;
 use crate::packets::PacketCount;
 use crate::recordings::Reading;
 use afdx_frame::Network;

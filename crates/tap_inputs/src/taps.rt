@@ -1,9 +1,9 @@
 //! The recordings of a command: the files of each in their order, and what a command line says of them.
-use crate::ended::Refused;
 use crate::interface::{chosen_in, refused_interfaces, start_of};
+use crate::refused::Refused;
 use crate::streams::Input;
 use afdx_frame::Network;
-use analyser::{
+use command_line::{
     BETWEEN_FILES, CaptureArguments, CheckArguments, CutArguments, DebugArguments, Fault,
     FileOption, Inode, Invocation, LinksArguments, WatchArguments,
 };

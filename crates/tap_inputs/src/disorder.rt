@@ -3,7 +3,7 @@ use crate::recordings::{Reading, files_of};
 use crate::streams::Input;
 use crate::taps::Tap;
 use afdx_frame::Network;
-use analyser::{Invocation, MAX_LATE_MICROS};
+use command_line::{Invocation, MAX_LATE_MICROS};
 use pcap_io::{Found, TapReader};
 use std::fmt;
 use std::fmt::{Display, Formatter};

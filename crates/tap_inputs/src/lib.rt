@@ -1,0 +1,35 @@
+//! The recordings that a command reads, and the streams that it reads and writes.
+//!
+//! - [`Taps`]: what a command line says of recordings; each has one file or several, of either format, and is
+//!   looked at before it is read.
+//! - [`files_of`]: a recording as a run reads it; [`TapEnd`]: what is known of it afterwards.
+//! - [`Progress`] and [`Pauses`]: what a person at a terminal sees meanwhile.
+//! - [`Input`], [`Output`] and [`Blocks`]: files and standard streams.
+//!
+//! All stands over the system's files, so what is read and written is tested, and proved not to panic.
+#![tactic(auto)]
+
+mod blocks;
+mod disorder;
+mod interface;
+mod opening;
+mod packets;
+mod pauses;
+mod progress;
+mod recordings;
+mod refused;
+mod seams;
+mod streams;
+mod taps;
+
+pub use blocks::{BLOCK, Blocks, LiveInput, SharedBlocks};
+pub use disorder::Disorder;
+pub use interface::{Skipped, status_of};
+pub use opening::{open, open_tap};
+pub use pauses::Pauses;
+pub use progress::{Progress, Recording};
+pub use recordings::{FileList, Reading, TapEnd, TapFiles, end_of, files_of, open_both};
+pub use refused::{NO_RUN, Refused};
+pub use seams::tell_gaps;
+pub use streams::{Input, Noting, Output, OutputFile};
+pub use taps::{Tap, TapFile, Taps, option_of};

@@ -1,0 +1,47 @@
+//! Opens recordings and other files that are read.
+use crate::pauses::Pauses;
+use crate::refused::NO_RUN;
+use crate::streams::Input;
+use afdx_frame::Network;
+use command_line::{Fault, FileOption};
+use pcap_io::TapSource;
+use pcapng::{Choice, RecordingSource};
+
+/// Opens a file that is read.
+pub fn open(rt: &HostRuntime, path: &str, file: FileOption) -> Result<Input, Fault> {
+    Input::open(rt, path).map_err(|_| Fault::File(file))
+}
+
+/// Opens the recording of a network. A network without one has no frames. A pipe is open once somebody writes
+/// to it.
+pub fn open_tap(
+    rt: &HostRuntime,
+    path: Option<&str>,
+    network: Network,
+    pauses: Option<&Pauses>,
+) -> Result<Input, Fault> {
+    let Some(path) = path else {
+        return Ok(Input::empty_recording());
+    };
+    if let Some(pauses) = pauses {
+        pauses.begin_read(rt, network);
+    }
+    let file = match network {
+        Network::A => FileOption::A,
+        Network::B => FileOption::B,
+    };
+    let opened = open(rt, path, file);
+    if let Some(pauses) = pauses {
+        pauses.end_read(rt, network, opened.is_err());
+    }
+    opened
+}
+
+/// What reads a recording of either format as pcap.
+pub fn recording_of<S: TapSource + Drop>(
+    rt: &HostRuntime,
+    source: S,
+    choice: Choice,
+) -> Result<RecordingSource<S>, Fault> {
+    RecordingSource::new(rt.alloc(), source, choice).map_err(|_| NO_RUN)
+}

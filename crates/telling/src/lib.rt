@@ -1,0 +1,8 @@
+//! What standard error is told of a command's end: the fault line or the notes, and in full which file it is
+//! about, why, and what to do. See [`tell`].
+#![tactic(auto)]
+
+mod disputed;
+mod tell;
+
+pub use tell::{Known, tell};
