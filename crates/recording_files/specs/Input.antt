@@ -1,6 +1,6 @@
 -- What contracts see of the file that is read.
 use Rattle.std.specs.Prelude.{◌≡◌, ℕ, List, [], ◌++◌, drop, Option, Some, None, Result, Ok, Err, IfOk, IfSome}
-use Rattle.pcap_io.specs.Block.{block_remaining, drawn_bytes}
+use Rattle.pcap_io.specs.Block.{block_remaining, block_source, drawn_bytes}
 use Rattle.pcap_io.specs.Layout.{header_of}
 use Rattle.pcap_io.specs.declared.block.BlockSource.{BlockSource}
 use Rattle.pcap_io.specs.declared.layout.HeaderFault.{HeaderFault}
@@ -10,6 +10,11 @@ use Rattle.pcap_io.specs.declared.recording.Ending.{Ending}
 use Rattle.pcapng.specs.Text.{cut_bytes}
 use Rattle.recording_files.specs.Given.{given_at, given_body, given_end, header_text}
 use Rattle.recording_files.specs.declared.stage.Packet.{Packet}
+
+-- the file that is read, if one is
+abbrev pub file_of : {F : Type 0} → Option (BlockSource F) → Option F
+file_of None = None
+file_of (Some input) = Some (block_source input)
 
 -- what was drawn last of the file that is read
 abbrev pub drawn_of : {F : Type 0} → Option (BlockSource F) → List ℕ

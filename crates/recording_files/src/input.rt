@@ -5,7 +5,7 @@ ghost use Rattle.afdx_frame.specs.declared.bounds.TheConstants.{MAX_SNAPLEN};
 ghost use Rattle.pcap_io.specs.Layout.{fractions_of};
 ghost use Rattle.pcap_io.specs.declared.recording.Ending.TheVariants.{Clean, Cut};
 ghost use Rattle.recording_files.specs.Given.{given_header};
-ghost use Rattle.recording_files.specs.Input.{ReadsHeader, ReadsStart, drawn_of, left_of};
+ghost use Rattle.recording_files.specs.Input.{ReadsHeader, ReadsStart, drawn_of, file_of, left_of};
 
 use crate::stage::Packet;
 use pcap_io::{
@@ -23,6 +23,16 @@ pub fn drawn<F: TapSource>(input: &Option<BlockSource<F>>) -> &[u8]
         Some(input) => input.drawn(),
         None => &[],
     }
+}
+
+/// The file that is read. What was read ahead is lost.
+pub fn into_file<F: TapSource>(input: Option<BlockSource<F>>) -> Option<F>
+    ensures { result ≡ file_of input }
+{
+    let Some(input) = input else {
+        return None;
+    };
+    Some(input.into_source())
 }
 
 /// Draws the next `len` bytes of the file that is read. False: fewer were left, and they are drawn.

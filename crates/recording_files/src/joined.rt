@@ -1,9 +1,9 @@
 //! The source that gives the files of a recording as one.
-ghost use Rattle.std.specs.Prelude.{◌≡◌, ◌≤◌, ◌<◌, ◌-◌, min, [], length, take, IfSome, IfOk, OnOk, OnErr, IsTrue};
+ghost use Rattle.std.specs.Prelude.{◌≡◌, ◌≤◌, ◌<◌, ◌+◌, ◌-◌, ◌^◌, min, [], length, take, IfSome, IfOk, OnOk, OnErr, IsTrue};
 ghost use Rattle.std.specs.Io.KnownBytes.{Consumes, Keeps};
 ghost use Rattle.pcap_io.specs.Device.{CountsFailure};
 
-use crate::input::{draw, drawn, read_file_header, read_header};
+use crate::input::{draw, drawn, into_file, read_file_header, read_header};
 use crate::pending::{Pending, copy_some};
 use crate::stage::{Packet, Place, Stage};
 use crate::supply::{FileSupply, ReadFile};
@@ -36,10 +36,11 @@ pub struct JoinedSource<P, F> {
 
 impl<F: TapSource + Drop, P: FileSupply<F>> JoinedSource<P, F> {
     ghost use Rattle.pcap_io.specs.Bytes.{bytes_of};
+    ghost use Rattle.recording_files.specs.Counts.{CountsBody, read_file_of};
     ghost use Rattle.recording_files.specs.Given.{given_of};
     ghost use Rattle.recording_files.specs.Handed.{GivesBody, body_of, known_of, pending_of};
     ghost use Rattle.recording_files.specs.Handed.{remaining_of};
-    ghost use Rattle.recording_files.specs.Input.{drawn_of};
+    ghost use Rattle.recording_files.specs.Input.{drawn_of, file_of};
     ghost use Rattle.recording_files.specs.declared.stage.Stage.TheVariants as stages;
 
     /// Reads the files of a supply. It takes none yet, and allocates nothing.
@@ -64,9 +65,10 @@ impl<F: TapSource + Drop, P: FileSupply<F>> JoinedSource<P, F> {
 
     /// The supply, and the file that is read, if one is. What was read ahead of that is lost.
     pub fn into_parts(self) -> (P, Option<F>)
-        ensures { result.0 ≡ self.supply }
+        ensures supply { result.0 ≡ self.supply }
+        ensures file { result.1 ≡ file_of self.input }
     {
-        (self.supply, self.input.map(BlockSource::into_source))
+        (self.supply, into_file(self.input))
     }
 
     /// Which file is read, or was read last, counted from 0.
@@ -120,7 +122,9 @@ impl<F: TapSource + Drop, P: FileSupply<F>> JoinedSource<P, F> {
 
     /// Takes away the file that was read.
     fn take_read(&mut self) -> Option<ReadFile<F>>
-        ensures { self.new ≡ record self.old { input = None; frames = 0; greatest = 0 } }
+        ensures left { self.new ≡ record self.old { input = None; frames = 0; greatest = 0 } }
+        // It comes back with what was counted of it.
+        ensures file { result ≡ read_file_of self.old (file_of self.old.input) }
     {
         let (frames, greatest) = (self.frames, self.greatest);
         self.frames = 0;
@@ -140,6 +144,9 @@ impl<F: TapSource + Drop, P: FileSupply<F>> JoinedSource<P, F> {
         ensures kept { Keeps (known_of F.remaining P.files self.old)
             (known_of F.remaining P.files self.new) }
         ensures failures { self.new.failures ≡ self.old.failures }
+        // A file that was opened is counted.
+        ensures opened { self.new.stage ≡ stages.FileHeader place
+            → self.new.opened ≡ min (self.old.opened + 1) (2 ^ 64 - 1) }
     {
         let last = self.take_read();
         match (self.supply.next_file(last)?, place) {
@@ -213,6 +220,8 @@ impl<F: TapSource + Drop, P: FileSupply<F>> JoinedSource<P, F> {
         ensures kept { Keeps (known_of F.remaining P.files self.old)
             (known_of F.remaining P.files self.new) }
         ensures failures { self.new.failures ≡ self.old.failures }
+        ensures counted { OnOk result
+            (CountsBody self.old self.new packet.header self.new.stage) }
     {
         let len = packet.header.captured_len as usize;
         if draw(self.alloc, &mut self.input, len)? {
