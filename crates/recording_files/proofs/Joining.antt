@@ -1,6 +1,8 @@
 -- What steps do to what is given.
-use Rattle.std.proofs.Common.{◌≡◌, ℕ, ◌<◌, List, [], ◌∷◌, ◌++◌, length, take, Option, Some, None, Result, Ok, Err, IfOk, OnErr, refl, sym, ap, ◌∙◌, subst, arith, append_assoc}
-use Rattle.std.proofs.lemmas.List.{append-nil}
+use Rattle.std.proofs.Common.{◌≡◌, ℕ, ◌+◌, ◌<◌, ◌≤◌, List, [], ◌∷◌, ◌++◌, length, take, Option, Some, None, Result, Ok, Err, IfOk, OnErr, refl, sym, ap, ◌∙◌, subst, arith, append_assoc}
+use Rattle.std.proofs.lemmas.List.{append-nil, length-append, length-take-le}
+use borrow.Rule.Slice.PartMut.{put_mid, post_of}
+use Rattle.pcap_io.proofs.Transfers.{fill_more}
 use Rattle.std.specs.Io.KnownBytes.{Consumes, IsAtEnd, Keeps, ReadConsumes, prepend_known}
 use Rattle.std.proofs.KnownBytes.{Consumes-kept}
 use Rattle.pcap_io.specs.declared.layout.HeaderFault.{HeaderFault}
@@ -23,7 +25,9 @@ use Rattle.recording_files.specs.declared.stage.Place.{Place}
 use Rattle.recording_files.specs.declared.stage.Place.TheVariants.{First, Next}
 use Rattle.recording_files.specs.declared.stage.Stage.{Stage}
 use Rattle.recording_files.specs.declared.stage.Stage.TheVariants as stages
+use Rattle.recording_files.specs.Run.{IsGivenLayout, IsRun}
 use Rattle.recording_files.proofs.Given.{given_part, given_whole}
+use Rattle.recording_files.proofs.Runs.{run_given}
 
 -- nothing is left of the bytes of a packet that isn't given
 pub none_given : (s t : Stage) (text drawn : List ℕ) → s ≡ t → body_of t drawn ≡ [] → text ++ body_of s drawn ≡ text
@@ -151,6 +155,16 @@ passes layout from p q s None f e d c = tt
 passes layout from p q s (Some xs) None e d c = tt
 passes layout from p q s (Some xs) (Some fs) e d c = rw (e, d, c) refl
 
+-- a run of packets is given as it stands
+pub runs : (layout : Layout) (p q front : List ℕ) (s : Stage) (l m : Option (List ℕ)) (f : Option (List (List ℕ))) (frames greatest : ℕ) → s ≡ stages.Header layout → p ≡ [] → q ≡ []
+    → IsGivenLayout layout → IsRun layout front frames greatest → Consumes l m front → Consumes (known_at p s l f) (known_at q s m f) front
+runs layout p q front s None m f frames greatest e d c given run gone = tt
+runs layout p q front s (Some xs) m None frames greatest e d c given run gone = tt
+runs layout p q front s (Some xs) None (Some fs) frames greatest e d c given run gone = absurd gone
+runs layout p q front s (Some xs) (Some ys) (Some fs) frames greatest e d c given run gone =
+    let next : List ℕ = given_next fs in
+    rw (e, d, c) (ap (λ (b : List ℕ). given_at layout b next) gone ∙ run_given layout front frames greatest ys next given run)
+
 -- ---- what is given
 
 pub gives : (front p q : List ℕ) (s t : Stage) (l m : Option (List ℕ)) (f g : Option (List (List ℕ))) → p ≡ front ++ q → m ≡ l → g ≡ f
@@ -179,6 +193,22 @@ none_ahead ahead None e = refl
 none_ahead ahead (Some xs) e = rw e refl
 
 -- ---- a read
+
+-- what was put into a buffer stands within it
+put_within : (done n k : ℕ) (buf got : List ℕ) → done ≤ length buf → n ≤ length got → done + n ≤ length (put_mid done k buf got)
+put_within done n k buf got within fits =
+    let front : List ℕ = take done buf in
+    let after : List ℕ = post_of done k buf in
+    let size : length (put_mid done k buf got) ≡ length front + length (got ++ after) = length-append front (got ++ after) in
+    omega (arith, size, length-append got after, length-take-le done buf within, within, fits)
+
+-- a buffer whose prefix stands, once more was given after it, and then packets
+pub fill_twice : (a b c d : Option (List ℕ)) (done n m k j : ℕ) (buf got more : List ℕ) → done ≤ length buf → n ≤ length got → m ≤ length more
+    → Consumes a b (take done buf) → Consumes b c (take n got) → Consumes c d (take m more)
+    → Consumes a d (take (done + n + m) (put_mid (done + n) j (put_mid done k buf got) more))
+fill_twice a b c d done n m k j buf got more within fits room first second third =
+    fill_more a c d (done + n) m j (put_mid done k buf got) more (put_within done n k buf got within fits) room
+    (fill_more a b c done n k buf got within fits first second) third
 
 -- a fault after bytes is passed over, and one after none is told
 pub fault_reads : (a b d e : Option (List ℕ)) (done : ℕ) (r : Result ℕ DeviceFault) (buf : List ℕ) → Consumes a b (take done buf) → Keeps b d → e ≡ d

@@ -1,6 +1,8 @@
 -- How the frames of a file are counted.
 use Rattle.std.specs.Prelude.{◌≡◌, ℕ, ◌+◌, ◌-◌, ◌*◌, ◌^◌, max, min, List, Option, Some, None}
+use Rattle.pcap_io.specs.declared.layout.Layout.{Layout}
 use Rattle.pcap_io.specs.declared.packet_header.PacketHeader.{PacketHeader}
+use Rattle.recording_files.specs.Run.{IsRun}
 use Rattle.recording_files.specs.declared.joined.JoinedSource.{JoinedSource}
 use Rattle.recording_files.specs.declared.stage.Stage.{Stage}
 use Rattle.recording_files.specs.declared.stage.Stage.TheVariants as stages
@@ -15,6 +17,13 @@ read_file_of j (Some file) = Some (record { source = file; frames = j.frames; gr
 pub record CountsFrames {P F : Type 0} (old new : JoinedSource P F) (frames greatest : ℕ) : Type 0 where
   pub count : new.frames ≡ min (old.frames + frames) (2 ^ 64 - 1)
   pub time : new.greatest ≡ max old.greatest greatest
+
+-- those of a run of packets were
+pub record CountsRun {P F : Type 0} (layout : Layout) (old new : JoinedSource P F) (bytes : List ℕ) : Type 0 where
+  pub frames : ℕ
+  pub greatest : ℕ
+  pub packets : IsRun layout bytes frames greatest
+  pub counted : CountsFrames old new frames greatest
 
 -- a frame of this header was counted if all its bytes are there
 abbrev pub CountsBody : {P F : Type 0} → JoinedSource P F → JoinedSource P F → PacketHeader → Stage → Type 0

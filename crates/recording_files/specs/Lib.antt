@@ -5,4 +5,5 @@ pub mod Handed
 pub mod Input
 pub mod Laws
 pub mod Pending
+pub mod Run
 pub mod Supply

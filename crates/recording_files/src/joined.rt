@@ -5,6 +5,7 @@ ghost use Rattle.pcap_io.specs.Device.{CountsFailure};
 
 use crate::input::{draw, drawn, into_file, read_file_header, read_header};
 use crate::pending::{Pending, copy_some};
+use crate::run::{is_given_layout, move_run};
 use crate::stage::{Packet, Place, Stage};
 use crate::supply::{FileSupply, ReadFile};
 use pcap_io::{BlockSource, DeviceFault, Ending, HeaderFault, Layout, TapSource};
@@ -36,11 +37,12 @@ pub struct JoinedSource<P, F> {
 
 impl<F: TapSource + Drop, P: FileSupply<F>> JoinedSource<P, F> {
     ghost use Rattle.pcap_io.specs.Bytes.{bytes_of};
-    ghost use Rattle.recording_files.specs.Counts.{CountsBody, read_file_of};
+    ghost use Rattle.recording_files.specs.Counts.{CountsBody, CountsRun, read_file_of};
     ghost use Rattle.recording_files.specs.Given.{given_of};
     ghost use Rattle.recording_files.specs.Handed.{GivesBody, body_of, known_of, pending_of};
     ghost use Rattle.recording_files.specs.Handed.{remaining_of};
     ghost use Rattle.recording_files.specs.Input.{drawn_of, file_of};
+    ghost use Rattle.recording_files.specs.Run.{IsGivenLayout};
     ghost use Rattle.recording_files.specs.declared.stage.Stage.TheVariants as stages;
 
     /// Reads the files of a supply. It takes none yet, and allocates nothing.
@@ -118,6 +120,54 @@ impl<F: TapSource + Drop, P: FileSupply<F>> JoinedSource<P, F> {
     {
         let header = self.pending.give(buf);
         header + self.give_body(&mut buf[header..])
+    }
+
+    /// The layout of the packets that come next, where they may be given as they stand.
+    #[inline]
+    fn given_layout(&self) -> Option<Layout>
+        ensures { IfSome result (λ layout. (self.now.stage ≡ stages.Header layout)
+            × IsGivenLayout layout) }
+    {
+        match self.stage {
+            Stage::Header(layout) if is_given_layout(layout) => Some(layout),
+            _ => None,
+        }
+    }
+
+    /// Gives the packets that were read ahead whole, as many as fit, as they stand in their file, up to the
+    /// first that can't be given so. Returns how many bytes that is.
+    #[inline]
+    fn give_run(&mut self, layout: Layout, buf: &mut [u8]) -> usize
+        requires stage { self.old.stage ≡ stages.Header layout }
+        requires layout { IsGivenLayout layout }
+        requires given { pending_of self.old ≡ [] }
+        ensures bound { result ≤ length buf.new }
+        ensures bytes { Consumes (known_of F.remaining P.files self.old)
+            (known_of F.remaining P.files self.new) (take result buf.new) }
+        ensures given { pending_of self.new ≡ [] }
+        ensures failures { self.new.failures ≡ self.old.failures }
+        ensures counted { CountsRun layout self.old self.new (take result buf.new) }
+    {
+        let run = move_run(self.alloc, layout, &mut self.input, buf);
+        self.frames = self.frames.saturating_add(run.frames);
+        self.greatest = self.greatest.max(run.greatest);
+        run.len
+    }
+
+    /// Gives packets as they stand in their file, where that may be. Returns how many bytes.
+    #[inline]
+    fn give_packets(&mut self, buf: &mut [u8]) -> usize
+        requires given { pending_of self.old ≡ [] }
+        ensures bound { result ≤ length buf.new }
+        ensures bytes { Consumes (known_of F.remaining P.files self.old)
+            (known_of F.remaining P.files self.new) (take result buf.new) }
+        ensures given { pending_of self.new ≡ [] }
+        ensures failures { self.new.failures ≡ self.old.failures }
+    {
+        match self.given_layout() {
+            Some(layout) => self.give_run(layout, buf),
+            None => 0,
+        }
     }
 
     /// Takes away the file that was read.
@@ -323,6 +373,7 @@ impl<F: TapSource + Drop, P: FileSupply<F>> TapSource for JoinedSource<P, F> {
             if done == buf.len() {
                 return Ok(done);
             }
+            done += self.give_packets(&mut buf[done..]);
             if self.is_ended() {
                 return Ok(done);
             }

@@ -24,6 +24,7 @@ mod input;
 mod joined;
 mod laws;
 mod pending;
+mod run;
 mod stage;
 mod supply;
 
