@@ -59,6 +59,7 @@ good late high (p ∷ ps) can timely =
         seconds_fit = omega (arith, can.0.fits.stamp_fits);
         original_len_fits = can.0.whole_fits;
         within_second = omega arith;
+        no_file_header = refl;
         in_time = omega (arith, stamp, timely.0);
       },
       subst (λ (h : ℕ). AreGood converted_layout late (max high h) (packets_of ps)) (sym stamp) (good late (max high p.frame.stamp) ps can.1 timely.1),
