@@ -3,6 +3,6 @@
 #![tactic(auto)]
 
 mod disputed;
-mod tell;
+mod messages;
 
-pub use tell::{Known, tell};
+pub use messages::{Known, tell};
