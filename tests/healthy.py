@@ -245,6 +245,9 @@ def clocks_that_drift(folder):
         moved = [(at + at * ppm // 10**6, data) for at, data in flight.taps["B"]]
         judged = Judged(folder, flights.Flight(flight.links, {"A": flight.taps["A"], "B": moved}))
         drifting(f"clocks that drift by {ppm} ppm", judged, ppm * 10 if abs(ppm) >= 50 else None)
+        told = run([*judged.ran.args[1:], "--verbose"], stdout=subprocess.PIPE).stderr.decode()
+        hinted = "hint: hardly a frame is a copy of another: do the clocks of the taps drift?" in told
+        say(f"healthy: the hint of watch at {ppm} ppm", "" if hinted == (ppm == -900) else told)
     for step in (300_000, 5 * MS):
         moved = [(at + (step if at > 10 * SECOND else 0), data) for at, data in flight.taps["B"]]
         judged = Judged(folder, flights.Flight(flight.links, {"A": flight.taps["A"], "B": moved}))

@@ -47,6 +47,7 @@ NO_COPY = "no frame is a copy of another: are the clocks of the taps apart?"
 NUMBERS = "more than one frame in eight is out: does a recording hold check sequences, both networks, or each frame twice? afdxmon check tells"
 OTHER_TABLE = "more than half of the frames are unconfigured: is the table that of another aircraft?"
 CUT_FRAMES = "more than one frame in a hundred is cut short: record frames whole, tcpdump -s 0"
+FEW_COPIES = "hardly a frame is a copy of another: do the clocks of the taps drift? afdxmon check tells"
 ONE_RECORDING = "each frame has its copy: are --a and --b two names of one recording?"
 
 
@@ -141,6 +142,9 @@ def cases():
         summed(desk, "frames recorded twice", TABLE, tap(*both), tap(*both), NUMBERS)
         summed(desk, "check sequences in network B's recording", TABLE, tap(*sound), tap(*checked(sound)), NUMBERS)
         summed(desk, "taps a day apart", TABLE, tap(*sound), tap(*day), NO_COPY)
+        for apart, hint in ((3, FEW_COPIES), (4, None)):
+            near = [one if i < apart else (one[0] + 86_400 * 10**9, one[1]) for i, one in enumerate(frames(64))]
+            summed(desk, f"{apart} copies of 64 frames", TABLE, tap(*frames(64)), tap(*near), hint)
         summed(desk, "one recording twice", TABLE, tap(*sound), tap(*sound), ONE_RECORDING)
         summed(desk, "each frame with its copy a nanosecond later", TABLE, tap(*sound), tap(*frames(20, start=1)), None)
         summed(desk, "one recording and its start", TABLE, tap(*sound), tap(*sound)[:-1], None)

@@ -1,7 +1,8 @@
 //! How a command ended, or why it wasn't begun.
 use crate::worst::WorstLinks;
 use afdx_frame::Network;
-use command_line::{Exit, Fault, hint_of};
+use command_line::{Exit, Fault, Summary, hint_of};
+use pcap_io::Ending;
 use std::io;
 use tap_inputs::{Skipped, TapEnd, Taps};
 
@@ -42,9 +43,38 @@ pub fn file_in(end: &TapEnd, exit: &Exit, network: Network) -> usize {
     }
 }
 
+/// What a person is told where hardly a frame is a copy.
+const FEW_COPIES: &str =
+    "afdxmon: hint: hardly a frame is a copy of another: do the clocks of the taps drift? \
+     afdxmon check tells";
+
 /// What a person is told where both recordings may be one.
 const ONE_RECORDING: &str =
     "afdxmon: hint: each frame has its copy: are --a and --b two names of one recording?";
+
+/// How many frames stand before a recording's ending.
+fn frames_before(ending: Ending) -> u64 {
+    match ending {
+        Ending::Clean(count) | Ending::Cut(count) | Ending::Bad(count, _) => count,
+    }
+}
+
+/// What is likely wrong with both recordings, where the counts alone give no hint: fewer frames than one in
+/// sixteen of the shorter recording are copies, or each that is delivered has one, and both begin alike.
+fn hint_at_both(rt: &HostRuntime, summary: &Summary, taps: &Taps) -> Option<&'static str> {
+    let totals = &summary.totals;
+    if hint_of(summary.a, summary.b, totals).is_some() {
+        return None;
+    }
+    let shorter = frames_before(summary.a).min(frames_before(summary.b));
+    if totals.copy < shorter / 16 {
+        Some(FEW_COPIES)
+    } else if totals.copy > 0 && totals.copy == totals.delivered && taps.may_be_one(rt) {
+        Some(ONE_RECORDING)
+    } else {
+        None
+    }
+}
 
 /// Tells a person what a run over two recordings came to.
 pub fn summarise(rt: &HostRuntime, ended: &Ended, taps: &Taps) -> io::Result<()> {
@@ -52,10 +82,8 @@ pub fn summarise(rt: &HostRuntime, ended: &Ended, taps: &Taps) -> io::Result<()>
         return Ok(());
     };
     rt.eprintln(*summary)?;
-    let totals = &summary.totals;
-    let hinted = hint_of(summary.a, summary.b, totals).is_some();
-    if !hinted && totals.copy > 0 && totals.copy == totals.delivered && taps.may_be_one(rt) {
-        rt.eprintln(ONE_RECORDING)?;
+    if let Some(hint) = hint_at_both(rt, summary, taps) {
+        rt.eprintln(hint)?;
     }
     match &ended.worst {
         Some(worst) if !worst.is_empty() => eprintln!(rt; "{worst}"),
