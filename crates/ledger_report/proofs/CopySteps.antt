@@ -1,18 +1,15 @@
 -- What a line says of the copies and of the latest deliveries, by its word of redundancy management.
-use Rattle.std.proofs.Common.{◌≡◌, ◌∙◌, ℕ, List, ◌+◌, ◌-◌, ◌<◌, ◌≤◌, ◌^◌, ◌==◌, max, Bool, false, Option, Some, if◌then◌else◌, sym, ap, subst}
+use Rattle.std.proofs.Common.{◌≡◌, ◌∙◌, ℕ, ◌+◌, ◌-◌, ◌<◌, ◌≤◌, ◌^◌, ◌==◌, max, Bool, false, Option, Some, if◌then◌else◌, sym, ap, subst}
 use Rattle.std.specs.Option.{option_map_or}
 use Rattle.redundancy.specs.declared.verdict.Redundancy.{Redundancy}
 use Rattle.redundancy.specs.declared.verdict.Redundancy.TheVariants.{Deliver, Copy}
 use Rattle.ledger_text.specs.declared.frame.FrameLine.{FrameLine}
-use Rattle.ledger_report.specs.Copies.{AddsSkew, AllCopies, CopyNumbers, CountsMore, KeepsCopies, KeepsLatest, NotesCopy, NotesCopyWhere, NotesLatest, NotesLatestWhere, Spot, TakesCopy, TakesLatest, copy_numbers, skew_in, spot_at}
+use Rattle.ledger_report.specs.Copies.{AddsSkew, CopyNumbers, KeepsCopies, KeepsLatest, NotesCopy, NotesCopyWhere, NotesLatest, NotesLatestWhere, Spot, TakesCopy, TakesLatest, copy_numbers, skew_in, spot_at}
 use Rattle.ledger_report.specs.Deliveries.{says_copy, says_deliver}
-use Rattle.ledger_report.specs.SidesSeries.{PutsOn}
 use Rattle.ledger_report.specs.Sums.{saturated}
 use Rattle.ledger_report.specs.declared.link.LinkReport.{LinkReport}
 use Rattle.ledger_report.specs.declared.moment.Moment.{Moment}
 use Rattle.ledger_report.specs.declared.pairing.Pairing.{Pairing}
-use Rattle.ledger_report.specs.declared.series.Series.{Series}
-use Rattle.ledger_report.specs.declared.sides.Sides.{Sides}
 
 adds_skew_from : (number stamp : ℕ) (old mid new : LinkReport) → copy_numbers mid ≡ copy_numbers old → KeepsLatest old.pairing mid.pairing →
     (mid.copies + 1 < 2 ^ 64 → AddsSkew (skew_in mid number stamp) (copy_numbers mid) (copy_numbers new)) → old.copies + 1 < 2 ^ 64 →
@@ -29,36 +26,22 @@ adds_skew_from number stamp old mid new same latest takes few =
           ∙ ap (λ n. saturated (old.skew_sum + n)) skew;
       skew_greatest = taken.skew_greatest ∙ ap (λ (c : CopyNumbers). max c.skew_greatest (skew_in mid number stamp)) same
           ∙ ap (λ n. max old.skew_greatest n) skew;
-      classes = subst (λ n. CountsMore n old.classes.counts.items new.classes.counts.items) skew
-          (subst (λ (c : List ℕ). CountsMore (skew_in mid number stamp) c new.classes.counts.items) (ap (λ (c : CopyNumbers). c.classes) same) taken.classes);
     }
 
 -- the latest deliveries stay, and so does the skew to them
 pub skew_stays : (number stamp : ℕ) (old mid : LinkReport) → KeepsLatest old.pairing mid.pairing → skew_in mid number stamp ≡ skew_in old number stamp
 skew_stays number stamp old mid latest = ap (λ (o : Option Spot). stamp - option_map_or (λ (s : Spot). s.place.stamp) o 0) (latest number)
 
-takes_copy_from : (number : ℕ) (at : Moment) (old mid new : LinkReport) → KeepsCopies old mid → KeepsLatest old.pairing mid.pairing →
-    TakesCopy at (skew_in mid number at.place.stamp) mid new → TakesCopy at (skew_in old number at.place.stamp) old new
-takes_copy_from number at old mid new same latest takes =
-    let stamp = at.place.stamp in
-    let skew : skew_in mid number stamp ≡ skew_in old number stamp =
-    skew_stays number stamp old mid latest in record {
-      numbers = adds_skew_from number stamp old mid new (ap (λ (c : AllCopies). c.numbers) same) latest takes.numbers;
-      series = subst (λ n. PutsOn at.network at.bin (Some n) old.skews new.skews) skew
-          (subst (λ (s : Sides Series). PutsOn at.network at.bin (Some (skew_in mid number stamp)) s new.skews) (ap (λ (c : AllCopies). c.skews) same)
-          takes.series);
-    }
-
 pub copies_on : (line : FrameLine) (number : ℕ) (at : Moment) (old mid new : LinkReport) → line.redundancy ≡ Some Copy → KeepsCopies old mid →
-    KeepsLatest old.pairing mid.pairing → TakesCopy at (skew_in mid number at.place.stamp) mid new → NotesCopy line number at old new
+    KeepsLatest old.pairing mid.pairing → TakesCopy (skew_in mid number at.place.stamp) mid new → NotesCopy line number at old new
 copies_on line number at old mid new is same latest takes =
-    subst (λ (o : Option Redundancy). NotesCopyWhere (option_map_or says_copy o false) at (skew_in old number at.place.stamp) old new) (sym is)
-    (takes_copy_from number at old mid new same latest takes)
+    subst (λ (o : Option Redundancy). NotesCopyWhere (option_map_or says_copy o false) (skew_in old number at.place.stamp) old new) (sym is)
+    (adds_skew_from number at.place.stamp old mid new same latest takes)
 
 pub copies_off : (line : FrameLine) (number : ℕ) (at : Moment) (old new : LinkReport) (word : Option Redundancy) → line.redundancy ≡ word →
     option_map_or says_copy word false ≡ false → KeepsCopies old new → NotesCopy line number at old new
 copies_off line number at old new word is off same =
-    subst (λ (b : Bool). NotesCopyWhere b at (skew_in old number at.place.stamp) old new)
+    subst (λ (b : Bool). NotesCopyWhere b (skew_in old number at.place.stamp) old new)
     (sym (ap (λ (o : Option Redundancy). option_map_or says_copy o false) is ∙ off)) same
 
 pub latest_on : (line : FrameLine) (number : ℕ) (at : Moment) (old mid new : LinkReport) → line.redundancy ≡ Some Deliver → KeepsLatest old.pairing mid.pairing →

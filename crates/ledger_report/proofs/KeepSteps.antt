@@ -39,7 +39,7 @@ keeps_report_on old mid new (link, deliveries, copies, pairing, fates) (link2, d
   copies2 ∙ copies,
   pairing2 ∙ pairing,
   record {
-    numbers = fates2.numbers ∙ ap (λ (f : FateNumbers). record f { met = new.fates.met; late_skews = new.late_skews }) fates.numbers;
+    numbers = fates2.numbers ∙ ap (λ (f : FateNumbers). record f { met = new.fates.met }) fates.numbers;
     signs = keeps_late_on old mid new fates.signs fates2.signs;
   },
 )
@@ -50,7 +50,7 @@ accounts_same_on old mid new first second = λ none. second none ∙ first none
 pub keeps_counts_on : (old mid new : LinkReport) → KeepsCounts old mid → KeepsCounts mid new → KeepsCounts old new
 keeps_counts_on old mid new (same, fates) (same2, fates2) = (
   accounts_same_on old mid new same same2,
-  fates2 ∙ ap (λ (f : FateNumbers). record f { late_skews = new.late_skews }) fates,
+  fates2 ∙ fates,
 )
 
 pub keep_balance_on : (old mid new : List LinkReport) → length mid ≡ length old → KeepBalance old mid → KeepBalance mid new → KeepBalance old new
