@@ -21,26 +21,30 @@ use Rattle.ledger_report.specs.declared.pairing.Delivery.{Delivery}
 use Rattle.ledger_report.specs.declared.pairing.Fate.{Fate}
 use Rattle.ledger_report.specs.declared.pairing.Fate.TheVariants.{Open, Late, Paired, Met}
 use Rattle.ledger_report.specs.declared.pairing.Pairing.{Pairing}
-use Rattle.ledger_report.proofs.KeepSteps.{keeps_late_none, keeps_late_on}
+use Rattle.ledger_report.proofs.KeepSteps.{keeps_late_none}
 
--- the steps up to the one that notes a discarded line
-pub notes_fates : (line : FrameLine) (number : ℕ) (at : Moment) (word : Option Redundancy) (lane : Lane) (network : NetworkReport) (seen : LaneLine)
-    (old noted numbered mid new : LinkReport) → seen ≡ seen_line lane network line number at → line.redundancy ≡ word →
-    row_in noted ≡ row_in old → row_in numbered ≡ row_in noted → row_in mid ≡ row_in numbered → noted.pairing ≡ old.pairing → numbered.pairing ≡ noted.pairing →
-    KeepsFates old noted → KeepsFates noted numbered → KeepsFates numbered mid →
-    KeepsLate old noted → KeepsLate noted numbered → KeepsLate numbered mid →
+-- a line as its lane takes it is discarded as it stands
+pub notes_discards : (line : FrameLine) (number : ℕ) (at : Moment) (lane : Lane) (network : NetworkReport) (seen : LaneLine)
+    (old numbered mid : LinkReport) → seen ≡ seen_line lane network line number at → row_in numbered ≡ row_in old → numbered.pairing ≡ old.pairing →
     DiscardsWhere (is_some seen.rule && numbered.redundancy) seen.number seen.at (window_in numbered) numbered.pairing mid.pairing →
+    DiscardsWhere (is_some (rule_of line) && old.redundancy) number at (window_in old) old.pairing mid.pairing
+notes_discards line number at lane network seen old numbered mid same row pairing discards =
+    subst (λ (p : Pairing). DiscardsWhere (is_some (rule_of line) && old.redundancy) number at (window_in old) p mid.pairing) pairing
+    (subst (λ (r : Row). DiscardsWhere (is_some (rule_of line) && r.redundancy) number at (saturated (r.bag * 127)) numbered.pairing mid.pairing) row
+    (subst (λ (l : LaneLine). DiscardsWhere (is_some l.rule && numbered.redundancy) l.number l.at (window_in numbered) numbered.pairing mid.pairing) same discards))
+
+-- the line is taken, and then its word
+pub notes_fates : (line : FrameLine) (number : ℕ) (at : Moment) (word : Option Redundancy) (old mid new : LinkReport) → line.redundancy ≡ word →
+    row_in mid ≡ row_in old → KeepsFates old mid → KeepsLate old mid →
+    DiscardsWhere (is_some (rule_of line) && old.redundancy) number at (window_in old) old.pairing mid.pairing →
     NotesWordWhere (option_map_or says_deliver word false) (option_map_or says_copy word false) number at mid new →
     NotesFates line number at old new
-notes_fates line number at word lane network seen old noted numbered mid new same is row1 row2 row3 pairing1 pairing2 fates1 fates2 fates3 late1 late2 late3 discards says = record {
+notes_fates line number at word old mid new is row fates late discards says = record {
   mid = mid;
-  bag = ap (λ (r : Row). r.bag) (row3 ∙ row2 ∙ row1);
-  numbers = fates3 ∙ fates2 ∙ fates1;
-  signs = keeps_late_on old numbered mid (keeps_late_on old noted numbered late1 late2) late3;
-  discards =
-      subst (λ (p : Pairing). DiscardsWhere (is_some (rule_of line) && old.redundancy) number at (window_in old) p mid.pairing) (pairing2 ∙ pairing1)
-      (subst (λ (r : Row). DiscardsWhere (is_some (rule_of line) && r.redundancy) number at (saturated (r.bag * 127)) numbered.pairing mid.pairing) (row2 ∙ row1)
-      (subst (λ (l : LaneLine). DiscardsWhere (is_some l.rule && numbered.redundancy) l.number l.at (window_in numbered) numbered.pairing mid.pairing) same discards));
+  bag = ap (λ (r : Row). r.bag) row;
+  numbers = fates;
+  signs = late;
+  discards = discards;
   word = subst (λ (o : Option Redundancy). NotesWordWhere (option_map_or says_deliver o false) (option_map_or says_copy o false) number at mid new) (sym is) says;
 }
 

@@ -1,5 +1,5 @@
 -- What the steps of a note and of the end do to a link's deliveries that the other network didn't bring.
-use Rattle.std.proofs.Common.{◌≡◌, ◌∙◌, ℕ, ◌*◌, ◌==◌, ◌&&◌, Bool, true, false, Option, Some, None, is_some, slice_index_or, if◌then◌else◌, refl, sym, ap, subst}
+use Rattle.std.proofs.Common.{◌≡◌, ◌∙◌, ℕ, ◌==◌, ◌&&◌, Bool, true, false, Option, Some, None, is_some, slice_index_or, if◌then◌else◌, refl, sym, ap, subst}
 use Rattle.std.specs.Option.{option_and_then, option_map, option_map_or}
 use Rattle.std.proofs.lemmas.Bool.{eqb-true}
 use Rattle.redundancy.specs.declared.verdict.Redundancy.{Redundancy}
@@ -8,14 +8,11 @@ use Rattle.ledger_report.specs.Alone.{KeepsMissed}
 use Rattle.ledger_report.specs.Deliveries.{says_deliver}
 use Rattle.ledger_report.specs.Fates.{is_open}
 use Rattle.ledger_report.specs.Holding.{KeepsBefore, KeepsPlaces, NotesMissed, Settles, SettlesWhere, TakesBefore, before_at, open_held, open_in, settled_by_next}
-use Rattle.ledger_report.specs.Links.{Row, row_in}
+use Rattle.ledger_report.specs.Links.{row_in}
 use Rattle.ledger_report.specs.Marks.{KeepsOthers}
-use Rattle.ledger_report.specs.Noting.{seen_line}
 use Rattle.ledger_report.specs.Pairs.{DiscardsWhere, awaits, known_in, window_in}
-use Rattle.ledger_report.specs.Sums.{saturated}
 use Rattle.ledger_report.specs.Words.{rule_of}
 use Rattle.ledger_report.specs.declared.lane.Lane.{Lane}
-use Rattle.ledger_report.specs.declared.lane.LaneLine.{LaneLine}
 use Rattle.ledger_report.specs.declared.link.LinkReport.{LinkReport}
 use Rattle.ledger_report.specs.declared.moment.Moment.{Moment}
 use Rattle.ledger_report.specs.declared.network.NetworkReport.{NetworkReport}
@@ -102,29 +99,16 @@ keeps_before_at number old new held before is same takes n = takes n ∙ at (n =
 
 -- ---- a line
 
-pub notes_missed : (line : FrameLine) (number : ℕ) (at : Moment) (word : Option Redundancy) (lane : Lane)
-    (network : NetworkReport) (seen : LaneLine)
-    (networks : Sides NetworkReport) (old noted numbered mid new : LinkReport) → seen ≡ seen_line lane network line number at →
-    line.redundancy ≡ word →
-    row_in noted ≡ row_in old → row_in numbered ≡ row_in noted → row_in mid ≡ row_in numbered →
-    noted.pairing ≡ old.pairing →
-    numbered.pairing ≡ noted.pairing → KeepsPlaces old.lanes noted.lanes → KeepsPlaces noted.lanes numbered.lanes →
-    KeepsPlaces numbered.lanes mid.lanes →
-    DiscardsWhere (is_some seen.rule && numbered.redundancy) seen.number seen.at (window_in numbered) numbered.pairing mid.pairing →
-    KeepsBefore numbered.pairing mid.pairing → SettlesWhere (option_map_or says_deliver word false) number at networks mid new →
+pub notes_missed : (line : FrameLine) (number : ℕ) (at : Moment) (word : Option Redundancy) (networks : Sides NetworkReport)
+    (old mid new : LinkReport) → line.redundancy ≡ word → row_in mid ≡ row_in old → KeepsPlaces old.lanes mid.lanes →
+    DiscardsWhere (is_some (rule_of line) && old.redundancy) number at (window_in old) old.pairing mid.pairing →
+    KeepsBefore old.pairing mid.pairing → SettlesWhere (option_map_or says_deliver word false) number at networks mid new →
     NotesMissed line number at networks old new
-notes_missed line number at word lane network seen networks old noted numbered mid new same is row1 row2 row3 pairing1
-    pairing2 places1
-    places2 places3 discards before says = record {
-      mid = mid;
-      says = row3 ∙ row2 ∙ row1;
-      places = keeps_places_on old.lanes numbered.lanes mid.lanes (keeps_places_on old.lanes noted.lanes numbered.lanes places1 places2) places3;
-      discards =
-          subst (λ (p : Pairing). DiscardsWhere (is_some (rule_of line) && old.redundancy) number at (window_in old) p mid.pairing) (pairing2 ∙ pairing1)
-          (subst (λ (r : Row). DiscardsWhere (is_some (rule_of line) && r.redundancy) number at (saturated (r.bag * 127)) numbered.pairing mid.pairing)
-          (row2 ∙ row1)
-          (subst (λ (l : LaneLine). DiscardsWhere (is_some l.rule && numbered.redundancy) l.number l.at (window_in numbered) numbered.pairing mid.pairing)
-          same discards));
-      before = λ n. before n ∙ ap (λ (p : Pairing). before_at p n) (pairing2 ∙ pairing1);
-      word = subst (λ (o : Option Redundancy). SettlesWhere (option_map_or says_deliver o false) number at networks mid new) (sym is) says;
-    }
+notes_missed line number at word networks old mid new is row places discards before says = record {
+  mid = mid;
+  says = row;
+  places = places;
+  discards = discards;
+  before = before;
+  word = subst (λ (o : Option Redundancy). SettlesWhere (option_map_or says_deliver o false) number at networks mid new) (sym is) says;
+}

@@ -116,6 +116,14 @@ notes_losses line number at networks seen numbering old noted numbered new seen_
     (subst (λ (r : Row). LosesAt (passes (counted_in old.integrity (side_of at.network old.lanes) taken)) at (saturated (r.bag * 127)) (losses_in noted) (losses_in numbered)) row
     (subst (λ (n : Numbering). LosesAt (passes n) at (window_in noted) (losses_in noted) (losses_in numbered)) says moved)))
 
+-- what comes after that keeps the losses
+pub notes_losses_then : (line : FrameLine) (number : ℕ) (at : Moment) (networks : Sides NetworkReport) (old mid new : LinkReport) →
+    losses_in new ≡ losses_in mid → NotesLosses line number at networks old mid → NotesLosses line number at networks old new
+notes_losses_then line number at networks old mid new same h room =
+    subst (λ (l : Losses). LosesAt (passes (counted_in old.integrity (side_of at.network old.lanes)
+    (seen_line (side_of at.network old.lanes) (side_of at.network networks) line number at))) at (window_in old)
+    (with_seen old.integrity at.network number (losses_in old)) l) (sym same) (h room)
+
 -- a line that passes over none
 pub loses_none : (passed : ℕ → Bool) (at : Moment) (window : ℕ) (losses : Losses) → ((number : ℕ) → passed number ≡ false) → AreRoom losses →
     LosesAt passed at window losses losses

@@ -117,7 +117,7 @@ impl LinkReport {
     ghost use Rattle.ledger_report.specs.Pairs.{MeetsOf, NotesFates, PairsCopy};
     ghost use Rattle.ledger_report.specs.Pairs.{TakesDelivery, comes_late};
     ghost use Rattle.ledger_report.specs.Pairs.{met_with, window_in};
-    ghost use Rattle.ledger_report.specs.Words.{other_of};
+    ghost use Rattle.ledger_report.specs.Words.{other_of, rule_of};
     ghost use Rattle.ledger_report.specs.Settling.{AccountsMore, AccountsSame, IsBalanced, SumsLanes};
     ghost use Rattle.ledger_report.specs.Settling.{accounted, counted, fate_sum};
     ghost use Rattle.ledger_report.specs.declared.signs.Mark.{Mark};
@@ -207,11 +207,7 @@ impl LinkReport {
             self.old self.new) }
     {
         self.check_words(line)?;
-        let seen = self.lane_line(line, number, at, networks);
-        let numbering = self.note_lane(&seen)?;
-        self.note_numbering(numbering, at)?;
-        self.note_discarded(&seen)?;
-        self.runs.note(line, at, networks)?;
+        self.note_seen(line, number, at, networks)?;
         let Some(word) = line.redundancy else {
             return Ok(());
         };
@@ -220,6 +216,38 @@ impl LinkReport {
             Redundancy::Deliver => self.note_delivery(number, at, start, width, networks)?,
             Redundancy::Both => {}
         }
+        Ok(())
+    }
+
+    /// Notes the line for its lane, and what its number and its rule say.
+    #[inline]
+    fn note_seen(
+        &mut self,
+        line: &FrameLine,
+        number: u8,
+        at: &Moment,
+        networks: &Sides<NetworkReport>,
+    ) -> Result<(), AllocError>
+        ensures accounts { OnOk result (AccountsMore 0 self.old self.new) }
+        ensures deliveries { self.new.deliveries ≡ self.old.deliveries }
+        ensures copies { KeepsCopies self.old self.new }
+        ensures late { OnOk result (KeepsLate self.old self.new) }
+        ensures fates { KeepsFates self.old self.new }
+        ensures latest { OnOk result (KeepsLatest self.old.pairing self.new.pairing) }
+        ensures lanes { OnOk result (NotesLane (seen_line (side_of at.now.network self.old.lanes)
+            (side_of at.now.network networks.now) line.now number at.now) self.old self.new) }
+        ensures pairing { OnOk result (DiscardsWhere (is_some (rule_of line.now) && self.old.redundancy)
+            number at.now (window_in self.old) self.old.pairing self.new.pairing) }
+        ensures places { OnOk result (KeepsPlaces self.old.lanes self.new.lanes) }
+        ensures before { OnOk result (KeepsBefore self.old.pairing self.new.pairing) }
+        ensures losses { OnOk result (NotesLosses line.now number at.now networks.now
+            self.old self.new) }
+    {
+        let seen = self.lane_line(line, number, at, networks);
+        let numbering = self.note_lane(&seen)?;
+        self.note_numbering(numbering, at)?;
+        self.note_discarded(&seen)?;
+        self.runs.note(line, at, networks)?;
         Ok(())
     }
 
