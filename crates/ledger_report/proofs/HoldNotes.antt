@@ -1,13 +1,11 @@
 -- What the steps of a note and of the end do to a link's deliveries that the other network didn't bring.
-use Rattle.std.proofs.Common.{◌≡◌, ◌∙◌, ℕ, ◌==◌, ◌&&◌, Bool, true, false, Option, Some, None, is_some, slice_index_or, if◌then◌else◌, refl, sym, ap, subst}
+use Rattle.std.proofs.Common.{◌≡◌, ◌∙◌, ℕ, ◌&&◌, Bool, false, Option, Some, None, is_some, slice_index_or, if◌then◌else◌, refl, sym, ap, subst}
 use Rattle.std.specs.Option.{option_and_then, option_map, option_map_or}
-use Rattle.std.proofs.lemmas.Bool.{eqb-true}
 use Rattle.redundancy.specs.declared.verdict.Redundancy.{Redundancy}
 use Rattle.ledger_text.specs.declared.frame.FrameLine.{FrameLine}
 use Rattle.ledger_report.specs.Alone.{KeepsMissed}
 use Rattle.ledger_report.specs.Deliveries.{says_deliver}
-use Rattle.ledger_report.specs.Fates.{is_open}
-use Rattle.ledger_report.specs.Holding.{KeepsBefore, KeepsPlaces, NotesMissed, Settles, SettlesWhere, TakesBefore, before_at, open_held, open_in, settled_by_next}
+use Rattle.ledger_report.specs.Holding.{KeepsBefore, KeepsPlaces, NotesMissed, Settles, SettlesWhere, open_held, open_in, settled_by_next}
 use Rattle.ledger_report.specs.Links.{row_in}
 use Rattle.ledger_report.specs.Marks.{KeepsOthers}
 use Rattle.ledger_report.specs.Pairs.{DiscardsWhere, awaits, known_in, window_in}
@@ -38,22 +36,11 @@ keeps_places_none lanes = (keeps_missed_none lanes.a, keeps_missed_none lanes.b)
 pub keeps_places_on : (old mid new : Sides Lane) → KeepsPlaces old mid → KeepsPlaces mid new → KeepsPlaces old new
 keeps_places_on old mid new (a, b) (a2, b2) = (keeps_missed_on old.a mid.a new.a a a2, keeps_missed_on old.b mid.b new.b b b2)
 
--- a loss of numbers
-pub keeps_missed_lost : (old new : Lane) → new ≡ record old { lost_at = new.lost_at } → KeepsMissed old new
-keeps_missed_lost old new same = subst (KeepsMissed old) (sym same) (record { alone = λ hits has. has; uncovered = refl })
-
 -- a late delivery
 pub keeps_missed_late : (lane : Lane) (signs : Signs) → KeepsOthers Late lane.signs signs → KeepsMissed lane (record lane { signs = signs })
 keeps_missed_late lane signs others = missed_kept lane (record lane { signs = signs }) (λ none. others Alone none refl) refl
 
 -- ---- a delivery that is settled
-
--- by its fate
-pub settles_open : (opened : Bool) (delivery : Delivery) (networks : Sides NetworkReport) (old new : Sides Lane) →
-    is_open delivery.fate ≡ opened →
-    Settles (if opened then Some delivery else None) networks old new → Settles (open_in delivery) networks old new
-settles_open opened delivery networks old new is settles =
-    subst (λ (b : Bool). Settles (if b then Some delivery else None) networks old new) (sym is) settles
 
 -- by what is held of a number
 pub settles_held : (number : ℕ) (pairing : Pairing) (held : Option Delivery) (networks : Sides NetworkReport) (old new : Sides Lane) →
@@ -84,18 +71,6 @@ settles_next late number at old networks new before is awaited settles =
     (sym (ap (next_of at old) is ∙ ap (λ (b : Bool). if b then None else open_in before) awaited)) settles
 
 -- ---- how many lines stand before
-
--- the delivery of a number keeps its place
-pub keeps_before_at : (number : ℕ) (old new : Pairing) (held : Delivery) (before : ℕ) → slice_index_or old.deliveries.items number None ≡ Some held →
-    before ≡ held.before →
-    TakesBefore number before old new → KeepsBefore old new
-keeps_before_at number old new held before is same takes n = takes n ∙ at (n == number) refl
-  where
-    at : (b : Bool) → (n == number) ≡ b → (if b then Some before else before_at old n) ≡ before_at old n
-    at true here =
-        ap (λ (k : ℕ). Some k) same ∙ sym (ap (λ (o : Option Delivery). option_map (λ (d : Delivery). d.before) o) is)
-        ∙ ap (λ m. before_at old m) (sym (eqb-true n number here))
-    at false there = refl
 
 -- ---- a line
 

@@ -1,5 +1,5 @@
 -- What two steps leave as it was, one after the other.
-use Rattle.std.proofs.Common.{◌≡◌, ◌∙◌, List, length, get_or, refl, sym, ap, subst, arith}
+use Rattle.std.proofs.Common.{◌≡◌, ◌∙◌, List, length, get_or, refl, ap, arith}
 use Rattle.ledger_report.specs.Keeping.{KeepsAccount, KeepsLane, KeepsLink, KeepsNetworks, KeepsReport}
 use Rattle.ledger_report.specs.Pairs.{FateNumbers, KeepsLate}
 use Rattle.ledger_report.specs.Settling.{AccountsSame, KeepBalance, KeepsCounts}
@@ -28,9 +28,6 @@ keeps_late_on old mid new (a, b) (a2, b2) = (λ hits has. a2 hits (a hits has), 
 
 pub keeps_late_none : (report : LinkReport) → KeepsLate report report
 keeps_late_none report = (λ hits has. has, λ hits has. has)
-
-pub keeps_late_is : (old mid new : LinkReport) → new ≡ mid → KeepsLate old mid → KeepsLate old new
-keeps_late_is old mid new same keeps = subst (KeepsLate old) (sym same) keeps
 
 pub keeps_report_on : (old mid new : LinkReport) → KeepsReport old mid → KeepsReport mid new → KeepsReport old new
 keeps_report_on old mid new (link, deliveries, copies, pairing, fates) (link2, deliveries2, copies2, pairing2, fates2) = (

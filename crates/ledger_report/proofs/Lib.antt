@@ -25,7 +25,6 @@ pub mod LossSteps
 pub mod MarkMoves
 pub mod NetworkMarks
 pub mod NetworkSteps
-pub mod OkSteps
 pub mod OutsideSteps
 pub mod Pendings
 pub mod Readings

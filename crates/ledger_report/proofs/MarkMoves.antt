@@ -6,7 +6,7 @@ use Rattle.std.proofs.Math.Seq.{get_or-append_seam}
 use Rattle.std.proofs.lemmas.Bool.{cases_lt, eqb-true, eqb-false, lt-ltb}
 use Rattle.ledger_report.specs.Extremes.{Hit}
 use Rattle.ledger_report.specs.Places.{IsMarkOf}
-use Rattle.ledger_report.specs.LaneLines.{early_amount, hit_of, is_out_after_silence, is_rule, lead_of, number_amount, one_where, rule_amount}
+use Rattle.ledger_report.specs.LaneLines.{early_amount, hit_of, is_out_after_silence, is_rule, number_amount, one_where, rule_amount}
 use Rattle.ledger_report.specs.LaneParts.{TakesAmounts}
 use Rattle.ledger_report.specs.Marks.{HasHits, KeepsHits, KeepsOthers, TakesHit, hits_with, sign_index}
 use Rattle.ledger_report.specs.declared.lane.LaneLine.{LaneLine}
@@ -86,22 +86,6 @@ early_some bound interval Repeat less = refl
 early_some bound interval Reset less = refl
 early_some bound interval Alone less = refl
 early_some bound interval Late less = refl
-
-pub early_none : (bound : ℕ) (interval : Option ℕ) (other : Sign) → lead_of bound interval ≡ None → early_amount bound interval other ≡ 0
-early_none bound interval Early none = rw none refl
-early_none bound interval Cut none = refl
-early_none bound interval Runt none = refl
-early_none bound interval Oversize none = refl
-early_none bound interval Foreign none = refl
-early_none bound interval Unconfigured none = refl
-early_none bound interval TooLong none = refl
-early_none bound interval Excess none = refl
-early_none bound interval Out none = refl
-early_none bound interval Lost none = refl
-early_none bound interval Repeat none = refl
-early_none bound interval Reset none = refl
-early_none bound interval Alone none = refl
-early_none bound interval Late none = refl
 
 pub follows_amount : (other : Sign) → number_amount Follows other ≡ 0
 follows_amount Cut = refl

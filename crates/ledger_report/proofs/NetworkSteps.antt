@@ -66,11 +66,6 @@ same_silences network line lines old new same items more h = record {
   more = more ∙ h.more ∙ sym (ap (λ (xs : List Silence). length xs - 1024) same);
 }
 
-pub quiet_silences : (network : Network) (line : FrameLine) (lines : List FrameLine) (report : NetworkReport) → is_on network line ≡ true →
-    is_silent network (record { line = line; before = lines }) ≡ false → HasSilences network lines report → HasSilences network (line ∷ lines) report
-quiet_silences network line lines report on quiet h =
-    same_silences network line lines report report (silences_quiet network line lines on quiet) refl refl h
-
 take_full : (x : Silence) (xs : List Silence) → 1024 ≤ length xs → take 1024 (reverse (x ∷ xs)) ≡ take 1024 (reverse xs)
 take_full x xs full =
     ap (λ (ys : List Silence). take 1024 ys) (reverse-append (x ∷ []) xs)
