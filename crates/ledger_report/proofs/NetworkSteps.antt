@@ -50,10 +50,6 @@ silences_off : (network : Network) (line : FrameLine) (lines : List FrameLine) �
     silences network (line ∷ lines) ≡ silences network lines
 silences_off network line lines off = rw off refl
 
-silences_quiet : (network : Network) (line : FrameLine) (lines : List FrameLine) → is_on network line ≡ true → is_silent network (record { line = line; before = lines }) ≡ false →
-    silences network (line ∷ lines) ≡ silences network lines
-silences_quiet network line lines on quiet = rw (on, quiet) refl
-
 silences_more : (network : Network) (line : FrameLine) (lines : List FrameLine) → is_on network line ≡ true → is_silent network (record { line = line; before = lines }) ≡ true →
     silences network (line ∷ lines) ≡ silence_before network (record { line = line; before = lines }) ∷ silences network lines
 silences_more network line lines on silent = rw (on, silent) refl

@@ -5,11 +5,9 @@ use Rattle.std.specs.Result.{IsErrAnd}
 use Rattle.std.proofs.lemmas.Bool.{eq-eqb, ne_eqb}
 use Rattle.afdx_frame.specs.declared.key.Key.{Key}
 use Rattle.afdx_frame.specs.declared.key.VlId.{VlId}
-use Rattle.redundancy.specs.declared.verdict.Redundancy.{Redundancy}
 use Rattle.vl_config.specs.Link.{VirtualLink}
 use Rattle.ledger_text.specs.declared.frame.FrameLine.{FrameLine}
 use Rattle.ledger_report.specs.Copies.{Spot, spot_at, spot_of, latest_delivery}
-use Rattle.ledger_report.specs.Deliveries.{is_copy, says_copy}
 use Rattle.ledger_report.specs.Fates.{number_of}
 use Rattle.ledger_report.specs.Links.{AreLinksOf, IsLinkOf, Row, row_in, row_of}
 use Rattle.ledger_report.specs.Noting.{IsIndexOf}
@@ -115,9 +113,6 @@ unlinked : (unconfigured : Bool) (test : Row → WrongLine → Bool) → by_row 
 unlinked true test = refl
 unlinked false test = refl
 
-no_row_by : (links : List VirtualLink) (line : FrameLine) → line.link ≡ None → row_for links line ≡ None
-no_row_by links line no_link = rw no_link refl
-
 -- ---- a line of a link, by its report
 
 -- the report's row and its latest delivery are those of the lines before
@@ -149,14 +144,6 @@ off_told row latest line refusal is = off_where (is_off_against row line) _ refu
 on_where : (off : Bool) → ◌≡◌ {A = Result (Unit {0}) Refusal} (Ok tt) (if off then Err (refusals.Wrong wrongs.Off) else Ok tt) → off ≡ false
 on_where true is = absurd (cc is)
 on_where false is = refl
-
--- by its words, whether it says `copy`, and what is wrong with it then
-abbrev by_words : Bool → Bool → Bool → Bool → Option WrongLine
-by_words off copy bare beyond =
-    cond off (Some wrongs.Off) (cond (copy && bare) (Some wrongs.Copy) (cond (copy && beyond) (Some wrongs.Skew) None))
-
-copy_is : (line : FrameLine) (word : Option Redundancy) → line.redundancy ≡ word → is_copy line ≡ option_map_or says_copy word false
-copy_is line word is = ap (λ (o : Option Redundancy). option_map_or says_copy o false) is
 
 -- what is told through a `?`
 pub refused_by : (wrong : Option WrongLine) (refusal : Refusal) (result : Result (Unit {0}) Refusal) → IsErrAnd result (λ told. told ≡ refusal)
