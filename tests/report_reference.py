@@ -124,10 +124,10 @@ class Ledger:
             self.usual[n] = max(usual)
         self.silent = {n: {s["after"] for s in self.silences[n]} for n in "AB"}
 
-    def covered(self, network, at):
-        """A line of the network stands before the place, and one after it, and no silence is between them."""
+    def covered(self, network, at, last):
+        """A line of the network stands before the place, and one after it, up to the last one, and no silence is between them."""
         before = bisect.bisect_left(self.places[network], at)
-        return 0 < before < len(self.places[network]) and before not in self.silent[network]
+        return 0 < before < bisect.bisect_right(self.places[network], last) and before not in self.silent[network]
 
     def after_silence(self, p, q):
         return any(p.ordinal <= after < q.ordinal for after in self.silent[p.network])
@@ -245,7 +245,8 @@ def fates(ledger, link, seen):
         for i, d in enumerate(delivers):
             fate = named[i]
             if fate == "open":
-                fate = "alone" if ledger.covered(OTHER[d.network], d.at) else "uncovered"
+                last = delivers[i + 1].at if i + 1 < len(delivers) else len(ledger.lines)
+                fate = "alone" if ledger.covered(OTHER[d.network], d.at, last) else "uncovered"
             said.append((fate, d))
     return said, late_skews
 
@@ -283,7 +284,7 @@ def absence(ledger, seen, network):
         if l is not None and l.network != network:
             block.append(l)
             continue
-        counted = [x for x in block if ledger.covered(network, x.at)]
+        counted = [x for x in block if ledger.covered(network, x.at, len(ledger.lines))]
         if len(counted) >= ABSENT_LINES and (best is None or len(counted) > best["lines"]):
             best = {"lines": len(counted), "from": str(counted[0].stamp), "to": str(counted[-1].stamp)}
         block = []

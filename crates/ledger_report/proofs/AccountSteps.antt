@@ -3,7 +3,6 @@ use Rattle.std.proofs.Common.{◌≡◌, ◌≢◌, ℕ, ◌+◌, ◌<◌, ◌�
 use Rattle.std.proofs.lemmas.Bool.{cases_lt, and_from, and_left, and_right, eqb-true, eqb-false, eq-eqb, ne_eqb, true≢false, false≢true}
 use Rattle.std.proofs.Math.Seq.{get_or-append_seam}
 use Rattle.std.proofs.lemmas.List.{get_or_append_left, get_or_default}
-use Rattle.afdx_frame.specs.declared.key.Network.TheVariants.{A, B}
 use Rattle.afdx_frame.specs.declared.key.VlId.{VlId}
 use Rattle.vl_config.specs.Link.{VirtualLink}
 use Rattle.vl_config.specs.declared.class.Class.{Class}
@@ -32,7 +31,6 @@ use Rattle.ledger_report.specs.declared.statistics.Statistics.{Statistics}
 use Rattle.ledger_report.proofs.LinkSteps.{keeps_link, link_more, link_other, met_other, met_own}
 use Rattle.ledger_report.proofs.NetworkSteps.{keeps_network}
 use Rattle.ledger_report.proofs.OutsideSteps.{outside_other, unconfigured_where}
-use Rattle.ledger_report.proofs.RuleSteps.{keeps_rules}
 
 -- ---- what stays
 
@@ -49,10 +47,6 @@ pub keeps_networks : (lines : List FrameLine) (old new : Statistics) → KeepsAc
 keeps_networks lines old new keeps h = record {
   a = keeps_network _ lines old.networks.a new.networks.a keeps.networks.0 h.a;
   b = keeps_network _ lines old.networks.b new.networks.b keeps.networks.1 h.b;
-  rules = record {
-    a = keeps_rules A lines old.networks.a new.networks.a keeps.networks.0 h.rules.a;
-    b = keeps_rules B lines old.networks.b new.networks.b keeps.networks.1 h.rules.b;
-  };
 }
 
 pub keeps_account : (links : List VirtualLink) (lines : List FrameLine) (old new : Statistics) → KeepsAccount old new →
@@ -239,10 +233,6 @@ account_more links line lines s after id number at place old new networks few is
     (record {
       a = keeps_network _ (line ∷ lines) s.networks.a networks.a notes.keeps.0 are.a;
       b = keeps_network _ (line ∷ lines) s.networks.b networks.b notes.keeps.1 are.b;
-      rules = record {
-        a = keeps_rules A (line ∷ lines) s.networks.a networks.a notes.keeps.0 are.rules.a;
-        b = keeps_rules B (line ∷ lines) s.networks.b networks.b notes.keeps.1 are.rules.b;
-      };
     })
     (links_set links line lines s.links.items s.index.items id place new index_is found within of_link
     (λ link. (

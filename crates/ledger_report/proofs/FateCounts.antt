@@ -163,7 +163,7 @@ keeps_fates rules lines old new same kept late h = record {
 }
 
 pub but_met : (old new : LinkReport) → KeepsFates old new → KeepsButMet old new
-but_met old new kept = ap (λ (f : FateNumbers). record f { met = new.fates.met; late_skews = new.late_skews }) kept
+but_met old new kept = ap (λ (f : FateNumbers). record f { met = new.fates.met }) kept
 
 -- ---- late deliveries among the lanes' signs
 

@@ -692,7 +692,7 @@ all_open row lines report h sum met =
 
 pub no_fates : (rules : PairingRules) (report : LinkReport) → ((number : ℕ) → held_of report.pairing number ≡ None) →
     ((number : ℕ) (network : Network) → gone_in report.pairing number network ≡ None) →
-    fate_numbers report ≡ record { paired = 0; late = 0; first = 0; met = 0; late_greatest = 0; late_skews = report.late_skews } →
+    fate_numbers report ≡ record { paired = 0; late = 0; first = 0; met = 0; late_greatest = 0 } →
     HasHits report.lanes.a.signs signs.Late [] → HasHits report.lanes.b.signs signs.Late [] → HasFatesOf rules [] report
 no_fates rules report held gone none on_a on_b = record {
   known = record { held = held; gone = gone };

@@ -1,10 +1,12 @@
 -- One more hit of a sign, among the marks of all signs.
-use Rattle.std.proofs.Common.{◌≡◌, ℕ, zero, suc, ◌<◌, ◌==◌, nat_lt, Option, Some, None, Bool, true, false, List, ◌∷◌, length, get_or, set, if◌then◌else◌, refl, sym, ap, ◌∙◌, subst, arith, get_or-set_same, get_or-set_other}
+use Rattle.std.proofs.Common.{◌≡◌, ℕ, zero, suc, ◌+◌, ◌<◌, ◌≤◌, ◌==◌, ◌⊎◌, inl, inr, [], ◌++◌, nat_lt, Option, Some, None, Bool, true, false, List, ◌∷◌, length, get_or, set, if◌then◌else◌, refl, sym, ap, ◌∙◌, subst, arith, get_or-set_same, get_or-set_other}
 use Rattle.std.specs.List.{cons_option}
-use Rattle.std.proofs.lemmas.Bool.{eqb-true, eqb-false, lt-ltb}
+use Rattle.std.proofs.Math.ListN.{get_or-append}
+use Rattle.std.proofs.Math.Seq.{get_or-append_seam}
+use Rattle.std.proofs.lemmas.Bool.{cases_lt, eqb-true, eqb-false, lt-ltb}
 use Rattle.ledger_report.specs.Extremes.{Hit}
 use Rattle.ledger_report.specs.Places.{IsMarkOf}
-use Rattle.ledger_report.specs.LaneLines.{early_amount, hit_of, is_out_after_silence, is_rule, lead_of, number_amount, one_where, rule_amount}
+use Rattle.ledger_report.specs.LaneLines.{early_amount, hit_of, is_out_after_silence, is_rule, number_amount, one_where, rule_amount}
 use Rattle.ledger_report.specs.LaneParts.{TakesAmounts}
 use Rattle.ledger_report.specs.Marks.{HasHits, KeepsHits, KeepsOthers, TakesHit, hits_with, sign_index}
 use Rattle.ledger_report.specs.declared.lane.LaneLine.{LaneLine}
@@ -85,22 +87,6 @@ early_some bound interval Reset less = refl
 early_some bound interval Alone less = refl
 early_some bound interval Late less = refl
 
-pub early_none : (bound : ℕ) (interval : Option ℕ) (other : Sign) → lead_of bound interval ≡ None → early_amount bound interval other ≡ 0
-early_none bound interval Early none = rw none refl
-early_none bound interval Cut none = refl
-early_none bound interval Runt none = refl
-early_none bound interval Oversize none = refl
-early_none bound interval Foreign none = refl
-early_none bound interval Unconfigured none = refl
-early_none bound interval TooLong none = refl
-early_none bound interval Excess none = refl
-early_none bound interval Out none = refl
-early_none bound interval Lost none = refl
-early_none bound interval Repeat none = refl
-early_none bound interval Reset none = refl
-early_none bound interval Alone none = refl
-early_none bound interval Late none = refl
-
 pub follows_amount : (other : Sign) → number_amount Follows other ≡ 0
 follows_amount Cut = refl
 follows_amount Runt = refl
@@ -180,6 +166,19 @@ rule_none line other is none = rule_of-line line false None other is none
 pub rule_some : (line : LaneLine) (rule other : Sign) → is_out_after_silence line ≡ false → line.rule ≡ Some rule →
     rule_amount line other ≡ (if sign_index rule == sign_index other then 1 else 0)
 rule_some line rule other is some = rule_of-line line false (Some rule) other is some
+
+-- ---- among so many marks
+
+pub mark_pushed : (P : Mark → Type 0) (marks : List Mark) (mark : Mark) (count : ℕ) → length marks ≡ count →
+    ((k : ℕ) (none : Mark) → k < count → P (get_or marks k none)) → P mark → (k : ℕ) (none : Mark) → k < count + 1 →
+    P (get_or (marks ++ (mark ∷ [])) k none)
+mark_pushed P marks mark count long all own k none less = at (cases_lt k count)
+  where
+    at : (k < count) ⊎ (count ≤ k) → P (get_or (marks ++ (mark ∷ [])) k none)
+    at (inl below) = subst P (sym (get_or-append marks (mark ∷ []) none k (omega (arith, below, long)))) (all k none below)
+    at (inr from) =
+        let here : k ≡ length marks = omega (arith, from, less, long) in
+        subst P (sym (ap (λ n. get_or (marks ++ (mark ∷ [])) n none) here ∙ get_or-append_seam marks mark [] none)) own
 
 -- ---- late deliveries
 
