@@ -225,10 +225,10 @@ fn refused<L, S, T, W>(fault: CutFault, ledger: L, a: S, b: T, output: W) -> Cut
     }
 }
 
-/// Writes a capture in the format of the frames whose lines in a ledger the selection takes, whole as recorded
-/// and in the ledger's order. A pcapng packet has the verdict of its line as its comment. Each line of a
-/// frame is checked against its network's recording, taken or not. Lines of the network that is skipped, as
-/// one without a recording, are passed over.
+/// Writes a capture in some format of the frames whose lines in a ledger the selection takes, whole as
+/// recorded and in the ledger's order. A pcapng packet has the verdict of its line as its comment. Each line
+/// of a frame is checked against its network's recording, taken or not. Lines of the network that is
+/// skipped, as one without a recording, are passed over.
 ///
 /// With neighbours, which [`neighbours_of`](crate::neighbours_of) has found by the same selection, the lines
 /// near selected ones are taken too. `observer` is told each line of a frame, and that of each packet before
@@ -256,7 +256,8 @@ pub fn cut_frames<L: TapSource, S: TapSource, T: TapSource, W: OutSink, O: LineO
     observer: &O,
 ) -> CutRun<L, S, T, W>
     ensures { (around : Option Around) → AreNoted selection.now around neighbours
-        → IsCutRun (format_of format.entry) (record { selection = selection.now; around = around; skips = skips }) result.outcome
+        → IsCutRun (format_of format.entry)
+        (record { selection = selection.now; around = around; skips = skips }) result.outcome
         (devices_at L.TapSource S.TapSource T.TapSource W.OutSink ledger a b output)
         (devices_at L.TapSource S.TapSource T.TapSource W.OutSink
         result.ledger result.a result.b result.output) }
