@@ -1,6 +1,4 @@
 //! The frames of a ledger's lines, cut from its recordings.
-use crate::annotated::Joining;
-use crate::captures::CutObserver;
 use crate::ended::{Ended, Refused};
 use crate::files::refuse_shared;
 use crate::interface::Skipped;
@@ -9,7 +7,7 @@ use crate::recordings::{Reading, TapFiles, end_of, files_of};
 use crate::seen::Seen;
 use crate::taps::Taps;
 use crate::{
-    MAX_LATE, NO_RUN, capture_output, create, is_at_terminal, live_output, open, open_tap, table_of,
+    MAX_LATE, create, format_of, is_at_terminal, live_output, open, open_tap, table_of,
 };
 use afdx_frame::Network;
 use analyser::{
@@ -17,8 +15,9 @@ use analyser::{
     NeighboursRun, Selection, SelectionOption, cut_frames, is_standard, neighbours_of, print_lines,
     selection_of,
 };
+use packet_format::PacketFormat;
 use pcap_io::{ReadSource, WriteSink};
-use vl_config::Config;
+use pcapng_writer::Interfaces;
 
 /// What is read and written by a cut.
 #[derive(Drop)]
@@ -66,10 +65,6 @@ fn cut_lines(rt: &HostRuntime, files: CutDevices<'_>, is_checked: bool) -> Ended
         sink,
     } = files;
     let recordings = if is_checked { Some((a, b)) } else { None };
-    let observer = CutObserver {
-        annotated: None,
-        seen,
-    };
     let LinesRun {
         outcome,
         ledger: _,
@@ -83,7 +78,7 @@ fn cut_lines(rt: &HostRuntime, files: CutDevices<'_>, is_checked: bool) -> Ended
         ledger,
         recordings,
         sink,
-        &observer,
+        seen,
     );
     let reason = output.into_writer().finish(outcome.is_ok()).err();
     let ended = Ended::from(exit_of(outcome, reason.is_none()));
@@ -99,14 +94,8 @@ fn cut_lines(rt: &HostRuntime, files: CutDevices<'_>, is_checked: bool) -> Ended
     }
 }
 
-/// Writes the frames of the lines that the selection takes. A pcapng file has their verdicts, with the links'
-/// names in a table.
-fn cut_packets(
-    rt: &HostRuntime,
-    files: CutDevices<'_>,
-    is_pcapng: bool,
-    config: Option<&Config>,
-) -> Result<Ended, Refused> {
+/// Writes the frames of the lines that the selection takes, in a format.
+fn cut_packets(rt: &HostRuntime, files: CutDevices<'_>, format: PacketFormat<'_>) -> Ended {
     let CutDevices {
         selection,
         neighbours,
@@ -117,11 +106,6 @@ fn cut_packets(
         b,
         sink,
     } = files;
-    let output = capture_output(rt, sink.into_writer(), is_pcapng, Joining::Told, config)?;
-    let observer = CutObserver {
-        annotated: output.annotated().map_err(|_| NO_RUN)?,
-        seen,
-    };
     let run = cut_frames(
         rt.alloc(),
         selection,
@@ -130,17 +114,18 @@ fn cut_packets(
         ledger,
         a,
         b,
-        WriteSink::new(output),
-        &observer,
+        format,
+        sink,
+        seen,
     );
     let reason = run.output.into_writer().finish(run.outcome.is_ok()).err();
     let (a, b) = (end_of(rt, run.a), end_of(rt, run.b));
-    Ok(Ended {
+    Ended {
         skipped: Skipped::two(a.skipped, b.skipped),
         at: [a.file, b.file],
         reason,
         ..Ended::from(exit_of(run.outcome, reason.is_none()))
-    })
+    }
 }
 
 /// The lines around those that are selected, where such are asked for. The ledger is read for that.
@@ -205,7 +190,8 @@ pub fn cut(rt: &HostRuntime, given: &CutArguments<'_>, taps: &Taps) -> Result<En
     let ended = if given.ledger_only {
         cut_lines(rt, files, given.a.is_some() || given.b.is_some())
     } else {
-        cut_packets(rt, files, given.pcapng, config.as_ref())?
+        let format = format_of(given.pcapng, Interfaces::Networks, config.as_ref());
+        cut_packets(rt, files, format)
     };
     if ended.exit.status() == 0 {
         let _ = seen.tell(rt, given, &selection, skips);

@@ -4,8 +4,6 @@
 //! it ended. What a command does stands in that crate, with its contract.
 #![tactic(auto)]
 
-mod annotated;
-mod captures;
 mod check;
 mod cutting;
 mod debugging;
@@ -37,10 +35,8 @@ use analyser::{
     WatchFault, WatchRefused, Watched, capture_by, filter_of, filter_of_source, gathered,
     is_standard, load_filters, read_arguments, read_config, read_file, run_asm, sized_watch,
 };
-use annotated::Joining;
 use bpf_asm::AsmFault;
 use bpf_loader::Program;
-use captures::CaptureOutput;
 use check::check;
 use cutting::cut;
 use debugging::debug;
@@ -172,15 +168,18 @@ fn create_hashed(
     }
 }
 
-/// What writes a capture to an output.
-fn capture_output<'a>(
-    rt: &HostRuntime,
-    output: Blocks,
+/// The format of a capture. That of a pcapng file has the interfaces, and the names of a table's links in its
+/// comments.
+fn format_of(
     is_pcapng: bool,
-    joining: Joining,
-    config: Option<&'a Config>,
-) -> Result<CaptureOutput<'a>, Fault> {
-    CaptureOutput::new(rt.alloc(), output, is_pcapng, joining, config).map_err(|_| NO_RUN)
+    interfaces: Interfaces,
+    names: Option<&Config>,
+) -> PacketFormat<'_> {
+    if is_pcapng {
+        PacketFormat::Pcapng { interfaces, names }
+    } else {
+        PacketFormat::Pcap
+    }
 }
 
 /// The capture, the ledger, and the manifest if there is one.
@@ -258,12 +257,12 @@ fn capture(rt: &HostRuntime, given: &CaptureArguments<'_>, taps: &Taps) -> Resul
     let output = create(rt, given.output, FileOption::Output)?;
     let (output, live) = live_output(rt, output, length.is_none())?;
     let source = files_of(Reading::quiet(rt, Network::A), tap, recording, live)?;
-    let output = capture_output(rt, output, given.pcapng, Joining::Recording, None)?;
+    let format = format_of(given.pcapng, Interfaces::One, None);
     let CaptureRun {
         outcome,
         source,
         sink,
-    } = capture_by(rt.alloc(), &program, late, source, WriteSink::new(output));
+    } = capture_by(rt.alloc(), &program, late, format, source, WriteSink::new(output));
     let reason = sink.into_writer().finish(outcome.is_ok()).err();
     let end = end_of(rt, source);
     let exit = Exit::of_capture(outcome, reason.is_none());
@@ -414,18 +413,6 @@ fn worst_links(rt: &HostRuntime, analysis: &Analysis<'_>) -> Option<WorstLinks> 
     }
 }
 
-/// The format of the capture of a run over two recordings.
-fn format_of<'a>(given: &WatchArguments<'_>, config: &'a Config) -> PacketFormat<'a> {
-    if given.pcapng {
-        PacketFormat::Pcapng {
-            interfaces: Interfaces::Networks,
-            names: Some(config),
-        }
-    } else {
-        PacketFormat::Pcap
-    }
-}
-
 /// What a run over two recordings is given: the arguments, the table, and the filters.
 #[derive(Clone, Copy)]
 struct Analysis<'a> {
@@ -505,7 +492,7 @@ fn run_watch<'p, R: Threads + Wait + Sync>(
     let watcher = Watcher::new(rt, (*given, analysis.taps), outputs, progress, pauses, told);
     let plan = Plan {
         programs: analysis.programs,
-        format: format_of(given, analysis.config),
+        format: format_of(given.pcapng, Interfaces::Networks, Some(analysis.config)),
     };
     let run = sized_watch(
         threads,

@@ -1,7 +1,7 @@
 //! What a cut saw of its ledger, and the notes on that: lines of a network without a recording, which are
 //! passed over, and a selection that takes no line.
 use afdx_frame::{Network, Stamp};
-use analyser::{CutArguments, Selection};
+use analyser::{CutArguments, LineObserver, Selection};
 use jiff::Timestamp;
 use ledger_text::FrameLine;
 use std::fmt::{Display, Formatter};
@@ -75,6 +75,24 @@ impl Display for End {
     }
 }
 
+impl LineObserver for Seen {
+    fn reads(&self, line: &FrameLine) {
+        if self.lines.load(Ordering::Relaxed) == 0 {
+            self.first.store(line.stamp.0, Ordering::Relaxed);
+        }
+        self.last.store(line.stamp.0, Ordering::Relaxed);
+        count(&self.lines);
+    }
+
+    fn writes(&self, _line: &FrameLine) {
+        count(&self.written);
+    }
+
+    fn passes(&self, _line: &FrameLine) {
+        count(&self.passed);
+    }
+}
+
 impl Seen {
     /// No line was met yet.
     pub fn new() -> Seen {
@@ -85,25 +103,6 @@ impl Seen {
             first: AtomicU64::new(0),
             last: AtomicU64::new(0),
         }
-    }
-
-    /// The next line of a frame is this one.
-    pub fn reads(&self, line: &FrameLine) {
-        if self.lines.load(Ordering::Relaxed) == 0 {
-            self.first.store(line.stamp.0, Ordering::Relaxed);
-        }
-        self.last.store(line.stamp.0, Ordering::Relaxed);
-        count(&self.lines);
-    }
-
-    /// One more line is taken.
-    pub fn writes(&self) {
-        count(&self.written);
-    }
-
-    /// One more line would be taken, and is passed over.
-    pub fn passes(&self) {
-        count(&self.passed);
     }
 
     /// Notes how many lines were passed over, and that none was selected, where it is so.
