@@ -6,9 +6,7 @@ use crate::live::{Blocks, LiveInput};
 use crate::recordings::{Reading, TapFiles, end_of, files_of};
 use crate::seen::Seen;
 use crate::taps::Taps;
-use crate::{
-    MAX_LATE, create, format_of, is_at_terminal, live_output, open, open_tap, table_of,
-};
+use crate::{MAX_LATE, create, format_of, is_at_terminal, live_output, open, open_tap, table_of};
 use afdx_frame::Network;
 use analyser::{
     CutArguments, CutEnding, CutFault, Exit, Fault, FileOption, Invocation, LinesRun, Neighbours,

@@ -170,11 +170,7 @@ fn create_hashed(
 
 /// The format of a capture. That of a pcapng file has the interfaces, and the names of a table's links in its
 /// comments.
-fn format_of(
-    is_pcapng: bool,
-    interfaces: Interfaces,
-    names: Option<&Config>,
-) -> PacketFormat<'_> {
+fn format_of(is_pcapng: bool, interfaces: Interfaces, names: Option<&Config>) -> PacketFormat<'_> {
     if is_pcapng {
         PacketFormat::Pcapng { interfaces, names }
     } else {
@@ -262,7 +258,14 @@ fn capture(rt: &HostRuntime, given: &CaptureArguments<'_>, taps: &Taps) -> Resul
         outcome,
         source,
         sink,
-    } = capture_by(rt.alloc(), &program, late, format, source, WriteSink::new(output));
+    } = capture_by(
+        rt.alloc(),
+        &program,
+        late,
+        format,
+        source,
+        WriteSink::new(output),
+    );
     let reason = sink.into_writer().finish(outcome.is_ok()).err();
     let end = end_of(rt, source);
     let exit = Exit::of_capture(outcome, reason.is_none());
