@@ -75,7 +75,8 @@ pub fn capture_by<S: TapSource, W: OutSink>(
 }
 
 /// The command `capture` with the filter's numeric form in hand: reads the filter, and copies the frames of
-/// the recording that it accepts into a pcap file. A filter that doesn't load leaves both devices as they are.
+/// the recording that it accepts into a pcap file. A filter that doesn't load leaves both devices as they
+/// are.
 pub fn run_capture<S: TapSource, W: OutSink>(
     alloc: Global,
     code: &str,

@@ -91,7 +91,8 @@ impl<S: TapSource, T: TapSource, W: OutSink> Taking<'_, S, T, W> {
             (before : List FrameLine) → length before < MOST_LINES → format_in self.old.output ≡ format
             → HasAsked selection.now around before self.old.chooser
             → HasAsked selection.now around (before ++ line.now ∷ []) self.new.chooser
-            × WritesTaken W.OutSink format (record { selection = selection.now; around = around; skips = skips })
+            × WritesTaken W.OutSink format
+            (record { selection = selection.now; around = around; skips = skips })
             before line.now frame.now result self.old self.new }
         ensures format { format_in self.new.output ≡ format_in self.old.output }
         ensures going { OnOk result (has_failed self.new.output ≡ false) }
@@ -164,7 +165,8 @@ impl<S: TapSource, T: TapSource, W: OutSink> Taking<'_, S, T, W> {
           finder_source self.entry.recordings.b,
           sink_of self.entry.output,
         ) }
-        ensures lost { (length (finding_of S.remaining S.failures self.entry.recordings.a).unread ≤ MAX_SNAPLEN)
+        ensures lost { (length (finding_of S.remaining S.failures self.entry.recordings.a).unread
+            ≤ MAX_SNAPLEN)
             × (length (finding_of T.remaining T.failures self.entry.recordings.b).unread ≤ MAX_SNAPLEN) }
     {
         let Taking {
