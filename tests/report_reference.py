@@ -376,6 +376,34 @@ def network_of(ledger, network, tail, hits, copies, start, width):
             "signs": signs(own), "timeline": timeline(lines, own, copies, start, width)}
 
 
+def by_time(table_path, ledger_path):
+    """The width of a bin, and of each link its row of the table and what it has by time on each network: of each bin the amounts that come there."""
+    with open(table_path, "rb") as table:
+        table = tomllib.load(table)
+    lines, _, _ = read_lines(ledger_path)
+    ledger = Ledger(lines, any(takes_whole(text) for text in table.get("filters", [])))
+    start, width, said = lines[0].stamp if lines else 0, width_of(lines), {}
+
+    def bins(of):
+        found = [[] for _ in range(BINS)]
+        for l, amount in of:
+            found[(l.stamp - start) // width].append(amount)
+        return found
+
+    for link in table.get("link", []):
+        row = dict(link, bag=link["bag_ms"] * 10**6, jitter=link["jitter_us"] * 1000, skew=link["skew_us"] * 1000)
+        _, hits, copies = link_of(ledger, row)
+        rows = said[link["id"]] = {"row": row, "A": {}, "B": {}}
+        for n in "AB":
+            lane = [l for l in ledger.of[n] if l.link == link["id"] and l.cls in ("toolong", "regular")]
+            rows[n] = {"frames": bins((l, 1) for l in lane), "bytes": bins((l, l.kept + 4) for l in lane if l.kept is not None),
+                       "interval": bins((q, q.stamp - p.stamp) for p, q in zip(lane, lane[1:]) if not ledger.after_silence(p, q)),
+                       "skew": bins((l, skew) for l, skew in copies if l.network == n)}
+            for sign in SIGNS:
+                rows[n][sign] = bins((l, amount) for s, l, amount in hits[n] if s == sign)
+    return width, (lines[-1].stamp - start) // width + 1 if lines else 0, said
+
+
 def levels_of(ledger, link, start, width):
     """Of each bin with skews the greatest one of a link's copies and late deliveries there, below zero where it came on A."""
     seen = [l for l in ledger.lines if l.link == link["id"] and l.cls in ("toolong", "regular")]

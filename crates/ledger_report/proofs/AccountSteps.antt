@@ -1,5 +1,5 @@
 -- One more line of the ledger, for all of its links.
-use Rattle.std.proofs.Common.{◌≡◌, ◌≢◌, ℕ, ◌+◌, ◌<◌, ◌≤◌, ◌^◌, ◌&&◌, ◌==◌, ◌⊎◌, inl, inr, ◌++◌, Bool, true, false, not, List, [], ◌∷◌, length, get_or, set, Option, Some, is_some, refl, sym, ap, ◌∙◌, subst, arith, get_or-set_same, get_or-set_other, length-append, length-set}
+use Rattle.std.proofs.Common.{◌≡◌, ◌≢◌, ℕ, ◌+◌, ◌<◌, ◌≤◌, ◌^◌, ◌&&◌, ◌==◌, ◌⊎◌, inl, inr, ◌++◌, true, false, not, List, [], ◌∷◌, length, get_or, set, Option, Some, is_some, refl, sym, ap, ◌∙◌, subst, arith, get_or-set_same, get_or-set_other, length-append, length-set}
 use Rattle.std.proofs.lemmas.Bool.{cases_lt, and_from, and_left, and_right, eqb-true, eqb-false, eq-eqb, ne_eqb, true≢false, false≢true}
 use Rattle.std.proofs.Math.Seq.{get_or-append_seam}
 use Rattle.std.proofs.lemmas.List.{get_or_append_left, get_or_default}
@@ -28,6 +28,7 @@ use Rattle.ledger_report.specs.declared.moment.Moment.{Moment}
 use Rattle.ledger_report.specs.declared.network.NetworkReport.{NetworkReport}
 use Rattle.ledger_report.specs.declared.sides.Sides.{Sides}
 use Rattle.ledger_report.specs.declared.statistics.Statistics.{Statistics}
+use Rattle.ledger_report.proofs.Distances.{by_test}
 use Rattle.ledger_report.proofs.LinkSteps.{keeps_link, link_more, link_other, met_other, met_own}
 use Rattle.ledger_report.proofs.NetworkSteps.{keeps_network}
 use Rattle.ledger_report.proofs.OutsideSteps.{outside_other, unconfigured_where}
@@ -104,10 +105,6 @@ met_unseen links line lines reports off h i link report within =
 
 pub is_of_link : (line : FrameLine) (id : VlId) (other : ℕ) → line.link ≡ Some id → is_of_id other line.link ≡ (id.0 == other)
 is_of_link line id other same = ap (λ (o : Option VlId). is_of_id other o) same
-
-by_test : (b : Bool) (P : Type 0) → (b ≡ true → P) → (b ≡ false → P) → P
-by_test true P f g = f refl
-by_test false P f g = g refl
 
 pub each_set_of : (P : Row → List FrameLine → LinkReport → Type 0) →
     ((row : Row) (line : FrameLine) (lines : List FrameLine) (report : LinkReport) → is_seen_of row.id line ≡ false → P row lines report → P row (line ∷ lines) report) →

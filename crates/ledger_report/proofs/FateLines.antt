@@ -241,7 +241,7 @@ module _ (rules : PairingRules) (line : FrameLine) (lines : List FrameLine) (num
       ≡ count_below (λ n. has_fate ends rules n lines) 256 + one_where (has_fate ends rules number (line ∷ lines))
   latest_moved ends within =
       count_moved (λ n. has_fate ends rules n lines) (λ n. has_fate ends rules n (line ∷ lines)) 256 number within
-      (λ n differ. fate_known ends rules n (line ∷ lines) ∙ ap (λ (o : Option Known). option_map_or (λ (k : Known). ends k.fate) o false) (other_number n differ)
+      (λ n below differ. fate_known ends rules n (line ∷ lines) ∙ ap (λ (o : Option Known). option_map_or (λ (k : Known). ends k.fate) o false) (other_number n differ)
       ∙ sym (fate_known ends rules n lines))
 
   fates_undelivered : (ends : Fate → Bool) (gain : ℕ) → number < 256 → is_deliver line ≡ false →

@@ -1,7 +1,6 @@
 pub mod AccountSteps
 pub mod AloneNotes
 pub mod AloneSteps
-pub mod CopySteps
 pub mod CountsSteps
 pub mod Coverings
 pub mod Distances

@@ -108,11 +108,6 @@ pub of_link_wrong : (links : List VirtualLink) (before : List FrameLine) (line :
     → is_unconfigured line ≡ false → row_at links id ≡ Some row → later_wrong links before line ≡ link_wrong row (latest_spot row before line) line
 of_link_wrong links before line id row of_link known is = at_row links before line id false (Some row) of_link known is
 
--- no link
-unlinked : (unconfigured : Bool) (test : Row → WrongLine → Bool) → by_row false unconfigured None test ≡ None
-unlinked true test = refl
-unlinked false test = refl
-
 -- ---- a line of a link, by its report
 
 -- the report's row and its latest delivery are those of the lines before
@@ -140,10 +135,6 @@ pub off_told : (row : Row) (latest : Option Spot) (line : FrameLine) (refusal : 
     → ◌≡◌ {A = Result (Unit {0}) Refusal} (Err refusal) (if is_off_against row line then Err (refusals.Wrong wrongs.Off) else Ok tt)
     → TellsWrong (link_wrong row latest line) (Err refusal)
 off_told row latest line refusal is = off_where (is_off_against row line) _ refusal is
-
-on_where : (off : Bool) → ◌≡◌ {A = Result (Unit {0}) Refusal} (Ok tt) (if off then Err (refusals.Wrong wrongs.Off) else Ok tt) → off ≡ false
-on_where true is = absurd (cc is)
-on_where false is = refl
 
 -- what is told through a `?`
 pub refused_by : (wrong : Option WrongLine) (refusal : Refusal) (result : Result (Unit {0}) Refusal) → IsErrAnd result (λ told. told ≡ refusal)
@@ -176,13 +167,6 @@ known_at links before line id place index index_is of_link known found below =
     known_link links before line id (row_of (get_or links place link)) of_link known (row_found links index id place link index_is found below)
 
 -- ---- the order of lines
-
--- what is told of a line that may be out of order
-order_where : (unordered : Bool) (rest : Option WrongLine) (wrong : WrongLine)
-    → ◌≡◌ {A = Result (Unit {0}) WrongLine} (Err wrong) (if unordered then Err wrongs.Order else Ok tt)
-    → cond unordered (Some wrongs.Order) rest ≡ Some wrong
-order_where true rest wrong is = (let same : wrong ≡ wrongs.Order = cc in ap (λ (w : WrongLine). Some w) (sym same))
-order_where false rest wrong is = absurd (cc is)
 
 ordered_where : (unordered : Bool) → ◌≡◌ {A = Result (Unit {0}) WrongLine} (Ok tt) (if unordered then Err wrongs.Order else Ok tt) → unordered ≡ false
 ordered_where true is = absurd (cc is)

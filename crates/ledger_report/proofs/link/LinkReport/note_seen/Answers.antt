@@ -1,11 +1,11 @@
 -- The lane takes the line, and the rest keeps the lanes' numbers.
 use Rattle.std.proofs.Common.{◌∙◌, ap, subst, arith}
 use Rattle.ledger_report.specs.Both.{side_of}
+use Rattle.ledger_report.specs.Copies.{spot_at}
 use Rattle.ledger_report.specs.Holding.{before_at}
 use Rattle.ledger_report.specs.Keeping.{NotesLane}
 use Rattle.ledger_report.specs.declared.lane.LaneLine.{LaneLine}
 use Rattle.ledger_report.specs.declared.pairing.Pairing.{Pairing}
-use Rattle.ledger_report.proofs.CopySteps.{keeps_latest_on}
 use Rattle.ledger_report.proofs.FateNotes.{notes_discards}
 use Rattle.ledger_report.proofs.HoldNotes.{keeps_places_on}
 use Rattle.ledger_report.proofs.KeepSteps.{keeps_late_on, keeps_link_on}
@@ -27,9 +27,8 @@ returns-clause-late c =
     c.note_discarded.ensures.late
 
 pub returns-clause-latest : goal.returns-clause-latest
-returns-clause-latest c =
-    keeps_latest_on c.args.self.now c.note_lane.new.self c.note_numbering.new.self c.note_discarded.new.self c.note_lane.ensures.pairing
-    c.note_numbering.ensures.pairing c.in_ok-note_discarded.ensures.latest
+returns-clause-latest c = λ n.
+    c.in_ok-note_discarded.ensures.latest n ∙ ap (λ (p : Pairing). spot_at p n) (c.note_numbering.ensures.pairing ∙ c.note_lane.ensures.pairing)
 
 pub returns-clause-lanes : goal.returns-clause-lanes
 returns-clause-lanes c =
