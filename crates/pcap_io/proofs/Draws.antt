@@ -1,6 +1,7 @@
 -- What draws and reads do to the bytes that were read ahead.
-use Rattle.std.proofs.Common.{◌≡◌, ℕ, ◌+◌, ◌-◌, ◌≤◌, List, [], ◌++◌, length, take, drop, slice_range, Option, Some, None, Result, Ok, Err, OnErr, refl, sym, ap, ◌∙◌, arith, append_assoc, drop-drop}
+use Rattle.std.proofs.Common.{◌≡◌, ℕ, ◌+◌, ◌-◌, ◌≤◌, List, [], ◌++◌, length, take, drop, slice_range, Option, Some, None, Result, Ok, Err, OnErr, refl, sym, ap, ◌∙◌, arith, append_assoc, drop-drop, subst}
 use Rattle.std.proofs.lemmas.List.{length-drop, length-append, length-take, length-take-le, take_at}
+use Rattle.std.proofs.Math.Seq.{drop-append_seam, take-append_seam}
 use borrow.Rule.Slice.PartMut.{put_mid}
 use Rattle.std.specs.Io.KnownBytes.{Keeps, Consumes, prepend_known}
 use Rattle.pcap_io.specs.Device.{TakesAtMost, TakesFewer}
@@ -55,6 +56,17 @@ none_between e xs =
 
 pub length-between : (s e : ℕ) (xs : List ℕ) → e ≤ length xs → length (slice_range xs s e) ≡ e - s
 length-between s e xs fits = length-take-le (e - s) (drop s xs) (omega (arith, length-drop s xs))
+
+-- the first n of the unread bytes, and the others
+pub held_parts : (s n e : ℕ) (xs : List ℕ) → s + n ≤ e → e ≤ length xs
+    → (take n (slice_range xs s e) ≡ slice_range xs s (s + n)) × (drop n (slice_range xs s e) ≡ slice_range xs (s + n) e)
+held_parts s n e xs le fits =
+    let front = slice_range xs s (s + n) in
+    let back = slice_range xs (s + n) e in
+    let size : length front ≡ n = length-between s (s + n) xs (omega (arith, le, fits)) ∙ omega arith in (
+      ap (λ (l : List ℕ). take n l) (split s n e xs le fits) ∙ subst (λ (m : ℕ). take m (front ++ back) ≡ front) size (take-append_seam front back),
+      ap (λ (l : List ℕ). drop n l) (split s n e xs le fits) ∙ subst (λ (m : ℕ). drop m (front ++ back) ≡ back) size (drop-append_seam front back),
+    )
 
 -- a buffer that has the unread bytes, and what was read after them
 pub across : (u n k : ℕ) (old copied buf got : List ℕ) → copied ≡ old → length old ≡ u → u ≤ length buf → n ≤ length got

@@ -1,7 +1,7 @@
 -- What a step of a reader finds, from what its reads found.
 use Rattle.std.proofs.Common.{inr, ◌≡◌, ◌≢◌, ℕ, ◌-◌, ◌<◌, ◌≤◌, max, true, false, List, ◌++◌, length, take, drop, Option, Some, None, IfSome, nat_lt, nat_eq, refl, sym, ap, ◌∙◌, subst, arith}
 use Rattle.std.proofs.lemmas.Bool.{le-ltb, lt-ltb, ne_eqb}
-use Rattle.std.proofs.lemmas.List.{take_at, take_all, append-nil, length-append}
+use Rattle.std.proofs.lemmas.List.{take_at, take_all, append-nil, length-append, length-drop}
 use Rattle.std.proofs.KnownBytes.{Consumes-trans, Consumes-kept}
 use Rattle.std.specs.Io.KnownBytes.{Consumes, IsAtEnd, Keeps}
 use Rattle.afdx_frame.specs.Frame.{Frame, frame_with}
@@ -10,7 +10,8 @@ use Rattle.pcap_io.specs.Bytes.{IsBytes}
 use Rattle.pcap_io.specs.Device.{CountsFailure, TakesAtMost}
 use Rattle.pcap_io.specs.Layout.{fractions_of}
 use Rattle.pcap_io.specs.Recording.{header_bytes, header_fields, is_file_header, reason_at, stamp_at}
-use Rattle.pcap_io.specs.Position.{EndsShort, IsReadFault, IsStart, IsStartOf, LacksBytes, LacksMemory, StartLeaves, TakesFrame, TakesHeader, ending_here, frame_at}
+use Rattle.pcap_io.specs.Position.{EndsShort, HoldsPacket, IsReadFault, IsStart, IsStartOf, LacksBytes, LacksMemory, StartLeaves, StartsWith, TakesFrame, TakesHeader, ending_here, frame_at}
+use Rattle.pcap_io.specs.declared.layout.Layout.{Layout}
 use Rattle.pcap_io.specs.declared.packet_header.PacketHeader.{PacketHeader}
 use Rattle.pcap_io.specs.declared.recording.BadReason.{BadReason}
 use Rattle.pcap_io.specs.declared.recording.Ending.TheVariants.{Clean, Cut, Bad}
@@ -178,3 +179,18 @@ lacks_body p before mid after fields unread (header, t, same) kept few =
 pub takes_head : (p : Position) (before mid after : Option (List ℕ)) (fields : PacketHeader) → IsStart p before mid (starts.Header fields) → Keeps mid after
     → TakesAtMost 262160 before after
 takes_head p before mid after fields (header, t, same) kept = (header, omega (arith, t.size), (kept_header p before mid after header t kept).gone)
+
+-- ---- a packet that was read ahead whole
+
+-- its header is that of the unread bytes
+pub starts_with : (p : Position) (bytes unread : List ℕ) (came : ℕ) (start : Start) → bytes ≡ take 16 unread → IsStartOf p bytes came start
+    → StartsWith p.layout unread start
+starts_with p bytes unread came (starts.Header header) same (all, few, is, fine) = is ∙ ap (λ (b : List ℕ). header_fields p.layout b) same
+starts_with p bytes unread came (starts.End e) same h = tt
+
+-- and the bytes that it claims are left after it
+pub body_held : (layout : Layout) (unread rest : List ℕ) (header : PacketHeader) → HoldsPacket layout unread → rest ≡ drop 16 unread
+    → header ≡ header_fields layout (take 16 unread) → header.captured_len ≤ length rest
+body_held layout unread rest header (long, claims) left is =
+    let size : length rest ≡ length unread - 16 = ap (λ (b : List ℕ). length b) left ∙ length-drop 16 unread in
+    rw is (omega (arith, claims, size))

@@ -187,6 +187,11 @@ EndsShort came (starts.End (Clean n)) = came < PACKET_HEADER_LEN
 EndsShort came (starts.End (Cut n)) = came < PACKET_HEADER_LEN
 EndsShort came (starts.End (Bad n reason)) = ⊤
 
+-- a header that is found is that which these bytes begin with
+abbrev pub StartsWith : Layout → List ℕ → Start → Type 0
+StartsWith layout bytes (starts.Header header) = header ≡ header_fields layout (take PACKET_HEADER_LEN bytes)
+StartsWith layout bytes (starts.End e) = ⊤
+
 abbrev pub StartLeaves : Option (List ℕ) → Option (List ℕ) → Start → Type 0
 StartLeaves before after (starts.Header header) = ⊤
 StartLeaves before after (starts.End e) = EndLeaves before after e

@@ -1,5 +1,5 @@
 //! A source that is read a block at a time, and lends what is drawn from it.
-ghost use Rattle.std.specs.Prelude.{◌≡◌, ◌+◌, ◌-◌, ◌<◌, ◌≤◌, ℕ, List, [], true, false, length, min, max, take, Ok, Err, None, IfOk, IfErr, IfSome, OnOk, OnErr};
+ghost use Rattle.std.specs.Prelude.{◌≡◌, ◌+◌, ◌-◌, ◌<◌, ◌≤◌, ℕ, List, [], true, false, length, min, max, take, drop, Ok, Err, None, IfOk, IfErr, IfSome, OnOk, OnErr};
 ghost use Rattle.std.specs.Io.KnownBytes.{Consumes, IsAtEnd, Keeps, prepend_known};
 ghost use Rattle.afdx_frame.specs.declared.bounds.TheConstants.{MAX_SNAPLEN};
 ghost use Rattle.pcap_io.specs.Device.{CountsFailure, TakesAtMost, TakesFewer};
@@ -126,6 +126,11 @@ impl<S: TapSource> BlockSource<S> {
         ensures unfinished { OnErr result (TakesFewer (length buf.old)
             (block_remaining S.remaining self.old) (block_remaining S.remaining self.new)) }
         ensures none_unread { OnErr result (unread_bytes self.new ≡ []) }
+        // Bytes that were all read ahead are moved without the source.
+        ensures held { length buf.old ≤ length (unread_bytes self.old)
+            → (block_source self.new ≡ block_source self.old)
+            × (buf.new ≡ take (length buf.old) (unread_bytes self.old))
+            × (unread_bytes self.new ≡ drop (length buf.old) (unread_bytes self.old)) }
     {
         let start = self.start;
         let len = buf.len();
@@ -184,6 +189,9 @@ impl<S: TapSource> BlockSource<S> {
         ensures kept { OnErr result (Keeps (block_remaining S.remaining self.old)
             (block_remaining S.remaining self.new)) }
         ensures unfinished { OnErr result (length (unread_bytes self.new) < len) }
+        // Bytes that were all read ahead are drawn without the source.
+        ensures held { len ≤ length (unread_bytes self.old)
+            → block_source self.new ≡ block_source self.old }
     {
         if len <= self.end - self.start {
             self.from = self.start;

@@ -7,7 +7,7 @@ ghost use Rattle.pcap_io.specs.Layout.{header_of};
 ghost use Rattle.afdx_frame.specs.declared.bounds.TheConstants.{MAX_SNAPLEN};
 ghost use Rattle.pcap_io.specs.declared.layout.TheConstants.{FILE_HEADER_LEN};
 ghost use Rattle.pcap_io.specs.declared.packet_header.TheConstants.{PACKET_HEADER_LEN};
-ghost use Rattle.pcap_io.specs.Position.{Advances, HasRoom, HoldsPacket, IsNext, IsOpenFault, IsReadFault, IsStart, ItemLeaves, LacksBytes, Opens, StartLeaves, TakesAPacket, after_item, found_item, start_at};
+ghost use Rattle.pcap_io.specs.Position.{Advances, HasRoom, HoldsPacket, IsNext, IsOpenFault, IsReadFault, IsStart, ItemLeaves, LacksBytes, Opens, StartLeaves, StartsWith, TakesAPacket, after_item, found_item, start_at};
 
 use crate::block::BlockSource;
 use crate::device::{DeviceFault, TapSource};
@@ -183,6 +183,10 @@ impl<S: TapSource> TapReader<S> {
         ensures none_unread { OnErr result (unread_of self.new ≡ []) }
         ensures left { IfOk result (StartLeaves
             (remaining_of S.remaining self.old) (remaining_of S.remaining self.new)) }
+        ensures held { PACKET_HEADER_LEN ≤ length (unread_of self.old)
+            → (source_of self.new ≡ source_of self.old)
+            × (unread_of self.new ≡ drop PACKET_HEADER_LEN (unread_of self.old))
+            × IfOk result (StartsWith (position_of self.old).layout (unread_of self.old)) }
     {
         let mut bytes = [0u8; PACKET_HEADER_LEN];
         let came = self.input.draw_into(&mut bytes)?;
@@ -210,6 +214,8 @@ impl<S: TapSource> TapReader<S> {
         ensures left { IfOk result (λ a. ItemLeaves (remaining_of S.remaining self.old)
             (remaining_of S.remaining self.new) (found_item (lent_of self.new) a)) }
         ensures frame { result ≡ Ok founds.Frame → IsFrame (lent_of self.new) }
+        ensures held { HoldsPacket (position_of self.old).layout (unread_of self.old)
+            → source_of self.new ≡ source_of self.old }
     {
         let header = match self.read_header()? {
             Start::Header(header) => header,
@@ -269,6 +275,9 @@ impl<S: TapSource> TapReader<S> {
             (remaining_of S.remaining self.new) (unread_of self.new)) }
         // The frame stands to be lent.
         ensures frame { result ≡ Ok founds.Frame → IsFrame (lent_of self.new) }
+        // A packet that was read ahead whole is found without the source.
+        ensures held { HoldsPacket (position_of self.old).layout (unread_of self.old)
+            → source_of self.new ≡ source_of self.old }
         ensures ended { (e : Ending) → (position_of self.old).stage ≡ Ended e
             → (result ≡ Ok (founds.End e)) × (self.new ≡ self.old) }
         ensures failed { (position_of self.old).stage ≡ Failed

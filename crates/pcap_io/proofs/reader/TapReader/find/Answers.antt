@@ -1,8 +1,8 @@
-use Rattle.std.proofs.Common.{inl, rules, ◌≡◌, length}
+use Rattle.std.proofs.Common.{inl, rules, ◌≡◌, ◌∙◌, length}
 use Rattle.std.proofs.lemmas.Result.{err_from_is_err_and}
 use Rattle.pcap_io.specs.Block.{drawn_bytes}
 use Rattle.pcap_io.specs.Reader.{position_of}
-use Rattle.pcap_io.proofs.Steps.{lacks_body, takes_head, body_fault, cut_found, frame_found, lent_same, takes_packet}
+use Rattle.pcap_io.proofs.Steps.{lacks_body, body_held, takes_head, body_fault, cut_found, frame_found, lent_same, takes_packet, within_second}
 use Rattle.pcap_io.proofs.Draws.{on_err_from}
 use Rattle.pcap_io.proofs.reader.TapReader.find.Goals as goal
 
@@ -49,3 +49,32 @@ returns-in_err-draw-clause-unfinished g c =
 pub returns-in_err-header-clause-unfinished : goal.returns-in_err-header-clause-unfinished
 returns-in_err-header-clause-unfinished g c =
     on_err_from c.from_residual.result (inl (c.in_err-header.ensures.unfinished, c.in_err-header.ensures.none_unread))
+
+pub returns-in_err-draw-clause-held : goal.returns-in_err-draw-clause-held
+returns-in_err-draw-clause-held g c = λ holds.
+    (let (same, left, starts) = c.in_ok-header.ensures.held holds.0 in
+    let fits = body_held (position_of c.args.self.now).layout _ _ c.in-Header.header holds left (rw c.in-Header.is at starts) in
+    c.in_err-draw.ensures.held fits ∙ same)
+
+pub returns-then-not-branch-clause-held : goal.returns-then-not-branch-clause-held
+returns-then-not-branch-clause-held g c = λ holds.
+    (let (same, left, starts) = c.in_ok-header.ensures.held holds.0 in
+    let fits = body_held (position_of c.args.self.now).layout _ _ c.in-Header.header holds left (rw c.in-Header.is at starts) in
+    c.in_ok-draw.ensures.held fits ∙ same)
+
+pub returns-clause-held : goal.returns-clause-held
+returns-clause-held g c = λ holds.
+    (let (same, left, starts) = c.in_ok-header.ensures.held holds.0 in
+    let fits = body_held (position_of c.args.self.now).layout _ _ c.in-Header.header holds left (rw c.in-Header.is at starts) in
+    c.in_ok-draw.ensures.held fits ∙ same)
+
+pub returns-clause-frame : goal.returns-clause-frame
+returns-clause-frame g c = λ is.
+    (let start = rw c.in-Header.is at c.in_ok-header.ensures.start in
+    let held : length (drawn_bytes c.draw.new.self) ≡ c.in-Header.header.captured_len = c.in_ok-draw.ensures.complete (search rules) in
+    record {
+      number_fits = search rules;
+      stamp_fits = c.stamp-self.ensures.bound (within_second _ _ _ _ _ c.read_header.ensures.position start);
+      few_bytes = search rules;
+      within_whole = search rules;
+    })
