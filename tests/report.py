@@ -4,8 +4,10 @@ Ledgers come of `afdxmon watch` on recordings that are made here: traffic of som
 of a network, late copies, frames outside the table.
 """
 import json
+import math
 import os
 import random
+import re
 import shutil
 import subprocess
 import tempfile
@@ -125,6 +127,74 @@ def page_fault(table, ledger):
     return ""
 
 
+def stair(values, top, half, base, up, per):
+    """The path of an area in steps, `half` high where a value is `top`, or more."""
+    path, height = "", 0
+    for column, value in enumerate(values):
+        now = max(1, min(value, top) * half // top) if value else 0
+        if now != height:
+            path += (f"H{column * per}" if height else f"M{column * per} {base}") + f"V{base - now if up else base + now}"
+            height = now
+    return path + (f"H{len(values) * per}V{base}" if height else "")
+
+
+def interval_y(interval, bag, half):
+    """Where an interval stands, by the root of its distance from BAG."""
+    moved = math.isqrt(min(abs(interval - bag), bag) * 10**6 // bag) * (half - 1) // 1000
+    return half - moved if interval > bag else half + moved
+
+
+def band(columns, bag, per):
+    """The path of least to greatest intervals."""
+    path = ""
+    for column, times in enumerate(columns):
+        if times:
+            high = interval_y(max(times), bag, 18)
+            deep = max(interval_y(min(times), bag, 18), high + 2) - high
+            path += f"M{column * per} {high}h{per}v{deep}h-{per}z"
+    return path
+
+
+def strip_paths(strip):
+    """Of each row of a strip its label and the paths that it draws, by their class."""
+    for row in strip.split('<div class="row">')[1:]:
+        label = row.split('<span class="lb">')[1].split("<")[0]
+        yield label, dict(re.findall(r'<path class="([a-z]+)" d="([^"]*)"', row))
+
+
+def strips_fault(table, ledger):
+    """What the page draws of links in trouble by time, against what comes in each bin by the list of lines."""
+    page = report(table, ledger).stdout.decode("ascii")
+    width, used, links = report_reference.by_time(table, ledger)
+    for strip in page.split('<section class="det" id="v')[1:]:
+        link = links[int(strip.split('"')[0])]
+        row = link["row"]
+        number, unit = re.search(r"a column is ([0-9.]+)&#8239;(\w*s)<", strip).groups()
+        per = round(float(number) * {"s": 10**9, "ms": 10**6}[unit] / width)
+
+        def columns(n, name):
+            return [sum(link[n][name][at : min(at + per, used)], []) for at in range(0, used, per)]
+
+        for label, paths in strip_paths(strip.split("</section>")[0]):
+            if label.startswith("interval"):
+                n = label[-1]
+                wanted, found = [band(columns(n, "interval"), row["bag"], per)], [paths["f" + n.lower()]]
+            elif label in ("frames", "bytes", "skew") or label in report_reference.SIGNS:
+                merge = max if label == "skew" else sum
+                sides = {n: [merge(of) if of else 0 for of in columns(n, label)] for n in "AB"}
+                limit = {"frames": max(1, per * width // row["bag"]), "bytes": max(1, per * width * row["smax"] // row["bag"]),
+                         "skew": row["skew"]}.get(label, 0)
+                top = max(1, limit * 115 // 100, *sides["A"], *sides["B"])
+                base = {"frames": 24, "bytes": 18, "skew": 22}.get(label, 10)
+                wanted = [stair(sides[n], top, base - 1, base, n == "A", per) for n in "AB"]
+                found = [next((path for kind, path in paths.items() if kind in ("f" + n, "x" + n, "k" + n)), "") for n in "ab"]
+            else:
+                continue
+            if wanted != found:
+                return f"link {strip.split(chr(34))[0]}, {label}: {found} in place of {wanted}"[:400]
+    return ""
+
+
 def generated(folder):
     for seed, count, seconds, trouble, filters in (
         (1, 6, 2, 0.02, (WHOLE,)), (2, 5, 3, 0.1, ()), (3, 8, 2, 0.3, (WHOLE, HALF)), (4, 4, 4, 0.01, ()), (5, 3, 1, 0.0, ()),
@@ -140,6 +210,7 @@ def generated(folder):
             continue
         say(f"{name}: numbers as by the slow counter", numbers_fault(table, ledger))
         say(f"{name}: page", page_fault(table, ledger))
+        say(f"{name}: what is drawn by time", strips_fault(table, ledger))
 
 
 def silences_of_one_network(folder):

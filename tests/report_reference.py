@@ -124,10 +124,10 @@ class Ledger:
             self.usual[n] = max(usual)
         self.silent = {n: {s["after"] for s in self.silences[n]} for n in "AB"}
 
-    def covered(self, network, at):
-        """A line of the network stands before the place, and one after it, and no silence is between them."""
+    def covered(self, network, at, last):
+        """A line of the network stands before the place, and one after it, up to the last one, and no silence is between them."""
         before = bisect.bisect_left(self.places[network], at)
-        return 0 < before < len(self.places[network]) and before not in self.silent[network]
+        return 0 < before < bisect.bisect_right(self.places[network], last) and before not in self.silent[network]
 
     def after_silence(self, p, q):
         return any(p.ordinal <= after < q.ordinal for after in self.silent[p.network])
@@ -245,7 +245,8 @@ def fates(ledger, link, seen):
         for i, d in enumerate(delivers):
             fate = named[i]
             if fate == "open":
-                fate = "alone" if ledger.covered(OTHER[d.network], d.at) else "uncovered"
+                last = delivers[i + 1].at if i + 1 < len(delivers) else len(ledger.lines)
+                fate = "alone" if ledger.covered(OTHER[d.network], d.at, last) else "uncovered"
             said.append((fate, d))
     return said, late_skews
 
@@ -283,7 +284,7 @@ def absence(ledger, seen, network):
         if l is not None and l.network != network:
             block.append(l)
             continue
-        counted = [x for x in block if ledger.covered(network, x.at)]
+        counted = [x for x in block if ledger.covered(network, x.at, len(ledger.lines))]
         if len(counted) >= ABSENT_LINES and (best is None or len(counted) > best["lines"]):
             best = {"lines": len(counted), "from": str(counted[0].stamp), "to": str(counted[-1].stamp)}
         block = []
@@ -373,6 +374,34 @@ def network_of(ledger, network, tail, hits, copies, start, width):
             "bytes": bytes_of(ledger, lines), "counts": counts(lines), "usual": ledger.usual[network],
             "silences": ledger.silences[network], "more_silences": ledger.more[network], "ending": ending_of(tail, network),
             "signs": signs(own), "timeline": timeline(lines, own, copies, start, width)}
+
+
+def by_time(table_path, ledger_path):
+    """The width of a bin, and of each link its row of the table and what it has by time on each network: of each bin the amounts that come there."""
+    with open(table_path, "rb") as table:
+        table = tomllib.load(table)
+    lines, _, _ = read_lines(ledger_path)
+    ledger = Ledger(lines, any(takes_whole(text) for text in table.get("filters", [])))
+    start, width, said = lines[0].stamp if lines else 0, width_of(lines), {}
+
+    def bins(of):
+        found = [[] for _ in range(BINS)]
+        for l, amount in of:
+            found[(l.stamp - start) // width].append(amount)
+        return found
+
+    for link in table.get("link", []):
+        row = dict(link, bag=link["bag_ms"] * 10**6, jitter=link["jitter_us"] * 1000, skew=link["skew_us"] * 1000)
+        _, hits, copies = link_of(ledger, row)
+        rows = said[link["id"]] = {"row": row, "A": {}, "B": {}}
+        for n in "AB":
+            lane = [l for l in ledger.of[n] if l.link == link["id"] and l.cls in ("toolong", "regular")]
+            rows[n] = {"frames": bins((l, 1) for l in lane), "bytes": bins((l, l.kept + 4) for l in lane if l.kept is not None),
+                       "interval": bins((q, q.stamp - p.stamp) for p, q in zip(lane, lane[1:]) if not ledger.after_silence(p, q)),
+                       "skew": bins((l, skew) for l, skew in copies if l.network == n)}
+            for sign in SIGNS:
+                rows[n][sign] = bins((l, amount) for s, l, amount in hits[n] if s == sign)
+    return width, (lines[-1].stamp - start) // width + 1 if lines else 0, said
 
 
 def levels_of(ledger, link, start, width):

@@ -7,8 +7,10 @@ use analyser::{
     NeighboursRun, Selection, SelectionOption, cut_frames, is_standard, neighbours_of, print_lines,
     selection_of,
 };
+use packet_format::PacketFormat;
 use pcap_io::{ReadSource, WriteSink};
-use run_outputs::{CutObserver, Ended, Joining, Seen, capture_output, create, live_output};
+use pcapng_writer::Interfaces;
+use run_outputs::{Ended, Seen, create, format_of, live_output};
 use tap_inputs::{
     Blocks, LiveInput, NO_RUN, Reading, Refused, Skipped, TapFiles, Taps, end_of, files_of, open,
     open_tap,
@@ -61,10 +63,6 @@ fn cut_lines(rt: &HostRuntime, files: CutDevices<'_>, is_checked: bool) -> Ended
         sink,
     } = files;
     let recordings = if is_checked { Some((a, b)) } else { None };
-    let observer = CutObserver {
-        annotated: None,
-        seen,
-    };
     let LinesRun {
         outcome,
         ledger: _,
@@ -78,7 +76,7 @@ fn cut_lines(rt: &HostRuntime, files: CutDevices<'_>, is_checked: bool) -> Ended
         ledger,
         recordings,
         sink,
-        &observer,
+        seen,
     );
     let reason = output.into_writer().finish(outcome.is_ok()).err();
     let ended = Ended::from(exit_of(outcome, reason.is_none()));
@@ -94,14 +92,8 @@ fn cut_lines(rt: &HostRuntime, files: CutDevices<'_>, is_checked: bool) -> Ended
     }
 }
 
-/// Writes the frames of the lines that the selection takes. A pcapng file has their verdicts, with the links'
-/// names in a table.
-fn cut_packets(
-    rt: &HostRuntime,
-    files: CutDevices<'_>,
-    is_pcapng: bool,
-    config: Option<&Config>,
-) -> Result<Ended, Refused> {
+/// Writes the frames of the lines that the selection takes, in a format.
+fn cut_packets(rt: &HostRuntime, files: CutDevices<'_>, format: PacketFormat<'_>) -> Ended {
     let CutDevices {
         selection,
         neighbours,
@@ -112,11 +104,6 @@ fn cut_packets(
         b,
         sink,
     } = files;
-    let output = capture_output(rt, sink.into_writer(), is_pcapng, Joining::Told, config)?;
-    let observer = CutObserver {
-        annotated: output.annotated().map_err(|_| NO_RUN)?,
-        seen,
-    };
     let run = cut_frames(
         rt.alloc(),
         selection,
@@ -125,17 +112,18 @@ fn cut_packets(
         ledger,
         a,
         b,
-        WriteSink::new(output),
-        &observer,
+        format,
+        sink,
+        seen,
     );
     let reason = run.output.into_writer().finish(run.outcome.is_ok()).err();
     let (a, b) = (end_of(rt, run.a), end_of(rt, run.b));
-    Ok(Ended {
+    Ended {
         skipped: Skipped::two(a.skipped, b.skipped),
         at: [a.file, b.file],
         reason,
         ..Ended::from(exit_of(run.outcome, reason.is_none()))
-    })
+    }
 }
 
 /// The lines around those that are selected, where such are asked for. The ledger is read for that.
@@ -200,7 +188,8 @@ pub fn cut(rt: &HostRuntime, given: &CutArguments<'_>, taps: &Taps) -> Result<En
     let ended = if given.ledger_only {
         cut_lines(rt, files, given.a.is_some() || given.b.is_some())
     } else {
-        cut_packets(rt, files, given.pcapng, config.as_ref())?
+        let format = format_of(given.pcapng, Interfaces::Networks, config.as_ref());
+        cut_packets(rt, files, format)
     };
     if ended.exit.status() == 0 {
         let _ = seen.tell(rt, given, &selection, skips);

@@ -26,10 +26,9 @@ use debugging::debug;
 use files::refuse_shared;
 use links::links;
 use pcap_io::{ReadSource, WriteSink};
+use pcapng_writer::Interfaces;
 use report::report;
-use run_outputs::{
-    Ended, Joining, arguments, capture_output, create, file_in, live_output, summarise,
-};
+use run_outputs::{Ended, arguments, create, file_in, format_of, live_output, summarise};
 use std::io;
 use std::io::{ErrorKind, IsTerminal};
 use std::process::ExitCode;
@@ -117,12 +116,19 @@ fn capture(rt: &HostRuntime, given: &CaptureArguments<'_>, taps: &Taps) -> Resul
     let output = create(rt, given.output, FileOption::Output)?;
     let (output, live) = live_output(rt, output, length.is_none())?;
     let source = files_of(Reading::quiet(rt, Network::A), tap, recording, live)?;
-    let output = capture_output(rt, output, given.pcapng, Joining::Recording, None)?;
+    let format = format_of(given.pcapng, Interfaces::One, None);
     let CaptureRun {
         outcome,
         source,
         sink,
-    } = capture_by(rt.alloc(), &program, late, source, WriteSink::new(output));
+    } = capture_by(
+        rt.alloc(),
+        &program,
+        late,
+        format,
+        source,
+        WriteSink::new(output),
+    );
     let reason = sink.into_writer().finish(outcome.is_ok()).err();
     let end = end_of(rt, source);
     let exit = Exit::of_capture(outcome, reason.is_none());

@@ -8,13 +8,12 @@ use analyser::{
     Watched, load_filters, read_config, sized_watch,
 };
 use bpf_loader::Program;
-use packet_format::PacketFormat;
 use pcap_io::WriteSink;
 use pcapng_writer::Interfaces;
 use run_manifest::sum_of;
 use run_outputs::{
     Ended, LedgerWriter, RunSums, Spans, TextSums, WorstLinks, blocks_of, create, create_hashed,
-    file_in, shared, with_manifest,
+    file_in, format_of, shared, with_manifest,
 };
 use std::sync::Wait;
 use std::sync::atomic::AtomicBool;
@@ -163,18 +162,6 @@ fn worst_links(rt: &HostRuntime, analysis: &Analysis<'_>) -> Option<WorstLinks> 
     }
 }
 
-/// The format of the capture of a run over two recordings.
-fn format_of<'a>(given: &WatchArguments<'_>, config: &'a Config) -> PacketFormat<'a> {
-    if given.pcapng {
-        PacketFormat::Pcapng {
-            interfaces: Interfaces::Networks,
-            names: Some(config),
-        }
-    } else {
-        PacketFormat::Pcap
-    }
-}
-
 /// What a run over two recordings is given: the arguments, the table, and the filters.
 #[derive(Clone, Copy)]
 struct Analysis<'a> {
@@ -254,7 +241,7 @@ fn run_watch<'p, R: Threads + Wait + Sync>(
     let watcher = Watcher::new(rt, (*given, analysis.taps), outputs, progress, pauses, told);
     let plan = Plan {
         programs: analysis.programs,
-        format: format_of(given, analysis.config),
+        format: format_of(given.pcapng, Interfaces::Networks, Some(analysis.config)),
     };
     let run = sized_watch(
         threads,

@@ -14,7 +14,8 @@ use Rattle.pcap_io.specs.declared.layout.Precision.{Precision}
 use Rattle.pcap_io.specs.declared.layout.Precision.TheVariants.{Nanoseconds, Microseconds, Converted}
 use Rattle.pcap_io.proofs.Captures.{whole_capture}
 use Rattle.filter_workers.specs.Filters.{answer_for}
-use Rattle.capture_run.specs.Capture.{accepted, capture_text, kept_len, records_of}
+use Rattle.packet_format.specs.Packets.{Pcap}
+use Rattle.capture_run.specs.Capture.{accepted, capture_text, kept_len, packets_of}
 use Rattle.capture_run.specs.Laws.{AreNoFileHeaders, CaptureGivesAccepted}
 
 which : (b : Bool) → (b ≡ true) ⊎ (b ≡ false)
@@ -23,18 +24,18 @@ which false = inr refl
 
 -- ---- the bytes
 
-abbrev packets_of : List Packed → List Frame → List ℕ
-packets_of p frames = flat_map (λ f. packet_text f (kept_len p f)) frames
+abbrev kept_packets : List Packed → List Frame → List ℕ
+kept_packets p frames = flat_map (λ f. packet_text f (kept_len p f)) frames
 
-records_of-accepted : (p : List Packed) (frames : List Frame) → records_of p frames ≡ packets_of p (accepted p frames)
-records_of-accepted p [] = refl
-records_of-accepted p (f ∷ fs) = elim (which (answer_for p f == 0)) [
-  | inl none ↦ rw none (records_of-accepted p fs)
-  | inr some ↦ rw some (ap (λ (x : List ℕ). packet_text f (kept_len p f) ++ x) (records_of-accepted p fs))
+packets_of-accepted : (p : List Packed) (frames : List Frame) → packets_of Pcap p frames ≡ kept_packets p (accepted p frames)
+packets_of-accepted p [] = refl
+packets_of-accepted p (f ∷ fs) = elim (which (answer_for p f == 0)) [
+  | inl none ↦ rw none (packets_of-accepted p fs)
+  | inr some ↦ rw some (ap (λ (x : List ℕ). packet_text f (kept_len p f) ++ x) (packets_of-accepted p fs))
 ]
 
 capture_text-accepted : (p : List Packed) (frames : List Frame) → capture_text p frames ≡ capture_of (kept_len p) (accepted p frames)
-capture_text-accepted p frames = ap (λ (x : List ℕ). capture_header ++ x) (records_of-accepted p frames)
+capture_text-accepted p frames = ap (λ (x : List ℕ). capture_header ++ x) (packets_of-accepted p frames)
 
 -- ---- the frames
 

@@ -5,31 +5,33 @@ use Rattle.std.proofs.KnownBytes.{Appends-trans}
 use Rattle.std.specs.Io.KnownBytes.{Appends}
 use Rattle.afdx_frame.specs.Frame.{Frame}
 use Rattle.bpf_isa.specs.declared.packed.Packed.{Packed}
-use Rattle.capture_run.specs.Capture.{record_of, records_of, capture_text}
-use Rattle.pcap_io.specs.Capture.{capture_header}
+use Rattle.packet_format.specs.Packets.{Format, head_by}
+use Rattle.capture_run.specs.Capture.{capture_by, packet_of, packets_of}
 
-pub records_of-append : (p : List Packed) (fs gs : List Frame) → records_of p (fs ++ gs) ≡ records_of p fs ++ records_of p gs
-records_of-append p [] gs = refl
-records_of-append p (f ∷ fs) gs =
-    ap (λ (x : List ℕ). record_of p f ++ x) (records_of-append p fs gs) ∙ sym (append_assoc (record_of p f) (records_of p fs) (records_of p gs))
+pub packets_of-append : (format : Format) (p : List Packed) (fs gs : List Frame) → packets_of format p (fs ++ gs) ≡ packets_of format p fs ++ packets_of format p gs
+packets_of-append format p [] gs = refl
+packets_of-append format p (f ∷ fs) gs =
+    ap (λ (x : List ℕ). packet_of format p f ++ x) (packets_of-append format p fs gs)
+    ∙ sym (append_assoc (packet_of format p f) (packets_of format p fs) (packets_of format p gs))
 
 -- one more frame
-pub records_of-snoc : (p : List Packed) (fs : List Frame) (f : Frame) → records_of p (fs ++ f ∷ []) ≡ records_of p fs ++ record_of p f
-records_of-snoc p fs f = records_of-append p fs (f ∷ []) ∙ ap (λ (x : List ℕ). records_of p fs ++ x) (append-nil (record_of p f))
+pub packets_of-snoc : (format : Format) (p : List Packed) (fs : List Frame) (f : Frame) → packets_of format p (fs ++ f ∷ []) ≡ packets_of format p fs ++ packet_of format p f
+packets_of-snoc format p fs f =
+    packets_of-append format p fs (f ∷ []) ∙ ap (λ (x : List ℕ). packets_of format p fs ++ x) (append-nil (packet_of format p f))
 
-pub written_more : (p : List Packed) (a b c : Option (List ℕ)) (fs : List Frame) (f : Frame) → Appends a b (records_of p fs) → Appends b c (record_of p f)
-    → Appends a c (records_of p (fs ++ f ∷ []))
-written_more p a b c fs f first next =
-    subst (Appends a c) (sym (records_of-snoc p fs f)) (Appends-trans a b c (records_of p fs) (record_of p f) first next)
+pub written_more : (format : Format) (p : List Packed) (a b c : Option (List ℕ)) (fs : List Frame) (f : Frame) → Appends a b (packets_of format p fs)
+    → Appends b c (packet_of format p f) → Appends a c (packets_of format p (fs ++ f ∷ []))
+written_more format p a b c fs f first next =
+    subst (Appends a c) (sym (packets_of-snoc format p fs f)) (Appends-trans a b c (packets_of format p fs) (packet_of format p f) first next)
 
--- the file header, and then the packets
-pub written_after : (p : List Packed) (a b c : Option (List ℕ)) (fs : List Frame) → Appends a b capture_header → Appends b c (records_of p fs)
-    → Appends a c (capture_text p fs)
-written_after p a b c fs first next = Appends-trans a b c capture_header (records_of p fs) first next
+-- what a capture begins with, and then the packets
+pub written_after : (format : Format) (p : List Packed) (a b c : Option (List ℕ)) (fs : List Frame) → Appends a b (head_by format)
+    → Appends b c (packets_of format p fs) → Appends a c (capture_by format p fs)
+written_after format p a b c fs first next = Appends-trans a b c (head_by format) (packets_of format p fs) first next
 
 -- and then a part of a packet
-pub written_within : (p : List Packed) (a b c : Option (List ℕ)) (fs : List Frame) (part : List ℕ) → Appends a b capture_header
-    → Appends b c (records_of p fs ++ part) → Appends a c (capture_text p fs ++ part)
-written_within p a b c fs part first next =
-    subst (Appends a c) (sym (append_assoc capture_header (records_of p fs) part))
-    (Appends-trans a b c capture_header (records_of p fs ++ part) first next)
+pub written_within : (format : Format) (p : List Packed) (a b c : Option (List ℕ)) (fs : List Frame) (part : List ℕ) → Appends a b (head_by format)
+    → Appends b c (packets_of format p fs ++ part) → Appends a c (capture_by format p fs ++ part)
+written_within format p a b c fs part first next =
+    subst (Appends a c) (sym (append_assoc (head_by format) (packets_of format p fs) part))
+    (Appends-trans a b c (head_by format) (packets_of format p fs ++ part) first next)

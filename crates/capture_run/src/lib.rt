@@ -1,5 +1,5 @@
-//! One recording, one filter, a capture: the frames that the filter accepts are copied, each cut to the
-//! filter's return value.
+//! One recording, one filter, a capture in some format: the frames that the filter accepts are copied, each
+//! cut to the filter's return value.
 #![tactic(auto)]
 
 mod capture;

@@ -2,18 +2,19 @@
 use Rattle.std.specs.Prelude.{◌≡◌, ℕ, List, Option, None, Result, Ok, Err, IfSome}
 use Rattle.bpf_isa.specs.declared.packed.Packed.{Packed}
 use Rattle.pcap_io.specs.declared.recording.Ending.{Ending}
-use Rattle.capture_run.specs.Capture.{IsAborted, IsAbortedWithin, IsCaptured, IsCapturedWithin}
+use Rattle.capture_run.specs.Capture.{IsAborted, IsAbortedBy, IsCaptured, IsCapturedBy}
+use Rattle.packet_format.specs.Packets.{Format}
 use Rattle.run_outcome.specs.Device.{Devices}
 use Rattle.commands.specs.Inputs.{IsFilter, IsFilterFault}
 use Rattle.command_line.specs.Line.{line_of}
 use Rattle.command_line.specs.declared.fault.Fault.{Fault}
 use Rattle.command_line.specs.declared.fault.Fault.TheVariants as fault
 
--- what a capture by a filter came to, and what it leaves; a timestamp may lie `late` nanoseconds below the greatest before it
-abbrev pub IsCaptureBy : ℕ → List Packed → Result Ending Fault → Devices → Devices → Type 0
-IsCaptureBy late p (Ok ending) before after = IsCapturedWithin late p ending before after
-IsCaptureBy late p (Err (fault.Watch w)) before after = IsAbortedWithin late p w before after
-IsCaptureBy late p (Err f) before after = ⊥
+-- what a capture in a format by a filter came to, and what it leaves; a timestamp may lie `late` nanoseconds below the greatest before it
+abbrev pub IsCaptureBy : Format → ℕ → List Packed → Result Ending Fault → Devices → Devices → Type 0
+IsCaptureBy format late p (Ok ending) before after = IsCapturedBy format late p ending before after
+IsCaptureBy format late p (Err (fault.Watch w)) before after = IsAbortedBy format late p w before after
+IsCaptureBy format late p (Err f) before after = ⊥
 
 -- a fault, and what it leaves: of a filter nothing, of a capture what stands when it is aborted
 abbrev pub Leaves : List ℕ → Fault → Devices → Devices → Type 0

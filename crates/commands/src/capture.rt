@@ -3,12 +3,14 @@ ghost use Rattle.std.specs.Prelude.{Result, option_map, string_bytes};
 ghost use Rattle.pcap_io.specs.declared.recording.Ending.{Ending};
 ghost use Rattle.command_line.specs.declared.fault.Fault.{Fault};
 ghost use Rattle.run_outcome.specs.Device.{devices_of};
+ghost use Rattle.packet_format.specs.Packets.{format_of};
 ghost use Rattle.commands.specs.Capture.{IsCaptureBy, IsCaptureRun, IsRan};
 
 use crate::inputs::filter_of;
 use bpf_loader::Program;
 use capture_run::capture_within;
 use command_line::{Exit, Fault, fault_line};
+use packet_format::PacketFormat;
 use pcap_io::{Ending, OutSink, TapSource};
 use run_outcome::WatchRefused;
 use std::alloc::Global;
@@ -34,20 +36,21 @@ pub struct Ran<W> {
     pub sink: W,
 }
 
-/// Copies the frames of the recording that a filter accepts. A timestamp may lie by `late` nanoseconds below
-/// the greatest one before it.
+/// Copies the frames of the recording that a filter accepts, in a format. A timestamp may lie by `late`
+/// nanoseconds below the greatest one before it.
 pub fn capture_by<S: TapSource, W: OutSink>(
     alloc: Global,
     program: &Program,
     late: u64,
+    format: PacketFormat<'_>,
     source: S,
     sink: W,
 ) -> CaptureRun<S, W>
-    ensures { IsCaptureBy late program.now result.outcome
+    ensures { IsCaptureBy (format_of format.entry) late program.now result.outcome
         (devices_of S.TapSource W.OutSink source sink)
         (devices_of S.TapSource W.OutSink result.source result.sink) }
 {
-    match capture_within(alloc, program, late, source, sink) {
+    match capture_within(alloc, program, late, format, source, sink) {
         Ok((ending, source, sink)) => CaptureRun {
             outcome: Ok(ending),
             source,
@@ -72,7 +75,8 @@ pub fn capture_by<S: TapSource, W: OutSink>(
 }
 
 /// The command `capture` with the filter's numeric form in hand: reads the filter, and copies the frames of
-/// the recording that it accepts. A filter that doesn't load leaves both devices as they are.
+/// the recording that it accepts into a pcap file. A filter that doesn't load leaves both devices as they
+/// are.
 pub fn run_capture<S: TapSource, W: OutSink>(
     alloc: Global,
     code: &str,
@@ -84,7 +88,7 @@ pub fn run_capture<S: TapSource, W: OutSink>(
         (devices_of S.TapSource W.OutSink result.source result.sink) }
 {
     match filter_of(alloc, code, None) {
-        Ok(program) => capture_by(alloc, &program, 0, source, sink),
+        Ok(program) => capture_by(alloc, &program, 0, PacketFormat::Pcap, source, sink),
         Err(fault) => CaptureRun {
             outcome: Err(fault),
             source,

@@ -1,5 +1,5 @@
 -- One more line of the ledger beside what is cut of it.
-use Rattle.std.proofs.Common.{◌≡◌, ◌∙◌, ℕ, ◌+◌, ◌<◌, ◌≤◌, false, List, [], ◌∷◌, ◌++◌, length, Option, Some, None, refl, sym, ap, subst, arith, length-append}
+use Rattle.std.proofs.Common.{◌≡◌, ◌∙◌, ℕ, ◌+◌, ◌<◌, ◌≤◌, false, List, [], ◌∷◌, ◌++◌, length, Option, Some, None, sym, ap, subst, arith, length-append}
 use Rattle.std.proofs.lemmas.List.{append-nil}
 use Rattle.std.specs.Io.KnownBytes.{Consumes, Keeps, prepend_known}
 use Rattle.afdx_frame.specs.Frame.{Frame}
@@ -22,7 +22,8 @@ use Rattle.ledger_text.specs.declared.reader.Found.TheVariants as found
 use Rattle.ledger_text.specs.declared.reader.LedgerReader.{LedgerReader}
 use Rattle.ledger_text.specs.declared.reader.LedgerStop.{LedgerStop}
 use Rattle.ledger_text.proofs.Ledgers.{found_complete, found_incomplete, found_line, found_one_more, frame_lines_one_more}
-use Rattle.pcap_io.specs.Writer.{sink_of}
+use Rattle.packet_format.specs.Packets.{Format}
+use Rattle.packet_writer.specs.Writer.{sink_of}
 use Rattle.run_outcome.specs.Device.{SinkMembers, SourceMembers, SourceView}
 use Rattle.run_outcome.specs.Fault.{FailsWhere}
 use Rattle.cut_run.specs.Cut.{CutDevices, HasWritten, IsBadNext, IsLineFault, NextSays, ReadsNext, ledger_fault, place_at, stop_of}
@@ -39,11 +40,11 @@ use Rattle.cut_run.specs.declared.fault.CutSource.TheVariants as source
 use Rattle.cut_run.proofs.Naming.{part_read}
 
 -- so many lines, and what was taken of them
-abbrev pub IsCutting : {L S T W : Type 0} → SourceMembers L → SourceMembers S → SourceMembers T → SinkMembers W → Choice → CutDevices → LedgerReader L
+abbrev pub IsCutting : {L S T W : Type 0} → SourceMembers L → SourceMembers S → SourceMembers T → SinkMembers W → Format → Choice → CutDevices → LedgerReader L
     → Taking S T W → Type 0
-IsCutting l s t w choice before ledger taking =
-    (rs : List ReadLine) × (fs : List Frame) × (taken : List Frame) × (fa : List Frame) × (fb : List Frame)
-    × HasCut l s t w choice before rs fs taken fa fb ledger taking
+IsCutting l s t w format choice before ledger taking =
+    (rs : List ReadLine) × (fs : List Frame) × (taken : List (FrameLine × Frame)) × (fa : List Frame) × (fb : List Frame)
+    × HasCut l s t w format choice before rs fs taken fa fb ledger taking
 
 abbrev pub line_of : {L : Type 0} → LedgerReader L → LedgerLine → ReadLine
 line_of reader line = record { text = lent_of reader; line = line }
@@ -68,13 +69,13 @@ few_before l bytes failures rs old new line h is = omega (arith, few_frames rs, 
 
 -- ---- the next line
 
-pub frame_cut : {L S T W : Type 0} (l : SourceMembers L) (s : SourceMembers S) (t : SourceMembers T) (w : SinkMembers W) (choice : Choice) (before : CutDevices)
-    (rs : List ReadLine) (fs taken fa fb : List Frame) (old new : LedgerReader L) (was now : Taking S T W) (v : FrameLine)
-    → HasCut l s t w choice before rs fs taken fa fb old was
+pub frame_cut : {L S T W : Type 0} (l : SourceMembers L) (s : SourceMembers S) (t : SourceMembers T) (w : SinkMembers W) (format : Format) (choice : Choice) (before : CutDevices)
+    (rs : List ReadLine) (fs : List Frame) (taken : List (FrameLine × Frame)) (fa fb : List Frame) (old new : LedgerReader L) (was now : Taking S T W) (v : FrameLine)
+    → HasCut l s t w format choice before rs fs taken fa fb old was
     → IsFound (reading_of l.remaining l.failures old) (reading_of l.remaining l.failures new) (lent_of new) (found.Line (lines.Frame v)) → ledger_failed new ≡ false
-    → TakesMore s t w choice before.a before.b before.output (frame_lines rs) fs v now
-    → IsCutting l s t w choice before new now
-frame_cut l s t w choice before rs fs taken fa fb old new was now v h is sound more = (
+    → TakesMore s t w format choice before.a before.b before.output (frame_lines rs) fs v now
+    → IsCutting l s t w format choice before new now
+frame_cut l s t w format choice before rs fs taken fa fb old new was now v h is sound more = (
   rs ++ line_of new (lines.Frame v) ∷ [],
   fs ++ more.0 ∷ [],
   more.1,
@@ -82,17 +83,17 @@ frame_cut l s t w choice before rs fs taken fa fb old new was now v h is sound m
   more.3,
   record {
     read = found_one_more l before.ledger.remaining before.ledger.failures rs old new (lines.Frame v) h.read is sound;
-    took = subst (λ (vs : List FrameLine). HasTaken s t w choice before.a before.b before.output vs (fs ++ more.0 ∷ []) more.1 more.2 more.3 now)
+    took = subst (λ (vs : List FrameLine). HasTaken s t w format choice before.a before.b before.output vs (fs ++ more.0 ∷ []) more.1 more.2 more.3 now)
         (sym (frame_lines_one_more rs (line_of new (lines.Frame v)))) more.4;
   },
 )
 
-pub other_cut : {L S T W : Type 0} (l : SourceMembers L) (s : SourceMembers S) (t : SourceMembers T) (w : SinkMembers W) (choice : Choice) (before : CutDevices)
-    (rs : List ReadLine) (fs taken fa fb : List Frame) (old new : LedgerReader L) (taking : Taking S T W) (line : LedgerLine) → frames_in line ≡ []
-    → HasCut l s t w choice before rs fs taken fa fb old taking
+pub other_cut : {L S T W : Type 0} (l : SourceMembers L) (s : SourceMembers S) (t : SourceMembers T) (w : SinkMembers W) (format : Format) (choice : Choice) (before : CutDevices)
+    (rs : List ReadLine) (fs : List Frame) (taken : List (FrameLine × Frame)) (fa fb : List Frame) (old new : LedgerReader L) (taking : Taking S T W) (line : LedgerLine) → frames_in line ≡ []
+    → HasCut l s t w format choice before rs fs taken fa fb old taking
     → IsFound (reading_of l.remaining l.failures old) (reading_of l.remaining l.failures new) (lent_of new) (found.Line line) → ledger_failed new ≡ false
-    → IsCutting l s t w choice before new taking
-other_cut l s t w choice before rs fs taken fa fb old new taking line none h is sound = (
+    → IsCutting l s t w format choice before new taking
+other_cut l s t w format choice before rs fs taken fa fb old new taking line none h is sound = (
   rs ++ line_of new line ∷ [],
   fs,
   taken,
@@ -100,18 +101,18 @@ other_cut l s t w choice before rs fs taken fa fb old new taking line none h is 
   fb,
   record {
     read = found_one_more l before.ledger.remaining before.ledger.failures rs old new line h.read is sound;
-    took = subst (λ (vs : List FrameLine). HasTaken s t w choice before.a before.b before.output vs fs taken fa fb taking)
+    took = subst (λ (vs : List FrameLine). HasTaken s t w format choice before.a before.b before.output vs fs taken fa fb taking)
         (sym (frame_lines_one_more rs (line_of new line) ∙ ap (λ (vs : List FrameLine). frame_lines rs ++ vs) none ∙ append-nil (frame_lines rs))) h.took;
   },
 )
 
 -- ---- the end
 
-ends_with : {L S T W : Type 0} (l : SourceMembers L) (s : SourceMembers S) (t : SourceMembers T) (w : SinkMembers W) (choice : Choice) (before : CutDevices)
-    (rs : List ReadLine) (fs taken fa fb : List Frame) (old new : LedgerReader L) (taking : Taking S T W) (e : CutEnding)
+ends_with : {L S T W : Type 0} (l : SourceMembers L) (s : SourceMembers S) (t : SourceMembers T) (w : SinkMembers W) (format : Format) (choice : Choice) (before : CutDevices)
+    (rs : List ReadLine) (fs : List Frame) (taken : List (FrameLine × Frame)) (fa fb : List Frame) (old new : LedgerReader L) (taking : Taking S T W) (e : CutEnding)
     → EndsAt rs (stage_of old) (left_of l old) (stop_of e) → l.failures (source_of new) ≡ l.failures (source_of old)
-    → HasCut l s t w choice before rs fs taken fa fb old taking → EndsCut l s t w choice e before new taking
-ends_with l s t w choice before rs fs taken fa fb old new taking e at same h = record {
+    → HasCut l s t w format choice before rs fs taken fa fb old taking → EndsCut l s t w format choice e before new taking
+ends_with l s t w format choice before rs fs taken fa fb old new taking e at same h = record {
   rs = rs;
   stage = stage_of old;
   left = left_of l old;
@@ -125,20 +126,20 @@ ends_with l s t w choice before rs fs taken fa fb old new taking e at same h = r
   no_failure = same ∙ h.read.no_failure;
 }
 
-pub ends_complete : {L S T W : Type 0} (l : SourceMembers L) (s : SourceMembers S) (t : SourceMembers T) (w : SinkMembers W) (choice : Choice)
-    (before : CutDevices) (rs : List ReadLine) (fs taken fa fb : List Frame) (old new : LedgerReader L) (taking : Taking S T W)
+pub ends_complete : {L S T W : Type 0} (l : SourceMembers L) (s : SourceMembers S) (t : SourceMembers T) (w : SinkMembers W) (format : Format) (choice : Choice)
+    (before : CutDevices) (rs : List ReadLine) (fs : List Frame) (taken : List (FrameLine × Frame)) (fa fb : List Frame) (old new : LedgerReader L) (taking : Taking S T W)
     → IsFound (reading_of l.remaining l.failures old) (reading_of l.remaining l.failures new) (lent_of new) found.Complete
-    → HasCut l s t w choice before rs fs taken fa fb old taking → EndsCut l s t w choice ending.Complete before new taking
-ends_complete l s t w choice before rs fs taken fa fb old new taking is h =
-    ends_with l s t w choice before rs fs taken fa fb old new taking ending.Complete
+    → HasCut l s t w format choice before rs fs taken fa fb old taking → EndsCut l s t w format choice ending.Complete before new taking
+ends_complete l s t w format choice before rs fs taken fa fb old new taking is h =
+    ends_with l s t w format choice before rs fs taken fa fb old new taking ending.Complete
     (found_complete l before.ledger.remaining before.ledger.failures rs old new h.read is) is.2.2 h
 
-pub ends_incomplete : {L S T W : Type 0} (l : SourceMembers L) (s : SourceMembers S) (t : SourceMembers T) (w : SinkMembers W) (choice : Choice)
-    (before : CutDevices) (rs : List ReadLine) (fs taken fa fb : List Frame) (old new : LedgerReader L) (taking : Taking S T W) (stop : LedgerStop)
+pub ends_incomplete : {L S T W : Type 0} (l : SourceMembers L) (s : SourceMembers S) (t : SourceMembers T) (w : SinkMembers W) (format : Format) (choice : Choice)
+    (before : CutDevices) (rs : List ReadLine) (fs : List Frame) (taken : List (FrameLine × Frame)) (fa fb : List Frame) (old new : LedgerReader L) (taking : Taking S T W) (stop : LedgerStop)
     → IsFound (reading_of l.remaining l.failures old) (reading_of l.remaining l.failures new) (lent_of new) (found.Incomplete stop)
-    → HasCut l s t w choice before rs fs taken fa fb old taking → EndsCut l s t w choice (ending.Incomplete stop) before new taking
-ends_incomplete l s t w choice before rs fs taken fa fb old new taking stop is h =
-    ends_with l s t w choice before rs fs taken fa fb old new taking (ending.Incomplete stop)
+    → HasCut l s t w format choice before rs fs taken fa fb old taking → EndsCut l s t w format choice (ending.Incomplete stop) before new taking
+ends_incomplete l s t w format choice before rs fs taken fa fb old new taking stop is h =
+    ends_with l s t w format choice before rs fs taken fa fb old new taking (ending.Incomplete stop)
     (found_incomplete l before.ledger.remaining before.ledger.failures rs old new stop h.read is) is.3.2 h
 
 -- ---- a line that stops the cut
@@ -170,24 +171,24 @@ ledger_well (faults.Read (source.Recording B)) n a b vs v fa fb x y why same = s
 ledger_well faults.Write n a b vs v fa fb x y why same = same
 ledger_well faults.Memory n a b vs v fa fb x y why same = same
 
-written_at : (choice : Choice) (fault : CutFault) (rs : List ReadLine) (stage : Stage) (left : Option (List ℕ)) (fa fb taken : List Frame) (v : FrameLine)
-    (bytes now : Option (List ℕ)) → NextSays stage left v → WritesUpTo choice fault fa fb (frame_lines rs) v taken bytes now
-    → HasWritten choice fault rs stage left fa fb taken bytes now
-written_at choice (faults.Ledger k f) rs stage left fa fb taken v bytes now says wrote = wrote
-written_at choice (faults.Order k) rs stage left fa fb taken v bytes now says wrote = wrote
-written_at choice (faults.Absent k) rs stage left fa fb taken v bytes now says wrote = wrote
-written_at choice (faults.Header network f) rs stage left fa fb taken v bytes now says wrote = wrote
-written_at choice (faults.Read x) rs stage left fa fb taken v bytes now says wrote = wrote
-written_at choice faults.Write rs stage left fa fb taken v bytes now says wrote = (v, wrote.0, wrote.1, says, wrote.2, wrote.3, wrote.4)
-written_at choice faults.Memory rs stage left fa fb taken v bytes now says wrote = wrote
+written_at : (format : Format) (choice : Choice) (fault : CutFault) (rs : List ReadLine) (stage : Stage) (left : Option (List ℕ)) (fa fb : List Frame) (taken : List (FrameLine × Frame)) (v : FrameLine)
+    (bytes now : Option (List ℕ)) → NextSays stage left v → WritesUpTo format choice fault fa fb (frame_lines rs) v taken bytes now
+    → HasWritten format choice fault rs stage left fa fb taken bytes now
+written_at format choice (faults.Ledger k f) rs stage left fa fb taken v bytes now says wrote = wrote
+written_at format choice (faults.Order k) rs stage left fa fb taken v bytes now says wrote = wrote
+written_at format choice (faults.Absent k) rs stage left fa fb taken v bytes now says wrote = wrote
+written_at format choice (faults.Header network f) rs stage left fa fb taken v bytes now says wrote = wrote
+written_at format choice (faults.Read x) rs stage left fa fb taken v bytes now says wrote = wrote
+written_at format choice faults.Write rs stage left fa fb taken v bytes now says wrote = (v, wrote.0, wrote.1, says, wrote.2, wrote.3, wrote.4)
+written_at format choice faults.Memory rs stage left fa fb taken v bytes now says wrote = wrote
 
-pub frame_stops : {L S T W : Type 0} (l : SourceMembers L) (s : SourceMembers S) (t : SourceMembers T) (w : SinkMembers W) (choice : Choice) (before : CutDevices)
-    (rs : List ReadLine) (fs taken fa fb : List Frame) (old new : LedgerReader L) (was now : Taking S T W) (v : FrameLine) (fault : CutFault)
-    → HasCut l s t w choice before rs fs taken fa fb old was
+pub frame_stops : {L S T W : Type 0} (l : SourceMembers L) (s : SourceMembers S) (t : SourceMembers T) (w : SinkMembers W) (format : Format) (choice : Choice) (before : CutDevices)
+    (rs : List ReadLine) (fs : List Frame) (taken : List (FrameLine × Frame)) (fa fb : List Frame) (old new : LedgerReader L) (was now : Taking S T W) (v : FrameLine) (fault : CutFault)
+    → HasCut l s t w format choice before rs fs taken fa fb old was
     → IsFound (reading_of l.remaining l.failures old) (reading_of l.remaining l.failures new) (lent_of new) (found.Line (lines.Frame v))
-    → StopsTaking s t w choice before.a before.b before.output (frame_lines rs) fs taken v (number_of new) fault now
-    → StopsCut l s t w choice fault before new now
-frame_stops l s t w choice before rs fs taken fa fb old new was now v fault h is stops =
+    → StopsTaking s t w format choice before.a before.b before.output (frame_lines rs) fs taken v (number_of new) fault now
+    → StopsCut l s t w format choice fault before new now
+frame_stops l s t w format choice before rs fs taken fa fb old new was now v fault h is stops =
     let count : number_of new ≡ length rs + 1 = is.1.2 ∙ ap (λ (n : ℕ). n + 1) h.read.number in
     let says : NextSays (stage_of old) (left_of l old) v = (lent_of new, left_of l new, found_line l old new (lines.Frame v) is) in
     record {
@@ -208,7 +209,7 @@ frame_stops l s t w choice before rs fs taken fa fb old new was now v fault h is
       takes = stops.takes;
       why = line_fault choice.skips fault before rs (stage_of old) (left_of l old) (l.remaining (source_of new)) stops.frames_a stops.frames_b (number_of new) v count
           (says, stops.read) stops.why;
-      written = written_at choice fault rs (stage_of old) (left_of l old) stops.frames_a stops.frames_b taken v before.output.contents (w.contents (sink_of now.output)) says stops.written;
+      written = written_at format choice fault rs (stage_of old) (left_of l old) stops.frames_a stops.frames_b taken v before.output.contents (w.contents (sink_of now.output)) says stops.written;
       ledger_failures = ledger_well fault (number_of new) before.a before.b (read_lines choice.skips (frame_lines rs)) v stops.frames_a stops.frames_b before.ledger.failures (l.failures (source_of new)) stops.why (is.2 ∙ h.read.no_failure);
       a_failures = stops.a_failures;
       b_failures = stops.b_failures;
@@ -245,12 +246,12 @@ part_ahead None rest unread is = tt
 part_ahead (Some xs) None unread is = is
 part_ahead (Some xs) (Some ys) unread is = sym is
 
-pub ledger_stops : {L S T W : Type 0} (l : SourceMembers L) (s : SourceMembers S) (t : SourceMembers T) (w : SinkMembers W) (choice : Choice)
-    (before : CutDevices) (rs : List ReadLine) (fs taken fa fb : List Frame) (old new : LedgerReader L) (taking : Taking S T W) (text : List ℕ) (fault : ReadFault)
-    → HasCut l s t w choice before rs fs taken fa fb old taking
+pub ledger_stops : {L S T W : Type 0} (l : SourceMembers L) (s : SourceMembers S) (t : SourceMembers T) (w : SinkMembers W) (format : Format) (choice : Choice)
+    (before : CutDevices) (rs : List ReadLine) (fs : List Frame) (taken : List (FrameLine × Frame)) (fa fb : List Frame) (old new : LedgerReader L) (taking : Taking S T W) (text : List ℕ) (fault : ReadFault)
+    → HasCut l s t w format choice before rs fs taken fa fb old taking
     → IsReadFault (reading_of l.remaining l.failures old) (reading_of l.remaining l.failures new) text (unread_of new.lines) fault
-    → StopsCut l s t w choice (ledger_fault fault) before new taking
-ledger_stops l s t w choice before rs fs taken fa fb old new taking text (read.Line n f) h is = record {
+    → StopsCut l s t w format choice (ledger_fault fault) before new taking
+ledger_stops l s t w format choice before rs fs taken fa fb old new taking text (read.Line n f) h is = record {
   rs = rs;
   stage = stage_of old;
   left = left_of l old;
@@ -273,7 +274,7 @@ ledger_stops l s t w choice before rs fs taken fa fb old new taking text (read.L
   b_failures = h.took.named.read_b.no_failure;
   output_failures = h.took.no_failure;
 }
-ledger_stops l s t w choice before rs fs taken fa fb old new taking text read.Device h is = record {
+ledger_stops l s t w format choice before rs fs taken fa fb old new taking text read.Device h is = record {
   rs = rs;
   stage = stage_of old;
   left = left_of l old;
@@ -296,4 +297,4 @@ ledger_stops l s t w choice before rs fs taken fa fb old new taking text read.De
   b_failures = h.took.named.read_b.no_failure;
   output_failures = h.took.no_failure;
 }
-ledger_stops l s t w choice before rs fs taken fa fb old new taking text read.Failed h is = absurd is
+ledger_stops l s t w format choice before rs fs taken fa fb old new taking text read.Failed h is = absurd is

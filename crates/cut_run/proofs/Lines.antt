@@ -1,5 +1,6 @@
 -- One more line after those whose frames were found.
 use Rattle.std.proofs.Common.{◌≡◌, ◌∙◌, ℕ, zero, suc, true, false, List, [], ◌∷◌, ◌++◌, slice_get, Option, None, Some, refl, sym, ap, subst, inl, inr, append_assoc}
+use Rattle.std.specs.List.{zip}
 use Rattle.std.proofs.lemmas.Grind.{flat_map-append}
 use Rattle.std.proofs.lemmas.List.{append-nil}
 use Rattle.std.proofs.lemmas.List.Elements.{filter-append}
@@ -8,8 +9,8 @@ use Rattle.afdx_frame.specs.declared.key.Key.{Key}
 use Rattle.afdx_frame.specs.declared.key.Network.{Network}
 use Rattle.afdx_frame.specs.declared.key.Network.TheVariants.{A, B}
 use Rattle.ledger_text.specs.declared.frame.FrameLine.{FrameLine}
-use Rattle.pcap_io.specs.Capture.{capture_header}
-use Rattle.cut_run.specs.Lines.{AreFramesOf, AreSpread, Choice, Chooses, ComesLater, IsFrameOf, Rise, Takes, TakesOf, is_read, key_of_line, last_from, last_key, read_lines, side, whole_capture, whole_packet, whole_packets}
+use Rattle.packet_format.specs.Packets.{Format, head_by}
+use Rattle.cut_run.specs.Lines.{AreFramesOf, AreSpread, Choice, Chooses, ComesLater, IsFrameOf, Rise, Takes, TakesOf, is_read, key_of_line, last_from, last_key, cut_capture, line_packet, line_packets, read_lines, side}
 
 -- ---- the order of lines
 
@@ -140,11 +141,24 @@ passes_more choice vs fs taken v f takes not = passes_more_from choice [] vs fs 
 
 -- ---- what is written
 
-pub capture_more : (taken : List Frame) (f : Frame) → whole_capture (taken ++ f ∷ []) ≡ whole_capture taken ++ whole_packet f
-capture_more taken f =
-    ap (λ (bytes : List ℕ). capture_header ++ bytes)
-    (flat_map-append whole_packet taken (f ∷ []) ∙ ap (λ (bytes : List ℕ). whole_packets taken ++ bytes) (append-nil (whole_packet f)))
-    ∙ sym (append_assoc capture_header (whole_packets taken) (whole_packet f))
+pub capture_more : (format : Format) (taken : List (FrameLine × Frame)) (v : FrameLine) (f : Frame)
+    → cut_capture format (taken ++ (v, f) ∷ []) ≡ cut_capture format taken ++ line_packet format v f
+capture_more format taken v f =
+    ap (λ (bytes : List ℕ). head_by format ++ bytes)
+    (flat_map-append (λ (p : FrameLine × Frame). line_packet format p.0 p.1) taken ((v, f) ∷ [])
+    ∙ ap (λ (bytes : List ℕ). line_packets format taken ++ bytes) (append-nil (line_packet format v f)))
+    ∙ sym (append_assoc (head_by format) (line_packets format taken) (line_packet format v f))
+
+-- each line has a frame beside it
+pub zip_more : (skips : Option Network) (vs : List FrameLine) (found fs : List Frame) (v : FrameLine) (f : Frame) → AreSpread skips vs found fs
+    → zip (vs ++ v ∷ []) (fs ++ f ∷ []) ≡ zip vs fs ++ (v, f) ∷ []
+zip_more skips [] found [] v f h = refl
+zip_more skips [] found (g ∷ fs) v f h = absurd h
+zip_more skips (w ∷ vs) found [] v f h = absurd h
+zip_more skips (w ∷ vs) found (g ∷ fs) v f (inl (one, more, same, rest)) =
+    ap (λ (ps : List (FrameLine × Frame)). (w, g) ∷ ps) (zip_more skips vs more fs v f rest)
+zip_more skips (w ∷ vs) found (g ∷ fs) v f (inr (one, rest)) =
+    ap (λ (ps : List (FrameLine × Frame)). (w, g) ∷ ps) (zip_more skips vs found fs v f rest)
 
 -- ---- and one line fewer
 

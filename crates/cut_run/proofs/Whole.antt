@@ -14,13 +14,13 @@ use Rattle.ledger_text.specs.Lines.{unread_of}
 use Rattle.ledger_text.specs.Reader.{source_of}
 use Rattle.ledger_text.specs.declared.order.Stage.TheVariants as stages
 use Rattle.ledger_text.specs.declared.reader.LedgerReader.{LedgerReader}
-use Rattle.pcap_io.specs.Capture.{capture_header}
-use Rattle.pcap_io.specs.Writer.{sink_of}
+use Rattle.packet_format.specs.Packets.{Format, head_by}
+use Rattle.packet_writer.specs.Writer.{sink_of}
 use Rattle.run_outcome.specs.Device.{SinkMembers, SourceMembers, SourceView, source_at}
 use Rattle.run_outcome.specs.Recording.{IsReadPart}
 use Rattle.cut_run.specs.Cut.{CutDevices, IsCutRun, any_lateness, devices_at}
 use Rattle.cut_run.specs.Cutting.{EndsCut, StopsCut}
-use Rattle.cut_run.specs.Lines.{Choice, whole_capture}
+use Rattle.cut_run.specs.Lines.{Choice, cut_capture}
 use Rattle.cut_run.specs.Naming.{ReadsPart, opening_at}
 use Rattle.cut_run.specs.declared.cut.CutEnding.{CutEnding}
 use Rattle.cut_run.specs.declared.cut.Taking.{Taking}
@@ -62,14 +62,14 @@ part_of s network before frames finder few part = record {
   unread = (few, refl);
 }
 
-pub run_of : {L S T W : Type 0} (l : SourceMembers L) (s : SourceMembers S) (t : SourceMembers T) (w : SinkMembers W) (choice : Choice)
+pub run_of : {L S T W : Type 0} (l : SourceMembers L) (s : SourceMembers S) (t : SourceMembers T) (w : SinkMembers W) (format : Format) (choice : Choice)
     (outcome : Result CutEnding CutFault) (before : CutDevices) (ledger : LedgerReader L) (taking : Taking S T W)
     → length (finding_of s.remaining s.failures taking.recordings.a).unread ≤ MAX_SNAPLEN
     → length (finding_of t.remaining t.failures taking.recordings.b).unread ≤ MAX_SNAPLEN
-    → MatchResult outcome (λ e. EndsCut l s t w choice e before ledger taking) (λ fault. StopsCut l s t w choice fault before ledger taking)
-    → IsCutRun choice outcome before
+    → MatchResult outcome (λ e. EndsCut l s t w format choice e before ledger taking) (λ fault. StopsCut l s t w format choice fault before ledger taking)
+    → IsCutRun format choice outcome before
     (devices_at l s t w (source_of ledger) (finder_source taking.recordings.a) (finder_source taking.recordings.b) (sink_of taking.output))
-run_of l s t w choice (Ok e) before ledger taking few_a few_b ends =
+run_of l s t w format choice (Ok e) before ledger taking few_a few_b ends =
     let named = ends.took.named in
     record {
       rs = ends.rs;
@@ -95,7 +95,7 @@ run_of l s t w choice (Ok e) before ledger taking few_a few_b ends =
       written = ends.took.written;
       no_failure = record { ledger = ends.no_failure; a = named.read_a.no_failure; b = named.read_b.no_failure; output = ends.took.no_failure };
     }
-run_of l s t w choice (Err fault) before ledger taking few_a few_b stops = (
+run_of l s t w format choice (Err fault) before ledger taking few_a few_b stops = (
   record { ledger = stops.ledger_failures; a = stops.a_failures; b = stops.b_failures; output = stops.output_failures },
   inr (record {
     rs = stops.rs;
@@ -120,6 +120,6 @@ run_of l s t w choice (Err fault) before ledger taking few_a few_b stops = (
   }),
 )
 
--- the capture of no frame is its file header
-pub empty_capture : whole_capture [] ≡ capture_header
-empty_capture = append-nil capture_header
+-- the capture of nothing is what it begins with
+pub empty_capture : (format : Format) → cut_capture format [] ≡ head_by format
+empty_capture format = append-nil (head_by format)

@@ -1,6 +1,7 @@
--- What a cut leaves, and why it was aborted (this project's profile; the output is pcap savefile 2.4).
+-- What a cut leaves, and why it was aborted (this project's profile).
 use Rattle.std.specs.Prelude.{◌≡◌, ◌⊎◌, ℕ, true, ◌+◌, ◌-◌, ◌^◌, ◌<◌, List, ◌++◌, length, take, Option, Some, None, Result, Ok, Err}
 use Rattle.std.specs.Io.KnownBytes.{Appends, Consumes}
+use Rattle.std.specs.List.{zip}
 use Rattle.afdx_frame.specs.Frame.{Frame}
 use Rattle.afdx_frame.specs.declared.key.Network.{Network}
 use Rattle.afdx_frame.specs.declared.key.Network.TheVariants.{A, B}
@@ -15,13 +16,13 @@ use Rattle.ledger_text.specs.declared.order.LedgerLine.TheVariants as lines
 use Rattle.ledger_text.specs.declared.order.Stage.{Stage}
 use Rattle.ledger_text.specs.declared.order.Stage.TheVariants as stages
 use Rattle.ledger_text.specs.declared.reader.LedgerStop.{LedgerStop}
-use Rattle.pcap_io.specs.Capture.{capture_header}
+use Rattle.packet_format.specs.Packets.{Format, head_by}
 use Rattle.pcap_io.specs.Device.{AppendsPrefix}
 use Rattle.run_outcome.specs.Device.{SinkMembers, SinkView, SourceMembers, SourceView, sink_at, source_at}
 use Rattle.run_outcome.specs.Fault.{FailsWhere}
 use Rattle.run_outcome.specs.Recording.{FailsAtHeader, HasHeaderFault, IsReadPart, WasOpened}
 use Rattle.cut_run.specs.Faults.{LedgerSource, OutputSink, RecordingSource, names}
-use Rattle.cut_run.specs.Lines.{AreFramesOf, AreSpread, Choice, ComesLater, IsTakenNext, Rise, TakesOf, is_read, last_key, read_lines, side, whole_capture, whole_packet}
+use Rattle.cut_run.specs.Lines.{AreFramesOf, AreSpread, Choice, ComesLater, IsTakenNext, Rise, TakesOf, is_read, last_key, read_lines, side, cut_capture, line_packet}
 use Rattle.cut_run.specs.Naming.{LacksFrame, view_of}
 use Rattle.cut_run.specs.declared.cut.CutEnding.{CutEnding}
 use Rattle.cut_run.specs.declared.cut.CutEnding.TheVariants as ending
@@ -78,46 +79,53 @@ pub record NoFailures (before after : CutDevices) : Type 0 where
   pub b : after.b.failures ≡ before.b.failures
   pub output : after.output.failures ≡ before.output.failures
 
--- The ledger was read to its end, and the output has the capture of the frames of the lines that are taken.
-pub record IsCut (choice : Choice) (e : CutEnding) (before after : CutDevices) : Type 0 where
+-- The ledger was read to its end, and the output has the capture of the lines that are taken, with their frames.
+pub record IsCut (format : Format) (choice : Choice) (e : CutEnding) (before after : CutDevices) : Type 0 where
   pub rs : List ReadLine
   pub stage : Stage
   pub left : Option (List ℕ)
   pub frames_a : List Frame
   pub frames_b : List Frame
   pub frames : List Frame
-  pub taken : List Frame
+  pub taken : List (FrameLine × Frame)
   pub found : HasFound choice.skips before after rs stage left frames_a frames_b frames
-  pub takes : TakesOf choice (frame_lines rs) frames taken
+  pub takes : TakesOf choice (frame_lines rs) (zip (frame_lines rs) frames) taken
   pub ends : EndsAt rs stage left (stop_of e)
-  pub written : Appends before.output.contents after.output.contents (whole_capture taken)
+  pub written : Appends before.output.contents after.output.contents (cut_capture format taken)
   pub no_failure : NoFailures before after
 
 -- ---- a cut that is not begun
 
--- Nothing was written, and the ledger wasn't read: there was no memory for its block, or a recording wasn't opened, that of A first. Or
--- the sink failed at the capture's file header, of which it has a prefix.
-abbrev pub StopsAtOpening : CutFault → CutDevices → CutDevices → Type 0
-StopsAtOpening faults.Memory before after = after ≡ before
-StopsAtOpening (faults.Header A f) before after =
+-- Nothing was written, and the ledger wasn't read: there was no memory for its block or for what a capture begins with, or a recording wasn't
+-- opened, that of A first.
+abbrev pub IsUnopened : CutFault → CutDevices → CutDevices → Type 0
+IsUnopened faults.Memory before after = after ≡ before
+IsUnopened (faults.Header A f) before after =
     HasHeaderFault f before.a after.a × (after.b ≡ before.b) × (after.ledger ≡ before.ledger) × (after.output ≡ before.output)
-StopsAtOpening (faults.Header B f) before after =
+IsUnopened (faults.Header B f) before after =
     WasOpened before.a after.a × HasHeaderFault f before.b after.b × (after.ledger ≡ before.ledger) × (after.output ≡ before.output)
-StopsAtOpening (faults.Read (source.Recording A)) before after =
+IsUnopened (faults.Read (source.Recording A)) before after =
     FailsAtHeader before.a after.a × (after.b ≡ before.b) × (after.ledger ≡ before.ledger) × (after.output ≡ before.output)
-StopsAtOpening (faults.Read (source.Recording B)) before after =
+IsUnopened (faults.Read (source.Recording B)) before after =
     WasOpened before.a after.a × FailsAtHeader before.b after.b × (after.ledger ≡ before.ledger) × (after.output ≡ before.output)
-StopsAtOpening faults.Write before after =
-    WasOpened before.a after.a × WasOpened before.b after.b × (after.ledger ≡ before.ledger)
-    × AppendsPrefix before.output.contents after.output.contents capture_header
-StopsAtOpening fault before after = ⊥
+IsUnopened fault before after = ⊥
+
+-- The sink failed at what the capture begins with, of which it has a prefix, and the ledger wasn't read.
+pub record FailsToBegin (format : Format) (before after : CutDevices) : Type 0 where
+  pub a : WasOpened before.a after.a
+  pub b : WasOpened before.b after.b
+  pub ledger : after.ledger ≡ before.ledger
+  pub written : AppendsPrefix before.output.contents after.output.contents (head_by format)
+
+abbrev pub StopsAtOpening : Format → CutFault → CutDevices → CutDevices → Type 0
+StopsAtOpening format fault before after = IsUnopened fault before after ⊎ ((fault ≡ faults.Write) × FailsToBegin format before after)
 
 -- Recordings that weren't opened, whatever the other devices are: these stay.
 abbrev pub AreRefused : CutFault → SourceView → SourceView → SourceView → SourceView → Type 0
 AreRefused fault a b a_after b_after =
     (ledger : SourceView) (output : SinkView)
     → FailsOnly fault (record { ledger = ledger; a = a; b = b; output = output }) (record { ledger = ledger; a = a_after; b = b_after; output = output })
-    × StopsAtOpening fault (record { ledger = ledger; a = a; b = b; output = output }) (record { ledger = ledger; a = a_after; b = b_after; output = output })
+    × IsUnopened fault (record { ledger = ledger; a = a; b = b; output = output }) (record { ledger = ledger; a = a_after; b = b_after; output = output })
 
 -- ---- a cut that was aborted at a line
 
@@ -156,39 +164,39 @@ IsLineFault skips faults.Memory before rs stage left rest frames_a frames_b = (v
 IsLineFault skips faults.Write before rs stage left rest frames_a frames_b = (v : FrameLine) × ReadsNext skips stage left v
 IsLineFault skips (faults.Header network fault) before rs stage left rest frames_a frames_b = ⊥
 
--- The output has the whole capture of the frames taken. Where the sink failed, the next line is taken too, and a prefix of its frame's packet
+-- The output has the whole capture of what was taken. Where the sink failed, the next line is taken too, and a prefix of its frame's packet
 -- follows.
-abbrev pub HasWritten : Choice → CutFault → List ReadLine → Stage → Option (List ℕ) → List Frame → List Frame → List Frame → Option (List ℕ) → Option (List ℕ)
+abbrev pub HasWritten : Format → Choice → CutFault → List ReadLine → Stage → Option (List ℕ) → List Frame → List Frame → List (FrameLine × Frame) → Option (List ℕ) → Option (List ℕ)
     → Type 0
-HasWritten choice faults.Write rs stage left frames_a frames_b taken before after =
+HasWritten format choice faults.Write rs stage left frames_a frames_b taken before after =
     (v : FrameLine) × (f : Frame) × (part : ℕ) × NextSays stage left v × IsTakenNext choice frames_a frames_b (frame_lines rs) v f
-    × (part < length (whole_packet f))
-    × Appends before after (whole_capture taken ++ take part (whole_packet f))
-HasWritten choice fault rs stage left frames_a frames_b taken before after = Appends before after (whole_capture taken)
+    × (part < length (line_packet format v f))
+    × Appends before after (cut_capture format taken ++ take part (line_packet format v f))
+HasWritten format choice fault rs stage left frames_a frames_b taken before after = Appends before after (cut_capture format taken)
 
 -- The cut was aborted at the line after these.
-pub record StopsAtLine (choice : Choice) (fault : CutFault) (before after : CutDevices) : Type 0 where
+pub record StopsAtLine (format : Format) (choice : Choice) (fault : CutFault) (before after : CutDevices) : Type 0 where
   pub rs : List ReadLine
   pub stage : Stage
   pub left : Option (List ℕ)
   pub frames_a : List Frame
   pub frames_b : List Frame
   pub frames : List Frame
-  pub taken : List Frame
+  pub taken : List (FrameLine × Frame)
   pub found : HasFound choice.skips before after rs stage left frames_a frames_b frames
-  pub takes : TakesOf choice (frame_lines rs) frames taken
+  pub takes : TakesOf choice (frame_lines rs) (zip (frame_lines rs) frames) taken
   pub why : IsLineFault choice.skips fault before rs stage left after.ledger.remaining frames_a frames_b
-  pub written : HasWritten choice fault rs stage left frames_a frames_b taken before.output.contents after.output.contents
+  pub written : HasWritten format choice fault rs stage left frames_a frames_b taken before.output.contents after.output.contents
 
 -- why a cut was aborted, and what it leaves
-abbrev pub AbortsCut : Choice → CutFault → CutDevices → CutDevices → Type 0
-AbortsCut choice fault before after =
-    FailsOnly fault before after × (StopsAtOpening fault before after ⊎ StopsAtLine choice fault before after)
+abbrev pub AbortsCut : Format → Choice → CutFault → CutDevices → CutDevices → Type 0
+AbortsCut format choice fault before after =
+    FailsOnly fault before after × (StopsAtOpening format fault before after ⊎ StopsAtLine format choice fault before after)
 
 -- what a cut came to, and what it leaves
-abbrev pub IsCutRun : Choice → Result CutEnding CutFault → CutDevices → CutDevices → Type 0
-IsCutRun choice (Ok e) before after = IsCut choice e before after
-IsCutRun choice (Err fault) before after = AbortsCut choice fault before after
+abbrev pub IsCutRun : Format → Choice → Result CutEnding CutFault → CutDevices → CutDevices → Type 0
+IsCutRun format choice (Ok e) before after = IsCut format choice e before after
+IsCutRun format choice (Err fault) before after = AbortsCut format choice fault before after
 
 -- the fault of a ledger's reader, as a cut tells it
 abbrev pub ledger_fault : ReadFault → CutFault

@@ -1,4 +1,5 @@
--- The lines of frames of a ledger, the frames that they name, and what is written of them (this project's format).
+-- The lines of frames of a ledger, the frames that they name, and what is written of them (this project's format; the bytes of packets are those
+-- of packet_format).
 use Rattle.std.specs.Prelude.{◌≡◌, ◌⊎◌, ℕ, Bool, true, false, List, [], ◌∷◌, ◌++◌, length, filter, flat_map, slice_get, Option, Some, None, ⊤}
 use Rattle.std.specs.declared.cmp.Ordering.TheVariants.{Less}
 use Rattle.afdx_frame.specs.Frame.{Frame, key_cmp}
@@ -8,7 +9,7 @@ use Rattle.afdx_frame.specs.declared.key.Network.TheVariants.{A, B}
 use Rattle.ledger_text.specs.declared.frame.FrameLine.{FrameLine}
 use Rattle.line_selection.specs.Neighbours.{Around, IsChosen}
 use Rattle.line_selection.specs.declared.selection.Selection.{Selection}
-use Rattle.pcap_io.specs.Capture.{capture_header, packet_text}
+use Rattle.packet_format.specs.Packets.{Format, head_by, packet_by}
 
 -- where a line's frame stands in the order of both networks
 abbrev pub key_of_line : FrameLine → Key
@@ -97,13 +98,13 @@ pub record IsTakenNext (choice : Choice) (frames_a frames_b : List Frame) (vs : 
   pub frame : IsFrameOf frames_a frames_b v f
   pub chosen : Chooses choice vs v
 
--- the packet of a frame, whole as recorded
-abbrev pub whole_packet : Frame → List ℕ
-whole_packet f = packet_text f (length f.bytes)
+-- the packet of a line's frame, whole as recorded, with the line's verdict as its comment where the format has comments
+abbrev pub line_packet : Format → FrameLine → Frame → List ℕ
+line_packet format v f = packet_by format f (length f.bytes) (Some v)
 
-abbrev pub whole_packets : List Frame → List ℕ
-whole_packets frames = flat_map whole_packet frames
+abbrev pub line_packets : Format → List (FrameLine × Frame) → List ℕ
+line_packets format taken = flat_map (λ p. line_packet format p.0 p.1) taken
 
--- the capture of frames
-abbrev pub whole_capture : List Frame → List ℕ
-whole_capture frames = capture_header ++ whole_packets frames
+-- the capture of lines and their frames
+abbrev pub cut_capture : Format → List (FrameLine × Frame) → List ℕ
+cut_capture format taken = head_by format ++ line_packets format taken

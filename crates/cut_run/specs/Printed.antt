@@ -19,7 +19,7 @@ use Rattle.pcap_io.specs.Device.{Writes}
 use Rattle.run_outcome.specs.Device.{SinkMembers, SinkView, SourceMembers, SourceView, sink_at, source_at}
 use Rattle.run_outcome.specs.Fault.{FailsWhere}
 use Rattle.run_outcome.specs.Recording.{IsReadPart}
-use Rattle.cut_run.specs.Cut.{CutDevices, FailsInLine, IsBadNext, IsLineFault, StopsAtOpening, any_lateness, stop_of}
+use Rattle.cut_run.specs.Cut.{CutDevices, FailsInLine, IsBadNext, IsLineFault, IsUnopened, any_lateness, stop_of}
 use Rattle.cut_run.specs.Cutting.{IsTakeFault}
 use Rattle.cut_run.specs.Faults.{LedgerSource, OutputSink, RecordingSource, names}
 use Rattle.cut_run.specs.Lines.{AreFramesOf, Choice, Chooses, Rise, TakesOf, is_read, read_lines}
@@ -115,7 +115,7 @@ pub record ArePrinted (choice : Choice) (e : CutEnding) (before after : LineDevi
 -- Nothing was written, and the ledger wasn't read: there was no memory, or a recording wasn't opened.
 abbrev pub StopsBefore : CutFault → LineDevices → LineDevices → Option Sources → Option Sources → Type 0
 StopsBefore fault before after None None = (fault ≡ faults.Memory) × (after ≡ before)
-StopsBefore fault before after (Some was) (Some now) = (fault ≢ faults.Write) × StopsAtOpening fault (cut_devices before was) (cut_devices after now)
+StopsBefore fault before after (Some was) (Some now) = (fault ≢ faults.Write) × IsUnopened fault (cut_devices before was) (cut_devices after now)
 StopsBefore fault before after was now = ⊥
 
 -- what a fault says of the line after these, if there are no recordings

@@ -1,5 +1,5 @@
 //! From a ledger and its recordings to a capture.
-ghost use Rattle.std.specs.Prelude.{◌≡◌, ◌≤◌, ◌<◌, ◌++◌, ◌∷◌, length, List, Option, Err, IfErr, OnOk, MatchResult, false, []};
+ghost use Rattle.std.specs.Prelude.{◌≡◌, ◌≤◌, ◌<◌, ◌++◌, ◌∷◌, length, List, Option, Err, OnOk, MatchResult, false, []};
 ghost use Rattle.afdx_frame.specs.Frame.{Frame};
 ghost use Rattle.afdx_frame.specs.declared.bounds.TheConstants.{MAX_SNAPLEN};
 ghost use Rattle.frame_finder.specs.Finder.{finder_source, finding_of};
@@ -7,13 +7,13 @@ ghost use Rattle.ledger_text.specs.declared.frame.FrameLine.{FrameLine};
 ghost use Rattle.afdx_frame.specs.declared.key.Network.{Network};
 ghost use Rattle.ledger_text.specs.declared.bounds.TheConstants.{MOST_LINES};
 ghost use Rattle.line_selection.specs.Neighbours.{AreNoted, Around, HasAsked};
-ghost use Rattle.pcap_io.specs.Writer.{has_failed, sink_of};
+ghost use Rattle.packet_format.specs.Packets.{Format, format_of};
+ghost use Rattle.packet_writer.specs.Writer.{format_in, has_failed, sink_of};
 ghost use Rattle.run_outcome.specs.Device.{SinkView, SourceView};
 ghost use Rattle.ledger_text.specs.Ledger.{has_failed as ledger_failed};
 ghost use Rattle.cut_run.specs.Cut.{CutDevices, devices_at, IsCutRun, ledger_fault};
 ghost use Rattle.cut_run.specs.Cutting.{EndsCut, HasCut, HasTaken, StopsCut, StopsTaking, TakesMore, WritesTaken};
 ghost use Rattle.cut_run.specs.Lines.{Choice};
-ghost use Rattle.cut_run.specs.declared.fault.CutFault.TheVariants as faults;
 
 use crate::fault::{CutFault, CutSource};
 use crate::observer::LineObserver;
@@ -23,8 +23,10 @@ use ledger_text::{
     Found, FrameLine, LedgerLine, LedgerReader, LedgerStop, LinesRefused, ReadFault,
 };
 use line_selection::{Chooser, Neighbours, Selection};
-use pcap_io::{CaptureWriter, OutSink, TapSource};
-use std::alloc::Global;
+use packet_format::PacketFormat;
+use packet_writer::{PacketFault, PacketWriter, head_of};
+use pcap_io::{OutSink, TapSource};
+use std::alloc::{AllocError, Global};
 
 /// How the ledger of a cut ended.
 #[derive(Clone, Copy, PartialEq, Eq)]
@@ -52,9 +54,9 @@ pub struct CutRun<L, S, T, W> {
 
 /// The frames of a cut: where they are found, and where those that are taken are written.
 #[derive(Drop)]
-pub(crate) struct Taking<S, T, W> {
+pub(crate) struct Taking<'a, S, T, W> {
     recordings: Recordings<S, T>,
-    output: CaptureWriter<W>,
+    output: PacketWriter<'a, W>,
     chooser: Chooser,
 }
 
@@ -73,8 +75,8 @@ pub(crate) fn ledger_fault(fault: ReadFault) -> CutFault
     }
 }
 
-impl<S: TapSource, T: TapSource, W: OutSink> Taking<S, T, W> {
-    /// Writes the frame of the ledger's next line, if it is taken.
+impl<S: TapSource, T: TapSource, W: OutSink> Taking<'_, S, T, W> {
+    /// Writes the packet of the ledger's next line and its frame, if the line is taken.
     #[inline]
     fn write_taken<O: LineObserver>(
         &mut self,
@@ -85,20 +87,26 @@ impl<S: TapSource, T: TapSource, W: OutSink> Taking<S, T, W> {
     ) -> Result<(), CutFault>
         requires { has_failed self.old.output ≡ false }
         ensures recordings { self.new.recordings ≡ self.old.recordings }
-        ensures written { (around : Option Around) (skips : Option Network) (before : List FrameLine)
-            → length before < MOST_LINES → HasAsked selection.now around before self.old.chooser
+        ensures written { (format : Format) (around : Option Around) (skips : Option Network)
+            (before : List FrameLine) → length before < MOST_LINES → format_in self.old.output ≡ format
+            → HasAsked selection.now around before self.old.chooser
             → HasAsked selection.now around (before ++ line.now ∷ []) self.new.chooser
-            × WritesTaken W.OutSink (record { selection = selection.now; around = around; skips = skips })
+            × WritesTaken W.OutSink format
+            (record { selection = selection.now; around = around; skips = skips })
             before line.now frame.now result self.old self.new }
+        ensures format { format_in self.new.output ≡ format_in self.old.output }
         ensures going { OnOk result (has_failed self.new.output ≡ false) }
-        ensures fault { IfErr result (λ fault. fault ≡ faults.Write) }
     {
         if !self.chooser.takes(selection, line) {
             return Ok(());
         }
         let whole = frame.view().bytes().len() as u32;
         observer.writes(line);
-        self.output.put(frame, whole).map_err(|_| CutFault::Write)
+        match self.output.put(&frame.lent(), whole, Some(line)) {
+            Ok(()) => Ok(()),
+            Err(PacketFault::Device) => Err(CutFault::Write),
+            Err(PacketFault::Memory) => Err(CutFault::Memory),
+        }
     }
 
     /// Passes over the ledger's next line.
@@ -128,15 +136,16 @@ impl<S: TapSource, T: TapSource, W: OutSink> Taking<S, T, W> {
         number: u64,
     ) -> Result<(), CutFault>
         requires { has_failed self.old.output ≡ false }
-        ensures cut { (around : Option Around) (a b : SourceView) (output : SinkView) (vs : List FrameLine)
-            (fs taken frames_a frames_b : List Frame) → length vs < MOST_LINES
+        ensures cut { (format : Format) (around : Option Around) (a b : SourceView) (output : SinkView)
+            (vs : List FrameLine) (fs : List Frame) (taken : List (FrameLine × Frame))
+            (frames_a frames_b : List Frame) → length vs < MOST_LINES
             → (let choice : Choice = record { selection = selection.now; around = around; skips = skips } in
-            HasTaken S.TapSource T.TapSource W.OutSink choice a b output vs fs taken
+            HasTaken S.TapSource T.TapSource W.OutSink format choice a b output vs fs taken
             frames_a frames_b self.old
             → MatchResult result
-            (λ _. TakesMore S.TapSource T.TapSource W.OutSink choice a b output vs fs line.now
+            (λ _. TakesMore S.TapSource T.TapSource W.OutSink format choice a b output vs fs line.now
             self.new)
-            (λ fault. StopsTaking S.TapSource T.TapSource W.OutSink choice a b output vs fs taken
+            (λ fault. StopsTaking S.TapSource T.TapSource W.OutSink format choice a b output vs fs taken
             line.now number fault self.new)) }
         ensures going { OnOk result (has_failed self.new.output ≡ false) }
     {
@@ -152,12 +161,13 @@ impl<S: TapSource, T: TapSource, W: OutSink> Taking<S, T, W> {
     /// The sources and the sink.
     fn into_devices(self) -> (S, T, W)
         ensures devices { result ≡ (
-          finder_source self.recordings.a,
-          finder_source self.recordings.b,
-          sink_of self.output,
+          finder_source self.entry.recordings.a,
+          finder_source self.entry.recordings.b,
+          sink_of self.entry.output,
         ) }
-        ensures lost { (length (finding_of S.remaining S.failures self.recordings.a).unread ≤ MAX_SNAPLEN)
-            × (length (finding_of T.remaining T.failures self.recordings.b).unread ≤ MAX_SNAPLEN) }
+        ensures lost { (length (finding_of S.remaining S.failures self.entry.recordings.a).unread
+            ≤ MAX_SNAPLEN)
+            × (length (finding_of T.remaining T.failures self.entry.recordings.b).unread ≤ MAX_SNAPLEN) }
     {
         let Taking {
             recordings,
@@ -176,18 +186,18 @@ fn cut_lines<L: TapSource, S: TapSource, T: TapSource, W: OutSink, O: LineObserv
     selection: &Selection,
     skips: Option<Network>,
     ledger: &mut LedgerReader<L>,
-    taking: &mut Taking<S, T, W>,
+    taking: &mut Taking<'_, S, T, W>,
 ) -> Result<CutEnding, CutFault>
     requires sound { ledger_failed ledger.old ≡ false }
     requires going { has_failed taking.old.output ≡ false }
-    ensures { (around : Option Around) (before : CutDevices)
+    ensures { (format : Format) (around : Option Around) (before : CutDevices)
         → (let choice : Choice = record { selection = selection.now; around = around; skips = skips } in
-        HasCut L.TapSource S.TapSource T.TapSource W.OutSink choice before [] [] [] [] []
+        HasCut L.TapSource S.TapSource T.TapSource W.OutSink format choice before [] [] [] [] []
         ledger.old taking.old
         → MatchResult result
-        (λ e. EndsCut L.TapSource S.TapSource T.TapSource W.OutSink choice e before
+        (λ e. EndsCut L.TapSource S.TapSource T.TapSource W.OutSink format choice e before
         ledger.new taking.new)
-        (λ fault. StopsCut L.TapSource S.TapSource T.TapSource W.OutSink choice fault before
+        (λ fault. StopsCut L.TapSource S.TapSource T.TapSource W.OutSink format choice fault before
         ledger.new taking.new)) }
 {
     loop {
@@ -217,15 +227,16 @@ fn refused<L, S, T, W>(fault: CutFault, ledger: L, a: S, b: T, output: W) -> Cut
     }
 }
 
-/// Writes a capture of the frames whose lines in a ledger the selection takes, whole as recorded and in the
-/// ledger's order. Each line of a frame is checked against its network's recording, taken or not. Lines of
-/// the network that is skipped, as one without a recording, are passed over.
+/// Writes a capture in some format of the frames whose lines in a ledger the selection takes, whole as
+/// recorded and in the ledger's order. A pcapng packet has the verdict of its line as its comment. Each line
+/// of a frame is checked against its network's recording, taken or not. Lines of the network that is
+/// skipped, as one without a recording, are passed over.
 ///
 /// With neighbours, which [`neighbours_of`](crate::neighbours_of) has found by the same selection, the lines
 /// near selected ones are taken too. `observer` is told each line of a frame, and that of each packet before
 /// it is written.
 ///
-/// One pass over all three files. It allocates a block for each of them, and room for the frames
+/// One pass over all three files. It allocates a block for each of them, a packet, and room for the frames
 /// that a recording with late timestamps has before those that the ledger names earlier. All devices
 /// come back. Sources may have been read ahead.
 ///
@@ -242,15 +253,21 @@ pub fn cut_frames<L: TapSource, S: TapSource, T: TapSource, W: OutSink, O: LineO
     ledger: L,
     a: S,
     b: T,
+    format: PacketFormat<'_>,
     output: W,
     observer: &O,
 ) -> CutRun<L, S, T, W>
     ensures { (around : Option Around) → AreNoted selection.now around neighbours
-        → IsCutRun (record { selection = selection.now; around = around; skips = skips }) result.outcome
+        → IsCutRun (format_of format.entry)
+        (record { selection = selection.now; around = around; skips = skips }) result.outcome
         (devices_at L.TapSource S.TapSource T.TapSource W.OutSink ledger a b output)
         (devices_at L.TapSource S.TapSource T.TapSource W.OutSink
         result.ledger result.a result.b result.output) }
 {
+    let head = match head_of(alloc, format) {
+        Ok(head) => head,
+        Err(AllocError) => return refused(CutFault::Memory, ledger, a, b, output),
+    };
     let ledger = match LedgerReader::new(alloc, ledger) {
         Ok(reader) => reader,
         Err(LinesRefused { source }) => return refused(CutFault::Memory, source, a, b, output),
@@ -261,7 +278,7 @@ pub fn cut_frames<L: TapSource, S: TapSource, T: TapSource, W: OutSink, O: LineO
             return refused(fault, ledger.into_source(), a, b, output);
         }
     };
-    let output = match CaptureWriter::begin(output) {
+    let output = match PacketWriter::begin(alloc, format, head, output) {
         Ok(writer) => writer,
         Err(sink) => {
             let (a, b) = recordings.into_sources();

@@ -2,8 +2,8 @@
 
 use ledger_text::FrameLine;
 
-/// Is told of the ledger's lines of frames as they are read, and for which of them each packet is written, as
-/// who adds to the packets what their lines say.
+/// Is told of the ledger's lines of frames as they are read, and which of them are written, as who counts
+/// them.
 pub trait LineObserver {
     /// The next line of a frame is this one.
     fn reads(&self, _line: &FrameLine) {}

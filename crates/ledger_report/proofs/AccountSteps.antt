@@ -1,9 +1,8 @@
 -- One more line of the ledger, for all of its links.
-use Rattle.std.proofs.Common.{◌≡◌, ◌≢◌, ℕ, ◌+◌, ◌<◌, ◌≤◌, ◌^◌, ◌&&◌, ◌==◌, ◌⊎◌, inl, inr, ◌++◌, Bool, true, false, not, List, [], ◌∷◌, length, get_or, set, Option, Some, is_some, refl, sym, ap, ◌∙◌, subst, arith, get_or-set_same, get_or-set_other, length-append, length-set}
+use Rattle.std.proofs.Common.{◌≡◌, ◌≢◌, ℕ, ◌+◌, ◌<◌, ◌≤◌, ◌^◌, ◌&&◌, ◌==◌, ◌⊎◌, inl, inr, ◌++◌, true, false, not, List, [], ◌∷◌, length, get_or, set, Option, Some, is_some, refl, sym, ap, ◌∙◌, subst, arith, get_or-set_same, get_or-set_other, length-append, length-set}
 use Rattle.std.proofs.lemmas.Bool.{cases_lt, and_from, and_left, and_right, eqb-true, eqb-false, eq-eqb, ne_eqb, true≢false, false≢true}
 use Rattle.std.proofs.Math.Seq.{get_or-append_seam}
 use Rattle.std.proofs.lemmas.List.{get_or_append_left, get_or_default}
-use Rattle.afdx_frame.specs.declared.key.Network.TheVariants.{A, B}
 use Rattle.afdx_frame.specs.declared.key.VlId.{VlId}
 use Rattle.vl_config.specs.Link.{VirtualLink}
 use Rattle.vl_config.specs.declared.class.Class.{Class}
@@ -29,10 +28,10 @@ use Rattle.ledger_report.specs.declared.moment.Moment.{Moment}
 use Rattle.ledger_report.specs.declared.network.NetworkReport.{NetworkReport}
 use Rattle.ledger_report.specs.declared.sides.Sides.{Sides}
 use Rattle.ledger_report.specs.declared.statistics.Statistics.{Statistics}
+use Rattle.ledger_report.proofs.Distances.{by_test}
 use Rattle.ledger_report.proofs.LinkSteps.{keeps_link, link_more, link_other, met_other, met_own}
 use Rattle.ledger_report.proofs.NetworkSteps.{keeps_network}
 use Rattle.ledger_report.proofs.OutsideSteps.{outside_other, unconfigured_where}
-use Rattle.ledger_report.proofs.RuleSteps.{keeps_rules}
 
 -- ---- what stays
 
@@ -49,10 +48,6 @@ pub keeps_networks : (lines : List FrameLine) (old new : Statistics) → KeepsAc
 keeps_networks lines old new keeps h = record {
   a = keeps_network _ lines old.networks.a new.networks.a keeps.networks.0 h.a;
   b = keeps_network _ lines old.networks.b new.networks.b keeps.networks.1 h.b;
-  rules = record {
-    a = keeps_rules A lines old.networks.a new.networks.a keeps.networks.0 h.rules.a;
-    b = keeps_rules B lines old.networks.b new.networks.b keeps.networks.1 h.rules.b;
-  };
 }
 
 pub keeps_account : (links : List VirtualLink) (lines : List FrameLine) (old new : Statistics) → KeepsAccount old new →
@@ -110,10 +105,6 @@ met_unseen links line lines reports off h i link report within =
 
 pub is_of_link : (line : FrameLine) (id : VlId) (other : ℕ) → line.link ≡ Some id → is_of_id other line.link ≡ (id.0 == other)
 is_of_link line id other same = ap (λ (o : Option VlId). is_of_id other o) same
-
-by_test : (b : Bool) (P : Type 0) → (b ≡ true → P) → (b ≡ false → P) → P
-by_test true P f g = f refl
-by_test false P f g = g refl
 
 pub each_set_of : (P : Row → List FrameLine → LinkReport → Type 0) →
     ((row : Row) (line : FrameLine) (lines : List FrameLine) (report : LinkReport) → is_seen_of row.id line ≡ false → P row lines report → P row (line ∷ lines) report) →
@@ -239,10 +230,6 @@ account_more links line lines s after id number at place old new networks few is
     (record {
       a = keeps_network _ (line ∷ lines) s.networks.a networks.a notes.keeps.0 are.a;
       b = keeps_network _ (line ∷ lines) s.networks.b networks.b notes.keeps.1 are.b;
-      rules = record {
-        a = keeps_rules A (line ∷ lines) s.networks.a networks.a notes.keeps.0 are.rules.a;
-        b = keeps_rules B (line ∷ lines) s.networks.b networks.b notes.keeps.1 are.rules.b;
-      };
     })
     (links_set links line lines s.links.items s.index.items id place new index_is found within of_link
     (λ link. (

@@ -15,7 +15,7 @@ use Rattle.std.proofs.lemmas.List.Sorted.{IsNonDecreasingBy-from_default, IsNonD
 use Rattle.std.proofs.lemmas.List.Sums.{sum_by-append}
 use Rattle.afdx_frame.specs.declared.key.Network.{Network}
 use Rattle.ledger_text.specs.declared.frame.FrameLine.{FrameLine}
-use Rattle.ledger_report.specs.Covered.{covered_so_far, has_silence_after}
+use Rattle.ledger_report.specs.Covered.{has_silence_after, is_covered}
 use Rattle.ledger_report.specs.Networks.{IsNetworkOf}
 use Rattle.ledger_report.specs.Silences.{is_silent, kept_silences, silence_at, silence_before, silences}
 use Rattle.ledger_report.specs.Standings.{frames_on}
@@ -138,14 +138,14 @@ frames_both network later earlier report h = h.frames ∙ sum_by-append (λ l. c
 
 -- before the network's first line
 pub covers_before : (network : Network) (later earlier : List FrameLine) (n : ℕ) → frames_on network earlier ≡ n → n ≡ 0 →
-    Some false ≡ covered_so_far network later earlier
+    false ≡ is_covered network later earlier
 covers_before network later earlier n is zero =
     let off = any_on network earlier false (grind (arith, nat_tests, is, zero)) in
     rw off refl
 
 -- after its latest line
 pub covers_open : (network : Network) (later earlier : List FrameLine) (report : NetworkReport) (n : ℕ) → IsNetworkOf network (later ++ earlier) report →
-    frames_on network earlier ≡ n → 0 < n → report.frames ≤ n → None ≡ covered_so_far network later earlier
+    frames_on network earlier ≡ n → 0 < n → report.frames ≤ n → false ≡ is_covered network later earlier
 covers_open network later earlier report n h is some last =
     let both = frames_both network later earlier report h in
     let on = any_on network earlier true (grind (arith, nat_tests, is, some)) in
@@ -156,7 +156,7 @@ covers_open network later earlier report n h is some last =
 pub covers_known : (network : Network) (later earlier : List FrameLine) (report : NetworkReport) (n : ℕ) (silent : Bool) →
     IsNetworkOf network (later ++ earlier) report → frames_on network earlier ≡ n → 0 < n → n < report.frames →
     (Rise report.silences.items → silent ≡ has_silence_after n report.silences.items) →
-    Some (not silent) ≡ covered_so_far network later earlier
+    not silent ≡ is_covered network later earlier
 covers_known network later earlier report n silent h is some more said =
     let both = frames_both network later earlier report h in
     let on = any_on network earlier true (grind (arith, nat_tests, is, some)) in
@@ -165,4 +165,4 @@ covers_known network later earlier report n silent h is some more said =
     let same : silent ≡ has_silence_after (frames_on network earlier) (kept_silences network (later ++ earlier)) =
     said rise ∙ ap (λ (xs : List Silence). has_silence_after n xs) h.silences.kept
     ∙ ap (λ k. has_silence_after k (kept_silences network (later ++ earlier))) (sym is) in
-    ap (λ (b : Bool). Some (not b)) same ∙ rw (on, later_on) refl
+    ap (λ (b : Bool). not b) same ∙ rw (on, later_on) refl

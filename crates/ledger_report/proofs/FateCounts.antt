@@ -163,7 +163,7 @@ keeps_fates rules lines old new same kept late h = record {
 }
 
 pub but_met : (old new : LinkReport) → KeepsFates old new → KeepsButMet old new
-but_met old new kept = ap (λ (f : FateNumbers). record f { met = new.fates.met; late_skews = new.late_skews }) kept
+but_met old new kept = ap (λ (f : FateNumbers). record f { met = new.fates.met }) kept
 
 -- ---- late deliveries among the lanes' signs
 
@@ -190,22 +190,22 @@ count_same p q (suc n) same =
     omega (arith, count_same p q n (λ m below. same m (omega (arith, below))), ap one_where (same n (omega arith)))
 
 -- one of them changes
-pub count_moved : (p q : ℕ → Bool) (bound m : ℕ) → m < bound → ((n : ℕ) → (n == m) ≡ false → q n ≡ p n) →
+pub count_moved : (p q : ℕ → Bool) (bound m : ℕ) → m < bound → ((n : ℕ) → n < bound → (n == m) ≡ false → q n ≡ p n) →
     count_below q bound + one_where (p m) ≡ count_below p bound + one_where (q m)
 unfolding count_below
 count_moved p q zero m within others = absurd (omega (arith, within))
-count_moved p q (suc n) m within others = at (n == m) refl (λ less. count_moved p q n m less others)
+count_moved p q (suc n) m within others = at (n == m) refl (λ less. count_moved p q n m less (λ k below. others k (omega (arith, below))))
   where
     at : (b : Bool) → (n == m) ≡ b → (m < n → count_below q n + one_where (p m) ≡ count_below p n + one_where (q m)) →
         count_below q n + one_where (q n) + one_where (p m) ≡ count_below p n + one_where (p n) + one_where (q m)
     at true here before =
         let one : n ≡ m = eqb-true n m here in
-        let below = count_same p q n (λ k less. others k (ne_eqb k m (omega (arith, less, one)))) in
+        let below = count_same p q n (λ k less. others k (omega (arith, less)) (ne_eqb k m (omega (arith, less, one)))) in
         let was = ap (λ k. one_where (p k)) one in
         let now = ap (λ k. one_where (q k)) one in
         omega (arith, below, was, now)
     at false there before =
-        let same = ap one_where (others n there) in
+        let same = ap one_where (others n (omega arith) there) in
         omega (arith, before (omega (arith, within, eqb-false n m there)), same)
 
 pub count_none : (p : ℕ → Bool) (bound : ℕ) → ((n : ℕ) → p n ≡ false) → count_below p bound ≡ 0
@@ -223,10 +223,6 @@ fate_known ends rules n lines = at (latest_of rules.id n lines)
         ≡ option_map_or (λ (k : Known). ends k.fate) (option_map (known_at rules n lines) o) false
     at None = refl
     at (Some delivery) = refl
-
-some_mapped : {A B : Type 0} (f : A → B) (o : Option A) → is_some (option_map f o) ≡ is_some o
-some_mapped f None = refl
-some_mapped f (Some x) = refl
 
 -- a delivery has one fate
 pub one_fate : (rules : PairingRules) (n : ℕ) (lines : List FrameLine) →

@@ -241,7 +241,7 @@ module _ (rules : PairingRules) (line : FrameLine) (lines : List FrameLine) (num
       ≡ count_below (λ n. has_fate ends rules n lines) 256 + one_where (has_fate ends rules number (line ∷ lines))
   latest_moved ends within =
       count_moved (λ n. has_fate ends rules n lines) (λ n. has_fate ends rules n (line ∷ lines)) 256 number within
-      (λ n differ. fate_known ends rules n (line ∷ lines) ∙ ap (λ (o : Option Known). option_map_or (λ (k : Known). ends k.fate) o false) (other_number n differ)
+      (λ n below differ. fate_known ends rules n (line ∷ lines) ∙ ap (λ (o : Option Known). option_map_or (λ (k : Known). ends k.fate) o false) (other_number n differ)
       ∙ sym (fate_known ends rules n lines))
 
   fates_undelivered : (ends : Fate → Bool) (gain : ℕ) → number < 256 → is_deliver line ≡ false →
@@ -692,7 +692,7 @@ all_open row lines report h sum met =
 
 pub no_fates : (rules : PairingRules) (report : LinkReport) → ((number : ℕ) → held_of report.pairing number ≡ None) →
     ((number : ℕ) (network : Network) → gone_in report.pairing number network ≡ None) →
-    fate_numbers report ≡ record { paired = 0; late = 0; first = 0; met = 0; late_greatest = 0; late_skews = report.late_skews } →
+    fate_numbers report ≡ record { paired = 0; late = 0; first = 0; met = 0; late_greatest = 0 } →
     HasHits report.lanes.a.signs signs.Late [] → HasHits report.lanes.b.signs signs.Late [] → HasFatesOf rules [] report
 no_fates rules report held gone none on_a on_b = record {
   known = record { held = held; gone = gone };

@@ -9,8 +9,7 @@ use Rattle.ledger_report.specs.Deliveries.{says_copy, says_deliver}
 use Rattle.ledger_report.specs.Fates.{Known, ends_met, is_open, pairs}
 use Rattle.ledger_report.specs.Links.{Row, row_in}
 use Rattle.ledger_report.specs.Noting.{seen_line}
-use Rattle.ledger_report.specs.Pairs.{CountsLate, DiscardsWhere, FateNumbers, GainsLateWhere, KeepsFates, KeepsLate, MeetsOf, NotesFates, NotesWordWhere, PairsCopy, SettlesBefore, awaits, comes_late, counted_where, fate_numbers, held_of, is_held, known_in, met_with, paired, settled_numbers, window_in, with_fate, with_late}
-use Rattle.ledger_report.specs.SidesSeries.{PutsOn}
+use Rattle.ledger_report.specs.Pairs.{CountsLate, DiscardsWhere, FateNumbers, GainsLateWhere, KeepsFates, KeepsLate, MeetsOf, NotesFates, NotesWordWhere, PairsCopy, SettlesBefore, awaits, comes_late, counted_where, fate_numbers, held_of, is_held, known_in, met_with, paired, window_in, with_fate, with_late}
 use Rattle.ledger_report.specs.Sums.{saturated}
 use Rattle.ledger_report.specs.Words.{rule_of}
 use Rattle.ledger_report.specs.declared.lane.Lane.{Lane}
@@ -22,29 +21,30 @@ use Rattle.ledger_report.specs.declared.pairing.Delivery.{Delivery}
 use Rattle.ledger_report.specs.declared.pairing.Fate.{Fate}
 use Rattle.ledger_report.specs.declared.pairing.Fate.TheVariants.{Open, Late, Paired, Met}
 use Rattle.ledger_report.specs.declared.pairing.Pairing.{Pairing}
-use Rattle.ledger_report.specs.declared.series.Series.{Series}
-use Rattle.ledger_report.specs.declared.sides.Sides.{Sides}
-use Rattle.ledger_report.proofs.KeepSteps.{keeps_late_none, keeps_late_on}
-use Rattle.ledger_report.proofs.SidesSeries.{puts_none}
+use Rattle.ledger_report.proofs.KeepSteps.{keeps_late_none}
 
--- the steps up to the one that notes a discarded line
-pub notes_fates : (line : FrameLine) (number : ℕ) (at : Moment) (word : Option Redundancy) (lane : Lane) (network : NetworkReport) (seen : LaneLine)
-    (old noted numbered mid new : LinkReport) → seen ≡ seen_line lane network line number at → line.redundancy ≡ word →
-    row_in noted ≡ row_in old → row_in numbered ≡ row_in noted → row_in mid ≡ row_in numbered → noted.pairing ≡ old.pairing → numbered.pairing ≡ noted.pairing →
-    KeepsFates old noted → KeepsFates noted numbered → KeepsFates numbered mid →
-    KeepsLate old noted → KeepsLate noted numbered → KeepsLate numbered mid →
+-- a line as its lane takes it is discarded as it stands
+pub notes_discards : (line : FrameLine) (number : ℕ) (at : Moment) (lane : Lane) (network : NetworkReport) (seen : LaneLine)
+    (old numbered mid : LinkReport) → seen ≡ seen_line lane network line number at → row_in numbered ≡ row_in old → numbered.pairing ≡ old.pairing →
     DiscardsWhere (is_some seen.rule && numbered.redundancy) seen.number seen.at (window_in numbered) numbered.pairing mid.pairing →
+    DiscardsWhere (is_some (rule_of line) && old.redundancy) number at (window_in old) old.pairing mid.pairing
+notes_discards line number at lane network seen old numbered mid same row pairing discards =
+    subst (λ (p : Pairing). DiscardsWhere (is_some (rule_of line) && old.redundancy) number at (window_in old) p mid.pairing) pairing
+    (subst (λ (r : Row). DiscardsWhere (is_some (rule_of line) && r.redundancy) number at (saturated (r.bag * 127)) numbered.pairing mid.pairing) row
+    (subst (λ (l : LaneLine). DiscardsWhere (is_some l.rule && numbered.redundancy) l.number l.at (window_in numbered) numbered.pairing mid.pairing) same discards))
+
+-- the line is taken, and then its word
+pub notes_fates : (line : FrameLine) (number : ℕ) (at : Moment) (word : Option Redundancy) (old mid new : LinkReport) → line.redundancy ≡ word →
+    row_in mid ≡ row_in old → KeepsFates old mid → KeepsLate old mid →
+    DiscardsWhere (is_some (rule_of line) && old.redundancy) number at (window_in old) old.pairing mid.pairing →
     NotesWordWhere (option_map_or says_deliver word false) (option_map_or says_copy word false) number at mid new →
     NotesFates line number at old new
-notes_fates line number at word lane network seen old noted numbered mid new same is row1 row2 row3 pairing1 pairing2 fates1 fates2 fates3 late1 late2 late3 discards says = record {
+notes_fates line number at word old mid new is row fates late discards says = record {
   mid = mid;
-  bag = ap (λ (r : Row). r.bag) (row3 ∙ row2 ∙ row1);
-  numbers = fates3 ∙ fates2 ∙ fates1;
-  signs = keeps_late_on old numbered mid (keeps_late_on old noted numbered late1 late2) late3;
-  discards =
-      subst (λ (p : Pairing). DiscardsWhere (is_some (rule_of line) && old.redundancy) number at (window_in old) p mid.pairing) (pairing2 ∙ pairing1)
-      (subst (λ (r : Row). DiscardsWhere (is_some (rule_of line) && r.redundancy) number at (saturated (r.bag * 127)) numbered.pairing mid.pairing) (row2 ∙ row1)
-      (subst (λ (l : LaneLine). DiscardsWhere (is_some l.rule && numbered.redundancy) l.number l.at (window_in numbered) numbered.pairing mid.pairing) same discards));
+  bag = ap (λ (r : Row). r.bag) row;
+  numbers = fates;
+  signs = late;
+  discards = discards;
   word = subst (λ (o : Option Redundancy). NotesWordWhere (option_map_or says_deliver o false) (option_map_or says_copy o false) number at mid new) (sym is) says;
 }
 
@@ -77,36 +77,23 @@ pairs_again number report known is again =
 -- ---- the delivery before
 
 -- the counts once it is settled, with what is held of its number
-abbrev settled_with : Moment → Sides Series → LinkReport → Option Delivery → Bool → Bool → FateNumbers
-settled_with at series old o late met = record {
+abbrev settled_with : Moment → LinkReport → Option Delivery → Bool → Bool → FateNumbers
+settled_with at old o late met = record {
   paired = old.fates.paired;
   late = counted_where late old.fates.late;
   first = counted_where late old.fates.first;
   met = counted_where met old.fates.met;
   late_greatest = if late then max old.late_greatest (at.place.stamp - option_map_or (λ (s : Spot). s.place.stamp) (option_map spot_in o) 0) else old.late_greatest;
-  late_skews = series;
 }
 
-abbrev settled_at : Moment → Sides Series → LinkReport → Option Delivery → FateNumbers
-settled_at at series old o = settled_with at series old o
+abbrev settled_at : Moment → LinkReport → Option Delivery → FateNumbers
+settled_at at old o = settled_with at old o
     (option_map_or (awaits at.network at.place.stamp (window_in old)) (option_map known_in o) false)
     (option_map_or (λ (k : Known). ends_met k.fate) (option_map known_in o) false)
 
--- how late the one after it comes, where it does
-abbrev brought_where : Moment → Option Delivery → Bool → Option ℕ
-brought_where at o late =
-    if late then Some (at.place.stamp - option_map_or (λ (s : Spot). s.place.stamp) (option_map spot_in o) 0) else None
-
-abbrev brought_with : Moment → LinkReport → Option Delivery → Option ℕ
-brought_with at old o = brought_where at o (option_map_or (awaits at.network at.place.stamp (window_in old)) (option_map known_in o) false)
-
 pub settles_none : (number : ℕ) (at : Moment) (old : LinkReport) → get_or old.pairing.deliveries.items number None ≡ None →
     SettlesBefore number at old old
-settles_none number at old none = record {
-  numbers = sym (ap (settled_at at old.late_skews old) none);
-  series = subst (λ (o : Option ℕ). PutsOn at.network at.bin o old.late_skews old.late_skews) (sym (ap (brought_with at old) none))
-      (puts_none at.network at.bin old.late_skews old.late_skews refl);
-}
+settles_none number at old none = sym (ap (settled_at at old) none)
 
 open_pends : (known : Known) (rest : Bool) → (is_open known.fate && rest) ≡ true → ends_met known.fate ≡ false
 open_pends known rest awaited = at known.fate (and_parts (is_open known.fate) rest awaited).0
@@ -136,29 +123,19 @@ late_where late number at old new before is awaited gains =
 
 pub settles_late : (number : ℕ) (at : Moment) (old new : LinkReport) (before : Delivery) (skew : ℕ) → get_or old.pairing.deliveries.items number None ≡ Some before →
     awaits at.network at.place.stamp (window_in old) (known_in before) ≡ true → skew ≡ at.place.stamp - before.place.stamp →
-    CountsLate at skew old new → SettlesBefore number at old new
+    CountsLate skew old new → SettlesBefore number at old new
 settles_late number at old new before skew is awaited same late =
-    let series = new.late_skews in record {
-      numbers = late.numbers ∙ ap (λ n. with_late n series old) same
-          ∙ sym (ap (settled_at at series old) is
-          ∙ ap (λ (b : Bool). settled_with at series old (Some before) b (ends_met before.fate)) awaited
-          ∙ ap (λ (b : Bool). settled_with at series old (Some before) true b) (open_pends (known_in before) _ awaited));
-      series = subst (λ (o : Option ℕ). PutsOn at.network at.bin o old.late_skews series)
-          (ap (λ n. Some n) same ∙ sym (ap (brought_with at old) is ∙ ap (brought_where at (Some before)) awaited)) late.series;
-    }
+    late ∙ ap (λ n. with_late n old) same
+    ∙ sym (ap (settled_at at old) is
+    ∙ ap (λ (b : Bool). settled_with at old (Some before) b (ends_met before.fate)) awaited
+    ∙ ap (λ (b : Bool). settled_with at old (Some before) true b) (open_pends (known_in before) _ awaited))
 
 pub settles_other : (number : ℕ) (at : Moment) (old new : LinkReport) (before : Delivery) → get_or old.pairing.deliveries.items number None ≡ Some before →
     awaits at.network at.place.stamp (window_in old) (known_in before) ≡ false → MeetsOf (counted_where (ends_met before.fate) old.fates.met) old new →
     SettlesBefore number at old new
 settles_other number at old new before is awaited met =
-    let same : new.late_skews ≡ old.late_skews = ap (λ (f : FateNumbers). f.late_skews) met in record {
-      numbers = met ∙ sym (ap (λ (s : Sides Series). settled_numbers number at s old) same
-          ∙ ap (settled_at at old.late_skews old) is
-          ∙ ap (λ (b : Bool). settled_with at old.late_skews old (Some before) b (ends_met before.fate)) awaited);
-      series = subst (λ (o : Option ℕ). PutsOn at.network at.bin o old.late_skews new.late_skews)
-          (sym (ap (brought_with at old) is ∙ ap (brought_where at (Some before)) awaited))
-          (puts_none at.network at.bin old.late_skews new.late_skews same);
-    }
+    met ∙ sym (ap (settled_at at old) is
+    ∙ ap (λ (b : Bool). settled_with at old (Some before) b (ends_met before.fate)) awaited)
 
 -- ---- at the end
 

@@ -1,11 +1,12 @@
 -- By identifier, where each of the table's links stands.
-use Rattle.std.proofs.Common.{◌≡◌, ◌≢◌, ℕ, zero, suc, ◌+◌, ◌<◌, ◌≤◌, ◌==◌, ◌⊎◌, inl, inr, Bool, true, false, List, [], ◌∷◌, length, get_or, set, replicate, refl, sym, ap, ◌∙◌, arith, get_or-set_same, get_or-set_other, length-set}
+use Rattle.std.proofs.Common.{◌≡◌, ◌≢◌, ℕ, zero, suc, ◌+◌, ◌<◌, ◌≤◌, ◌==◌, ◌⊎◌, inl, inr, false, List, [], ◌∷◌, length, get_or, set, replicate, sym, ap, ◌∙◌, arith, get_or-set_same, get_or-set_other, length-set}
 use Rattle.std.specs.List.{AllByRecursion, IsDistinct}
 use Rattle.std.proofs.lemmas.Bool.{cases_lt, eqb-true, eqb-false}
 use Rattle.std.proofs.lemmas.List.{get_or-replicate, get_or_default, get_or_past, length-replicate}
 use Rattle.vl_config.specs.Document.{has_same_id}
 use Rattle.vl_config.specs.Link.{VirtualLink}
 use Rattle.ledger_report.specs.Noting.{IsIndexOf}
+use Rattle.ledger_report.proofs.Distances.{by_test}
 
 all_at : {X : Type 0} (P : X → Type 0) (xs : List X) (j : ℕ) (d : X) → AllByRecursion P xs → j < length xs → P (get_or xs j d)
 all_at P [] j d all within = absurd (omega (arith, within))
@@ -35,10 +36,6 @@ pub record Places (links : List VirtualLink) (index : List ℕ) (place : ℕ) : 
   pub at : (i : ℕ) (link : VirtualLink) → i < place → get_or index (get_or links i link).id.0 65535 ≡ i
   pub back : (id : ℕ) (link : VirtualLink) → get_or index id 65535 < place → (get_or links (get_or index id 65535) link).id.0 ≡ id
   pub none : (id : ℕ) → place ≤ get_or index id 65535 → get_or index id 65535 ≡ 65535
-
-by_test : (b : Bool) (P : Type 0) → (b ≡ true → P) → (b ≡ false → P) → P
-by_test true P f g = f refl
-by_test false P f g = g refl
 
 before : (n p : ℕ) → p < 65535 → n < p + 1 → (p ≤ n → n ≡ 65535) → n < p
 before n p small below none = at (cases_lt n p)

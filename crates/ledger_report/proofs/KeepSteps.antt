@@ -1,5 +1,5 @@
 -- What two steps leave as it was, one after the other.
-use Rattle.std.proofs.Common.{◌≡◌, ◌∙◌, List, length, get_or, refl, sym, ap, subst, arith}
+use Rattle.std.proofs.Common.{◌≡◌, ◌∙◌, List, length, get_or, refl, ap, arith}
 use Rattle.ledger_report.specs.Keeping.{KeepsAccount, KeepsLane, KeepsLink, KeepsNetworks, KeepsReport}
 use Rattle.ledger_report.specs.Pairs.{FateNumbers, KeepsLate}
 use Rattle.ledger_report.specs.Settling.{AccountsSame, KeepBalance, KeepsCounts}
@@ -29,9 +29,6 @@ keeps_late_on old mid new (a, b) (a2, b2) = (λ hits has. a2 hits (a hits has), 
 pub keeps_late_none : (report : LinkReport) → KeepsLate report report
 keeps_late_none report = (λ hits has. has, λ hits has. has)
 
-pub keeps_late_is : (old mid new : LinkReport) → new ≡ mid → KeepsLate old mid → KeepsLate old new
-keeps_late_is old mid new same keeps = subst (KeepsLate old) (sym same) keeps
-
 pub keeps_report_on : (old mid new : LinkReport) → KeepsReport old mid → KeepsReport mid new → KeepsReport old new
 keeps_report_on old mid new (link, deliveries, copies, pairing, fates) (link2, deliveries2, copies2, pairing2, fates2) = (
   keeps_link_on old mid new link link2,
@@ -39,7 +36,7 @@ keeps_report_on old mid new (link, deliveries, copies, pairing, fates) (link2, d
   copies2 ∙ copies,
   pairing2 ∙ pairing,
   record {
-    numbers = fates2.numbers ∙ ap (λ (f : FateNumbers). record f { met = new.fates.met; late_skews = new.late_skews }) fates.numbers;
+    numbers = fates2.numbers ∙ ap (λ (f : FateNumbers). record f { met = new.fates.met }) fates.numbers;
     signs = keeps_late_on old mid new fates.signs fates2.signs;
   },
 )
@@ -50,7 +47,7 @@ accounts_same_on old mid new first second = λ none. second none ∙ first none
 pub keeps_counts_on : (old mid new : LinkReport) → KeepsCounts old mid → KeepsCounts mid new → KeepsCounts old new
 keeps_counts_on old mid new (same, fates) (same2, fates2) = (
   accounts_same_on old mid new same same2,
-  fates2 ∙ ap (λ (f : FateNumbers). record f { late_skews = new.late_skews }) fates,
+  fates2 ∙ fates,
 )
 
 pub keep_balance_on : (old mid new : List LinkReport) → length mid ≡ length old → KeepBalance old mid → KeepBalance mid new → KeepBalance old new

@@ -171,12 +171,9 @@ pub missed_same : (rules : LaneRules) (line : LaneLine) (s0 s1 s2 s3 s4 : Lane) 
 missed_same rules line s0 s1 s2 s3 s4 t1 t2 t3 t4 k1 k3 k4 none few =
     let uncovered : s4.uncovered ≡ s0.uncovered =
     ap (λ (l : Lane). l.uncovered) t4.rest ∙ ap (λ (l : Lane). l.uncovered) t3.rest ∙ ap (λ (l : Lane). l.uncovered) t2.rest ∙ ap (λ (l : Lane). l.uncovered) t1.rest in
-    let held : s4.held.count ≡ s0.held.count =
-    ap (λ (l : Lane). l.held.count) t4.rest ∙ ap (λ (l : Lane). l.held.count) t3.rest ∙ ap (λ (l : Lane). l.held.count) t2.rest
-    ∙ ap (λ (l : Lane). l.held.count) t1.rest in
     let alone : (mark_at s4.signs Alone none).count ≡ (mark_at s0.signs Alone none).count =
     ap (λ (m : Mark). m.count) (k4 none ∙ k3 none ∙ ap (λ (l : Lane). mark_at l.signs Alone none) t2.rest ∙ k1 none) in
-    omega (arith, uncovered, held, alone)
+    omega (arith, uncovered, alone)
 
 -- no line of a lane is late by itself
 late_rule : (line : LaneLine) → IfSome line.rule IsRule → rule_amount line Late ≡ 0

@@ -11,8 +11,7 @@ use Rattle.ledger_text.specs.FrameText.{IsFrameLine}
 use Rattle.ledger_text.specs.declared.frame.FrameLine.{FrameLine}
 use Rattle.ledger_report.specs.Extremes.{Hit, IsFirst, IsLast}
 use Rattle.ledger_report.specs.Keeping.{KeepsLane, KeepsLink, KeepsReport, LaneNumbers, NotesLane, NotesLaneOn, TakesLaneLine, Tally, tally_of}
-use Rattle.ledger_report.specs.Classes.{CountsClasses}
-use Rattle.ledger_report.specs.Copies.{AllCopies, CopyNumbers, HasLatest, NotesCopy, NotesCopyWhere, NotesLatest, NotesLatestWhere, Spot, delivers, latest_delivery, skew_after, skew_in, skews, spot_at, spot_of}
+use Rattle.ledger_report.specs.Copies.{CopyNumbers, HasLatest, NotesCopy, NotesCopyWhere, NotesLatest, NotesLatestWhere, Spot, delivers, latest_delivery, skew_after, skew_in, skews, spot_at, spot_of}
 use Rattle.ledger_report.specs.Deliveries.{copy_count, is_copy, is_deliver}
 use Rattle.ledger_report.specs.LaneLines.{one_where, stamp_of}
 use Rattle.ledger_report.specs.Lanes.{IsLaneSign, StandsAfter, hits, newest, oldest}
@@ -82,7 +81,6 @@ keeps_link row lines old new ((is, a, b), deliveries, copies, pairing, fates) h 
   skew_sum = ap (λ (c : CopyNumbers). c.skew_sum) copies ∙ h.skew_sum;
   skew_greatest = ap (λ (c : CopyNumbers). c.skew_greatest) copies ∙ h.skew_greatest;
   within = h.within;
-  classes = subst (CountsClasses (skews row.id lines)) (sym (ap (λ (c : CopyNumbers). c.classes) copies)) h.classes;
   latest = subst (HasLatest row.id lines) (sym pairing) h.latest;
   fates_are = keeps_fates (pairing_rules row) lines old new pairing fates.numbers fates.signs h.fates_are;
   room = (a.2 h.room.0, b.2 h.room.1);
@@ -126,54 +124,37 @@ pub record CopiesOf (id : ℕ) (lines : List FrameLine) (report : LinkReport) : 
   pub skew_sum : report.skew_sum ≡ saturated (total_of (skews id lines))
   pub skew_greatest : report.skew_greatest ≡ greatest_of (skews id lines)
   pub within : greatest_of (skews id lines) ≤ report.skew_max
-  pub classes : CountsClasses (skews id lines) report.classes.counts.items
 
 -- each copy has a skew
-pub skews_count : (id : ℕ) (lines : List FrameLine) → length (skews id lines) ≡ copy_count id lines
-skews_count id [] = refl
-skews_count id (line ∷ lines) =
-    at (is_seen_of id line && is_copy line) (skew_after id line lines)
-    ∙ ap (λ n. cond (is_seen_of id line && is_copy line) 1 0 + n) (skews_count id lines)
-    ∙ sym (count_cons (λ l. is_seen_of id l && is_copy l) line lines (cond (is_seen_of id line && is_copy line) 1 0) refl)
-  where
-    at : (b : Bool) (skew : ℕ) → length (cons_option (if b then Some skew else None) (skews id lines)) ≡ cond b 1 0 + length (skews id lines)
-    at true skew = omega arith
-    at false skew = omega arith
-
-copies_own : (id : ℕ) (line : FrameLine) (lines : List FrameLine) (at : Moment) (skew : ℕ) (says : Bool) (old new : LinkReport) →
+copies_own : (id : ℕ) (line : FrameLine) (lines : List FrameLine) (skew : ℕ) (says : Bool) (old new : LinkReport) →
     is_seen_of id line ≡ true → is_copy line ≡ says →
-    length lines < 2 ^ 34 → skew ≡ skew_after id line lines → NotesCopyWhere says at skew old new → CopiesOf id lines old →
+    length lines < 2 ^ 34 → skew ≡ skew_after id line lines → NotesCopyWhere says skew old new → CopiesOf id lines old →
     CopiesOf id (line ∷ lines) new
-copies_own id line lines at skew true old new on says few same notes h =
+copies_own id line lines skew true old new on says few same notes h =
     let small = count_by-le-length (λ l. is_seen_of id l && is_copy l) lines in
     let test : (is_seen_of id line && is_copy line) ≡ true = and_from (is_seen_of id line) (is_copy line) on says in
     let more = count_cons (λ l. is_seen_of id l && is_copy l) line lines 1 (ap (λ (b : Bool). cond b 1 0) test) in
     let is : skews id (line ∷ lines) ≡ skew_after id line lines ∷ skews id lines =
     ap (λ (b : Bool). cons_option (if b then Some (skew_after id line lines) else None) (skews id lines)) test in
-    let moved = notes.numbers (omega (arith, h.copies, small, few)) in
+    let moved = notes (omega (arith, h.copies, small, few)) in
     record {
       within = subst (λ (xs : List ℕ). greatest_of xs ≤ new.skew_max) (sym is) (omega (arith, h.within, moved.within, moved.skew_max, same));
       copies = moved.copies ∙ omega (arith, more, h.copies);
       skew_sum = moved.skew_sum ∙ omega (arith, h.skew_sum, same) ∙ sym (ap (λ (xs : List ℕ). saturated (total_of xs)) is);
       skew_greatest = moved.skew_greatest ∙ ap (λ n. max n skew) h.skew_greatest ∙ ap (λ n. max (greatest_of (skews id lines)) n) same
           ∙ sym (ap (λ (xs : List ℕ). greatest_of xs) is);
-      classes = subst (λ (xs : List ℕ). CountsClasses xs new.classes.counts.items) (sym is)
-          (subst (λ n. CountsClasses (n ∷ skews id lines) new.classes.counts.items) same
-          (moved.classes (skews id lines) (omega (arith, skews_count id lines, small, few)) h.classes));
     }
-copies_own id line lines at skew false old new on says few same notes h =
+copies_own id line lines skew false old new on says few same notes h =
     let test : (is_seen_of id line && is_copy line) ≡ false = and_right (is_seen_of id line) (is_copy line) says in
     let more = count_cons (λ l. is_seen_of id l && is_copy l) line lines 0 (ap (λ (b : Bool). cond b 1 0) test) in
     let is : skews id (line ∷ lines) ≡ skews id lines =
     ap (λ (b : Bool). cons_option (if b then Some (skew_after id line lines) else None) (skews id lines)) test in
     record {
       within = subst (λ (xs : List ℕ). greatest_of xs ≤ new.skew_max) (sym is)
-          (omega (arith, h.within, ap (λ (c : AllCopies). c.numbers.skew_max) notes));
-      copies = ap (λ (c : AllCopies). c.numbers.copies) notes ∙ omega (arith, more, h.copies);
-      skew_sum = ap (λ (c : AllCopies). c.numbers.skew_sum) notes ∙ h.skew_sum ∙ sym (ap (λ (xs : List ℕ). saturated (total_of xs)) is);
-      skew_greatest = ap (λ (c : AllCopies). c.numbers.skew_greatest) notes ∙ h.skew_greatest ∙ sym (ap (λ (xs : List ℕ). greatest_of xs) is);
-      classes = subst (λ (xs : List ℕ). CountsClasses xs new.classes.counts.items) (sym is)
-          (subst (CountsClasses (skews id lines)) (sym (ap (λ (c : AllCopies). c.numbers.classes) notes)) h.classes);
+          (omega (arith, h.within, ap (λ (c : CopyNumbers). c.skew_max) notes));
+      copies = ap (λ (c : CopyNumbers). c.copies) notes ∙ omega (arith, more, h.copies);
+      skew_sum = ap (λ (c : CopyNumbers). c.skew_sum) notes ∙ h.skew_sum ∙ sym (ap (λ (xs : List ℕ). saturated (total_of xs)) is);
+      skew_greatest = ap (λ (c : CopyNumbers). c.skew_greatest) notes ∙ h.skew_greatest ∙ sym (ap (λ (xs : List ℕ). greatest_of xs) is);
     }
 
 -- the latest delivery of each number, with a line of the link
@@ -209,7 +190,6 @@ link_other row line lines report off h = record {
   skew_sum = h.skew_sum ∙ sym (ap (λ (xs : List ℕ). saturated (total_of xs)) (skews_other row.id line lines off));
   skew_greatest = h.skew_greatest ∙ sym (ap (λ (xs : List ℕ). greatest_of xs) (skews_other row.id line lines off));
   within = subst (λ (xs : List ℕ). greatest_of xs ≤ row.skew_max) (sym (skews_other row.id line lines off)) h.within;
-  classes = subst (λ (xs : List ℕ). CountsClasses xs report.classes.counts.items) (sym (skews_other row.id line lines off)) h.classes;
   latest = λ number. h.latest number ∙ sym (ap (λ (o : Option FrameLine). option_map spot_of o) (latest_other row.id number line lines off));
   fates_are = fates_other (pairing_rules row) line lines report off h.fates_are;
   a = subst (λ (ls : List LaneLine). StandsAfter (lane_rules row) ls report.lanes.a)
@@ -386,8 +366,8 @@ link_more row line lines number at networks old new few delivers copies latest f
 
     own_copies : CopiesOf row.id (line ∷ lines) new
     own_copies =
-        copies_own row.id line lines at (skew_in old number at.place.stamp) (is_copy line) old new seen refl few skew_same copies
-        (record { copies = h.copies; skew_sum = h.skew_sum; skew_greatest = h.skew_greatest; within = subst (λ n. greatest_of (skews row.id lines) ≤ n) (sym bound) h.within; classes = h.classes })
+        copies_own row.id line lines (skew_in old number at.place.stamp) (is_copy line) old new seen refl few skew_same copies
+        (record { copies = h.copies; skew_sum = h.skew_sum; skew_greatest = h.skew_greatest; within = subst (λ n. greatest_of (skews row.id lines) ≤ n) (sym bound) h.within })
 
     own_within : greatest_of (skews row.id (line ∷ lines)) ≤ row.skew_max
     own_within = subst (λ n. greatest_of (skews row.id (line ∷ lines)) ≤ n) (ap (λ (r : Row). r.skew_max) is ∙ bound) own_copies.within
@@ -430,7 +410,6 @@ link_more row line lines number at networks old new few delivers copies latest f
       skew_sum = own_copies.skew_sum;
       skew_greatest = own_copies.skew_greatest;
       within = own_within;
-      classes = own_copies.classes;
       latest = own_latest;
       fates_are = own_fates;
       a = lane_more row A line lines number at old.lanes.a new.lanes.a networks.a (own_line A here refl) sequence moment.place are.a
@@ -445,7 +424,6 @@ link_more row line lines number at networks old new few delivers copies latest f
       skew_sum = own_copies.skew_sum;
       skew_greatest = own_copies.skew_greatest;
       within = own_within;
-      classes = own_copies.classes;
       latest = own_latest;
       fates_are = own_fates;
       a = stays A old.lanes.a new.lanes.a (other_line A B here refl) other h.a;

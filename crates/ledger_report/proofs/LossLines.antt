@@ -1,5 +1,5 @@
 -- One more line of the ledger, for the numbers that neither network of a link brought.
-use Rattle.std.proofs.Common.{◌≡◌, ◌∙◌, ℕ, ◌+◌, ◌-◌, ◌*◌, ◌<◌, ◌≤◌, ◌==◌, Bool, true, false, ◌&&◌, ◌⊎◌, inl, inr, nat_le, nat_lt, cond, List, [], ◌∷◌, filter, set, Option, Some, None, if◌then◌else◌, refl, sym, ap, subst, arith, get_or-set_other, length-set}
+use Rattle.std.proofs.Common.{◌≡◌, ◌∙◌, ℕ, ◌+◌, ◌-◌, ◌*◌, ◌<◌, ◌≤◌, ◌==◌, Bool, true, false, ◌&&◌, ◌⊎◌, inl, inr, nat_le, nat_lt, cond, List, [], ◌∷◌, filter, set, Option, Some, None, unwrap_or, if◌then◌else◌, refl, sym, ap, subst, arith, get_or-set_other, length-set}
 use Rattle.std.specs.List.{last_or}
 use Rattle.std.specs.Option.{option_map, option_map_or}
 use Rattle.std.proofs.lemmas.Bool.{and_from, and_left, and_parts, and_right, cases_lt, eqb-false, eqb-true, leb-true, le-ltb, lt-ltb}
@@ -8,9 +8,10 @@ use Rattle.afdx_frame.specs.declared.key.Network.TheVariants.{A, B}
 use Rattle.ledger_text.specs.declared.frame.FrameLine.{FrameLine}
 use Rattle.ledger_report.specs.Both.{side_of}
 use Rattle.ledger_report.specs.Fates.{has_number}
-use Rattle.ledger_report.specs.Lanes.{StandsAfter}
-use Rattle.ledger_report.specs.LinkLines.{is_lane_line, lane_lines, place_of}
-use Rattle.ledger_report.specs.LinkMarks.{counted_in}
+use Rattle.ledger_report.specs.LaneLines.{numbering_since}
+use Rattle.ledger_report.specs.LaneParts.{counted_in}
+use Rattle.ledger_report.specs.Lanes.{StandsAfter, newest}
+use Rattle.ledger_report.specs.LinkLines.{is_after_silence, is_lane_line, lane_line, lane_lines, place_of}
 use Rattle.ledger_report.specs.Links.{IsLinkOf, Row, lane_rules, row_in}
 use Rattle.ledger_report.specs.Losses.{AreRoom, IsRoom, KeepsLosses, Losses, LosesAt, MovesLosses, NotesLosses, both_passed, both_with, first_with, held_at, is_lost_within, losses_in, losses_on, no_losses, passes, with_seen, without_seen}
 use Rattle.ledger_report.specs.LostBoth.{HasLosses, both_at, both_count, first_both, is_lost_both, loses, lost_since, said_at, sees, window_of}
@@ -32,8 +33,29 @@ use Rattle.ledger_report.specs.declared.moment.Place.{Place}
 use Rattle.ledger_report.specs.declared.network.NetworkReport.{NetworkReport}
 use Rattle.ledger_report.specs.declared.sides.Sides.{Sides}
 use Rattle.ledger_report.proofs.FateCounts.{count_none, count_same}
-use Rattle.ledger_report.proofs.LinkMarkSteps.{counted_same}
+use Rattle.ledger_report.proofs.LinkSteps.{seen_after}
 use Rattle.ledger_report.proofs.LossSteps.{unset}
+
+-- a line of the lane, by its number
+counted_same : (row : Row) (network : Network) (line : FrameLine) (lines : List FrameLine) (number : ℕ) (at : Moment) (lane : Lane) (report : NetworkReport)
+    (integrity : Bool) → integrity ≡ row.integrity → line.sequence ≡ Some number → at.place ≡ place_of line → IsNetworkOf network (line ∷ lines) report →
+    StandsAfter (lane_rules row) (lane_lines row.id network lines) lane →
+    counted_in integrity lane (seen_line lane report line number at)
+    ≡ counted_numbering (is_after_silence row.id network (record { line = line; before = lines }))
+    (numbering_since row.integrity (option_map (λ (l : LaneLine). l.number) (newest (lane_lines row.id network lines)))
+    (lane_line row.id network (record { line = line; before = lines })))
+counted_same row network line lines number at lane report integrity on sequence place is h =
+    ap (λ (b : Bool). counted_numbering b (if integrity then numbering_of lane.previous number else Follows)) (seen_after row.id network line lines lane (lane_rules row) report is h)
+    ∙ ap (λ (n : Numbering). counted_numbering (is_after_silence row.id network (record { line = line; before = lines })) n)
+    (ap (λ (b : Bool). if b then numbering_of lane.previous number else Follows) on ∙ where_on row.integrity h.previous)
+  where
+    before : Option ℕ
+    before = option_map (λ (l : LaneLine). l.number) (newest (lane_lines row.id network lines))
+
+    where_on : (b : Bool) → lane.previous ≡ (if b then before else None) →
+        (if b then numbering_of lane.previous number else Follows) ≡ (if b then numbering_of before (unwrap_or line.sequence 0) else Follows)
+    where_on true same = ap (λ (o : Option ℕ). numbering_of o number) same ∙ ap (λ (o : Option ℕ). numbering_of before (unwrap_or o 0)) (sym sequence)
+    where_on false same = refl
 
 -- ---- what a line's note does
 
@@ -93,6 +115,14 @@ notes_losses line number at networks seen numbering old noted numbered new seen_
     (subst (λ (l : Losses). LosesAt (passes (counted_in old.integrity (side_of at.network old.lanes) taken)) at (window_in old) l (losses_in numbered)) mid
     (subst (λ (r : Row). LosesAt (passes (counted_in old.integrity (side_of at.network old.lanes) taken)) at (saturated (r.bag * 127)) (losses_in noted) (losses_in numbered)) row
     (subst (λ (n : Numbering). LosesAt (passes n) at (window_in noted) (losses_in noted) (losses_in numbered)) says moved)))
+
+-- what comes after that keeps the losses
+pub notes_losses_then : (line : FrameLine) (number : ℕ) (at : Moment) (networks : Sides NetworkReport) (old mid new : LinkReport) →
+    losses_in new ≡ losses_in mid → NotesLosses line number at networks old mid → NotesLosses line number at networks old new
+notes_losses_then line number at networks old mid new same h room =
+    subst (λ (l : Losses). LosesAt (passes (counted_in old.integrity (side_of at.network old.lanes)
+    (seen_line (side_of at.network old.lanes) (side_of at.network networks) line number at))) at (window_in old)
+    (with_seen old.integrity at.network number (losses_in old)) l) (sym same) (h room)
 
 -- a line that passes over none
 pub loses_none : (passed : ℕ → Bool) (at : Moment) (window : ℕ) (losses : Losses) → ((number : ℕ) → passed number ≡ false) → AreRoom losses →

@@ -3,18 +3,13 @@ use Rattle.std.proofs.Common.{◌≡◌, ◌≢◌, ◌∙◌, ℕ, zero, suc, �
 use Rattle.std.proofs.Math.ListN.{replicate}
 use Rattle.std.proofs.lemmas.Bool.{and_right, cases_lt, eqb-false, eqb-true, le-leb, lt-leb, ne_eqb}
 use Rattle.integrity.specs.Sequence.{next_number}
-use Rattle.ledger_report.specs.Fates.{count_below}
 use Rattle.ledger_report.specs.LaneLines.{one_where}
 use Rattle.ledger_report.specs.Losses.{IsRoom, MovesLosses, both_passed, held_at, is_lost_within, is_passed, without_seen}
 use Rattle.ledger_report.specs.Numbers.{distance, steps_to}
 use Rattle.ledger_report.specs.Sums.{saturated}
-use Rattle.ledger_report.proofs.Distances.{distance-over, distance-up}
-use Rattle.ledger_report.proofs.FateCounts.{count_none, count_same}
+use Rattle.ledger_report.proofs.Distances.{by_test, distance-over, distance-up}
+use Rattle.ledger_report.proofs.FateCounts.{count_moved, count_none}
 use Rattle.ledger_report.proofs.FateLines.{count_small}
-
-by_test : (b : Bool) (P : Type 0) → (b ≡ true → P) → (b ≡ false → P) → P
-by_test true P f g = f refl
-by_test false P f g = g refl
 
 -- ---- the number after so many steps
 
@@ -108,27 +103,6 @@ passed_same previous missing number differ = at (cases_lt missing (distance prev
         let one : nat_le (distance previous number) (missing + 1) ≡ true = le-leb (distance previous number) (missing + 1) (omega (arith, few)) in
         let two : nat_le (distance previous number) missing ≡ true = le-leb (distance previous number) missing few in
         ap (λ (b : Bool). nat_le 1 (distance previous number) && b) (one ∙ sym two)
-
--- ---- counts
-
--- one of them changes
-count_moved : (p q : ℕ → Bool) (bound m : ℕ) → m < bound → ((n : ℕ) → n < bound → (n == m) ≡ false → q n ≡ p n) →
-    count_below q bound + one_where (p m) ≡ count_below p bound + one_where (q m)
-unfolding count_below
-count_moved p q zero m within others = absurd (omega (arith, within))
-count_moved p q (suc n) m within others = at (n == m) refl (λ less. count_moved p q n m less (λ k below. others k (omega (arith, below))))
-  where
-    at : (b : Bool) → (n == m) ≡ b → (m < n → count_below q n + one_where (p m) ≡ count_below p n + one_where (q m)) →
-        count_below q n + one_where (q n) + one_where (p m) ≡ count_below p n + one_where (p n) + one_where (q m)
-    at true here before =
-        let one : n ≡ m = eqb-true n m here in
-        let below = count_same p q n (λ k less. others k (omega (arith, less)) (ne_eqb k m (omega (arith, less, one)))) in
-        let was = ap (λ k. one_where (p k)) one in
-        let now = ap (λ k. one_where (q k)) one in
-        omega (arith, below, was, now)
-    at false there before =
-        let same = ap one_where (others n (omega arith) there) in
-        omega (arith, before (omega (arith, within, eqb-false n m there)), same)
 
 -- ---- a loop over the numbers that are passed over
 

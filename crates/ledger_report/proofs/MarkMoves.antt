@@ -1,10 +1,12 @@
 -- One more hit of a sign, among the marks of all signs.
-use Rattle.std.proofs.Common.{◌≡◌, ℕ, zero, suc, ◌<◌, ◌==◌, nat_lt, Option, Some, None, Bool, true, false, List, ◌∷◌, length, get_or, set, if◌then◌else◌, refl, sym, ap, ◌∙◌, subst, arith, get_or-set_same, get_or-set_other}
+use Rattle.std.proofs.Common.{◌≡◌, ℕ, zero, suc, ◌+◌, ◌<◌, ◌≤◌, ◌==◌, ◌⊎◌, inl, inr, [], ◌++◌, nat_lt, Option, Some, None, Bool, true, false, List, ◌∷◌, length, get_or, set, if◌then◌else◌, refl, sym, ap, ◌∙◌, subst, arith, get_or-set_same, get_or-set_other}
 use Rattle.std.specs.List.{cons_option}
-use Rattle.std.proofs.lemmas.Bool.{eqb-true, eqb-false, lt-ltb}
+use Rattle.std.proofs.Math.ListN.{get_or-append}
+use Rattle.std.proofs.Math.Seq.{get_or-append_seam}
+use Rattle.std.proofs.lemmas.Bool.{cases_lt, eqb-true, eqb-false, lt-ltb}
 use Rattle.ledger_report.specs.Extremes.{Hit}
 use Rattle.ledger_report.specs.Places.{IsMarkOf}
-use Rattle.ledger_report.specs.LaneLines.{early_amount, hit_of, is_out_after_silence, is_rule, lead_of, number_amount, one_where, rule_amount}
+use Rattle.ledger_report.specs.LaneLines.{early_amount, hit_of, is_out_after_silence, is_rule, number_amount, one_where, rule_amount}
 use Rattle.ledger_report.specs.LaneParts.{TakesAmounts}
 use Rattle.ledger_report.specs.Marks.{HasHits, KeepsHits, KeepsOthers, TakesHit, hits_with, sign_index}
 use Rattle.ledger_report.specs.declared.lane.LaneLine.{LaneLine}
@@ -68,102 +70,42 @@ amounts_none amounts place signs are other hits has =
 
 -- ---- which signs
 
+-- what is so of each sign is so of all
+each_sign : (P : Sign → Type 0) → P Cut → P Runt → P Oversize → P Foreign → P Unconfigured → P TooLong → P Excess
+    → P Out → P Lost → P Repeat → P Reset → P Alone → P Late → P Early → (sign : Sign) → P sign
+each_sign P a b c d e f g h i j k l m n Cut = a
+each_sign P a b c d e f g h i j k l m n Runt = b
+each_sign P a b c d e f g h i j k l m n Oversize = c
+each_sign P a b c d e f g h i j k l m n Foreign = d
+each_sign P a b c d e f g h i j k l m n Unconfigured = e
+each_sign P a b c d e f g h i j k l m n TooLong = f
+each_sign P a b c d e f g h i j k l m n Excess = g
+each_sign P a b c d e f g h i j k l m n Out = h
+each_sign P a b c d e f g h i j k l m n Lost = i
+each_sign P a b c d e f g h i j k l m n Repeat = j
+each_sign P a b c d e f g h i j k l m n Reset = k
+each_sign P a b c d e f g h i j k l m n Alone = l
+each_sign P a b c d e f g h i j k l m n Late = m
+each_sign P a b c d e f g h i j k l m n Early = n
+
 pub early_some : (bound interval : ℕ) (other : Sign) → interval < bound →
     early_amount bound (Some interval) other ≡ (if sign_index Early == sign_index other then 1 else 0)
-early_some bound interval Early less = let e : nat_lt interval bound ≡ true = lt-ltb interval bound less in rw e refl
-early_some bound interval Cut less = refl
-early_some bound interval Runt less = refl
-early_some bound interval Oversize less = refl
-early_some bound interval Foreign less = refl
-early_some bound interval Unconfigured less = refl
-early_some bound interval TooLong less = refl
-early_some bound interval Excess less = refl
-early_some bound interval Out less = refl
-early_some bound interval Lost less = refl
-early_some bound interval Repeat less = refl
-early_some bound interval Reset less = refl
-early_some bound interval Alone less = refl
-early_some bound interval Late less = refl
-
-pub early_none : (bound : ℕ) (interval : Option ℕ) (other : Sign) → lead_of bound interval ≡ None → early_amount bound interval other ≡ 0
-early_none bound interval Early none = rw none refl
-early_none bound interval Cut none = refl
-early_none bound interval Runt none = refl
-early_none bound interval Oversize none = refl
-early_none bound interval Foreign none = refl
-early_none bound interval Unconfigured none = refl
-early_none bound interval TooLong none = refl
-early_none bound interval Excess none = refl
-early_none bound interval Out none = refl
-early_none bound interval Lost none = refl
-early_none bound interval Repeat none = refl
-early_none bound interval Reset none = refl
-early_none bound interval Alone none = refl
-early_none bound interval Late none = refl
+early_some bound interval other less =
+    let e : nat_lt interval bound ≡ true = lt-ltb interval bound less in
+    each_sign (λ sign. early_amount bound (Some interval) sign ≡ (if sign_index Early == sign_index sign then 1 else 0))
+    refl refl refl refl refl refl refl refl refl refl refl refl refl (rw e refl) other
 
 pub follows_amount : (other : Sign) → number_amount Follows other ≡ 0
-follows_amount Cut = refl
-follows_amount Runt = refl
-follows_amount Oversize = refl
-follows_amount Foreign = refl
-follows_amount Unconfigured = refl
-follows_amount TooLong = refl
-follows_amount Excess = refl
-follows_amount Out = refl
-follows_amount Lost = refl
-follows_amount Repeat = refl
-follows_amount Reset = refl
-follows_amount Alone = refl
-follows_amount Late = refl
-follows_amount Early = refl
+follows_amount = each_sign (λ sign. number_amount Follows sign ≡ 0) refl refl refl refl refl refl refl refl refl refl refl refl refl refl
 
 pub restarts_amount : (other : Sign) → number_amount Restarts other ≡ (if sign_index Reset == sign_index other then 1 else 0)
-restarts_amount Cut = refl
-restarts_amount Runt = refl
-restarts_amount Oversize = refl
-restarts_amount Foreign = refl
-restarts_amount Unconfigured = refl
-restarts_amount TooLong = refl
-restarts_amount Excess = refl
-restarts_amount Out = refl
-restarts_amount Lost = refl
-restarts_amount Repeat = refl
-restarts_amount Reset = refl
-restarts_amount Alone = refl
-restarts_amount Late = refl
-restarts_amount Early = refl
+restarts_amount = each_sign (λ sign. number_amount Restarts sign ≡ (if sign_index Reset == sign_index sign then 1 else 0)) refl refl refl refl refl refl refl refl refl refl refl refl refl refl
 
 pub repeats_amount : (other : Sign) → number_amount Repeats other ≡ (if sign_index Repeat == sign_index other then 1 else 0)
-repeats_amount Cut = refl
-repeats_amount Runt = refl
-repeats_amount Oversize = refl
-repeats_amount Foreign = refl
-repeats_amount Unconfigured = refl
-repeats_amount TooLong = refl
-repeats_amount Excess = refl
-repeats_amount Out = refl
-repeats_amount Lost = refl
-repeats_amount Repeat = refl
-repeats_amount Reset = refl
-repeats_amount Alone = refl
-repeats_amount Late = refl
-repeats_amount Early = refl
+repeats_amount = each_sign (λ sign. number_amount Repeats sign ≡ (if sign_index Repeat == sign_index sign then 1 else 0)) refl refl refl refl refl refl refl refl refl refl refl refl refl refl
 
 pub skips_amount : (previous missing : ℕ) (other : Sign) → number_amount (Skips previous missing) other ≡ (if sign_index Lost == sign_index other then missing else 0)
-skips_amount previous missing Cut = refl
-skips_amount previous missing Runt = refl
-skips_amount previous missing Oversize = refl
-skips_amount previous missing Foreign = refl
-skips_amount previous missing Unconfigured = refl
-skips_amount previous missing TooLong = refl
-skips_amount previous missing Excess = refl
-skips_amount previous missing Out = refl
-skips_amount previous missing Lost = refl
-skips_amount previous missing Repeat = refl
-skips_amount previous missing Reset = refl
-skips_amount previous missing Alone = refl
-skips_amount previous missing Late = refl
-skips_amount previous missing Early = refl
+skips_amount previous missing = each_sign (λ sign. number_amount (Skips previous missing) sign ≡ (if sign_index Lost == sign_index sign then missing else 0)) refl refl refl refl refl refl refl refl refl refl refl refl refl refl
 
 -- ---- rules
 
@@ -180,6 +122,19 @@ rule_none line other is none = rule_of-line line false None other is none
 pub rule_some : (line : LaneLine) (rule other : Sign) → is_out_after_silence line ≡ false → line.rule ≡ Some rule →
     rule_amount line other ≡ (if sign_index rule == sign_index other then 1 else 0)
 rule_some line rule other is some = rule_of-line line false (Some rule) other is some
+
+-- ---- among so many marks
+
+pub mark_pushed : (P : Mark → Type 0) (marks : List Mark) (mark : Mark) (count : ℕ) → length marks ≡ count →
+    ((k : ℕ) (none : Mark) → k < count → P (get_or marks k none)) → P mark → (k : ℕ) (none : Mark) → k < count + 1 →
+    P (get_or (marks ++ (mark ∷ [])) k none)
+mark_pushed P marks mark count long all own k none less = at (cases_lt k count)
+  where
+    at : (k < count) ⊎ (count ≤ k) → P (get_or (marks ++ (mark ∷ [])) k none)
+    at (inl below) = subst P (sym (get_or-append marks (mark ∷ []) none k (omega (arith, below, long)))) (all k none below)
+    at (inr from) =
+        let here : k ≡ length marks = omega (arith, from, less, long) in
+        subst P (sym (ap (λ n. get_or (marks ++ (mark ∷ [])) n none) here ∙ get_or-append_seam marks mark [] none)) own
 
 -- ---- late deliveries
 

@@ -50,10 +50,6 @@ silences_off : (network : Network) (line : FrameLine) (lines : List FrameLine) �
     silences network (line ∷ lines) ≡ silences network lines
 silences_off network line lines off = rw off refl
 
-silences_quiet : (network : Network) (line : FrameLine) (lines : List FrameLine) → is_on network line ≡ true → is_silent network (record { line = line; before = lines }) ≡ false →
-    silences network (line ∷ lines) ≡ silences network lines
-silences_quiet network line lines on quiet = rw (on, quiet) refl
-
 silences_more : (network : Network) (line : FrameLine) (lines : List FrameLine) → is_on network line ≡ true → is_silent network (record { line = line; before = lines }) ≡ true →
     silences network (line ∷ lines) ≡ silence_before network (record { line = line; before = lines }) ∷ silences network lines
 silences_more network line lines on silent = rw (on, silent) refl
@@ -65,11 +61,6 @@ same_silences network line lines old new same items more h = record {
   kept = items ∙ h.kept ∙ sym (ap (λ (xs : List Silence). take 1024 (reverse xs)) same);
   more = more ∙ h.more ∙ sym (ap (λ (xs : List Silence). length xs - 1024) same);
 }
-
-pub quiet_silences : (network : Network) (line : FrameLine) (lines : List FrameLine) (report : NetworkReport) → is_on network line ≡ true →
-    is_silent network (record { line = line; before = lines }) ≡ false → HasSilences network lines report → HasSilences network (line ∷ lines) report
-quiet_silences network line lines report on quiet h =
-    same_silences network line lines report report (silences_quiet network line lines on quiet) refl refl h
 
 take_full : (x : Silence) (xs : List Silence) → 1024 ≤ length xs → take 1024 (reverse (x ∷ xs)) ≡ take 1024 (reverse xs)
 take_full x xs full =

@@ -1,5 +1,5 @@
 -- How many deliveries pend, from one number on.
-use Rattle.std.proofs.Common.{◌≡◌, ℕ, ◌+◌, ◌<◌, ◌≤◌, ◌⊎◌, inl, inr, List, length, drop, get_or, Option, None, refl, ap, arith}
+use Rattle.std.proofs.Common.{◌≡◌, ℕ, ◌+◌, ◌<◌, ◌≤◌, ◌⊎◌, inl, inr, List, length, drop, get_or, Option, None, ap, arith}
 use Rattle.std.proofs.lemmas.Bool.{cases_lt}
 use Rattle.std.proofs.lemmas.List.{drop_all, get_or_past}
 use Rattle.std.proofs.lemmas.List.Sums.{sum_by-drop_more}
@@ -19,9 +19,3 @@ pending-drop xs i = at (cases_lt i (length xs))
         let next = none_left xs (i + 1) (omega (arith, past)) in
         let none = ap pends (get_or_past xs i None past) in
         omega (arith, here, next, none)
-
-pub pending-none : (xs : List (Option Delivery)) (i : ℕ) → length xs ≤ i → pending (drop i xs) ≡ 0
-pending-none xs i past = none_left xs i past
-
-pub pending-all : (xs : List (Option Delivery)) → pending (drop 0 xs) ≡ pending xs
-pending-all xs = refl

@@ -16,49 +16,34 @@ use Rattle.ledger_text.specs.declared.reader.LedgerReader.{LedgerReader}
 use Rattle.ledger_text.specs.declared.reader.LedgerStop.{LedgerStop}
 use Rattle.ledger_text.proofs.Ledgers.{found_one_more, frame_lines_one_more}
 use Rattle.pcap_io.specs.declared.device.TapSource.{Ghosts as SourceMembers}
-use Rattle.ledger_report.specs.Absent.{GainAbsences}
-use Rattle.ledger_report.specs.AloneBins.{HasAloneBins, HasAloneSums, bins_of}
 use Rattle.ledger_report.specs.AloneLines.{HasAlone}
-use Rattle.ledger_report.specs.AloneSums.{AllFit, KeepsSums, NetworksAreAlone, SumsAlone}
 use Rattle.ledger_report.specs.Counting.{AreCountsOf}
+use Rattle.ledger_report.specs.LinkMarks.{AddsLanes}
+use Rattle.ledger_report.specs.SignSums.{HasSignsOf, KeepEachLosses}
+use Rattle.ledger_report.specs.Span.{HasSpan, KeepsPlaces}
+use Rattle.ledger_report.proofs.NetworkMarks.{networks_told}
+use Rattle.afdx_frame.specs.declared.key.Network.TheVariants.{A, B}
 use Rattle.ledger_report.specs.Keeping.{KeepsAccount}
-use Rattle.ledger_report.specs.LaneSeries.{AllLanesKeep, HasLaneBins}
-use Rattle.ledger_report.specs.LinkMarks.{KeepLinkMarks}
-use Rattle.ledger_report.specs.MarkLines.{HasMarks}
-use Rattle.ledger_report.specs.NetworkSeries.{HasBins, KeepTimes}
 use Rattle.ledger_report.specs.Noting.{IsAccountOf}
-use Rattle.ledger_report.specs.Copies.{skews}
 use Rattle.ledger_report.specs.CountsLines.{HasCounted}
 use Rattle.ledger_report.specs.Reading.{HasNoted, HasRead, TellsLedger, report_of}
 use Rattle.ledger_report.specs.Holding.{EndAlone, HoldsAlone}
 use Rattle.ledger_report.specs.Settling.{GainFates, HaveFates}
-use Rattle.ledger_report.specs.Deliveries.{is_copy, is_deliver}
+use Rattle.ledger_report.specs.Deliveries.{is_deliver}
 use Rattle.ledger_report.specs.Links.{AreEach, AreLinksOf, HasMet, HasOpen, pairing_rules, row_of}
 use Rattle.ledger_report.specs.OutsideLines.{IsOutsideOf}
 use Rattle.ledger_report.specs.Words.{is_seen_of}
-use Rattle.ledger_report.specs.SignSums.{HasSignsOf, KeepsSigns}
-use Rattle.ledger_report.specs.SkewMedians.{GainMedians}
-use Rattle.ledger_report.specs.SkewSeries.{AllSkewsKeep, HasSkewBins}
-use Rattle.ledger_report.specs.Span.{HasSpan, KeepsSpan}
 use Rattle.ledger_report.specs.declared.link.LinkReport.{LinkReport}
 use Rattle.std.proofs.lemmas.List.Sums.{count_by-le-length}
 use Rattle.ledger_report.specs.declared.counts.FrameCounts.{FrameCounts}
 use Rattle.ledger_report.specs.declared.counts_lines.CountsLines.{CountsLines}
 use Rattle.ledger_report.specs.declared.statistics.Statistics.{Statistics}
-use Rattle.ledger_report.proofs.BinSteps.{bins_kept, but_skews}
 use Rattle.ledger_report.proofs.FateLines.{all_met, all_open}
-use Rattle.ledger_report.proofs.AloneSumBins.{all_fit, sums_here}
-use Rattle.ledger_report.proofs.AloneTotals.{networks_ended}
 use Rattle.ledger_report.proofs.CountsSteps.{counted_frame}
 use Rattle.ledger_report.proofs.Spans.{span_end, span_kept}
 use Rattle.ledger_report.proofs.AccountSteps.{keeps_links, keeps_networks, link_at}
-use Rattle.ledger_report.proofs.LaneBins.{lane_bins_kept}
-use Rattle.ledger_report.proofs.MarkLines.{marks_ended}
-use Rattle.ledger_report.proofs.LinkMarkSteps.{keep_hits}
 use Rattle.ledger_report.proofs.HoldAccounts.{links_alone}
-use Rattle.ledger_report.proofs.LinkSteps.{skews_count}
 use Rattle.ledger_report.proofs.SignSteps.{keep_each_losses}
-use Rattle.ledger_report.proofs.SkewBins.{skew_bins_kept}
 use Rattle.ledger_report.proofs.OutsideSteps.{outside_few}
 use Rattle.ledger_text.specs.declared.order.LedgerLine.TheVariants as lines
 use Rattle.ledger_text.specs.declared.order.Stage.TheVariants as stages
@@ -103,16 +88,10 @@ abbrev pub frame_noted : {S : Type 0} (s : SourceMembers S) (bytes : Option (Lis
     (old new : LedgerReader S) (was now : FrameCounts) (before after : Statistics) (counted : CountsLines) (v : FrameLine) → HasNoted s bytes failures links rs old was before counted
     → IsFound (reading_of s.remaining s.failures old) (reading_of s.remaining s.failures new) (lent_of new) (found.Line (lines.Frame v)) → ledger_failed new ≡ false
     → length (frame_lines rs) < MOST_LINES → AreCountsOf (frame_lines rs ++ v ∷ []) now → IsAccountOf links (v ∷ reverse (frame_lines rs)) after
-    → HasSpan (v ∷ reverse (frame_lines rs)) after → AreEach (HoldsAlone None) links (v ∷ reverse (frame_lines rs)) after.links.items
-    → HasSignsOf links (v ∷ reverse (frame_lines rs)) after → SumsAlone None after.links.items after.networks →
-    HasAloneSums (v ∷ reverse (frame_lines rs)) after → HasBins (v ∷ reverse (frame_lines rs)) after
-    → HasAloneBins links (v ∷ reverse (frame_lines rs)) after → HasLaneBins links (v ∷ reverse (frame_lines rs)) after →
-    HasSkewBins links (v ∷ reverse (frame_lines rs)) after →
-    HasMarks links (v ∷ reverse (frame_lines rs)) after
+    → HasSpan (v ∷ reverse (frame_lines rs)) after → AreEach HoldsAlone links (v ∷ reverse (frame_lines rs)) after.links.items
+    → HasSignsOf links (v ∷ reverse (frame_lines rs)) after
     → IsNoting s bytes failures links new now after counted
-frame_noted s bytes failures links rs old new was now before after lines_counted v h is sound few counted account span alone signs sums alone_sums
-    bins alone_bins lane_bins
-    skew_bins mark_bins =
+frame_noted s bytes failures links rs old new was now before after lines_counted v h is sound few counted account span alone signs =
     let more = frame_lines_one_more rs (line_of new (lines.Frame v)) in (
       rs ++ line_of new (lines.Frame v) ∷ [],
       record {
@@ -122,23 +101,10 @@ frame_noted s bytes failures links rs old new was now before after lines_counted
             (sym (ap (λ (vs : List FrameLine). reverse vs) more ∙ reverse-append (frame_lines rs) (v ∷ []))) account;
         span = subst (λ (vs : List FrameLine). HasSpan vs after)
             (sym (ap (λ (vs : List FrameLine). reverse vs) more ∙ reverse-append (frame_lines rs) (v ∷ []))) span;
-        alone = subst (λ (vs : List FrameLine). AreEach (HoldsAlone None) links vs after.links.items)
+        alone = subst (λ (vs : List FrameLine). AreEach HoldsAlone links vs after.links.items)
             (sym (ap (λ (vs : List FrameLine). reverse vs) more ∙ reverse-append (frame_lines rs) (v ∷ []))) alone;
         signs = subst (λ (vs : List FrameLine). HasSignsOf links vs after)
             (sym (ap (λ (vs : List FrameLine). reverse vs) more ∙ reverse-append (frame_lines rs) (v ∷ []))) signs;
-        sums = sums;
-        alone_sums = subst (λ (vs : List FrameLine). HasAloneSums vs after)
-            (sym (ap (λ (vs : List FrameLine). reverse vs) more ∙ reverse-append (frame_lines rs) (v ∷ []))) alone_sums;
-        alone_bins = subst (λ (vs : List FrameLine). HasAloneBins links vs after)
-            (sym (ap (λ (vs : List FrameLine). reverse vs) more ∙ reverse-append (frame_lines rs) (v ∷ []))) alone_bins;
-        skew_bins = subst (λ (vs : List FrameLine). HasSkewBins links vs after)
-            (sym (ap (λ (vs : List FrameLine). reverse vs) more ∙ reverse-append (frame_lines rs) (v ∷ []))) skew_bins;
-        lane_bins = subst (λ (vs : List FrameLine). HasLaneBins links vs after)
-            (sym (ap (λ (vs : List FrameLine). reverse vs) more ∙ reverse-append (frame_lines rs) (v ∷ []))) lane_bins;
-        mark_bins = subst (λ (vs : List FrameLine). HasMarks links vs after)
-            (sym (ap (λ (vs : List FrameLine). reverse vs) more ∙ reverse-append (frame_lines rs) (v ∷ []))) mark_bins;
-        bins = subst (λ (vs : List FrameLine). HasBins vs after)
-            (sym (ap (λ (vs : List FrameLine). reverse vs) more ∙ reverse-append (frame_lines rs) (v ∷ []))) bins;
         counted_are = subst (λ (qs : List ReadLine). HasCounted links qs lines_counted) (sym (reverse-append rs (line_of new (lines.Frame v) ∷ [])))
             (counted_frame links (reverse rs) lines_counted (lent_of new) v h.counted_are);
         few = omega (arith, few, ap (λ (vs : List FrameLine). length vs) more, length-append (frame_lines rs) (v ∷ []));
@@ -158,15 +124,8 @@ other_noted s bytes failures links rs old new counts statistics was now line non
         counts_are = subst (λ (vs : List FrameLine). AreCountsOf vs counts) (sym same) h.counts_are;
         account = subst (λ (vs : List FrameLine). IsAccountOf links (reverse vs) statistics) (sym same) h.account;
         span = subst (λ (vs : List FrameLine). HasSpan (reverse vs) statistics) (sym same) h.span;
-        alone = subst (λ (vs : List FrameLine). AreEach (HoldsAlone None) links (reverse vs) statistics.links.items) (sym same) h.alone;
+        alone = subst (λ (vs : List FrameLine). AreEach HoldsAlone links (reverse vs) statistics.links.items) (sym same) h.alone;
         signs = subst (λ (vs : List FrameLine). HasSignsOf links (reverse vs) statistics) (sym same) h.signs;
-        sums = h.sums;
-        alone_sums = subst (λ (vs : List FrameLine). HasAloneSums (reverse vs) statistics) (sym same) h.alone_sums;
-        alone_bins = subst (λ (vs : List FrameLine). HasAloneBins links (reverse vs) statistics) (sym same) h.alone_bins;
-        skew_bins = subst (λ (vs : List FrameLine). HasSkewBins links (reverse vs) statistics) (sym same) h.skew_bins;
-        lane_bins = subst (λ (vs : List FrameLine). HasLaneBins links (reverse vs) statistics) (sym same) h.lane_bins;
-        mark_bins = subst (λ (vs : List FrameLine). HasMarks links (reverse vs) statistics) (sym same) h.mark_bins;
-        bins = subst (λ (vs : List FrameLine). HasBins (reverse vs) statistics) (sym same) h.bins;
         counted_are = subst (λ (qs : List ReadLine). HasCounted links qs now) (sym (reverse-append rs (line_of new line ∷ []))) counted;
         few = omega (arith, h.few, ap (λ (vs : List FrameLine). length vs) same);
       },
@@ -196,13 +155,6 @@ ends_noting s bytes failures links rs old counts statistics counted h stop at = 
   span = h.span;
   alone = h.alone;
   signs = h.signs;
-  sums = h.sums;
-  alone_sums = h.alone_sums;
-  bins = h.bins;
-  lane_bins = h.lane_bins;
-  skew_bins = h.skew_bins;
-  alone_bins = h.alone_bins;
-  mark_bins = h.mark_bins;
   counted_are = h.counted_are;
   few = h.few;
 }
@@ -225,15 +177,15 @@ reads_nothing {S = S} s source reader same none (stage, number, sound) = record 
   no_failure = ap (λ (x : S). s.failures x) same;
 }
 
-abbrev pub tells_ledger : (bytes : Option (List ℕ)) (links : List VirtualLink) (counts : FrameCounts) (old new : Statistics) (counted : CountsLines) (stop : Option LedgerStop) → KeepsAccount old new → KeepsSpan old new
-    → GainFates old.links.items new.links.items → GainMedians old.links.items new.links.items →
-    EndAlone old.start old.width old.networks old.links.items new.links.items
-    → KeepsSigns old new → KeepsSums (AllFit old.start old.width old.links.items) old.links.items new.links.items old.networks new.networks
-    → GainAbsences old.networks old.links.items new.links.items → KeepTimes old.networks new.networks
-    → AllLanesKeep old.links.items new.links.items → AllSkewsKeep old.links.items new.links.items →
-    KeepLinkMarks old.networks new.networks → HasRead bytes links stop counts old counted
+abbrev pub tells_ledger : (bytes : Option (List ℕ)) (links : List VirtualLink) (counts : FrameCounts) (old new : Statistics) (counted : CountsLines) (stop : Option LedgerStop) → KeepsAccount old new → KeepsPlaces old new
+    → GainFates old.links.items new.links.items →
+    EndAlone old.networks old.links.items new.links.items
+    → KeepEachLosses old.links.items new.links.items
+    → AddsLanes (length new.links.items) A new.links.items old.networks.a.signs new.networks.a.signs
+    → AddsLanes (length new.links.items) B new.links.items old.networks.b.signs new.networks.b.signs
+    → HasRead bytes links stop counts old counted
     → TellsLedger bytes links (report_of counts new counted stop)
-tells_ledger bytes links counts old new counted stop keeps kept gain middle alone signs sums absent times lane_times skew_times link_kept h =
+tells_ledger bytes links counts old new counted stop keeps kept gain alone losses on_a on_b h =
     let lines = reverse (frame_lines h.rs) in
     let few : length lines ≤ MOST_LINES = omega (arith, h.few, length-reverse (frame_lines h.rs)) in
     let told_met : AreEach HasMet links lines new.links.items =
@@ -245,16 +197,16 @@ tells_ledger bytes links counts old new counted stop keeps kept gain middle alon
     λ i report within. (
     let below : i < length old.links.items = omega (arith, within, keeps.links.0) in
     (gain i report below).0 (h.account.balanced i report below) (few_delivered links lines old.links.items h.account.links_are few i report below)) in
+    let told_links = keeps_links links lines old.links.items new.links.items keeps.links h.account.links_are in
     let told_open : AreEach HasOpen links lines new.links.items =
     λ i link report within. (
     let at : i < length old.links.items = omega (arith, within, h.account.links_are.count) in
     all_open (row_of (get_or links i link)) lines (get_or new.links.items i report)
-    ((keeps_links links lines old.links.items new.links.items keeps.links h.account.links_are).each i link report within)
+    (told_links.each i link report within)
     ((gain i report at).0 (h.account.balanced i report at) (few_delivered links lines old.links.items h.account.links_are few i report at)).0
     (told_met i link report within)) in
-    let told_alone : AreEach (HasAlone (bins_of old.start old.width)) links lines new.links.items =
-    links_alone (bins_of old.start old.width) links lines old new few keeps (refl, h.bins.within) alone h.account.networks_are h.account.links_are
-    told_fates told_open h.alone_bins in record {
+    let told_alone : AreEach HasAlone links lines new.links.items =
+    links_alone links lines old new few keeps alone h.account.networks_are h.account.links_are told_fates told_open h.alone in record {
       rs = h.rs;
       stage = h.stage;
       left = h.left;
@@ -262,39 +214,18 @@ tells_ledger bytes links counts old new counted stop keeps kept gain middle alon
       ends = h.ends;
       counts_are = h.counts_are;
       networks_are = keeps_networks lines old new keeps h.account.networks_are;
-      links_are = keeps_links links lines old.links.items new.links.items keeps.links h.account.links_are;
-      link_marks = keep_hits links lines old.networks new.networks signs.link_marks h.signs.link_marks;
+      marks_are = networks_told links lines new.links.items old.networks new.networks told_links told_alone on_a on_b h.signs.rules;
+      links_are = told_links;
       lost_both = λ i link report within.
-          (keep_each_losses links lines old.links.items new.links.items signs.losses h.signs.losses i link report within).told;
-      absences = λ i link report within. absent i report (omega (arith, within, h.account.links_are.count)) (row_of (get_or links i link)) lines
-          h.account.networks_are.a h.account.networks_are.b (h.signs.runs i link report within);
+          (keep_each_losses links lines old.links.items new.links.items losses h.signs.losses i link report within).told;
       start_is = (span_kept lines old new kept h.span).start;
       end_is = span_end lines new (span_kept lines old new kept h.span);
-      width_is = (span_kept lines old new kept h.span).width;
       counts_told = h.counted_are.told;
       whole_is = h.counted_are.whole_is;
-      series_are = bins_kept lines old new kept (but_skews old.networks new.networks times) h.bins;
-      lane_series_are = lane_bins_kept links lines old new h.account.links_are.count kept lane_times h.lane_bins;
-      skew_series_are = (skew_bins_kept links lines old new h.account.links_are.count kept skew_times times h.skew_bins).links_are;
-      network_skews_are = (skew_bins_kept links lines old new h.account.links_are.count kept skew_times times h.skew_bins).networks_are;
-      marks_are = marks_ended links lines old new h.account.links_are.count kept lane_times link_kept h.mark_bins;
       few_outside = outside_few lines new.outside.items (subst (IsOutsideOf lines) (sym keeps.outside) h.account.outside);
       outside_are = subst (IsOutsideOf lines) (sym keeps.outside) h.account.outside;
       fates = told_fates;
       met_are = told_met;
       open_are = told_open;
-      alone_are = subst (λ n. AreEach (HasAlone (bins_of n new.width)) links lines new.links.items) (sym kept.start)
-          (subst (λ n. AreEach (HasAlone (bins_of old.start n)) links lines new.links.items) (sym kept.width) told_alone);
-      networks_alone = subst (λ n. NetworksAreAlone (bins_of n new.width) links lines new.networks) (sym kept.start)
-          (subst (λ n. NetworksAreAlone (bins_of old.start n) links lines new.networks) (sym kept.width)
-          (networks_ended (bins_of old.start old.width) links lines new.links.items new.networks (keeps.links.0 ∙ h.account.links_are.count)
-          told_alone
-          (sums (bins_of old.start old.width) (all_fit old.start old.width links lines old.links.items h.account.links_are h.bins.within)
-          (sums_here lines old h.alone_sums))));
-      medians = λ i link report within.
-          (let id = (get_or links i link).id.0 in
-          let own = h.account.links_are.each i link report within in
-          let count = skews_count id lines in
-          let small = count_by-le-length (λ line. is_seen_of id line && is_copy line) lines in
-          middle i report (omega (arith, within, h.account.links_are.count)) (skews id lines) (omega (arith, count, small, few)) (own.copies ∙ sym count) own.classes);
+      alone_are = told_alone;
     }

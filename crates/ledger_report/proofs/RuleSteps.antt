@@ -1,42 +1,31 @@
 -- One more line of a network, for the signs of rules.
-use Rattle.std.proofs.Common.{◌≡◌, ℕ, ◌≤◌, ◌==◌, Bool, true, false, cond, List, ◌∷◌, map, filter, take, get_or, set, Option, Some, None, if◌then◌else◌, refl, sym, ap, ◌∙◌, subst}
+use Rattle.std.proofs.Common.{◌≡◌, ◌==◌, Bool, true, false, cond, List, ◌∷◌, filter, get_or, Option, Some, None, if◌then◌else◌, refl, sym, ap, ◌∙◌, subst}
 use Rattle.std.specs.List.{cons_option, filter_map}
-use Rattle.std.proofs.lemmas.List.{get_or-take, map-set, take-set-le}
 use Rattle.std.proofs.Math.ListN.{get_or-map}
 use Rattle.afdx_frame.specs.declared.key.Network.{Network}
 use Rattle.ledger_text.specs.declared.frame.FrameLine.{FrameLine}
-use Rattle.ledger_report.specs.Keeping.{KeepsNetwork, NetworkNumbers, Tally, rule_tallies, tally_of}
+use Rattle.ledger_report.specs.Keeping.{Tally, tallies, tally_of}
 use Rattle.ledger_report.specs.LaneLines.{is_rule}
 use Rattle.ledger_report.specs.LinkLines.{place_of}
-use Rattle.ledger_report.specs.Marks.{HasHits, IsRule, TakesHit, hits_with, mark_at, sign_index}
+use Rattle.ledger_report.specs.Marks.{HasHits, TakesHit, hits_with, mark_at, sign_index}
 use Rattle.ledger_report.specs.RuleMarks.{HasRules, rule_hit, rule_hits}
 use Rattle.ledger_report.specs.Words.{is_on, rule_of}
 use Rattle.ledger_report.specs.declared.moment.Place.{Place}
-use Rattle.ledger_report.specs.declared.network.NetworkReport.{NetworkReport}
 use Rattle.ledger_report.specs.declared.signs.Mark.{Mark}
 use Rattle.ledger_report.specs.declared.signs.Sign.{Sign}
 use Rattle.ledger_report.specs.declared.signs.Signs.{Signs}
 use Rattle.ledger_report.proofs.LinkSteps.{mark_same}
 
--- a mark behind those of rules changes none of them
-pub tallies_set : (marks : List Mark) (index : ℕ) (new : Mark) → 8 ≤ index → take 8 (map tally_of (set marks index new)) ≡ take 8 (map tally_of marks)
-tallies_set marks index new behind =
-    ap (λ (ts : List Tally). take 8 ts) (map-set tally_of marks index new) ∙ take-set-le 8 (map tally_of marks) index (tally_of new) behind
-
 -- ---- what stays
 
-tally_at : (signs : Signs) (sign : Sign) (none : Mark) → IsRule sign → get_or (rule_tallies signs) (sign_index sign) (tally_of none) ≡ tally_of (mark_at signs sign none)
-tally_at signs sign none own =
-    get_or-take 8 (map tally_of signs.marks.items) (sign_index sign) (tally_of none) own ∙ get_or-map tally_of signs.marks.items (sign_index sign) none
+tally_at : (signs : Signs) (sign : Sign) (none : Mark) → get_or (tallies signs) (sign_index sign) (tally_of none) ≡ tally_of (mark_at signs sign none)
+tally_at signs sign none = get_or-map tally_of signs.marks.items (sign_index sign) none
 
-pub rules_same : (network : Network) (lines : List FrameLine) (old new : Signs) → rule_tallies new ≡ rule_tallies old → HasRules network lines old → HasRules network lines new
-rules_same network lines old new same h sign own none =
+pub rules_same : (network : Network) (lines : List FrameLine) (old new : Signs) → tallies new ≡ tallies old → HasRules network lines old → HasRules network lines new
+rules_same network lines old new same h sign none =
     mark_same (mark_at old sign none) (mark_at new sign none) (rule_hits network sign lines)
-    (sym (tally_at new sign none own) ∙ ap (λ (ts : List Tally). get_or ts (sign_index sign) (tally_of none)) same ∙ tally_at old sign none own)
-    (h sign own none)
-
-pub keeps_rules : (network : Network) (lines : List FrameLine) (old new : NetworkReport) → KeepsNetwork old new → HasRules network lines old.signs → HasRules network lines new.signs
-keeps_rules network lines old new is h = rules_same network lines old.signs new.signs (ap (λ (n : NetworkNumbers). n.rules) is) h
+    (sym (tally_at new sign none) ∙ ap (λ (ts : List Tally). get_or ts (sign_index sign) (tally_of none)) same ∙ tally_at old sign none)
+    (h sign none)
 
 -- ---- one more line
 
@@ -75,13 +64,13 @@ hits_more network line lines rule sign place on is at =
 
 pub rules_other : (network : Network) (line : FrameLine) (lines : List FrameLine) (signs : Signs) → is_on network line ≡ false → HasRules network lines signs →
     HasRules network (line ∷ lines) signs
-rules_other network line lines signs off h sign own = subst (HasHits signs sign) (hits_other network line lines sign off) (h sign own)
+rules_other network line lines signs off h sign = subst (HasHits signs sign) (hits_other network line lines sign off) (h sign)
 
 pub rules_none : (network : Network) (line : FrameLine) (lines : List FrameLine) (signs : Signs) → is_on network line ≡ true → rule_of line ≡ None → HasRules network lines signs →
     HasRules network (line ∷ lines) signs
-rules_none network line lines signs on none h sign own = subst (HasHits signs sign) (hits_none network line lines sign on none) (h sign own)
+rules_none network line lines signs on none h sign = subst (HasHits signs sign) (hits_none network line lines sign on none) (h sign)
 
 pub rules_more : (network : Network) (line : FrameLine) (lines : List FrameLine) (rule : Sign) (place : Place) (old new : Signs) → is_on network line ≡ true → rule_of line ≡ Some rule →
     place ≡ place_of line → TakesHit rule (record { place = place; amount = 1 }) old new → HasRules network lines old → HasRules network (line ∷ lines) new
-rules_more network line lines rule place old new on is at takes h sign own =
-    subst (HasHits new sign) (hits_more network line lines rule sign place on is at) (takes sign (rule_hits network sign lines) (h sign own))
+rules_more network line lines rule place old new on is at takes h sign =
+    subst (HasHits new sign) (hits_more network line lines rule sign place on is at) (takes sign (rule_hits network sign lines) (h sign))

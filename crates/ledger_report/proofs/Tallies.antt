@@ -8,6 +8,7 @@ use Rattle.afdx_frame.specs.declared.key.VlId.{VlId}
 use Rattle.ledger_text.specs.declared.frame.FrameLine.{FrameLine}
 use Rattle.ledger_report.specs.Words.{counts_of, link_counts, is_seen, is_seen_of, is_of_id}
 use Rattle.ledger_report.specs.declared.counts.Counts.{Counts}
+use Rattle.ledger_report.proofs.MarkMoves.{by_test}
 
 pub count_by-append_one : {X : Type 0} (p : X → Bool) (xs : List X) (x : X) → count_by p (xs ++ x ∷ []) ≡ count_by p xs + cond (p x) 1 0
 count_by-append_one p xs x =
@@ -28,10 +29,6 @@ pub counted_all : {X : Type 0} (lines : List X) (line : X) (old new : ℕ) → l
 counted_all lines line old new few same more =
     let one = more (omega (arith, same, few)) in
     omega (arith, one, same, length-append lines (line ∷ []))
-
-by_test : (b : Bool) (P : Bool → Type 0) → (b ≡ true → P true) → (b ≡ false → P false) → P b
-by_test true P f g = f refl
-by_test false P f g = g refl
 
 -- ---- the counts of the lines that pass a test
 

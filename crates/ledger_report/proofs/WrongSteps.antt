@@ -1,28 +1,22 @@
 -- What is wrong with a line, by its link's report and by the index of the table's links.
-use Rattle.std.proofs.Common.{◌≡◌, ◌∙◌, ℕ, zero, suc, ◌<◌, ◌≤◌, ◌==◌, nat_lt, Bool, true, false, not, ◌&&◌, cond, if◌then◌else◌, List, [], ◌∷◌, length, get_or, find, Option, Some, None, is_some, is_none, Result, Ok, Err, refl, sym, ap, subst, arith}
+use Rattle.std.proofs.Common.{◌≡◌, ◌∙◌, ℕ, zero, suc, ◌<◌, ◌≤◌, ◌==◌, Bool, true, false, not, ◌&&◌, cond, if◌then◌else◌, List, [], ◌∷◌, length, get_or, find, Option, Some, None, is_some, is_none, Result, Ok, Err, refl, sym, ap, subst, arith}
 use Rattle.std.specs.Option.{option_map, option_map_or}
 use Rattle.std.specs.Result.{IsErrAnd}
 use Rattle.std.proofs.lemmas.Bool.{eq-eqb, ne_eqb}
 use Rattle.afdx_frame.specs.declared.key.Key.{Key}
-use Rattle.afdx_frame.specs.declared.key.Network.{Network}
 use Rattle.afdx_frame.specs.declared.key.VlId.{VlId}
-use Rattle.redundancy.specs.declared.verdict.Redundancy.{Redundancy}
-use Rattle.redundancy.specs.declared.verdict.Redundancy.TheVariants as redundancy
 use Rattle.vl_config.specs.Link.{VirtualLink}
 use Rattle.ledger_text.specs.declared.frame.FrameLine.{FrameLine}
-use Rattle.ledger_report.specs.Copies.{KeepsLatest, Spot, spot_at, spot_of, latest_delivery}
-use Rattle.ledger_report.specs.Deliveries.{is_copy, says_copy}
+use Rattle.ledger_report.specs.Copies.{Spot, spot_at, spot_of, latest_delivery}
 use Rattle.ledger_report.specs.Fates.{number_of}
 use Rattle.ledger_report.specs.Links.{AreLinksOf, IsLinkOf, Row, row_in, row_of}
-use Rattle.ledger_report.specs.Noting.{IsIndexOf, IsMomentOf}
-use Rattle.ledger_report.specs.Wrongs.{TellsWrong, copy_wrong, is_beside, is_link_wrong, is_off_against, is_unconfigured, is_unordered, key_of, later_wrong, latest_key, latest_spot, link_wrong, row_at, row_for, skew_to, wrong_of}
+use Rattle.ledger_report.specs.Noting.{IsIndexOf}
+use Rattle.ledger_report.specs.Wrongs.{TellsWrong, is_link_wrong, is_off_against, is_unconfigured, is_unordered, key_of, later_wrong, latest_key, latest_spot, link_wrong, row_at, row_for, wrong_of}
 use Rattle.ledger_report.specs.declared.fault.Refusal.{Refusal}
 use Rattle.ledger_report.specs.declared.fault.Refusal.TheVariants as refusals
 use Rattle.ledger_report.specs.declared.fault.WrongLine.{WrongLine}
 use Rattle.ledger_report.specs.declared.fault.WrongLine.TheVariants as wrongs
 use Rattle.ledger_report.specs.declared.link.LinkReport.{LinkReport}
-use Rattle.ledger_report.specs.declared.moment.Moment.{Moment}
-use Rattle.ledger_report.specs.declared.moment.Place.{Place}
 use Rattle.ledger_report.proofs.AccountSteps.{link_at}
 
 -- ---- the table's row of an identifier
@@ -114,21 +108,6 @@ pub of_link_wrong : (links : List VirtualLink) (before : List FrameLine) (line :
     → is_unconfigured line ≡ false → row_at links id ≡ Some row → later_wrong links before line ≡ link_wrong row (latest_spot row before line) line
 of_link_wrong links before line id row of_link known is = at_row links before line id false (Some row) of_link known is
 
--- no link
-unlinked : (unconfigured : Bool) (test : Row → WrongLine → Bool) → by_row false unconfigured None test ≡ None
-unlinked true test = refl
-unlinked false test = refl
-
-no_row_by : (links : List VirtualLink) (line : FrameLine) → line.link ≡ None → row_for links line ≡ None
-no_row_by links line no_link = rw no_link refl
-
-pub unlinked_right : (links : List VirtualLink) (before : List FrameLine) (line : FrameLine) → line.link ≡ None → later_wrong links before line ≡ None
-unlinked_right links before line no_link =
-    by_row_of links before line
-    ∙ ap (λ (b : Bool). by_row b (is_unconfigured line) (row_for links line) (row_test before line)) (ap (λ (o : Option VlId). is_some o) no_link)
-    ∙ ap (λ (o : Option Row). by_row false (is_unconfigured line) o (row_test before line)) (no_row_by links line no_link)
-    ∙ unlinked (is_unconfigured line) (row_test before line)
-
 -- ---- a line of a link, by its report
 
 -- the report's row and its latest delivery are those of the lines before
@@ -156,49 +135,6 @@ pub off_told : (row : Row) (latest : Option Spot) (line : FrameLine) (refusal : 
     → ◌≡◌ {A = Result (Unit {0}) Refusal} (Err refusal) (if is_off_against row line then Err (refusals.Wrong wrongs.Off) else Ok tt)
     → TellsWrong (link_wrong row latest line) (Err refusal)
 off_told row latest line refusal is = off_where (is_off_against row line) _ refusal is
-
-on_where : (off : Bool) → ◌≡◌ {A = Result (Unit {0}) Refusal} (Ok tt) (if off then Err (refusals.Wrong wrongs.Off) else Ok tt) → off ≡ false
-on_where true is = absurd (cc is)
-on_where false is = refl
-
-pub words_right : (row : Row) (line : FrameLine) (result : Result (Unit {0}) Refusal)
-    → result ≡ Ok tt → result ≡ (if is_off_against row line then Err (refusals.Wrong wrongs.Off) else Ok tt) → is_off_against row line ≡ false
-words_right row line result ok is = on_where (is_off_against row line) (sym ok ∙ is)
-
--- by its words, whether it says `copy`, and what is wrong with it then
-abbrev by_words : Bool → Bool → Bool → Bool → Option WrongLine
-by_words off copy bare beyond =
-    cond off (Some wrongs.Off) (cond (copy && bare) (Some wrongs.Copy) (cond (copy && beyond) (Some wrongs.Skew) None))
-
-copy_is : (line : FrameLine) (word : Option Redundancy) → line.redundancy ≡ word → is_copy line ≡ option_map_or says_copy word false
-copy_is line word is = ap (λ (o : Option Redundancy). option_map_or says_copy o false) is
-
--- a copy whose words are right
-pub copy_told : (line : FrameLine) (at : Moment) (number : ℕ) (old mid : LinkReport) (result : Result (Unit {0}) Refusal)
-    → is_off_against (row_in old) line ≡ false → line.redundancy ≡ Some redundancy.Copy → row_in mid ≡ row_in old
-    → KeepsLatest old.pairing mid.pairing
-    → IsMomentOf line at → TellsWrong (copy_wrong mid.skew_max (spot_at mid.pairing number) at.network at.place.stamp) result
-    → TellsWrong (link_wrong (row_in old) (spot_at old.pairing number) line) result
-copy_told line at number old mid result words copy same latest moment told =
-    let held = subst (λ (o : Option Spot). TellsWrong (copy_wrong mid.skew_max o at.network at.place.stamp) result) (latest number) told in
-    let bound = subst (λ (r : Row). TellsWrong (copy_wrong r.skew_max (spot_at old.pairing number) at.network at.place.stamp) result) same held in
-    let on = subst (λ (n : Network). TellsWrong (copy_wrong old.skew_max
-    (spot_at old.pairing number) n at.place.stamp) result) moment.network bound in
-    let when = subst (λ (p : Place). TellsWrong (copy_wrong old.skew_max (spot_at old.pairing number) line.network p.stamp) result) moment.place on in
-    let bare = not (is_beside line.network (spot_at old.pairing number)) in
-    let beyond = nat_lt old.skew_max (skew_to line.stamp.0 (spot_at old.pairing number)) in
-    subst (λ (off : Bool). TellsWrong (by_words off (is_copy line) bare beyond) result) (sym words)
-    (subst (λ (b : Bool). TellsWrong (by_words false b bare beyond) result) (sym (copy_is line (Some redundancy.Copy) copy)) when)
-
--- no copy, and its words are right
-pub no_copy_right : (line : FrameLine) (word : Option Redundancy) (row : Row) (latest : Option Spot) → is_off_against row line ≡ false
-    → line.redundancy ≡ word
-    → option_map_or says_copy word false ≡ false → link_wrong row latest line ≡ None
-no_copy_right line word row latest words is off =
-    let bare = not (is_beside line.network latest) in
-    let beyond = nat_lt row.skew_max (skew_to line.stamp.0 latest) in
-    ap (λ (b : Bool). by_words b (is_copy line) bare beyond) words
-    ∙ ap (λ (b : Bool). by_words false b bare beyond) (copy_is line word is ∙ off)
 
 -- what is told through a `?`
 pub refused_by : (wrong : Option WrongLine) (refusal : Refusal) (result : Result (Unit {0}) Refusal) → IsErrAnd result (λ told. told ≡ refusal)
@@ -231,22 +167,6 @@ known_at links before line id place index index_is of_link known found below =
     known_link links before line id (row_of (get_or links place link)) of_link known (row_found links index id place link index_is found below)
 
 -- ---- the order of lines
-
--- what is told of a line that may be out of order
-order_where : (unordered : Bool) (rest : Option WrongLine) (wrong : WrongLine)
-    → ◌≡◌ {A = Result (Unit {0}) WrongLine} (Err wrong) (if unordered then Err wrongs.Order else Ok tt)
-    → cond unordered (Some wrongs.Order) rest ≡ Some wrong
-order_where true rest wrong is = (let same : wrong ≡ wrongs.Order = cc in ap (λ (w : WrongLine). Some w) (sym same))
-order_where false rest wrong is = absurd (cc is)
-
-pub order_told : (links : List VirtualLink) (before : List FrameLine) (line : FrameLine) (held : Option Key) (wrong : WrongLine)
-    → held ≡ latest_key before
-    → ◌≡◌ {A = Result (Unit {0}) WrongLine} (Err wrong) (if is_unordered held (key_of line) then Err wrongs.Order else Ok tt)
-    → wrong_of links before line ≡ Some wrong
-order_told links before line held wrong same is =
-    order_where (is_unordered (latest_key before) (key_of line)) (later_wrong links before line) wrong
-    (subst (λ (k : Option Key). ◌≡◌ {A = Result (Unit {0}) WrongLine} (Err wrong)
-    (if is_unordered k (key_of line) then Err wrongs.Order else Ok tt)) same is)
 
 ordered_where : (unordered : Bool) → ◌≡◌ {A = Result (Unit {0}) WrongLine} (Ok tt) (if unordered then Err wrongs.Order else Ok tt) → unordered ≡ false
 ordered_where true is = absurd (cc is)

@@ -2,24 +2,24 @@
 -- newest first (this project's profile).
 use Rattle.std.specs.Prelude.{◌≡◌, ℕ, zero, suc, ◌+◌, ◌-◌, Bool, not, ◌&&◌, List, [], ◌∷◌, ◌++◌, length, map, filter, filter_map, take, Option, Some, None, if◌then◌else◌}
 use Rattle.std.specs.List.{cons_option}
-use Rattle.std.specs.Option.{option_and_then}
+use Rattle.std.specs.Option.{option_and_then, option_map}
 use Rattle.afdx_frame.specs.declared.key.Network.{Network}
 use Rattle.afdx_frame.specs.declared.key.Network.TheVariants.{A, B}
 use Rattle.ledger_text.specs.declared.frame.FrameLine.{FrameLine}
-use Rattle.ledger_report.specs.Alone.{BinnedBy, Scale, hits_at}
+use Rattle.ledger_report.specs.Alone.{hits_at}
 use Rattle.ledger_report.specs.Copies.{delivers}
 use Rattle.ledger_report.specs.Covered.{is_covered}
 use Rattle.ledger_report.specs.Extremes.{Hit}
 use Rattle.ledger_report.specs.Fates.{PairingRules, fate_at, is_late, is_open, latest_of, number_of}
 use Rattle.ledger_report.specs.LinkLines.{place_of}
 use Rattle.ledger_report.specs.Links.{Row, pairing_rules}
-use Rattle.ledger_report.specs.Marks.{HasHits, mark_at}
+use Rattle.ledger_report.specs.Marks.{HasHits}
 use Rattle.ledger_report.specs.Standings.{Standing, standings}
 use Rattle.ledger_report.specs.Sums.{saturated}
 use Rattle.ledger_report.specs.Words.{is_on, other_of}
 use Rattle.ledger_report.specs.declared.bounds.TheConstants.{NUMBERS}
+use Rattle.ledger_report.specs.declared.lane.Lane.{Lane}
 use Rattle.ledger_report.specs.declared.link.LinkReport.{LinkReport}
-use Rattle.ledger_report.specs.declared.signs.Mark.{Mark}
 use Rattle.ledger_report.specs.declared.signs.Sign.TheVariants.{Alone}
 
 -- ---- deliveries that the other network didn't bring
@@ -39,19 +39,6 @@ missed_at rules network standing =
     if delivers rules.id (number_of standing.line) standing.line && not (is_late rules (number_of standing.line) (standing.line ∷ standing.before))
     then open_on rules network (number_of standing.line) standing.before else None
 
--- those with a later delivery of their number
-abbrev pub missed_before : PairingRules → Network → List FrameLine → List Standing
-missed_before rules network lines = filter_map (missed_at rules network) (standings lines)
-
--- the latest of the numbers below that are open by all lines
-unfoldable pub open_below : PairingRules → Network → List FrameLine → ℕ → List Standing
-open_below rules network lines zero = []
-open_below rules network lines (suc number) = cons_option (open_on rules network number lines) (open_below rules network lines number)
-
--- all deliveries of a network that the other one didn't bring: they have none of the fates late, paired, first and met
-abbrev pub missed_on : PairingRules → Network → List FrameLine → List Standing
-missed_on rules network lines = open_below rules network lines NUMBERS ++ missed_before rules network lines
-
 -- ---- alone or uncovered
 
 -- the lines after a line, of these
@@ -62,31 +49,65 @@ lines_after lines standing = take (length lines - length (standing.line ∷ stan
 abbrev pub covers_place : Network → List FrameLine → Standing → Bool
 covers_place network lines standing = is_covered network (lines_after lines standing) (standing.line ∷ standing.before)
 
--- the frame is missing on the other network, which was alive
-abbrev pub alone_on : PairingRules → Network → List FrameLine → List Standing
-alone_on rules network lines = filter (covers_place (other_of network) lines) (missed_on rules network lines)
+-- a delivery that the other network didn't bring, and whether that network covers its place
+pub record Missed : Type 0 where
+  pub delivery : Standing
+  pub covered : Bool
 
--- the other network was silent or not recorded
-abbrev pub uncovered_on : PairingRules → Network → List FrameLine → List Standing
-uncovered_on rules network lines = filter (λ delivery. not (covers_place (other_of network) lines delivery)) (missed_on rules network lines)
+-- by these lines
+abbrev pub missed_by : Network → List FrameLine → Standing → Missed
+missed_by network lines delivery =
+    record { delivery = delivery; covered = covers_place (other_of network) lines delivery }
+
+-- those with a later delivery of their number, by the lines up to it
+abbrev pub settled_at : PairingRules → Network → Standing → Option Missed
+settled_at rules network standing =
+    option_map (missed_by network (standing.line ∷ standing.before)) (missed_at rules network standing)
+
+abbrev pub missed_before : PairingRules → Network → List FrameLine → List Missed
+missed_before rules network lines = filter_map (settled_at rules network) (standings lines)
+
+-- the latest of the numbers below that are open by all lines
+unfoldable pub open_below : PairingRules → Network → List FrameLine → ℕ → List Standing
+open_below rules network lines zero = []
+open_below rules network lines (suc number) = cons_option (open_on rules network number lines) (open_below rules network lines number)
+
+-- all deliveries of a network that the other one didn't bring: they have none of the fates late, paired, first and met
+abbrev pub missed_on : PairingRules → Network → List FrameLine → List Missed
+missed_on rules network lines =
+    map (missed_by network lines) (open_below rules network lines NUMBERS) ++ missed_before rules network lines
+
+-- of these, the frames that are missing on the other network, which was alive
+abbrev pub alone_of : List Missed → List Missed
+alone_of missed = filter (λ m. m.covered) missed
+
+-- and those while it was silent or not recorded
+abbrev pub uncovered_of : List Missed → List Missed
+uncovered_of missed = filter (λ m. not m.covered) missed
 
 -- each delivery that is alone counts once, at its place
+abbrev pub alone_hits_of : List Missed → List Hit
+alone_hits_of missed = hits_at (map (λ m. place_of m.delivery.line) (alone_of missed))
+
 abbrev pub alone_hits : PairingRules → Network → List FrameLine → List Hit
-alone_hits rules network lines = hits_at (map (λ delivery. place_of delivery.line) (alone_on rules network lines))
+alone_hits rules network lines = alone_hits_of (missed_on rules network lines)
 
 -- ---- in a report
 
--- Each lane has a mark of its deliveries that are alone, with its bins, and how many are uncovered.
-pub record LanesAreAlone (scale : Option Scale) (row : Row) (lines : List FrameLine) (report : LinkReport) : Type 0 where
-  pub on_a : HasHits report.lanes.a.signs Alone (alone_hits (pairing_rules row) A lines)
-  pub on_b : HasHits report.lanes.b.signs Alone (alone_hits (pairing_rules row) B lines)
-  pub bins_on_a : (none : Mark) → BinnedBy scale (alone_hits (pairing_rules row) A lines) (mark_at report.lanes.a.signs Alone none)
-  pub bins_on_b : (none : Mark) → BinnedBy scale (alone_hits (pairing_rules row) B lines) (mark_at report.lanes.b.signs Alone none)
-  pub uncovered_on_a : report.lanes.a.uncovered ≡ saturated (length (uncovered_on (pairing_rules row) A lines))
-  pub uncovered_on_b : report.lanes.b.uncovered ≡ saturated (length (uncovered_on (pairing_rules row) B lines))
+-- The lane has a mark of those that are alone, and how many are uncovered.
+pub record HasMissed (missed : List Missed) (lane : Lane) : Type 0 where
+  pub alone : HasHits lane.signs Alone (alone_hits_of missed)
+  pub uncovered : lane.uncovered ≡ saturated (length (uncovered_of missed))
+
+-- so it is of all of them, on each network
+pub record LanesAreAlone (row : Row) (lines : List FrameLine) (report : LinkReport) : Type 0 where
+  pub a : HasMissed (missed_on (pairing_rules row) A lines) report.lanes.a
+  pub b : HasMissed (missed_on (pairing_rules row) B lines) report.lanes.b
 
 -- So does the link, which counts those of both networks.
-pub record HasAlone (scale : Option Scale) (row : Row) (lines : List FrameLine) (report : LinkReport) : Type 0 where
-  pub lanes : LanesAreAlone scale row lines report
-  pub alone : report.fates.alone ≡ length (alone_on (pairing_rules row) A lines) + length (alone_on (pairing_rules row) B lines)
-  pub uncovered : report.fates.uncovered ≡ length (uncovered_on (pairing_rules row) A lines) + length (uncovered_on (pairing_rules row) B lines)
+pub record HasAlone (row : Row) (lines : List FrameLine) (report : LinkReport) : Type 0 where
+  pub lanes : LanesAreAlone row lines report
+  pub alone : report.fates.alone
+      ≡ length (alone_of (missed_on (pairing_rules row) A lines)) + length (alone_of (missed_on (pairing_rules row) B lines))
+  pub uncovered : report.fates.uncovered
+      ≡ length (uncovered_of (missed_on (pairing_rules row) A lines)) + length (uncovered_of (missed_on (pairing_rules row) B lines))

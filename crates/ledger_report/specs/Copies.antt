@@ -1,12 +1,10 @@
 -- The skews of a link's copies, over the ledger's lines of frames, the newest first (this project's profile). Times are in nanoseconds.
-use Rattle.std.specs.Prelude.{◌≡◌, ℕ, ◌+◌, ◌-◌, ◌<◌, ◌≤◌, ◌^◌, ◌==◌, max, Bool, true, false, ◌&&◌, List, ◌∷◌, length, filter_map, find, slice_index_or, Option, Some, None, unwrap_or, if◌then◌else◌}
+use Rattle.std.specs.Prelude.{◌≡◌, ℕ, ◌+◌, ◌-◌, ◌<◌, ◌≤◌, ◌^◌, ◌==◌, max, Bool, true, false, ◌&&◌, List, filter_map, find, slice_index_or, Option, Some, None, unwrap_or, if◌then◌else◌}
 use Rattle.std.specs.Option.{option_map, option_map_or}
 use Rattle.afdx_frame.specs.declared.key.Network.{Network}
 use Rattle.ledger_text.specs.declared.frame.FrameLine.{FrameLine}
-use Rattle.ledger_report.specs.Classes.{CountsClasses}
 use Rattle.ledger_report.specs.Deliveries.{is_copy, is_deliver}
 use Rattle.ledger_report.specs.LinkLines.{place_of}
-use Rattle.ledger_report.specs.SidesSeries.{PutsOn}
 use Rattle.ledger_report.specs.Standings.{Standing, standings}
 use Rattle.ledger_report.specs.Sums.{saturated}
 use Rattle.ledger_report.specs.Words.{is_seen_of}
@@ -15,8 +13,6 @@ use Rattle.ledger_report.specs.declared.moment.Moment.{Moment}
 use Rattle.ledger_report.specs.declared.moment.Place.{Place}
 use Rattle.ledger_report.specs.declared.pairing.Delivery.{Delivery}
 use Rattle.ledger_report.specs.declared.pairing.Pairing.{Pairing}
-use Rattle.ledger_report.specs.declared.series.Series.{Series}
-use Rattle.ledger_report.specs.declared.sides.Sides.{Sides}
 
 -- ---- over the lines
 
@@ -66,12 +62,11 @@ KeepsLatest old new = (number : ℕ) → spot_at new number ≡ spot_at old numb
 abbrev pub TakesLatest : ℕ → Spot → Pairing → Pairing → Type 0
 TakesLatest number spot old new = (n : ℕ) → spot_at new n ≡ (if n == number then Some spot else spot_at old n)
 
--- what the report says of the copies, what it counts for their median, and their bound
+-- what the report says of the copies, and their bound
 pub record CopyNumbers : Type 0 where
   pub copies : ℕ
   pub skew_sum : ℕ
   pub skew_greatest : ℕ
-  pub classes : List ℕ
   pub skew_max : ℕ
 
 abbrev pub copy_numbers : LinkReport → CopyNumbers
@@ -79,31 +74,15 @@ copy_numbers report = record {
   copies = report.copies;
   skew_sum = report.skew_sum;
   skew_greatest = report.skew_greatest;
-  classes = report.classes.counts.items;
   skew_max = report.skew_max;
 }
 
-abbrev pub KeepsCopyNumbers : LinkReport → LinkReport → Type 0
-KeepsCopyNumbers old new = copy_numbers new ≡ copy_numbers old
-
--- and their skews by time
-pub record AllCopies : Type 0 where
-  pub numbers : CopyNumbers
-  pub skews : Sides Series
-
-abbrev pub all_copies : LinkReport → AllCopies
-all_copies report = record { numbers = copy_numbers report; skews = report.skews }
-
 abbrev pub KeepsCopies : LinkReport → LinkReport → Type 0
-KeepsCopies old new = all_copies new ≡ all_copies old
+KeepsCopies old new = copy_numbers new ≡ copy_numbers old
 
 -- how much later a time is than the latest delivery of a number
 abbrev pub skew_in : LinkReport → ℕ → ℕ → ℕ
 skew_in report number stamp = stamp - option_map_or (λ spot. spot.place.stamp) (spot_at report.pairing number) 0
-
--- one more skew is counted
-abbrev pub CountsMore : ℕ → List ℕ → List ℕ → Type 0
-CountsMore skew old new = (skews : List ℕ) → length skews < 2 ^ 62 → CountsClasses skews old → CountsClasses (skew ∷ skews) new
 
 -- SkewMax at most
 pub record AddsSkew (skew : ℕ) (old new : CopyNumbers) : Type 0 where
@@ -112,20 +91,18 @@ pub record AddsSkew (skew : ℕ) (old new : CopyNumbers) : Type 0 where
   pub copies : new.copies ≡ old.copies + 1
   pub skew_sum : new.skew_sum ≡ saturated (old.skew_sum + skew)
   pub skew_greatest : new.skew_greatest ≡ max old.skew_greatest skew
-  pub classes : CountsMore skew old.classes new.classes
 
--- on the network and in the bin of the copy
-pub record TakesCopy (at : Moment) (skew : ℕ) (old new : LinkReport) : Type 0 where
-  pub numbers : old.copies + 1 < 2 ^ 64 → AddsSkew skew (copy_numbers old) (copy_numbers new)
-  pub series : PutsOn at.network at.bin (Some skew) old.skews new.skews
+-- one more copy
+abbrev pub TakesCopy : ℕ → LinkReport → LinkReport → Type 0
+TakesCopy skew old new = old.copies + 1 < 2 ^ 64 → AddsSkew skew (copy_numbers old) (copy_numbers new)
 
 -- A line that says `copy` adds its skew, and no other does.
-abbrev pub NotesCopyWhere : Bool → Moment → ℕ → LinkReport → LinkReport → Type 0
-NotesCopyWhere true at skew old new = TakesCopy at skew old new
-NotesCopyWhere false at skew old new = KeepsCopies old new
+abbrev pub NotesCopyWhere : Bool → ℕ → LinkReport → LinkReport → Type 0
+NotesCopyWhere true skew old new = TakesCopy skew old new
+NotesCopyWhere false skew old new = KeepsCopies old new
 
 abbrev pub NotesCopy : FrameLine → ℕ → Moment → LinkReport → LinkReport → Type 0
-NotesCopy line number at old new = NotesCopyWhere (is_copy line) at (skew_in old number at.place.stamp) old new
+NotesCopy line number at old new = NotesCopyWhere (is_copy line) (skew_in old number at.place.stamp) old new
 
 -- A line that says `deliver` is the latest of its number.
 abbrev pub NotesLatestWhere : Bool → ℕ → Spot → Pairing → Pairing → Type 0

@@ -1,6 +1,6 @@
 -- Where in the ledger a network was alive (this project's profile). A place stands between the lines after it and those before it, the
 -- newest first each.
-use Rattle.std.specs.Prelude.{ℕ, Bool, not, ◌&&◌, ◌==◌, List, ◌++◌, Option, Some, None, if◌then◌else◌}
+use Rattle.std.specs.Prelude.{ℕ, Bool, not, ◌&&◌, ◌==◌, List, ◌++◌}
 use Rattle.std.specs.List.{list_any}
 use Rattle.afdx_frame.specs.declared.key.Network.{Network}
 use Rattle.ledger_text.specs.declared.frame.FrameLine.{FrameLine}
@@ -19,8 +19,3 @@ abbrev pub is_covered : Network → List FrameLine → List FrameLine → Bool
 is_covered network after before =
     list_any (is_on network) before && list_any (is_on network) after
     && not (has_silence_after (frames_on network before) (kept_silences network (after ++ before)))
-
--- What is known of it so far: nothing where the network has lines before and none after.
-abbrev pub covered_so_far : Network → List FrameLine → List FrameLine → Option Bool
-covered_so_far network after before =
-    if list_any (is_on network) before && not (list_any (is_on network) after) then None else Some (is_covered network after before)

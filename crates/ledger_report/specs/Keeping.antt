@@ -1,8 +1,8 @@
 -- What the steps of a report leave as it was.
-use Rattle.std.specs.Prelude.{◌≡◌, ℕ, ◌<◌, ◌≤◌, List, ◌∷◌, length, map, take, slice_index_or, Option}
+use Rattle.std.specs.Prelude.{◌≡◌, ℕ, ◌<◌, ◌≤◌, List, ◌∷◌, length, map, slice_index_or, Option}
 use Rattle.afdx_frame.specs.declared.key.Network.{Network}
 use Rattle.afdx_frame.specs.declared.key.Network.TheVariants.{A, B}
-use Rattle.ledger_report.specs.Copies.{KeepsCopyNumbers}
+use Rattle.ledger_report.specs.Copies.{KeepsCopies}
 use Rattle.ledger_report.specs.Lanes.{IsLaneSign, StandsAfter}
 use Rattle.ledger_report.specs.Links.{lane_rules, row_in}
 use Rattle.ledger_report.specs.Marks.{mark_at}
@@ -32,13 +32,13 @@ pub record Tally : Type 0 where
 abbrev pub tally_of : Mark → Tally
 tally_of mark = record { count = mark.count; first = mark.first; last = mark.last }
 
--- those of the signs of rules
-abbrev pub rule_tallies : Signs → List Tally
-rule_tallies signs = take 8 (map tally_of signs.marks.items)
+-- those of all signs
+abbrev pub tallies : Signs → List Tally
+tallies signs = map tally_of signs.marks.items
 
 -- ---- networks
 
--- a network's own numbers: all but the signs that are not of rules and what it has by time
+-- a network's own numbers: all but its signs and what it has by time
 pub record NetworkNumbers : Type 0 where
   pub frames : ℕ
   pub first : ℕ
@@ -48,7 +48,6 @@ pub record NetworkNumbers : Type 0 where
   pub more_silences : ℕ
   pub since : ℕ
   pub usual : ℕ
-  pub rules : List Tally
 
 abbrev pub network_numbers : NetworkReport → NetworkNumbers
 network_numbers report = record {
@@ -60,7 +59,6 @@ network_numbers report = record {
   more_silences = report.more_silences;
   since = report.since;
   usual = report.usual;
-  rules = rule_tallies report.signs;
 }
 
 abbrev pub KeepsNetwork : NetworkReport → NetworkReport → Type 0
@@ -140,7 +138,7 @@ NotesLane line old new = (row_in new ≡ row_in old) × NotesLaneOn line.at.netw
 
 -- and its count of deliveries, what it says of copies, the latest delivery of each number, and how many are paired, late and the first of two
 abbrev pub KeepsReport : LinkReport → LinkReport → Type 0
-KeepsReport old new = KeepsLink old new × (new.deliveries ≡ old.deliveries) × KeepsCopyNumbers old new × (new.pairing ≡ old.pairing) ×
+KeepsReport old new = KeepsLink old new × (new.deliveries ≡ old.deliveries) × KeepsCopies old new × (new.pairing ≡ old.pairing) ×
     KeepsSettled old new
 
 abbrev pub KeepsLinks : List LinkReport → List LinkReport → Type 0

@@ -74,6 +74,10 @@ pub record TakesRule (line : LaneLine) (old new : Lane) : Type 0 where
 abbrev pub numbering_in : Bool → Lane → LaneLine → Numbering
 numbering_in integrity lane line = numbering_since integrity lane.previous line
 
+-- and what counts of it: right after a silence no number is lost
+abbrev pub counted_in : Bool → Lane → LaneLine → Numbering
+counted_in integrity lane line = counted_numbering line.after_silence (numbering_in integrity lane line)
+
 pub record TakesNumber (integrity : Bool) (line : LaneLine) (old new : Lane) : Type 0 where
   pub previous : new.previous ≡ (if integrity then Some line.number else old.previous)
   pub lost_after_silence : new.lost_after_silence

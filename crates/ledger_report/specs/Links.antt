@@ -3,7 +3,6 @@ use Rattle.std.specs.Prelude.{◌≡◌, ℕ, ◌+◌, ◌-◌, ◌*◌, ◌<◌
 use Rattle.afdx_frame.specs.declared.key.Network.TheVariants.{A, B}
 use Rattle.vl_config.specs.Link.{VirtualLink}
 use Rattle.ledger_text.specs.declared.frame.FrameLine.{FrameLine}
-use Rattle.ledger_report.specs.Classes.{CountsClasses}
 use Rattle.ledger_report.specs.Copies.{HasLatest, skews}
 use Rattle.ledger_report.specs.Fates.{PairingRules, ends_met, ends_open, fate_count, settled_count}
 use Rattle.ledger_report.specs.Pairs.{HasFatesOf}
@@ -65,7 +64,6 @@ pub record IsLinkOf (row : Row) (lines : List FrameLine) (report : LinkReport) :
   pub skew_sum : report.skew_sum ≡ saturated (total_of (skews row.id lines))
   pub skew_greatest : report.skew_greatest ≡ greatest_of (skews row.id lines)
   pub within : greatest_of (skews row.id lines) ≤ row.skew_max
-  pub classes : CountsClasses (skews row.id lines) report.classes.counts.items
   pub latest : HasLatest row.id lines report.pairing
   pub fates_are : HasFatesOf (pairing_rules row) lines report
   pub room : HasRoom report

@@ -6,7 +6,7 @@ use Rattle.afdx_frame.specs.declared.key.Network.TheVariants.{A, B}
 use Rattle.ledger_text.specs.declared.frame.FrameLine.{FrameLine}
 use Rattle.ledger_report.specs.Both.{side_of}
 use Rattle.ledger_report.specs.Fates.{count_below}
-use Rattle.ledger_report.specs.LinkMarks.{counted_in}
+use Rattle.ledger_report.specs.LaneParts.{counted_in}
 use Rattle.ledger_report.specs.Noting.{seen_line}
 use Rattle.ledger_report.specs.Numbers.{distance}
 use Rattle.ledger_report.specs.Pairs.{window_in}

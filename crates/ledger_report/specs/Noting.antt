@@ -7,7 +7,6 @@ use Rattle.ledger_report.specs.Links.{AreEach, AreLinksOf, CountsMet}
 use Rattle.ledger_report.specs.LinkLines.{is_silent_since, place_of}
 use Rattle.ledger_report.specs.Networks.{IsNetworkOf}
 use Rattle.ledger_report.specs.OutsideLines.{IsOutsideOf}
-use Rattle.ledger_report.specs.RuleMarks.{HaveRules}
 use Rattle.ledger_report.specs.Settling.{AreBalanced}
 use Rattle.ledger_report.specs.Words.{rule_of}
 use Rattle.ledger_report.specs.declared.lane.Lane.{Lane}
@@ -38,7 +37,6 @@ seen_line lane network line number at = record {
 pub record AreNetworksOf (lines : List FrameLine) (networks : Sides NetworkReport) : Type 0 where
   pub a : IsNetworkOf A lines networks.a
   pub b : IsNetworkOf B lines networks.b
-  pub rules : HaveRules lines networks
 
 -- by identifier, where the link stands in the table
 pub record IsIndexOf (links : List VirtualLink) (index : List ℕ) : Type 0 where

@@ -9,7 +9,6 @@ use Rattle.ledger_report.specs.Copies.{skew_in, spot_in}
 use Rattle.ledger_report.specs.Deliveries.{deliver_count, is_copy, is_deliver}
 use Rattle.ledger_report.specs.Fates.{Known, PairingRules, discarded_of, ends_late, ends_met, ends_open, ends_paired, fate_count, is_open, known_of, late_count, late_hits, late_skews, paired_count, pairs}
 use Rattle.ledger_report.specs.Marks.{GainsHit, HasHits, KeepsHits}
-use Rattle.ledger_report.specs.SidesSeries.{PutsOn}
 use Rattle.ledger_report.specs.Sums.{greatest_of, saturated}
 use Rattle.ledger_report.specs.Words.{is_same_network, other_of, rule_of}
 use Rattle.ledger_report.specs.declared.bounds.TheConstants.{WINDOW_BAGS}
@@ -21,7 +20,6 @@ use Rattle.ledger_report.specs.declared.pairing.Delivery.{Delivery}
 use Rattle.ledger_report.specs.declared.pairing.Fate.{Fate}
 use Rattle.ledger_report.specs.declared.pairing.Fate.TheVariants.{Open, Late, Paired, Met}
 use Rattle.ledger_report.specs.declared.pairing.Pairing.{Pairing}
-use Rattle.ledger_report.specs.declared.series.Series.{Series}
 use Rattle.ledger_report.specs.declared.sides.Sides.{Sides}
 use Rattle.ledger_report.specs.declared.signs.Sign.TheVariants as signs
 
@@ -115,7 +113,6 @@ pub record FateNumbers : Type 0 where
   pub first : ℕ
   pub met : ℕ
   pub late_greatest : ℕ
-  pub late_skews : Sides Series
 
 abbrev pub fate_numbers : LinkReport → FateNumbers
 fate_numbers report = record {
@@ -124,31 +121,23 @@ fate_numbers report = record {
   first = report.fates.first;
   met = report.fates.met;
   late_greatest = report.late_greatest;
-  late_skews = report.late_skews;
 }
 
--- one more is late, by so much, and by time they are these
-abbrev pub with_late : ℕ → Sides Series → LinkReport → FateNumbers
-with_late skew series old = record {
+-- one more is late, by so much
+abbrev pub with_late : ℕ → LinkReport → FateNumbers
+with_late skew old = record {
   paired = old.fates.paired;
   late = saturated (old.fates.late + 1);
   first = saturated (old.fates.first + 1);
   met = old.fates.met;
   late_greatest = max old.late_greatest skew;
-  late_skews = series;
 }
 
--- It is late on this network, in this bin.
-pub record CountsLate (at : Moment) (skew : ℕ) (old new : LinkReport) : Type 0 where
-  pub numbers : fate_numbers new ≡ with_late skew new.late_skews old
-  pub series : PutsOn at.network at.bin (Some skew) old.late_skews new.late_skews
+abbrev pub CountsLate : ℕ → LinkReport → LinkReport → Type 0
+CountsLate skew old new = fate_numbers new ≡ with_late skew old
 
 abbrev pub KeepsFates : LinkReport → LinkReport → Type 0
 KeepsFates old new = fate_numbers new ≡ fate_numbers old
-
--- but for the bins
-abbrev pub KeepsFateCounts : LinkReport → LinkReport → Type 0
-KeepsFateCounts old new = fate_numbers new ≡ record (fate_numbers old) { late_skews = new.late_skews }
 
 -- the time in which a number is taken for the same frame
 abbrev pub window_in : LinkReport → ℕ
@@ -174,32 +163,23 @@ known_after number at report = record {
       (is_gone_by at.place.stamp (window_in report) (gone_in report.pairing number (other_of at.network)));
 }
 
--- how late it comes, where it does
-abbrev pub late_brought : ℕ → Moment → LinkReport → Option ℕ
-late_brought number at report = if comes_late number at report then Some (skew_in report number at.place.stamp) else None
-
--- The delivery before is settled: it is counted where it stays met, and where this one is late, which is counted too. By time the late ones are
--- these.
-abbrev pub settled_numbers : ℕ → Moment → Sides Series → LinkReport → FateNumbers
-settled_numbers number at series old = record {
+-- The delivery before is settled: it is counted where it stays met, and where this one is late, which is counted too.
+abbrev pub settled_numbers : ℕ → Moment → LinkReport → FateNumbers
+settled_numbers number at old = record {
   paired = old.fates.paired;
   late = counted_where (comes_late number at old) old.fates.late;
   first = counted_where (comes_late number at old) old.fates.first;
   met = counted_where (is_held ends_met old.pairing number) old.fates.met;
   late_greatest = if comes_late number at old then max old.late_greatest (skew_in old number at.place.stamp) else old.late_greatest;
-  late_skews = series;
 }
 
--- This one comes in its bin, where it is late.
-pub record SettlesBefore (number : ℕ) (at : Moment) (old new : LinkReport) : Type 0 where
-  pub numbers : fate_numbers new ≡ settled_numbers number at new.late_skews old
-  pub series : PutsOn at.network at.bin (late_brought number at old) old.late_skews new.late_skews
+abbrev pub SettlesBefore : ℕ → Moment → LinkReport → LinkReport → Type 0
+SettlesBefore number at old new = fate_numbers new ≡ settled_numbers number at old
 
 pub record TakesDelivery (number : ℕ) (at : Moment) (old new : LinkReport) : Type 0 where
   pub held : Changes number (Some (known_after number at old)) old.pairing new.pairing
   pub gone : KeepsGone old.pairing new.pairing
-  pub numbers : fate_numbers new ≡ settled_numbers number at new.late_skews old
-  pub series : PutsOn at.network at.bin (late_brought number at old) old.late_skews new.late_skews
+  pub numbers : fate_numbers new ≡ settled_numbers number at old
 
 -- by its word of redundancy management: does it say `deliver`, does it say `copy`
 abbrev pub NotesWordWhere : Bool → Bool → ℕ → Moment → LinkReport → LinkReport → Type 0
@@ -228,9 +208,9 @@ met_with (suc number) pairing met = counted_where (is_held ends_met pairing numb
 abbrev pub MeetsOf : ℕ → LinkReport → LinkReport → Type 0
 MeetsOf met old new = fate_numbers new ≡ record (fate_numbers old) { met = met }
 
--- All counts of fates but that of the met ones are as before, but for the bins.
+-- All counts of fates but that of the met ones are as before.
 abbrev pub KeepsButMet : LinkReport → LinkReport → Type 0
-KeepsButMet old new = fate_numbers new ≡ record (fate_numbers old) { met = new.fates.met; late_skews = new.late_skews }
+KeepsButMet old new = fate_numbers new ≡ record (fate_numbers old) { met = new.fates.met }
 
 -- and so are the late deliveries among the lanes' signs
 pub record KeepsSettled (old new : LinkReport) : Type 0 where

@@ -1,5 +1,5 @@
 -- A ledger that is read to its end, and the numbers of its report.
-use Rattle.std.specs.Prelude.{◌≡◌, ℕ, ◌≤◌, List, Option, None, length, reverse, unwrap_or}
+use Rattle.std.specs.Prelude.{◌≡◌, ℕ, ◌≤◌, List, Option, length, reverse, unwrap_or}
 use Rattle.std.specs.Option.{option_map_or}
 use Rattle.pcap_io.specs.declared.device.TapSource.{Ghosts as SourceMembers}
 use Rattle.afdx_frame.specs.declared.key.TheConstants.{VL_ID_COUNT}
@@ -10,28 +10,18 @@ use Rattle.ledger_text.specs.declared.order.Stage.{Stage}
 use Rattle.ledger_text.specs.declared.order.Stage.TheVariants as stages
 use Rattle.ledger_text.specs.declared.reader.LedgerReader.{LedgerReader}
 use Rattle.ledger_text.specs.declared.reader.LedgerStop.{LedgerStop}
-use Rattle.ledger_report.specs.AloneBins.{HasAloneBins, HasAloneSums, bins_of}
 use Rattle.ledger_report.specs.AloneLines.{HasAlone}
-use Rattle.ledger_report.specs.AloneSums.{NetworksAreAlone, SumsAlone}
-use Rattle.ledger_report.specs.Absent.{TellsAbsences}
 use Rattle.ledger_report.specs.Counting.{AreCountsOf}
 use Rattle.ledger_report.specs.CountsLines.{HasCounted, TellCounts, is_whole}
 use Rattle.ledger_report.specs.Holding.{HoldsAlone}
-use Rattle.ledger_report.specs.LaneSeries.{HasLaneBins, HaveLaneSeries}
-use Rattle.ledger_report.specs.LinkMarks.{HaveLinkHits}
+use Rattle.ledger_report.specs.LinkMarks.{HaveNetworkHits}
 use Rattle.ledger_report.specs.Links.{AreEach, AreLinksOf, HasMet, HasOpen}
 use Rattle.ledger_report.specs.LostBoth.{TellsBoth}
-use Rattle.ledger_report.specs.MarkLines.{HasMarks, HaveMarks}
-use Rattle.ledger_report.specs.NetworkSeries.{HasBins, HaveSeries}
-use Rattle.ledger_report.specs.NetworkSkews.{HaveNetworkSkews}
 use Rattle.ledger_report.specs.Noting.{AreNetworksOf, IsAccountOf}
 use Rattle.ledger_report.specs.OutsideLines.{IsOutsideOf}
 use Rattle.ledger_report.specs.Settling.{HaveFates}
 use Rattle.ledger_report.specs.SignSums.{HasSignsOf}
-use Rattle.ledger_report.specs.SkewMedians.{HaveMedians}
-use Rattle.ledger_report.specs.SkewSeries.{HasSkewBins, HaveSkews}
-use Rattle.ledger_report.specs.Span.{HasSpan, duration, newest, oldest}
-use Rattle.ledger_report.specs.Widths.{IsWidth}
+use Rattle.ledger_report.specs.Span.{HasSpan, newest, oldest}
 use Rattle.ledger_report.specs.declared.counts.FrameCounts.{FrameCounts}
 use Rattle.ledger_report.specs.declared.counts_lines.CountsLines.{CountsLines}
 use Rattle.ledger_report.specs.declared.report.Report.{Report}
@@ -39,13 +29,11 @@ use Rattle.ledger_report.specs.declared.statistics.Statistics.{Statistics}
 
 -- The bytes are the lines of a ledger from its head on, and nothing is left after them, or where its last line doesn't stand, the beginning of a
 -- line. These are the counts of its lines of frames, and the
--- numbers of both networks and of the table's links over them, with the median of each link's skews; each delivery of a link has one fate, by
+-- numbers of both networks and of the table's links over them; each delivery of a link has one fate, by
 -- definition over the lines, and at most as many links outside the table are kept as there are identifiers, each with its lines. Each line of
--- counts is that of the lines before it. The report starts and ends with the first and the last line of a frame, at 0 where there is none; its
--- bins are as wide as this time needs, and each network and each lane has in each bin its lines and their bytes, each network also what its
--- lines count for the rules and for the signs of links, and the greatest skew of the copies that came there, each lane also the least and the
--- greatest interval that ends there, and what its lines count for its signs, each link the greatest skew of the copies and of the late
--- deliveries that came there on each network. It is whole exactly where the ledger has its last line.
+-- counts is that of the lines before it. The report starts and ends with the first and the last line of a frame, at 0 where there is none. It is
+-- whole exactly where the ledger has its last line. What a report has by time, its medians, the times between deliveries and absences are not
+-- part of this.
 pub record TellsLedger (bytes : Option (List ℕ)) (links : List VirtualLink) (report : Report) : Type 0 where
   pub rs : List ReadLine
   pub stage : Stage
@@ -54,28 +42,19 @@ pub record TellsLedger (bytes : Option (List ℕ)) (links : List VirtualLink) (r
   pub ends : EndsAt rs stage left report.stop
   pub counts_are : AreCountsOf (frame_lines rs) report.counts
   pub networks_are : AreNetworksOf (reverse (frame_lines rs)) report.networks
+  pub marks_are : HaveNetworkHits links (reverse (frame_lines rs)) report.networks
   pub links_are : AreLinksOf links (reverse (frame_lines rs)) report.links.items
-  pub link_marks : HaveLinkHits links (reverse (frame_lines rs)) report.networks
   pub lost_both : AreEach TellsBoth links (reverse (frame_lines rs)) report.links.items
-  pub absences : AreEach TellsAbsences links (reverse (frame_lines rs)) report.links.items
   pub fates : HaveFates report.links.items
   pub met_are : AreEach HasMet links (reverse (frame_lines rs)) report.links.items
-  pub medians : HaveMedians links (reverse (frame_lines rs)) report.links.items
   pub open_are : AreEach HasOpen links (reverse (frame_lines rs)) report.links.items
-  pub alone_are : AreEach (HasAlone (bins_of report.start report.width)) links (reverse (frame_lines rs)) report.links.items
-  pub networks_alone : NetworksAreAlone (bins_of report.start report.width) links (reverse (frame_lines rs)) report.networks
+  pub alone_are : AreEach HasAlone links (reverse (frame_lines rs)) report.links.items
   pub few_outside : length report.outside.items ≤ VL_ID_COUNT
   pub outside_are : IsOutsideOf (reverse (frame_lines rs)) report.outside.items
   pub counts_told : TellCounts links (reverse rs)
   pub start_is : report.start ≡ unwrap_or (oldest (reverse (frame_lines rs))) 0
   pub end_is : report.end ≡ unwrap_or (newest (reverse (frame_lines rs))) 0
-  pub width_is : IsWidth (duration (reverse (frame_lines rs))) report.width
   pub whole_is : report.whole ≡ is_whole (reverse rs)
-  pub series_are : HaveSeries report.start report.width (reverse (frame_lines rs)) report.networks
-  pub lane_series_are : AreEach (HaveLaneSeries report.start report.width) links (reverse (frame_lines rs)) report.links.items
-  pub skew_series_are : AreEach (HaveSkews report.start report.width) links (reverse (frame_lines rs)) report.links.items
-  pub network_skews_are : HaveNetworkSkews report.start report.width (reverse (frame_lines rs)) report.networks
-  pub marks_are : HaveMarks report.start report.width links (reverse (frame_lines rs)) report.links.items report.networks
 
 -- The same, where the deliveries aren't settled yet.
 pub record HasRead (bytes : Option (List ℕ)) (links : List VirtualLink) (stop : Option LedgerStop) (counts : FrameCounts) (statistics : Statistics) (counted : CountsLines) : Type 0 where
@@ -87,17 +66,10 @@ pub record HasRead (bytes : Option (List ℕ)) (links : List VirtualLink) (stop 
   pub counts_are : AreCountsOf (frame_lines rs) counts
   pub account : IsAccountOf links (reverse (frame_lines rs)) statistics
   pub span : HasSpan (reverse (frame_lines rs)) statistics
-  pub alone : AreEach (HoldsAlone None) links (reverse (frame_lines rs)) statistics.links.items
-  pub alone_bins : HasAloneBins links (reverse (frame_lines rs)) statistics
+  pub alone : AreEach HoldsAlone links (reverse (frame_lines rs)) statistics.links.items
   pub signs : HasSignsOf links (reverse (frame_lines rs)) statistics
-  pub sums : SumsAlone None statistics.links.items statistics.networks
-  pub alone_sums : HasAloneSums (reverse (frame_lines rs)) statistics
   pub counted_are : HasCounted links (reverse rs) counted
   pub few : length (frame_lines rs) ≤ MOST_LINES
-  pub bins : HasBins (reverse (frame_lines rs)) statistics
-  pub lane_bins : HasLaneBins links (reverse (frame_lines rs)) statistics
-  pub skew_bins : HasSkewBins links (reverse (frame_lines rs)) statistics
-  pub mark_bins : HasMarks links (reverse (frame_lines rs)) statistics
 
 -- These lines of the ledger were read and noted.
 pub record HasNoted {S : Type 0} (s : SourceMembers S) (bytes : Option (List ℕ)) (failures : ℕ) (links : List VirtualLink) (rs : List ReadLine)
@@ -106,17 +78,10 @@ pub record HasNoted {S : Type 0} (s : SourceMembers S) (bytes : Option (List ℕ
   pub counts_are : AreCountsOf (frame_lines rs) counts
   pub account : IsAccountOf links (reverse (frame_lines rs)) statistics
   pub span : HasSpan (reverse (frame_lines rs)) statistics
-  pub alone : AreEach (HoldsAlone None) links (reverse (frame_lines rs)) statistics.links.items
-  pub alone_bins : HasAloneBins links (reverse (frame_lines rs)) statistics
+  pub alone : AreEach HoldsAlone links (reverse (frame_lines rs)) statistics.links.items
   pub signs : HasSignsOf links (reverse (frame_lines rs)) statistics
-  pub sums : SumsAlone None statistics.links.items statistics.networks
-  pub alone_sums : HasAloneSums (reverse (frame_lines rs)) statistics
   pub counted_are : HasCounted links (reverse rs) counted
   pub few : length (frame_lines rs) ≤ MOST_LINES
-  pub bins : HasBins (reverse (frame_lines rs)) statistics
-  pub lane_bins : HasLaneBins links (reverse (frame_lines rs)) statistics
-  pub skew_bins : HasSkewBins links (reverse (frame_lines rs)) statistics
-  pub mark_bins : HasMarks links (reverse (frame_lines rs)) statistics
 
 -- ---- the report of a reading
 

@@ -7,7 +7,7 @@ use Rattle.ledger_text.specs.declared.frame.FrameLine.{FrameLine}
 use Rattle.ledger_report.specs.Extremes.{Hit}
 use Rattle.ledger_report.specs.LaneLines.{is_rule}
 use Rattle.ledger_report.specs.LinkLines.{place_of}
-use Rattle.ledger_report.specs.Marks.{HasHits, IsRule}
+use Rattle.ledger_report.specs.Marks.{HasHits}
 use Rattle.ledger_report.specs.Words.{is_on, rule_of}
 use Rattle.ledger_report.specs.declared.network.NetworkReport.{NetworkReport}
 use Rattle.ledger_report.specs.declared.sides.Sides.{Sides}
@@ -22,9 +22,9 @@ rule_hit sign line = if is_rule sign (rule_of line) then Some (record { place = 
 abbrev pub rule_hits : Network → Sign → List FrameLine → List Hit
 rule_hits network sign lines = filter_map (rule_hit sign) (filter (is_on network) lines)
 
--- The mark of each sign of a rule is that of these lines.
+-- The mark of each sign is that of these lines: of the signs of links, which no line's rule is, there is none.
 abbrev pub HasRules : Network → List FrameLine → Signs → Type 0
-HasRules network lines signs = (sign : Sign) → IsRule sign → HasHits signs sign (rule_hits network sign lines)
+HasRules network lines signs = (sign : Sign) → HasHits signs sign (rule_hits network sign lines)
 
 -- for both networks
 pub record HaveRules (lines : List FrameLine) (networks : Sides NetworkReport) : Type 0 where

@@ -2,7 +2,7 @@
 use Rattle.std.specs.Prelude.{◌≡◌, ℕ, ◌+◌, ◌<◌, ◌^◌, List, length, slice_index_or}
 use Rattle.ledger_report.specs.Alone.{missed}
 use Rattle.ledger_report.specs.Marks.{mark_at}
-use Rattle.ledger_report.specs.Pairs.{KeepsFateCounts, MeetsOf, met_with}
+use Rattle.ledger_report.specs.Pairs.{KeepsFates, MeetsOf, met_with}
 use Rattle.ledger_report.specs.Pending.{pending}
 use Rattle.ledger_report.specs.Sums.{saturated}
 use Rattle.ledger_report.specs.declared.link.Fates.{Fates}
@@ -10,7 +10,7 @@ use Rattle.ledger_report.specs.declared.link.LinkReport.{LinkReport}
 use Rattle.ledger_report.specs.declared.signs.Mark.{Mark}
 use Rattle.ledger_report.specs.declared.signs.Sign.TheVariants.{Alone}
 
--- the deliveries of a link whose fate is counted, or that a lane counts or holds
+-- the deliveries of a link whose fate is counted, or that a lane counts
 abbrev pub counted : Mark → LinkReport → ℕ
 counted none link =
     link.fates.paired + link.fates.late + link.fates.first + link.fates.met + missed none link.lanes.a + missed none link.lanes.b
@@ -55,7 +55,7 @@ HaveFates reports = (i : ℕ) (report : LinkReport) → i < length reports → H
 
 -- A link's deliveries and their fates are counted as before.
 abbrev pub KeepsCounts : LinkReport → LinkReport → Type 0
-KeepsCounts old new = AccountsSame old new × KeepsFateCounts old new
+KeepsCounts old new = AccountsSame old new × KeepsFates old new
 
 abbrev pub KeepBalance : List LinkReport → List LinkReport → Type 0
 KeepBalance old new = (i : ℕ) (report : LinkReport) → i < length old → KeepsCounts (slice_index_or old i report) (slice_index_or new i report)

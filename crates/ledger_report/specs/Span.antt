@@ -1,8 +1,7 @@
 -- The first and the last of the ledger's lines of frames, the newest first.
-use Rattle.std.specs.Prelude.{◌≡◌, ℕ, ◌-◌, ◌≤◌, List, [], ◌∷◌, Option, Some, None, unwrap_or}
+use Rattle.std.specs.Prelude.{◌≡◌, ℕ, ◌≤◌, List, [], ◌∷◌, Option, Some, None, unwrap_or}
 use Rattle.std.specs.Option.{option_map, option_map_or}
 use Rattle.ledger_text.specs.declared.frame.FrameLine.{FrameLine}
-use Rattle.ledger_report.specs.Widths.{IsWidth}
 use Rattle.ledger_report.specs.declared.moment.Place.{Place}
 use Rattle.ledger_report.specs.declared.statistics.Statistics.{Statistics}
 
@@ -15,10 +14,6 @@ abbrev pub oldest : List FrameLine → Option ℕ
 oldest [] = None
 oldest (line ∷ before) = Some (unwrap_or (oldest before) line.stamp.0)
 
--- the time from the first to the last of them; 0 where there is none
-abbrev pub duration : List FrameLine → ℕ
-duration lines = unwrap_or (newest lines) 0 - unwrap_or (oldest lines) 0
-
 -- ---- in a report
 
 abbrev pub latest_in : Statistics → Option ℕ
@@ -27,7 +22,6 @@ latest_in statistics = option_map (λ latest. latest.0.stamp) statistics.latest
 pub record HasSpan (lines : List FrameLine) (statistics : Statistics) : Type 0 where
   pub start : statistics.start ≡ unwrap_or (oldest lines) 0
   pub latest : latest_in statistics ≡ newest lines
-  pub width : IsWidth (duration lines) statistics.width
 
 -- The place is the latest, not before the latest so far; it is also the first where none was before.
 pub record TakesPlace (place : Place) (old new : Statistics) : Type 0 where
@@ -39,9 +33,3 @@ pub record TakesPlace (place : Place) (old new : Statistics) : Type 0 where
 pub record KeepsPlaces (old new : Statistics) : Type 0 where
   pub start : new.start ≡ old.start
   pub latest : new.latest ≡ old.latest
-
--- and the width of a bin
-pub record KeepsSpan (old new : Statistics) : Type 0 where
-  pub start : new.start ≡ old.start
-  pub latest : new.latest ≡ old.latest
-  pub width : new.width ≡ old.width

@@ -1,13 +1,6 @@
 //! Blocks of a link's lines that are all on one network.
 
-ghost use Rattle.std.specs.Prelude.{◌≡◌, ◌≤◌, ℕ, true, List, [], ◌∷◌};
-ghost use Rattle.afdx_frame.specs.declared.key.Network.TheVariants.{A, B};
-ghost use Rattle.ledger_text.specs.declared.frame.FrameLine.{FrameLine};
-ghost use Rattle.ledger_report.specs.Absent.{EndsAbsences, HasAbsences, covers_after, last_in, longer, settled};
-ghost use Rattle.ledger_report.specs.Both.{side_of, with_side};
-ghost use Rattle.ledger_report.specs.Networks.{IsNetworkOf};
-ghost use Rattle.ledger_report.specs.Standings.{frames_on};
-ghost use Rattle.ledger_report.specs.Words.{is_seen_of, other_of};
+ghost use Rattle.afdx_frame.specs.declared.key.Network.TheVariants.{A};
 
 use crate::bounds::ABSENT_LINES;
 use crate::network::NetworkReport;
@@ -36,13 +29,8 @@ struct Run {
 
 impl Run {
     /// Counts the latest lines, where the other network was alive around them.
-    fn settle(&mut self, networks: &Sides<NetworkReport>)
-        ensures { (lines : List FrameLine) → IsNetworkOf (other_of self.old.network) lines
-            (side_of (other_of self.old.network) networks.now)
-            → self.old.before ≤ frames_on (other_of self.old.network) lines
-            → self.new ≡ settled (covers_after (other_of self.old.network) self.old.before lines) self.old }
-    {
-        if networks.of(other(self.network)).covers(self.before) != Some(true) {
+    fn settle(&mut self, networks: &Sides<NetworkReport>) {
+        if !networks.of(other(self.network)).covers(self.before) {
             return;
         }
         if self.counted.lines == 0 {
@@ -62,9 +50,7 @@ pub struct Absences {
 }
 
 impl Absences {
-    pub(crate) fn new() -> Absences
-        ensures { (id : ℕ) → HasAbsences id [] result }
-    {
+    pub(crate) fn new() -> Absences {
         Absences {
             run: None,
             longest: Sides { a: None, b: None },
@@ -72,28 +58,19 @@ impl Absences {
     }
 
     /// The longest absence from a network, if one is long enough to be told.
-    pub(crate) fn longest(&self, network: Network) -> Option<Absence>
-        ensures { result ≡ side_of network self.now.longest }
-    {
+    pub(crate) fn longest(&self, network: Network) -> Option<Absence> {
         *self.longest.of(network)
     }
 
     /// The absence that lasts to the end, and the network that the link is absent from.
-    pub(crate) fn last(&self) -> Option<(Network, Absence)>
-        ensures { result ≡ last_in self.now.run }
-    {
+    pub(crate) fn last(&self) -> Option<(Network, Absence)> {
         match self.run {
             Some(run) => Some((other(run.network), run.counted)),
             None => None,
         }
     }
 
-    fn keep(&mut self, run: Run)
-        ensures { self.new ≡ record self.old {
-          longest = with_side (other_of run.network) self.old.longest
-              (longer run.counted (side_of (other_of run.network) self.old.longest));
-        } }
-    {
+    fn keep(&mut self, run: Run) {
         let longest = self.longest.of_mut(other(run.network));
         let most = match longest {
             Some(absence) => absence.lines,
@@ -106,12 +83,7 @@ impl Absences {
 
     /// Notes a line of the link.
     #[inline]
-    pub(crate) fn note(&mut self, network: Network, stamp: u64, networks: &Sides<NetworkReport>)
-        ensures { (id : ℕ) (line : FrameLine) (lines : List FrameLine)
-            → IsNetworkOf A (line ∷ lines) networks.now.a → IsNetworkOf B (line ∷ lines) networks.now.b
-            → is_seen_of id line ≡ true → line.network ≡ network → line.stamp.0 ≡ stamp
-            → HasAbsences id lines self.old → HasAbsences id (line ∷ lines) self.new }
-    {
+    pub(crate) fn note(&mut self, network: Network, stamp: u64, networks: &Sides<NetworkReport>) {
         let before = networks.of(other(network)).frames;
         let one = Absence {
             lines: 1,
@@ -156,11 +128,7 @@ impl Absences {
     }
 
     /// Ends the last block.
-    pub(crate) fn end(&mut self, networks: &Sides<NetworkReport>)
-        ensures { (id : ℕ) (lines : List FrameLine)
-            → IsNetworkOf A lines networks.now.a → IsNetworkOf B lines networks.now.b
-            → HasAbsences id lines self.old → EndsAbsences id lines self.new }
-    {
+    pub(crate) fn end(&mut self, networks: &Sides<NetworkReport>) {
         if let Some(mut run) = self.run {
             run.settle(networks);
             self.run = Some(run);

@@ -1,10 +1,7 @@
 //! The times between deliveries of a link.
 
-ghost use Rattle.std.specs.Prelude.{◌≡◌, ℕ, ◌<◌, ◌^◌, true, List, [], ◌∷◌, length, OnOk};
+ghost use Rattle.std.specs.Prelude.{◌<◌, ◌^◌};
 ghost use Rattle.ledger_text.specs.declared.frame.FrameLine.{FrameLine};
-ghost use Rattle.ledger_report.specs.Gaps.{AddsInterval, HasGaps, TellsGaps, interval_after, longer};
-ghost use Rattle.ledger_report.specs.Networks.{IsNetworkOf};
-ghost use Rattle.ledger_report.specs.Words.{is_seen_of};
 
 use crate::counts::is_delivered;
 use crate::median::Classes;
@@ -20,13 +17,9 @@ pub struct Interval {
 }
 
 impl Interval {
-    ghost use Rattle.ledger_report.specs.Gaps.{time_of};
-
     /// How long it is.
     #[inline]
-    pub fn time(self) -> u64
-        ensures { result ≡ time_of self }
-    {
+    pub fn time(self) -> u64 {
         self.to.saturating_sub(self.from)
     }
 }
@@ -71,9 +64,7 @@ pub struct DeliveryTimes {
 
 /// The time from the delivery before up to this one, if no silence of its network begins in between.
 #[inline]
-fn interval_after(last: Option<u64>, to: u64, network: &NetworkReport) -> Option<Interval>
-    ensures { result ≡ interval_after last to network.now.silences.items }
-{
+fn interval_after(last: Option<u64>, to: u64, network: &NetworkReport) -> Option<Interval> {
     match last {
         Some(from) if !network.was_silent_since(from) => Some(Interval { from, to }),
         _ => None,
@@ -82,9 +73,7 @@ fn interval_after(last: Option<u64>, to: u64, network: &NetworkReport) -> Option
 
 /// The longer of two times, and of those as long the earlier.
 #[inline]
-fn longer(interval: Interval, held: Option<Interval>) -> Option<Interval>
-    ensures { result ≡ longer interval held }
-{
+fn longer(interval: Interval, held: Option<Interval>) -> Option<Interval> {
     match held {
         Some(other) if other.time() >= interval.time() => held,
         _ => Some(interval),
@@ -92,9 +81,7 @@ fn longer(interval: Interval, held: Option<Interval>) -> Option<Interval>
 }
 
 impl DeliveryTimes {
-    pub(crate) fn new(alloc: Global) -> DeliveryTimes
-        ensures { (id : ℕ) → HasGaps id [] result }
-    {
+    pub(crate) fn new(alloc: Global) -> DeliveryTimes {
         DeliveryTimes {
             last: None,
             count: 0,
@@ -109,11 +96,7 @@ impl DeliveryTimes {
         &mut self,
         line: &FrameLine,
         network: &NetworkReport,
-    ) -> Result<(), AllocError>
-        ensures { OnOk result ((id : ℕ) (lines : List FrameLine)
-            → IsNetworkOf line.now.network (line.now ∷ lines) network.now → is_seen_of id line.now ≡ true
-            → HasGaps id lines self.old → HasGaps id (line.now ∷ lines) self.new) }
-    {
+    ) -> Result<(), AllocError> {
         if !is_delivered(line) {
             return Ok(());
         }
@@ -127,9 +110,7 @@ impl DeliveryTimes {
 
     /// Counts a time between two deliveries.
     #[inline]
-    fn count_interval(&mut self, interval: Interval) -> Result<(), AllocError>
-        ensures { OnOk result (AddsInterval interval self.old self.new) }
-    {
+    fn count_interval(&mut self, interval: Interval) -> Result<(), AllocError> {
         self.count = self.count.saturating_add(1);
         self.longest = longer(interval, self.longest);
         self.classes.add(interval.time())?;
@@ -137,10 +118,7 @@ impl DeliveryTimes {
     }
 
     /// What is told of them.
-    pub(crate) fn told(&self) -> Gaps
-        ensures { (id : ℕ) (lines : List FrameLine) → length lines < 2 ^ 62 → HasGaps id lines self.now
-            → TellsGaps id lines result }
-    {
+    pub(crate) fn told(&self) -> Gaps {
         let most = self.count.saturating_sub(1);
         Gaps {
             last: self.last,

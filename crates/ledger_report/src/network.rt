@@ -5,7 +5,6 @@ ghost use Rattle.afdx_frame.specs.declared.key.Network.{Network};
 ghost use Rattle.ledger_text.specs.declared.bounds.TheConstants.{MOST_LINES};
 ghost use Rattle.ledger_text.specs.declared.frame.FrameLine.{FrameLine};
 ghost use Rattle.std.specs.Option.{option_map_or};
-ghost use Rattle.ledger_report.specs.Gaps.{begins_since};
 ghost use Rattle.ledger_report.specs.Sums.{saturated};
 ghost use Rattle.ledger_report.specs.LinkLines.{is_silent_since};
 ghost use Rattle.ledger_report.specs.Words.{is_on};
@@ -13,9 +12,10 @@ ghost use Rattle.ledger_report.specs.Silences.{is_long, usual_with};
 ghost use Rattle.ledger_report.specs.declared.bounds.TheConstants.{SILENT_LINES};
 
 use crate::bounds::{LONG_TIME, LONG_TIMES, MOST_SILENCES, SILENT_LINES};
+use crate::lane::Lane;
 use crate::moment::Moment;
 use crate::series::{Merge, Series};
-use crate::signs::Signs;
+use crate::signs::{Sign, Signs};
 use std::alloc::{AllocError, Global};
 
 /// Preamble, start of frame, check sequence and least gap: what a frame takes on the wire beside its bytes.
@@ -69,18 +69,12 @@ fn is_long(frames: u64, usual: u64, time: u64) -> bool
 impl NetworkReport {
     ghost use Rattle.std.specs.Prelude.{[], ◌++◌};
     ghost use Rattle.std.specs.List.Sorted.{IsNonDecreasingBy};
-    ghost use Rattle.ledger_report.specs.Covered.{covered_so_far, has_silence_after};
-    ghost use Rattle.ledger_report.specs.Keeping.{KeepsNetwork};
-    ghost use Rattle.ledger_report.specs.LinkMarks.{KeepsLinkTallies};
-    ghost use Rattle.ledger_report.specs.declared.signs.Sign.{Sign};
-    ghost use Rattle.ledger_report.specs.Marks.{HasHits, KeepsHits};
+    ghost use Rattle.ledger_report.specs.Covered.{has_silence_after, is_covered};
+    ghost use Rattle.ledger_report.specs.Keeping.{KeepsNetwork, tallies};
+    ghost use Rattle.ledger_report.specs.LinkMarks.{AddsSign, AddsSigns};
+    ghost use Rattle.ledger_report.specs.Marks.{KeepsOthers};
     ghost use Rattle.ledger_report.specs.Networks.{HasSilences, IsNetworkOf};
-    ghost use Rattle.ledger_report.specs.MarkBins.{DoublesBinned, HasBinned};
-    ghost use Rattle.ledger_report.specs.NetworkSeries.{AreInBins, HasSeries, HasTimes, KeepsTimes};
-    ghost use Rattle.ledger_report.specs.NetworkSkews.{DoublesSkews};
-    ghost use Rattle.ledger_report.specs.Series.{IsSeriesOf, is_in};
     ghost use Rattle.ledger_report.specs.declared.series.Merge.TheVariants.{Greatest};
-    ghost use Rattle.std.specs.Prelude.{ℕ, ◌*◌};
     ghost use Rattle.ledger_report.specs.RuleMarks.{HasRules};
     ghost use Rattle.ledger_report.specs.Standings.{frames_on};
     ghost use Rattle.ledger_report.specs.declared.signs.Sign.TheVariants.{Alone};
@@ -88,14 +82,6 @@ impl NetworkReport {
     pub(crate) fn new(alloc: Global) -> Result<NetworkReport, AllocError>
         ensures numbers { IfOk result (λ report. (network : Network) → IsNetworkOf network [] report) }
         ensures rules { IfOk result (λ report. (network : Network) → HasRules network [] report.signs) }
-        ensures signs { IfOk result (λ report. (sign : Sign) → HasHits report.signs sign []) }
-        ensures alone { IfOk result (λ report. HasHits report.signs Alone []) }
-        ensures series { IfOk result (λ report. (network : Network) (start width : ℕ)
-            → HasTimes network start width [] report) }
-        ensures skews { IfOk result (λ report. (start width : ℕ)
-            → IsSeriesOf Greatest start width [] report.skews) }
-        ensures bins { IfOk result (λ report. (start width : ℕ) (sign : Sign)
-            → HasBinned start width report.signs sign []) }
     {
         Ok(NetworkReport {
             frames: 0,
@@ -121,7 +107,6 @@ impl NetworkReport {
             → is_on network line ≡ false → IsNetworkOf network lines self.old
             → IsNetworkOf network (line ∷ lines) self.new }
         ensures signs { self.new.signs ≡ self.old.signs }
-        ensures times { KeepsTimes self.old self.new }
     {
         self.since = self.since.saturating_add(1);
     }
@@ -186,12 +171,6 @@ impl NetworkReport {
             → line.kept ≡ kept → IsNetworkOf network lines self.old
             → IsNetworkOf network (line ∷ lines) self.new) }
         ensures signs { OnOk result (self.new.signs ≡ self.old.signs) }
-        ensures skews { OnOk result (self.new.skews ≡ self.old.skews) }
-        ensures series { OnOk result ((network : Network) (start width : ℕ) (line : FrameLine)
-            (lines : List FrameLine) → is_on network line ≡ true → line.kept ≡ kept
-            → is_in start width at.now.bin line.stamp.0 ≡ true
-            → HasSeries network start width lines self.old
-            → HasSeries network start width (line ∷ lines) self.new) }
     {
         let stamp = at.place.stamp;
         self.end_silence(stamp)?;
@@ -231,11 +210,6 @@ impl NetworkReport {
           lines = self.new.lines;
           loads = self.new.loads;
         } }
-        ensures series { OnOk result ((network : Network) (start width : ℕ) (line : FrameLine)
-            (lines : List FrameLine) → is_on network line ≡ true → line.kept ≡ kept
-            → is_in start width bin line.stamp.0 ≡ true
-            → HasSeries network start width lines self.old
-            → HasSeries network start width (line ∷ lines) self.new) }
     {
         self.lines.put(bin, 1)?;
         if let Some(kept) = kept {
@@ -274,9 +248,7 @@ impl NetworkReport {
 
     /// Does its latest silence begin at this time, or later?
     #[inline]
-    pub(crate) fn was_silent_since(&self, stamp: u64) -> bool
-        ensures { result ≡ begins_since stamp self.now.silences.items }
-    {
+    pub(crate) fn was_silent_since(&self, stamp: u64) -> bool {
         match self.silences.last() {
             Some(silence) => silence.from >= stamp,
             None => false,
@@ -284,31 +256,49 @@ impl NetworkReport {
     }
 
     /// Was the network alive where so many of its lines stand before: is there one before and one after, and
-    /// no silence between? None where no line follows yet.
+    /// no silence between?
     #[inline]
-    pub(crate) fn covers(&self, before: u64) -> Option<bool>
+    pub(crate) fn covers(&self, before: u64) -> bool
         ensures { (network : Network) (later earlier : List FrameLine)
             → IsNetworkOf network (later ++ earlier) self.now → frames_on network earlier ≡ before
-            → result ≡ covered_so_far network later earlier }
+            → result ≡ is_covered network later earlier }
     {
         if before == 0 {
-            Some(false)
+            false
         } else if self.frames > before {
-            Some(!self.is_silent_after(before))
+            !self.is_silent_after(before)
         } else {
-            None
+            false
         }
+    }
+
+    /// Adds what the network's lane of a link has: a network's marks of links' signs are the sums of its
+    /// lanes', but for `early`, which it doesn't count.
+    pub(crate) fn add_lane(&mut self, lane: &Lane, skews: &Series) -> Result<(), AllocError>
+        ensures signs { OnOk result (AddsSigns lane.now.signs self.old.signs self.new.signs) }
+        ensures network { OnOk result (KeepsNetwork self.old self.new) }
+    {
+        self.add_sign(Sign::Lost, lane)?;
+        self.add_sign(Sign::Repeat, lane)?;
+        self.add_sign(Sign::Reset, lane)?;
+        self.add_sign(Sign::Alone, lane)?;
+        self.add_sign(Sign::Late, lane)?;
+        self.skews.absorb(skews)?;
+        Ok(())
+    }
+
+    /// Adds a lane's mark of a sign of links.
+    fn add_sign(&mut self, sign: Sign, lane: &Lane) -> Result<(), AllocError>
+        ensures sign { AddsSign sign lane.now.signs self.old.signs self.new.signs }
+        ensures others { KeepsOthers sign self.old.signs self.new.signs }
+        ensures network { KeepsNetwork self.old self.new }
+    {
+        self.signs.absorb(sign, lane.signs.of(sign))
     }
 
     pub(crate) fn fold(&mut self)
         ensures numbers { KeepsNetwork self.old self.new }
-        ensures link_marks { KeepsLinkTallies self.old.signs self.new.signs }
-        ensures alone { KeepsHits Alone self.old.signs self.new.signs }
-        ensures series { (network : Network) (start width : ℕ) (lines : List FrameLine)
-            → AreInBins start width lines → HasSeries network start width lines self.old
-            → HasSeries network start (2 * width) lines self.new }
-        ensures bins { DoublesBinned self.old.signs self.new.signs }
-        ensures skews { DoublesSkews self.old self.new }
+        ensures signs { tallies self.new.signs ≡ tallies self.old.signs }
     {
         self.signs.fold();
         self.lines.fold();

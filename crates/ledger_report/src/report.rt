@@ -3,18 +3,12 @@
 ghost use Rattle.std.specs.Prelude.{◌≡◌, ℕ, List, [], Option, IfOk, false};
 ghost use Rattle.ledger_text.specs.Ledger.{has_failed as ledger_failed};
 ghost use Rattle.vl_config.specs.Link.{VirtualLink};
-ghost use Rattle.ledger_report.specs.AloneSums.{SumsAlone};
 ghost use Rattle.ledger_report.specs.Counting.{AreCountsOf};
-ghost use Rattle.ledger_report.specs.Alone.{Scale};
 ghost use Rattle.ledger_report.specs.Holding.{HoldsAlone};
 ghost use Rattle.ledger_report.specs.Links.{AreEach};
 ghost use Rattle.ledger_report.specs.Noting.{IsAccountOf};
-ghost use Rattle.ledger_report.specs.LaneSeries.{HasLaneBins};
-ghost use Rattle.ledger_report.specs.MarkLines.{HasMarks};
-ghost use Rattle.ledger_report.specs.NetworkSeries.{HasBins};
 ghost use Rattle.ledger_report.specs.CountsLines.{HasCounted};
 ghost use Rattle.ledger_report.specs.SignSums.{HasSignsOf};
-ghost use Rattle.ledger_report.specs.SkewSeries.{HasSkewBins};
 ghost use Rattle.ledger_report.specs.Span.{HasSpan};
 ghost use Rattle.ledger_report.specs.Judged.{HasJudged, HasReadRight, TellsRight};
 ghost use Rattle.ledger_report.specs.Reading.{HasNoted, HasRead, report_of};
@@ -236,19 +230,13 @@ impl Reading {
         ensures counts { IfOk result (λ reading. AreCountsOf [] reading.counts) }
         ensures account { IfOk result (λ reading. IsAccountOf config.now.links [] reading.statistics) }
         ensures span { IfOk result (λ reading. HasSpan [] reading.statistics) }
-        ensures alone { IfOk result (λ reading. (scale : Option Scale)
-            → AreEach (HoldsAlone scale) config.now.links [] reading.statistics.links.items) }
+        ensures alone { IfOk result (λ reading.
+            AreEach HoldsAlone config.now.links [] reading.statistics.links.items) }
         ensures signs { IfOk result (λ reading. HasSignsOf config.now.links [] reading.statistics) }
-        ensures sums { IfOk result (λ reading. (scale : Option Scale)
-            → SumsAlone scale reading.statistics.links.items reading.statistics.networks) }
         ensures lines { IfOk result (λ reading. (links : List VirtualLink)
             → HasCounted links [] reading.lines) }
         ensures judged { IfOk result (λ reading. (table : VlTable)
             → HasJudged table [] reading.statistics reading.lines) }
-        ensures bins { IfOk result (λ reading. HasBins [] reading.statistics) }
-        ensures lane_bins { IfOk result (λ reading. HasLaneBins config.now.links [] reading.statistics) }
-        ensures skew_bins { IfOk result (λ reading. HasSkewBins config.now.links [] reading.statistics) }
-        ensures mark_bins { IfOk result (λ reading. HasMarks config.now.links [] reading.statistics) }
     {
         Ok(Reading {
             counts: FrameCounts::new(alloc)?,

@@ -1,8 +1,7 @@
 //! Numbers by time.
 
-ghost use Rattle.std.specs.Prelude.{◌≡◌, ℕ, ◌<◌, OnOk, vec_len};
+ghost use Rattle.std.specs.Prelude.{◌≡◌, ◌<◌, vec_len};
 ghost use Rattle.ledger_report.specs.declared.bounds.TheConstants.{BINS};
-ghost use Rattle.ledger_report.specs.Merging.{merged, nothing_of};
 
 use crate::bounds::BINS;
 use std::alloc::{AllocError, Global};
@@ -20,9 +19,7 @@ pub enum Merge {
 
 impl Merge {
     #[inline(always)]
-    fn of(self, first: u64, second: u64) -> u64
-        ensures { result ≡ merged self first second }
-    {
+    fn of(self, first: u64, second: u64) -> u64 {
         match self {
             Merge::Sum => first.saturating_add(second),
             Merge::Least => first.min(second),
@@ -31,9 +28,7 @@ impl Merge {
     }
 
     #[inline(always)]
-    fn nothing(self) -> u64
-        ensures { result ≡ nothing_of self }
-    {
+    fn nothing(self) -> u64 {
         match self {
             Merge::Sum | Merge::Greatest => 0,
             Merge::Least => u64::MAX,
@@ -50,17 +45,10 @@ pub struct Series {
 }
 
 impl Series {
-    ghost use Rattle.ledger_report.specs.Bins.{bin_at, Doubles, TakesNumber};
-    ghost use Rattle.ledger_report.specs.Series.{IsSeriesOf, Put};
     ghost use Rattle.ledger_report.specs.declared.series.Merge.{Merge};
-    ghost use Rattle.std.specs.Prelude.{List, [], ◌++◌};
 
     /// A series in which nothing came. Allocates nothing.
-    pub(crate) fn new(alloc: Global, merge: Merge) -> Series
-        ensures merge { result.merge ≡ merge }
-        ensures nothing { (bin : ℕ) → bin_at result bin ≡ nothing_of merge }
-        ensures none { result.bins.items ≡ [] }
-    {
+    pub(crate) fn new(alloc: Global, merge: Merge) -> Series {
         Series {
             merge,
             bins: Vec::new(alloc),
@@ -69,10 +57,7 @@ impl Series {
 
     /// Merges a number into a bin. Allocates at the first one alone.
     #[inline]
-    pub(crate) fn put(&mut self, bin: usize, value: u64) -> Result<(), AllocError>
-        ensures takes { OnOk result (TakesNumber bin value self.old self.new) }
-        ensures merge { self.new.merge ≡ self.old.merge }
-    {
+    pub(crate) fn put(&mut self, bin: usize, value: u64) -> Result<(), AllocError> {
         if self.bins.is_empty() {
             self.bins.resize(BINS, self.merge.nothing())?;
         }
@@ -83,10 +68,7 @@ impl Series {
     }
 
     /// Doubles the width: each two bins become one.
-    pub(crate) fn fold(&mut self)
-        ensures doubles { Doubles self.old self.new }
-        ensures merge { self.new.merge ≡ self.old.merge }
-    {
+    pub(crate) fn fold(&mut self) {
         let merge = self.merge;
         let bins = self.bins.as_mut_slice();
         if bins.len() < BINS {
@@ -101,25 +83,11 @@ impl Series {
     }
 
     /// Merges all of another series.
-    pub(crate) fn absorb(&mut self, other: &Series) -> Result<(), AllocError>
-        ensures merge { self.new.merge ≡ self.old.merge }
-        ensures both { OnOk result ((merge : Merge) (start width : ℕ) (puts others : List Put)
-            → IsSeriesOf merge start width puts self.old → IsSeriesOf merge start width others other.now
-            → IsSeriesOf merge start width (others ++ puts) self.new) }
-    {
+    pub(crate) fn absorb(&mut self, other: &Series) -> Result<(), AllocError> {
         for (bin, value) in other.bins.iter().enumerate() {
             self.put(bin, *value)?;
         }
         Ok(())
-    }
-
-    /// Empties the series. Its memory stays.
-    pub(crate) fn clear(&mut self)
-        ensures nothing { (bin : ℕ) → bin_at self.new bin ≡ nothing_of self.old.merge }
-        ensures none { self.new.bins.items ≡ [] }
-        ensures merge { self.new.merge ≡ self.old.merge }
-    {
-        self.bins.clear();
     }
 
     /// The bins: none where nothing ever came. A bin in which nothing came has 0, and 2^64 - 1 in a series of

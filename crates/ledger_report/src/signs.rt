@@ -1,6 +1,6 @@
 //! What is counted of a lane or a network, with its first and its last place and its bins.
 
-ghost use Rattle.std.specs.Prelude.{◌≡◌, ℕ, ◌+◌, ◌<◌, ◌++◌, List, OnOk, vec_len};
+ghost use Rattle.std.specs.Prelude.{◌≡◌, ◌+◌, ◌<◌, ◌++◌, List, vec_len};
 ghost use Rattle.ledger_report.specs.Sums.{saturated};
 ghost use Rattle.ledger_report.specs.Placing.{IsEarlier, IsLater};
 ghost use Rattle.ledger_report.specs.Extremes.{Hit, IsFirst, IsLast};
@@ -85,11 +85,9 @@ fn last_with(held: Option<Place>, last: Option<Place>) -> Option<Place>
 impl Mark {
     ghost use Rattle.std.specs.Prelude.{[], ◌∷◌};
     ghost use Rattle.ledger_report.specs.Places.{IsMarkOf};
-    ghost use Rattle.ledger_report.specs.MarkBins.{BinsBoth, BinsHit, BinsNone, IsBinned};
 
     fn new(alloc: Global) -> Mark
         ensures hits { IsMarkOf [] result }
-        ensures bins { (start width : ℕ) → IsBinned start width [] result }
     {
         Mark {
             count: 0,
@@ -106,10 +104,6 @@ impl Mark {
           amount = amount;
         } ∷ hits) self.new }
         ensures count { self.new.count ≡ saturated (self.old.count + amount) }
-        ensures bins { OnOk result (BinsHit bin (record {
-          place = place;
-          amount = amount;
-        }) self.old self.new) }
     {
         self.count = self.count.saturating_add(amount);
         self.first = Some(earlier(self.first, place));
@@ -122,23 +116,11 @@ impl Mark {
         ensures hits { (hits more : List Hit) → IsMarkOf hits self.old → IsMarkOf more other.now
             → IsMarkOf (more ++ hits) self.new }
         ensures count { self.new.count ≡ saturated (self.old.count + other.now.count) }
-        ensures bins { OnOk result (BinsBoth other.now self.old self.new) }
     {
         self.count = self.count.saturating_add(other.count);
         self.first = first_with(self.first, other.first);
         self.last = last_with(self.last, other.last);
         self.bins.absorb(&other.bins)
-    }
-
-    pub(crate) fn clear(&mut self)
-        ensures hits { IsMarkOf [] self.new }
-        ensures count { self.new.count ≡ 0 }
-        ensures bins { BinsNone self.old self.new }
-    {
-        self.count = 0;
-        self.first = None;
-        self.last = None;
-        self.bins.clear();
     }
 }
 
@@ -163,19 +145,15 @@ impl Sign {
 }
 
 impl Signs {
-    ghost use Rattle.std.specs.Prelude.{◌≤◌, ◌==◌, false, [], IfOk};
+    ghost use Rattle.std.specs.Prelude.{[], IfOk};
     ghost use Rattle.ledger_report.specs.Places.{IsMarkOf};
-    ghost use Rattle.ledger_report.specs.Keeping.{rule_tallies, tally_of};
-    ghost use Rattle.ledger_report.specs.MarkBins.{AbsorbsBinned, DoublesBinned, HasBinned, IsBinned};
-    ghost use Rattle.ledger_report.specs.MarkBins.{TakesBinned, lane_bins, late_bins, rule_bins};
+    ghost use Rattle.ledger_report.specs.Keeping.{tallies, tally_of};
     ghost use Rattle.ledger_report.specs.declared.signs.Sign.{Sign};
     ghost use Rattle.ledger_report.specs.Marks.{HasHits, KeepsOthers, TakesHit, mark_at, sign_index};
     ghost use Rattle.ledger_report.specs.declared.signs.Mark.{Mark};
 
     pub(crate) fn new(alloc: Global) -> Result<Signs, AllocError>
         ensures hits { IfOk result (λ signs. (sign : Sign) → HasHits signs sign []) }
-        ensures bins { IfOk result (λ signs. (start width : ℕ) (sign : Sign)
-            → HasBinned start width signs sign []) }
     {
         let mut marks = Vec::with_capacity(alloc, SIGNS)?;
         for _ in 0..SIGNS {
@@ -207,15 +185,6 @@ impl Signs {
         ensures others { KeepsOthers sign self.old self.new }
         ensures count { (none : Mark) → (mark_at self.new sign none).count
             ≡ saturated ((mark_at self.old sign none).count + amount) }
-        ensures rules { 8 ≤ sign_index sign → rule_tallies self.new ≡ rule_tallies self.old }
-        ensures bins { OnOk result (TakesBinned sign bin (record {
-          place = place;
-          amount = amount;
-        }) self.old self.new) }
-        ensures rule_bins { 8 ≤ sign_index sign → rule_bins self.new ≡ rule_bins self.old }
-        ensures lane_bins { 11 ≤ sign_index sign → sign_index sign ≤ 12
-            → lane_bins self.new ≡ lane_bins self.old }
-        ensures late_bins { (sign_index sign == 12) ≡ false → late_bins self.new ≡ late_bins self.old }
     {
         self.marks[sign.index()].hit(bin, place, amount)
     }
@@ -227,12 +196,6 @@ impl Signs {
         ensures others { KeepsOthers sign self.old self.new }
         ensures count { (none : Mark) → (mark_at self.new sign none).count
             ≡ saturated ((mark_at self.old sign none).count + other.now.count) }
-        ensures rules { 8 ≤ sign_index sign → rule_tallies self.new ≡ rule_tallies self.old }
-        ensures bins { OnOk result (AbsorbsBinned sign other.now self.old self.new) }
-        ensures rule_bins { 8 ≤ sign_index sign → rule_bins self.new ≡ rule_bins self.old }
-        ensures lane_bins { 11 ≤ sign_index sign → sign_index sign ≤ 12
-            → lane_bins self.new ≡ lane_bins self.old }
-        ensures late_bins { (sign_index sign == 12) ≡ false → late_bins self.new ≡ late_bins self.old }
     {
         self.marks[sign.index()].absorb(other)
     }
@@ -240,18 +203,10 @@ impl Signs {
     pub(crate) fn fold(&mut self)
         ensures tallies { (sign : Sign) (none : Mark) → tally_of (mark_at self.new sign none)
             ≡ tally_of (mark_at self.old sign none) }
-        ensures rules { rule_tallies self.new ≡ rule_tallies self.old }
-        ensures bins { DoublesBinned self.old self.new }
+        ensures all { tallies self.new ≡ tallies self.old }
     {
         for mark in self.marks.iter_mut() {
             mark.bins.fold();
         }
-    }
-
-    pub(crate) fn held(alloc: Global) -> Mark
-        ensures hits { IsMarkOf [] result }
-        ensures bins { (start width : ℕ) → IsBinned start width [] result }
-    {
-        Mark::new(alloc)
     }
 }

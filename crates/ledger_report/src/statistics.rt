@@ -1,6 +1,6 @@
 //! What each line adds to the numbers of its network and its link.
 
-ghost use Rattle.std.specs.Prelude.{◌≡◌, ℕ, ◌*◌, ◌-◌, ◌/◌, ◌<◌, ◌≤◌, List, [], ◌∷◌, Option, Some, length, slice_index_or, true, false, IfOk, IfSome, OnOk};
+ghost use Rattle.std.specs.Prelude.{◌≡◌, ◌*◌, ◌-◌, ◌/◌, ◌<◌, List, [], ◌∷◌, Option, Some, length, slice_index_or, true, false, IfOk, IfSome, OnOk};
 ghost use Rattle.afdx_frame.specs.declared.key.Network.{Network};
 ghost use Rattle.afdx_frame.specs.declared.key.TheConstants.{VL_ID_COUNT};
 ghost use Rattle.vl_config.specs.Link.{VirtualLink};
@@ -9,30 +9,20 @@ ghost use Rattle.verdict_ledger.specs.Tally.{is_class};
 ghost use Rattle.ledger_text.specs.FrameText.{IsFrameLine};
 ghost use Rattle.ledger_text.specs.declared.bounds.TheConstants.{MOST_LINES};
 ghost use Rattle.ledger_text.specs.declared.frame.FrameLine.{FrameLine};
-ghost use Rattle.ledger_report.specs.AloneSums.{AllFit, KeepsSums};
-ghost use Rattle.ledger_report.specs.Alone.{KeepsAlone, Scale};
-ghost use Rattle.ledger_report.specs.AloneBins.{HasAloneBins, HasAloneSums};
-ghost use Rattle.ledger_report.specs.Holding.{DoubleAllMissed, EndAlone, FitsIn, HoldsAlone, bin_in};
-ghost use Rattle.ledger_report.specs.Absent.{GainAbsences, HoldsRuns, KeepEachRuns};
+ghost use Rattle.ledger_report.specs.Holding.{EndAlone, HoldsAlone};
 ghost use Rattle.ledger_report.specs.Keeping.{KeepsLinks, KeepsNetworks};
-ghost use Rattle.ledger_report.specs.LaneSeries.{AllLanesDouble, AllLanesKeep, HasLaneBins, HaveLaneSeries};
-ghost use Rattle.ledger_report.specs.LinkLines.{place_of};
-ghost use Rattle.ledger_report.specs.LinkMarks.{KeepLinkMarks, KeepsLinkMarks};
-ghost use Rattle.ledger_report.specs.Links.{AreEach, AreLinksOf, CountsMet};
-ghost use Rattle.ledger_report.specs.MarkLines.{HasMarks, HaveLaneMarks, HaveMarks, NetworksDouble};
-ghost use Rattle.ledger_report.specs.Marks.{IsRule, KeepsHits};
+ghost use Rattle.ledger_report.specs.LinkMarks.{AddsLanes};
 ghost use Rattle.ledger_report.specs.LostBoth.{HasLosses};
-ghost use Rattle.ledger_report.specs.Networks.{IsNetworkOf};
+ghost use Rattle.ledger_report.specs.Marks.{IsRule};
 ghost use Rattle.ledger_report.specs.Noting.{IsIndexOf};
-ghost use Rattle.ledger_report.specs.NetworkSeries.{HasRuleBins, HasSeries, KeepTimes, KeepTimesButSkews};
-ghost use Rattle.ledger_report.specs.NetworkSeries.{KeepsTimes, skews_of};
-ghost use Rattle.ledger_report.specs.Series.{is_in};
-ghost use Rattle.ledger_report.specs.OutsideLines.{IsOutsideOf};
-ghost use Rattle.ledger_report.specs.RuleMarks.{HasRules};
-ghost use Rattle.ledger_report.specs.Settling.{AreBalanced, GainFates, KeepBalance};
+ghost use Rattle.ledger_report.specs.RuleMarks.{HasRules, HaveRules};
 ghost use Rattle.ledger_report.specs.SignSums.{KeepEachLosses};
-ghost use Rattle.ledger_report.specs.SkewMedians.{GainMedians};
-ghost use Rattle.ledger_report.specs.SkewSeries.{AllSkewsKeep, HasSkewBins, HaveSkews, SkewBinsDouble};
+ghost use Rattle.afdx_frame.specs.declared.key.Network.TheVariants.{A, B};
+ghost use Rattle.ledger_report.specs.LinkLines.{place_of};
+ghost use Rattle.ledger_report.specs.Links.{AreEach, AreLinksOf, CountsMet};
+ghost use Rattle.ledger_report.specs.Networks.{IsNetworkOf};
+ghost use Rattle.ledger_report.specs.OutsideLines.{IsOutsideOf};
+ghost use Rattle.ledger_report.specs.Settling.{AreBalanced, GainFates, KeepBalance};
 ghost use Rattle.ledger_report.specs.Words.{is_on};
 ghost use Rattle.ledger_report.specs.Words.{rule_of};
 ghost use Rattle.ledger_report.specs.declared.signs.Sign.TheVariants as signs;
@@ -75,10 +65,7 @@ pub fn rule_of(line: &FrameLine) -> Option<Sign>
 
 /// The bin of a timestamp that isn't before the first.
 #[inline]
-pub fn bin_of(start: u64, width: u64, stamp: u64) -> usize
-    ensures bin { 0 < width → result ≡ (stamp - start) / width }
-    ensures exact { result ≡ bin_in start width stamp }
-{
+pub fn bin_of(start: u64, width: u64, stamp: u64) -> usize {
     if width == 0 {
         return 0;
     }
@@ -118,16 +105,8 @@ fn links_of(alloc: Global, config: &Config) -> Result<Vec<LinkReport>, AllocErro
     ensures links { IfOk result (λ links. AreLinksOf config.now.links [] links.items) }
     ensures balanced { IfOk result (λ links. AreBalanced links.items) }
     ensures met { IfOk result (λ links. AreEach CountsMet config.now.links [] links.items) }
-    ensures alone { IfOk result (λ links. (scale : Option Scale)
-        → AreEach (HoldsAlone scale) config.now.links [] links.items) }
+    ensures alone { IfOk result (λ links. AreEach HoldsAlone config.now.links [] links.items) }
     ensures losses { IfOk result (λ links. AreEach HasLosses config.now.links [] links.items) }
-    ensures runs { IfOk result (λ links. AreEach HoldsRuns config.now.links [] links.items) }
-    ensures lane_series { IfOk result (λ links. (start width : ℕ)
-        → AreEach (HaveLaneSeries start width) config.now.links [] links.items) }
-    ensures skews { IfOk result (λ links. (start width : ℕ)
-        → AreEach (HaveSkews start width) config.now.links [] links.items) }
-    ensures lane_marks { IfOk result (λ links. (start width : ℕ)
-        → AreEach (HaveLaneMarks start width) config.now.links [] links.items) }
 {
     let mut links = Vec::with_capacity(alloc, config.links().len())?;
     for link in config.links() {
@@ -165,21 +144,6 @@ fn note_on(
     ensures other_rules { OnOk result ((network : Network) (lines : List FrameLine)
         → is_on network line.now ≡ false → HasRules network lines other.old.signs
         → HasRules network (line.now ∷ lines) other.new.signs) }
-    ensures own_link_marks { OnOk result (KeepsLinkMarks own.old.signs own.new.signs) }
-    ensures other_link_marks { KeepsLinkMarks other.old.signs other.new.signs }
-    ensures own_alone { OnOk result (KeepsAlone own.old.signs own.new.signs) }
-    ensures other_alone { OnOk result (KeepsAlone other.old.signs other.new.signs) }
-    ensures own_series { OnOk result ((network : Network) (start width : ℕ) (lines : List FrameLine)
-        → is_on network line.now ≡ true → is_in start width at.now.bin line.now.stamp.0 ≡ true
-        → HasSeries network start width lines own.old
-        → HasSeries network start width (line.now ∷ lines) own.new) }
-    ensures own_bins { OnOk result ((network : Network) (start width : ℕ) (lines : List FrameLine)
-        → is_on network line.now ≡ true → at.now.place ≡ place_of line.now
-        → is_in start width at.now.bin line.now.stamp.0 ≡ true
-        → HasRuleBins network start width lines own.old.signs
-        → HasRuleBins network start width (line.now ∷ lines) own.new.signs) }
-    ensures own_skews { OnOk result (own.new.skews ≡ own.old.skews) }
-    ensures other_times { KeepsTimes other.old other.new }
 {
     other.pass();
     own.note(at, line.kept)?;
@@ -194,21 +158,12 @@ fn end_links(
     links: &mut Vec<LinkReport>,
     start: u64,
     width: u64,
-    networks: &mut Sides<NetworkReport>,
+    networks: &Sides<NetworkReport>,
 ) -> Result<(), AllocError>
     ensures links { OnOk result (KeepsLinks links.old.items links.new.items) }
-    ensures networks { OnOk result (KeepsNetworks networks.old networks.new) }
     ensures fates { OnOk result (GainFates links.old.items links.new.items) }
-    ensures medians { OnOk result (GainMedians links.old.items links.new.items) }
-    ensures alone { OnOk result (EndAlone start width networks.old links.old.items links.new.items) }
-    ensures link_marks { OnOk result (KeepLinkMarks networks.old networks.new) }
-    ensures sums { OnOk result (KeepsSums (AllFit start width links.old.items)
-        links.old.items links.new.items networks.old networks.new) }
+    ensures alone { OnOk result (EndAlone networks.now links.old.items links.new.items) }
     ensures losses { OnOk result (KeepEachLosses links.old.items links.new.items) }
-    ensures absences { OnOk result (GainAbsences networks.old links.old.items links.new.items) }
-    ensures times { OnOk result (KeepTimes networks.old networks.new) }
-    ensures lane_times { OnOk result (AllLanesKeep links.old.items links.new.items) }
-    ensures skews { OnOk result (AllSkewsKeep links.old.items links.new.items) }
 {
     for link in links.iter_mut() {
         link.end(start, width, networks)?;
@@ -216,37 +171,38 @@ fn end_links(
     Ok(())
 }
 
+/// Adds to each network what its lanes have.
+fn add_lanes(links: &[LinkReport], networks: &mut Sides<NetworkReport>) -> Result<(), AllocError>
+    ensures a { OnOk result (AddsLanes (length links.now) A links.now networks.old.a.signs networks.new.a.signs) }
+    ensures b { OnOk result (AddsLanes (length links.now) B links.now networks.old.b.signs networks.new.b.signs) }
+    ensures networks { OnOk result (KeepsNetworks networks.old networks.new) }
+{
+    for link in links {
+        networks.a.add_lane(&link.lanes.a, &link.skews.a)?;
+        networks.b.add_lane(&link.lanes.b, &link.skews.b)?;
+    }
+    Ok(())
+}
+
 impl Statistics {
-    ghost use Rattle.ledger_report.specs.AloneSums.{KeepAloneHits, KeepAloneMarks, SumsAlone};
     ghost use Rattle.ledger_report.specs.Holding.{KeepAllPlaces};
     ghost use Rattle.ledger_report.specs.Keeping.{KeepsAccount};
-    ghost use Rattle.ledger_report.specs.NetworkSeries.{HasBins, HaveSeries};
-    ghost use Rattle.ledger_report.specs.Series.{LiesIn};
-    ghost use Rattle.std.specs.Prelude.{◌^◌};
     ghost use Rattle.ledger_report.specs.Noting.{AreNetworksOf, IsAccountOf, IsMomentOf};
     ghost use Rattle.ledger_report.specs.Reading.{end_stamp};
     ghost use Rattle.ledger_report.specs.SignSums.{HasSignsOf, KeepsSigns};
-    ghost use Rattle.ledger_report.specs.Span.{HasSpan, KeepsPlaces, KeepsSpan, TakesPlace};
+    ghost use Rattle.ledger_report.specs.Span.{HasSpan, KeepsPlaces, TakesPlace};
     ghost use Rattle.ledger_report.specs.Wrongs.{TellsWrong, held_key, is_unordered, key_at, key_of};
     ghost use Rattle.ledger_report.specs.Wrongs.{later_wrong, latest_key, wrong_of};
     ghost use Rattle.ledger_report.specs.declared.fault.WrongLine.TheVariants as wrongs;
     ghost use Rattle.std.specs.Prelude.{Err, None, Ok, if◌then◌else◌};
-    ghost use Rattle.ledger_report.specs.Sums.{saturated};
-    ghost use Rattle.ledger_report.specs.Widths.{IsWidth};
 
     pub(crate) fn new(alloc: Global, config: &Config) -> Result<Statistics, AllocError>
         ensures latest { IfOk result (λ statistics. held_key statistics ≡ None) }
         ensures account { IfOk result (λ statistics. IsAccountOf config.now.links [] statistics) }
         ensures span { IfOk result (HasSpan []) }
-        ensures alone { IfOk result (λ statistics. (scale : Option Scale)
-            → AreEach (HoldsAlone scale) config.now.links [] statistics.links.items) }
+        ensures alone { IfOk result (λ statistics.
+            AreEach HoldsAlone config.now.links [] statistics.links.items) }
         ensures signs { IfOk result (HasSignsOf config.now.links []) }
-        ensures sums { IfOk result (λ statistics. (scale : Option Scale)
-            → SumsAlone scale statistics.links.items statistics.networks) }
-        ensures bins { IfOk result (HasBins []) }
-        ensures lane_bins { IfOk result (HasLaneBins config.now.links []) }
-        ensures skew_bins { IfOk result (HasSkewBins config.now.links []) }
-        ensures mark_bins { IfOk result (HasMarks config.now.links []) }
     {
         Ok(Statistics {
             start: 0,
@@ -301,37 +257,10 @@ impl Statistics {
     #[inline]
     fn reach(&mut self, stamp: u64) -> usize
         ensures span { KeepsPlaces self.old self.new }
-        ensures width { (time : ℕ) → time ≤ stamp - self.old.start → IsWidth time self.old.width
-            → IsWidth (stamp - self.old.start) self.new.width }
         ensures account { KeepsAccount self.old self.new }
         ensures balance { KeepBalance self.old.links.items self.new.links.items }
         ensures places { KeepAllPlaces self.old.links.items self.new.links.items }
         ensures signs { KeepsSigns self.old self.new }
-        ensures marks { KeepAloneHits self.old.networks self.new.networks }
-        ensures runs { KeepEachRuns self.old.links.items self.new.links.items }
-        ensures bins { (time : ℕ) (lines : List FrameLine) → time ≤ stamp - self.old.start
-            → IsWidth time self.old.width → HasBins lines self.old → HasBins lines self.new }
-        ensures bin { (time : ℕ) → time ≤ stamp - self.old.start → IsWidth time self.old.width
-            → self.old.start ≤ stamp → is_in self.new.start self.new.width result stamp ≡ true }
-        ensures lane_bins { (time : ℕ) (links : List VirtualLink) (lines : List FrameLine)
-            → time ≤ stamp - self.old.start → IsWidth time self.old.width → HasBins lines self.old
-            → length self.old.links.items ≡ length links
-            → HasLaneBins links lines self.old → HasLaneBins links lines self.new }
-        ensures alone_sums { (time : ℕ) (lines : List FrameLine) → time ≤ stamp - self.old.start
-            → IsWidth time self.old.width → HasBins lines self.old
-            → HasAloneSums lines self.old → HasAloneSums lines self.new }
-        ensures alone_bins { (time : ℕ) (links : List VirtualLink) (lines : List FrameLine)
-            → time ≤ stamp - self.old.start → IsWidth time self.old.width → HasBins lines self.old
-            → length self.old.links.items ≡ length links
-            → HasAloneBins links lines self.old → HasAloneBins links lines self.new }
-        ensures skew_bins { (time : ℕ) (links : List VirtualLink) (lines : List FrameLine)
-            → time ≤ stamp - self.old.start → IsWidth time self.old.width → HasBins lines self.old
-            → length self.old.links.items ≡ length links
-            → HasSkewBins links lines self.old → HasSkewBins links lines self.new }
-        ensures mark_bins { (time : ℕ) (links : List VirtualLink) (lines : List FrameLine)
-            → time ≤ stamp - self.old.start → IsWidth time self.old.width → HasBins lines self.old
-            → length self.old.links.items ≡ length links
-            → HasMarks links lines self.old → HasMarks links lines self.new }
     {
         for _doubling in 0..64u32 {
             let bin = bin_of(self.start, self.width, stamp);
@@ -345,19 +274,10 @@ impl Statistics {
 
     fn fold(&mut self)
         ensures span { KeepsPlaces self.old self.new }
-        ensures width { self.new.width ≡ saturated (2 * self.old.width) }
         ensures account { KeepsAccount self.old self.new }
         ensures balance { KeepBalance self.old.links.items self.new.links.items }
         ensures places { KeepAllPlaces self.old.links.items self.new.links.items }
         ensures signs { KeepsSigns self.old self.new }
-        ensures marks { KeepAloneHits self.old.networks self.new.networks }
-        ensures runs { KeepEachRuns self.old.links.items self.new.links.items }
-        ensures bins { (lines : List FrameLine) → 2 * self.old.width < 2 ^ 64
-            → HasBins lines self.old → HasBins lines self.new }
-        ensures lane_series { AllLanesDouble self.old.links.items self.new.links.items }
-        ensures skews { SkewBinsDouble self.old self.new }
-        ensures doubles { DoubleAllMissed self.old.links.items self.new.links.items }
-        ensures mark_bins { NetworksDouble self.old.networks self.new.networks }
     {
         self.width = self.width.saturating_mul(2);
         self.networks.a.fold();
@@ -380,35 +300,11 @@ impl Statistics {
             → HasSpan (line.now ∷ lines) self.new) }
         ensures alone { OnOk result ((links : List VirtualLink) (lines : List FrameLine)
             → IsFrameLine line.now → length lines < MOST_LINES → IsAccountOf links lines self.old
-            → AreEach (HoldsAlone None) links lines self.old.links.items
-            → AreEach (HoldsAlone None) links (line.now ∷ lines) self.new.links.items) }
+            → AreEach HoldsAlone links lines self.old.links.items
+            → AreEach HoldsAlone links (line.now ∷ lines) self.new.links.items) }
         ensures signs { OnOk result ((links : List VirtualLink) (lines : List FrameLine)
             → IsFrameLine line.now → length lines < MOST_LINES → IsAccountOf links lines self.old
             → HasSignsOf links lines self.old → HasSignsOf links (line.now ∷ lines) self.new) }
-        ensures sums { OnOk result (SumsAlone None self.old.links.items self.old.networks
-            → SumsAlone None self.new.links.items self.new.networks) }
-        ensures bins { OnOk result ((lines : List FrameLine) → HasSpan lines self.old
-            → HasBins lines self.old → HasBins (line.now ∷ lines) self.new) }
-        ensures lane_bins { OnOk result ((links : List VirtualLink) (lines : List FrameLine)
-            → IsFrameLine line.now → length lines < MOST_LINES → IsAccountOf links lines self.old
-            → HasSpan lines self.old → HasBins lines self.old → HasLaneBins links lines self.old
-            → HasLaneBins links (line.now ∷ lines) self.new) }
-        ensures alone_sums { OnOk result ((links : List VirtualLink) (lines : List FrameLine)
-            → IsFrameLine line.now → length lines < MOST_LINES → IsAccountOf links lines self.old
-            → HasSpan lines self.old → HasBins lines self.old → HasAloneSums lines self.old
-            → HasAloneSums (line.now ∷ lines) self.new) }
-        ensures alone_bins { OnOk result ((links : List VirtualLink) (lines : List FrameLine)
-            → IsFrameLine line.now → length lines < MOST_LINES → IsAccountOf links lines self.old
-            → HasSpan lines self.old → HasBins lines self.old → HasAloneBins links lines self.old
-            → HasAloneBins links (line.now ∷ lines) self.new) }
-        ensures skew_bins { OnOk result ((links : List VirtualLink) (lines : List FrameLine)
-            → IsFrameLine line.now → length lines < MOST_LINES → IsAccountOf links lines self.old
-            → HasSpan lines self.old → HasBins lines self.old → HasSkewBins links lines self.old
-            → HasSkewBins links (line.now ∷ lines) self.new) }
-        ensures mark_bins { OnOk result ((links : List VirtualLink) (lines : List FrameLine)
-            → IsFrameLine line.now → length lines < MOST_LINES → IsAccountOf links lines self.old
-            → HasSpan lines self.old → HasBins lines self.old → HasMarks links lines self.old
-            → HasMarks links (line.now ∷ lines) self.new) }
     {
         let place = Place {
             stamp: line.stamp.0,
@@ -437,15 +333,9 @@ impl Statistics {
         ensures networks { OnOk result ((lines : List FrameLine) → length lines < MOST_LINES
             → IsMomentOf line.now at.now → AreNetworksOf lines self.old.networks
             → AreNetworksOf (line.now ∷ lines) self.new.networks) }
+        ensures rules { OnOk result ((lines : List FrameLine) → IsMomentOf line.now at.now
+            → HaveRules lines self.old.networks → HaveRules (line.now ∷ lines) self.new.networks) }
         ensures rest { self.new ≡ record self.old { networks = self.new.networks } }
-        ensures link_marks { OnOk result (KeepLinkMarks self.old.networks self.new.networks) }
-        ensures marks { OnOk result (KeepAloneMarks self.old.networks self.new.networks) }
-        ensures skews { OnOk result (skews_of self.new.networks ≡ skews_of self.old.networks) }
-        ensures series { OnOk result ((start width : ℕ) (lines : List FrameLine)
-            → IsMomentOf line.now at.now → LiesIn start width line.now.stamp.0
-            → is_in start width at.now.bin line.now.stamp.0 ≡ true
-            → HaveSeries start width lines self.old.networks
-            → HaveSeries start width (line.now ∷ lines) self.new.networks) }
     {
         let networks = &mut self.networks;
         match at.network {
@@ -486,45 +376,21 @@ impl Statistics {
             → IsIndexOf links self.old.index.items → AreBalanced self.old.links.items
             → AreEach CountsMet links lines self.old.links.items → IsOutsideOf lines self.old.outside.items
             → IsAccountOf links (line.now ∷ lines) self.new) }
-        ensures span { KeepsSpan self.old self.new }
-        ensures alone { OnOk result ((scale : Option Scale) (links : List VirtualLink)
-            (lines : List FrameLine) → FitsIn self.old.start self.old.width (line.now ∷ lines) scale
+        ensures span { KeepsPlaces self.old self.new }
+        ensures alone { OnOk result ((links : List VirtualLink) (lines : List FrameLine)
             → IsFrameLine line.now → IsMomentOf line.now at.now
             → line.now.link ≡ Some id → line.now.sequence ≡ Some number
             → AreNetworksOf (line.now ∷ lines) self.old.networks → AreLinksOf links lines self.old.links.items
             → IsIndexOf links self.old.index.items
-            → AreEach (HoldsAlone scale) links lines self.old.links.items
-            → AreEach (HoldsAlone scale) links (line.now ∷ lines) self.new.links.items) }
-        ensures signs { OnOk result ((links : List VirtualLink) (lines : List FrameLine)
+            → AreEach HoldsAlone links lines self.old.links.items
+            → AreEach HoldsAlone links (line.now ∷ lines) self.new.links.items) }
+        ensures losses { OnOk result ((links : List VirtualLink) (lines : List FrameLine)
             → IsFrameLine line.now → length lines < MOST_LINES → IsMomentOf line.now at.now
             → line.now.link ≡ Some id → line.now.sequence ≡ Some number
             → AreNetworksOf (line.now ∷ lines) self.old.networks → AreLinksOf links lines self.old.links.items
-            → IsIndexOf links self.old.index.items → HasSignsOf links lines self.old
-            → HasSignsOf links (line.now ∷ lines) self.new) }
-        ensures sums { OnOk result (KeepsSums (AllFit self.old.start self.old.width self.old.links.items)
-            self.old.links.items self.new.links.items
-            self.old.networks self.new.networks) }
-        ensures times { OnOk result (KeepTimesButSkews self.old.networks self.new.networks) }
-        ensures lane_series { OnOk result ((links : List VirtualLink) (lines : List FrameLine)
-            (start width : ℕ) → IsFrameLine line.now → IsMomentOf line.now at.now → line.now.link ≡ Some id
-            → AreNetworksOf (line.now ∷ lines) self.old.networks
-            → AreLinksOf links lines self.old.links.items → IsIndexOf links self.old.index.items
-            → is_in start width at.now.bin line.now.stamp.0 ≡ true
-            → AreEach (HaveLaneSeries start width) links lines self.old.links.items
-            → AreEach (HaveLaneSeries start width) links (line.now ∷ lines) self.new.links.items) }
-        ensures skews { OnOk result ((links : List VirtualLink) (lines : List FrameLine)
-            → IsFrameLine line.now → IsMomentOf line.now at.now → line.now.link ≡ Some id
-            → line.now.sequence ≡ Some number → AreLinksOf links lines self.old.links.items
-            → IsIndexOf links self.old.index.items
-            → is_in self.old.start self.old.width at.now.bin line.now.stamp.0 ≡ true
-            → HasSkewBins links lines self.old → HasSkewBins links (line.now ∷ lines) self.new) }
-        ensures mark_bins { OnOk result ((links : List VirtualLink) (lines : List FrameLine)
-            (start width : ℕ) → IsFrameLine line.now → IsMomentOf line.now at.now → line.now.link ≡ Some id
-            → line.now.sequence ≡ Some number → AreNetworksOf (line.now ∷ lines) self.old.networks
-            → AreLinksOf links lines self.old.links.items → IsIndexOf links self.old.index.items
-            → is_in start width at.now.bin line.now.stamp.0 ≡ true
-            → HaveMarks start width links lines self.old.links.items self.old.networks
-            → HaveMarks start width links (line.now ∷ lines) self.new.links.items self.new.networks) }
+            → IsIndexOf links self.old.index.items → AreEach HasLosses links lines self.old.links.items
+            → AreEach HasLosses links (line.now ∷ lines) self.new.links.items) }
+        ensures networks { self.new.networks ≡ self.old.networks }
     {
         let index = self.place_of(id);
         let unconfigured = is_unconfigured(line);
@@ -538,7 +404,7 @@ impl Statistics {
         if unconfigured {
             return Err(Refusal::Wrong(WrongLine::KnownLink));
         }
-        self.links[index].note(line, number, at, self.start, self.width, &mut self.networks)?;
+        self.links[index].note(line, number, at, self.start, self.width, &self.networks)?;
         Ok(())
     }
 
@@ -570,24 +436,19 @@ impl Statistics {
 
     /// Settles what is left once the ledger has ended.
     pub(crate) fn end(&mut self) -> Result<(), AllocError>
-        ensures span { KeepsSpan self.old self.new }
+        ensures span { KeepsPlaces self.old self.new }
         ensures account { OnOk result (KeepsAccount self.old self.new) }
         ensures fates { OnOk result (GainFates self.old.links.items self.new.links.items) }
-        ensures medians { OnOk result (GainMedians self.old.links.items self.new.links.items) }
-        ensures alone { OnOk result (EndAlone self.old.start self.old.width self.old.networks
+        ensures alone { OnOk result (EndAlone self.old.networks
             self.old.links.items self.new.links.items) }
-        ensures signs { OnOk result (KeepsSigns self.old self.new) }
-        ensures sums { OnOk result (KeepsSums (AllFit self.old.start self.old.width self.old.links.items)
-            self.old.links.items self.new.links.items
-            self.old.networks self.new.networks) }
-        ensures absences { OnOk result (GainAbsences self.old.networks
-            self.old.links.items self.new.links.items) }
-        ensures times { OnOk result (KeepTimes self.old.networks self.new.networks) }
-        ensures link_marks { OnOk result (KeepLinkMarks self.old.networks self.new.networks) }
-        ensures lane_times { OnOk result (AllLanesKeep self.old.links.items self.new.links.items) }
-        ensures skews { OnOk result (AllSkewsKeep self.old.links.items self.new.links.items) }
+        ensures losses { OnOk result (KeepEachLosses self.old.links.items self.new.links.items) }
+        ensures a { OnOk result (AddsLanes (length self.new.links.items) A self.new.links.items
+            self.old.networks.a.signs self.new.networks.a.signs) }
+        ensures b { OnOk result (AddsLanes (length self.new.links.items) B self.new.links.items
+            self.old.networks.b.signs self.new.networks.b.signs) }
     {
-        end_links(&mut self.links, self.start, self.width, &mut self.networks)?;
+        end_links(&mut self.links, self.start, self.width, &self.networks)?;
+        add_lanes(self.links.as_slice(), &mut self.networks)?;
         Ok(())
     }
 }

@@ -1,15 +1,13 @@
 //! How commands end and what they write: captures, ledgers of which the worst links are told, manifests.
 //!
 //! - [`Ended`]: how a command ended; [`summarise`] tells a person what a run came to.
-//! - [`create`], [`CaptureOutput`] and [`LedgerWriter`]: what is written.
+//! - [`create`], [`format_of`] and [`LedgerWriter`]: what is written.
 //! - [`with_manifest`]: writes the manifest of a run.
 //! - [`Seen`]: what a cut saw of its ledger, and its notes.
 //!
 //! All stands over the system's files, so what is written is tested, and proved not to panic.
 #![tactic(auto)]
 
-mod annotated;
-mod captures;
 mod ended;
 mod manifest;
 mod opening;
@@ -17,11 +15,9 @@ mod seen;
 mod spans;
 mod worst;
 
-pub use annotated::{Annotated, Joining};
-pub use captures::{CaptureOutput, CutObserver};
 pub use ended::{Ended, file_in, summarise};
 pub use manifest::{RunSums, TextSums, arguments, with_manifest};
-pub use opening::{blocks_of, capture_output, create, create_hashed, live_output, shared};
+pub use opening::{blocks_of, create, create_hashed, format_of, live_output, shared};
 pub use seen::Seen;
 pub use spans::Spans;
 pub use worst::{LedgerWriter, WorstLinks};

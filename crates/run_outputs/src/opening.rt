@@ -1,7 +1,7 @@
 //! Opens what commands write.
-use crate::annotated::Joining;
-use crate::captures::CaptureOutput;
 use command_line::{Fault, FileOption};
+use packet_format::PacketFormat;
+use pcapng_writer::Interfaces;
 use tap_inputs::{Blocks, NO_RUN, Output, SharedBlocks};
 use vl_config::Config;
 
@@ -33,15 +33,18 @@ pub fn create_hashed(
     }
 }
 
-/// What writes a capture to an output.
-pub fn capture_output<'a>(
-    rt: &HostRuntime,
-    output: Blocks,
+/// The format of a capture. That of a pcapng file has the interfaces, and the names of a table's links in its
+/// comments.
+pub fn format_of(
     is_pcapng: bool,
-    joining: Joining,
-    config: Option<&'a Config>,
-) -> Result<CaptureOutput<'a>, Fault> {
-    CaptureOutput::new(rt.alloc(), output, is_pcapng, joining, config).map_err(|_| NO_RUN)
+    interfaces: Interfaces,
+    names: Option<&Config>,
+) -> PacketFormat<'_> {
+    if is_pcapng {
+        PacketFormat::Pcapng { interfaces, names }
+    } else {
+        PacketFormat::Pcap
+    }
 }
 
 /// The output, and what hands over what was written so far while an input may pause: it can then be seen

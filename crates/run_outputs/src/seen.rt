@@ -2,6 +2,7 @@
 //! passed over, and a selection that takes no line.
 use afdx_frame::{Network, Stamp};
 use command_line::CutArguments;
+use cut_run::LineObserver;
 use jiff::Timestamp;
 use ledger_text::FrameLine;
 use line_selection::Selection;
@@ -76,6 +77,24 @@ impl Display for End {
     }
 }
 
+impl LineObserver for Seen {
+    fn reads(&self, line: &FrameLine) {
+        if self.lines.load(Ordering::Relaxed) == 0 {
+            self.first.store(line.stamp.0, Ordering::Relaxed);
+        }
+        self.last.store(line.stamp.0, Ordering::Relaxed);
+        count(&self.lines);
+    }
+
+    fn writes(&self, _line: &FrameLine) {
+        count(&self.written);
+    }
+
+    fn passes(&self, _line: &FrameLine) {
+        count(&self.passed);
+    }
+}
+
 impl Seen {
     /// No line was met yet.
     pub fn new() -> Seen {
@@ -86,25 +105,6 @@ impl Seen {
             first: AtomicU64::new(0),
             last: AtomicU64::new(0),
         }
-    }
-
-    /// The next line of a frame is this one.
-    pub fn reads(&self, line: &FrameLine) {
-        if self.lines.load(Ordering::Relaxed) == 0 {
-            self.first.store(line.stamp.0, Ordering::Relaxed);
-        }
-        self.last.store(line.stamp.0, Ordering::Relaxed);
-        count(&self.lines);
-    }
-
-    /// One more line is taken.
-    pub fn writes(&self) {
-        count(&self.written);
-    }
-
-    /// One more line would be taken, and is passed over.
-    pub fn passes(&self) {
-        count(&self.passed);
     }
 
     /// Notes how many lines were passed over, and that none was selected, where it is so.

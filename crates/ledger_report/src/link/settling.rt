@@ -1,16 +1,9 @@
 //! What becomes of deliveries without a second: the one that comes late, and those that stay open.
 
-ghost use Rattle.std.specs.Prelude.{◌≡◌, ◌+◌, ◌<◌, true, false, Some, None, IfOk, OnOk, slice_index_or};
-ghost use Rattle.ledger_report.specs.AloneSums.{KeepAloneMarks};
-ghost use Rattle.ledger_report.specs.Keeping.{KeepsNetworks};
-ghost use Rattle.ledger_report.specs.LaneSeries.{KeepLaneTimes};
-ghost use Rattle.ledger_report.specs.LaneSeries.{TakesLate};
-ghost use Rattle.ledger_report.specs.NetworkSeries.{KeepTimes};
-ghost use Rattle.ledger_report.specs.LinkMarks.{KeepLinkMarks, TakeLinkHits};
-ghost use Rattle.ledger_report.specs.LinkMarks.{late_amount};
+ghost use Rattle.std.specs.Prelude.{◌≡◌, ◌+◌, ◌<◌, false, Some, None, IfOk, OnOk, slice_index_or};
 ghost use Rattle.ledger_report.specs.Pending.{fate_pends, pends};
 
-use super::{LinkReport, hit_network};
+use super::LinkReport;
 use crate::bounds::NUMBERS;
 use crate::moment::Moment;
 use crate::network::NetworkReport;
@@ -23,14 +16,12 @@ use std::alloc::AllocError;
 
 impl LinkReport {
     ghost use Rattle.std.specs.Prelude.{Ok};
-    ghost use Rattle.std.specs.Prelude.{ℕ, ◌^◌};
+    ghost use Rattle.std.specs.Prelude.{◌^◌};
     ghost use Rattle.afdx_frame.specs.declared.key.Network.TheVariants.{A, B};
-    ghost use Rattle.ledger_report.specs.Alone.{EndsHeld, NotesMissedOn};
-    ghost use Rattle.ledger_report.specs.AloneSums.{AnyBins, GainBoth, HeldFits, PlaceFits, PlaceIn};
     ghost use Rattle.ledger_report.specs.Copies.{KeepsCopies};
     ghost use Rattle.ledger_report.specs.Keeping.{KeepsLink};
     ghost use Rattle.ledger_report.specs.Fates.{ends_met};
-    ghost use Rattle.ledger_report.specs.Holding.{KeepsPlaces, bin_in};
+    ghost use Rattle.ledger_report.specs.Holding.{KeepsPlaces};
     ghost use Rattle.ledger_report.specs.Holding.{Settles, SettlesBelow};
     ghost use Rattle.ledger_report.specs.Holding.{open_held, open_in, settled_by_next};
     ghost use Rattle.ledger_report.specs.Losses.{KeepsLosses};
@@ -52,7 +43,7 @@ impl LinkReport {
         at: &Moment,
         start: u64,
         width: u64,
-        networks: &mut Sides<NetworkReport>,
+        networks: &Sides<NetworkReport>,
     ) -> Result<Fate, AllocError>
         ensures accounts { IfOk result (λ fate. (none : Mark) → accounted none self.old + 2 < 2 ^ 64
             → accounted none self.new + fate_pends fate ≡ accounted none self.old
@@ -67,18 +58,9 @@ impl LinkReport {
             (is_gone_by at.now.place.stamp (window_in self.old)
             (gone_in self.old.pairing number (other_of at.now.network)))) }
         ensures link { OnOk result (KeepsLink self.old self.new) }
-        ensures networks { OnOk result (KeepsNetworks networks.old networks.new) }
-        ensures gains { OnOk result (GainBoth (HeldFits start width self.old.pairing)
-            self.old.lanes self.new.lanes networks.old networks.new) }
-        ensures settles { OnOk result (Settles start width (settled_by_next number at.now self.old)
-            networks.old self.old.lanes self.new.lanes) }
-        ensures link_marks { OnOk result (TakeLinkHits (late_amount (comes_late number at.now self.old))
-            at.now.network at.now networks.old networks.new) }
+        ensures settles { OnOk result (Settles (settled_by_next number at.now self.old)
+            networks.now self.old.lanes self.new.lanes) }
         ensures losses { OnOk result (KeepsLosses self.old self.new) }
-        ensures runs { self.new.runs ≡ self.old.runs }
-        ensures times { KeepTimes networks.old networks.new }
-        ensures lane_times { TakesLate (comes_late number at.now self.old) at.now
-            self.old.lanes self.new.lanes result }
     {
         let fate = self.fate_so_far(number, at);
         let Some(before) = self.pairing.latest(number) else {
@@ -86,7 +68,7 @@ impl LinkReport {
         };
         if before.awaits(at.network, at.place.stamp, self.window()) {
             let skew = at.place.stamp.saturating_sub(before.place.stamp);
-            self.note_late(skew, at, networks)?;
+            self.note_late(skew, at)?;
             return Ok(Fate::Late);
         }
         self.settle(before, start, width, networks)?;
@@ -107,35 +89,22 @@ impl LinkReport {
     }
 
     /// Notes the second delivery of a number, beyond SkewMax.
-    fn note_late(
-        &mut self,
-        skew: u64,
-        at: &Moment,
-        networks: &mut Sides<NetworkReport>,
-    ) -> Result<(), AllocError>
+    fn note_late(&mut self, skew: u64, at: &Moment) -> Result<(), AllocError>
         ensures accounts { OnOk result (AccountsMore 2 self.old self.new) }
         ensures pairing { self.new.pairing ≡ self.old.pairing }
         ensures deliveries { self.new.deliveries ≡ self.old.deliveries }
         ensures copies { KeepsCopies self.old self.new }
         ensures late { OnOk result (GainsLateOn at.now.network at.now.place self.old.lanes self.new.lanes) }
-        ensures numbers { OnOk result (CountsLate at.now skew self.old self.new) }
+        ensures numbers { OnOk result (CountsLate skew self.old self.new) }
         ensures link { OnOk result (KeepsLink self.old self.new) }
-        ensures networks { OnOk result (KeepsNetworks networks.old networks.new) }
-        ensures marks { OnOk result (KeepAloneMarks networks.old networks.new) }
         ensures places { OnOk result (KeepsPlaces self.old.lanes self.new.lanes) }
-        ensures link_marks { OnOk result (TakeLinkHits (late_amount true)
-            at.now.network at.now networks.old networks.new) }
         ensures losses { KeepsLosses self.old self.new }
-        ensures runs { self.new.runs ≡ self.old.runs }
-        ensures times { KeepTimes networks.old networks.new }
-        ensures lane_times { TakesLate true at.now self.old.lanes self.new.lanes result }
     {
         self.fates.late = self.fates.late.saturating_add(1);
         self.fates.first = self.fates.first.saturating_add(1);
         self.late_greatest = self.late_greatest.max(skew);
         self.late_skews.of_mut(at.network).put(at.bin, skew)?;
         self.hit_late(at)?;
-        hit_network(networks, Sign::Late, at, 1)?;
         Ok(())
     }
 
@@ -150,8 +119,6 @@ impl LinkReport {
         ensures link { OnOk result (KeepsLink self.old self.new) }
         ensures places { KeepsPlaces self.old.lanes self.new.lanes }
         ensures losses { KeepsLosses self.old self.new }
-        ensures runs { self.new.runs ≡ self.old.runs }
-        ensures lane_times { TakesLate true at.now self.old.lanes self.new.lanes result }
     {
         match at.network {
             Network::A => self.lanes.a.signs.hit(Sign::Late, at.bin, at.place, 1),
@@ -165,7 +132,7 @@ impl LinkReport {
         delivery: Delivery,
         start: u64,
         width: u64,
-        networks: &mut Sides<NetworkReport>,
+        networks: &Sides<NetworkReport>,
     ) -> Result<(), AllocError>
         ensures accounts { OnOk result (AccountsMore (fate_pends delivery.fate) self.old self.new) }
         ensures pairing { self.new.pairing ≡ self.old.pairing }
@@ -175,16 +142,9 @@ impl LinkReport {
         ensures numbers { OnOk result (MeetsOf
             (counted_where (ends_met delivery.fate) self.old.fates.met) self.old self.new) }
         ensures link { OnOk result (KeepsLink self.old self.new) }
-        ensures networks { OnOk result (KeepsNetworks networks.old networks.new) }
-        ensures gains { OnOk result (GainBoth (PlaceFits start width delivery.place)
-            self.old.lanes self.new.lanes networks.old networks.new) }
-        ensures settles { OnOk result (Settles start width (open_in delivery) networks.old
+        ensures settles { OnOk result (Settles (open_in delivery) networks.now
             self.old.lanes self.new.lanes) }
-        ensures link_marks { OnOk result (KeepLinkMarks networks.old networks.new) }
         ensures losses { OnOk result (KeepsLosses self.old self.new) }
-        ensures runs { self.new.runs ≡ self.old.runs }
-        ensures times { KeepTimes networks.old networks.new }
-        ensures lane_times { KeepLaneTimes self.old.lanes self.new.lanes }
     {
         match delivery.fate {
             Fate::Late | Fate::Paired => Ok(()),
@@ -204,10 +164,8 @@ impl LinkReport {
         &mut self,
         delivery: &Delivery,
         bin: usize,
-        networks: &mut Sides<NetworkReport>,
+        networks: &Sides<NetworkReport>,
     ) -> Result<(), AllocError>
-        ensures places { OnOk result (NotesMissedOn delivery.now.network delivery.now.before bin
-            delivery.now.place networks.old self.old.lanes self.new.lanes) }
         ensures accounts { OnOk result (AccountsMore 1 self.old self.new) }
         ensures pairing { self.new.pairing ≡ self.old.pairing }
         ensures deliveries { self.new.deliveries ≡ self.old.deliveries }
@@ -215,30 +173,19 @@ impl LinkReport {
         ensures late { OnOk result (KeepsLate self.old self.new) }
         ensures fates { KeepsFates self.old self.new }
         ensures link { OnOk result (KeepsLink self.old self.new) }
-        ensures networks { OnOk result (KeepsNetworks networks.old networks.new) }
-        ensures gains { OnOk result (GainBoth (PlaceIn bin delivery.now.place)
-            self.old.lanes self.new.lanes networks.old networks.new) }
-        ensures settles { OnOk result ((start width : ℕ) → bin ≡ bin_in start width delivery.now.place.stamp
-            → Settles start width (Some delivery.now) networks.old self.old.lanes self.new.lanes) }
-        ensures link_marks { OnOk result (KeepLinkMarks networks.old networks.new) }
+        ensures settles { OnOk result (Settles (Some delivery.now) networks.now
+            self.old.lanes self.new.lanes) }
         ensures losses { OnOk result (KeepsLosses self.old self.new) }
-        ensures runs { self.new.runs ≡ self.old.runs }
-        ensures times { KeepTimes networks.old networks.new }
-        ensures lane_times { KeepLaneTimes self.old.lanes self.new.lanes }
     {
         let place = delivery.place;
         let before = delivery.before;
         match delivery.network {
             Network::A => {
-                self.lanes
-                    .a
-                    .note_alone(place, bin, before, &networks.b, &mut networks.a)?;
+                self.lanes.a.note_alone(place, bin, before, &networks.b)?;
                 Ok(())
             }
             Network::B => {
-                self.lanes
-                    .b
-                    .note_alone(place, bin, before, &networks.a, &mut networks.b)?;
+                self.lanes.b.note_alone(place, bin, before, &networks.a)?;
                 Ok(())
             }
         }
@@ -249,7 +196,7 @@ impl LinkReport {
         &mut self,
         start: u64,
         width: u64,
-        networks: &mut Sides<NetworkReport>,
+        networks: &Sides<NetworkReport>,
     ) -> Result<(), AllocError>
         ensures counts { OnOk result ((none : Mark) → accounted none self.old < 2 ^ 62
             → counted none self.new ≡ accounted none self.old) }
@@ -259,16 +206,9 @@ impl LinkReport {
         ensures numbers { OnOk result (MeetsOf
             (met_with 256 self.old.pairing self.old.fates.met) self.old self.new) }
         ensures link { OnOk result (KeepsLink self.old self.new) }
-        ensures networks { OnOk result (KeepsNetworks networks.old networks.new) }
-        ensures gains { OnOk result (GainBoth (HeldFits start width self.old.pairing)
-            self.old.lanes self.new.lanes networks.old networks.new) }
         ensures pairing { OnOk result (self.new.pairing ≡ self.old.pairing) }
-        ensures alone { OnOk result (SettlesBelow start width 256 networks.old self.old self.new) }
-        ensures link_marks { OnOk result (KeepLinkMarks networks.old networks.new) }
+        ensures alone { OnOk result (SettlesBelow 256 networks.now self.old self.new) }
         ensures losses { OnOk result (KeepsLosses self.old self.new) }
-        ensures runs { self.new.runs ≡ self.old.runs }
-        ensures times { KeepTimes networks.old networks.new }
-        ensures lane_times { KeepLaneTimes self.old.lanes self.new.lanes }
     {
         for number in 0..NUMBERS {
             self.settle_number(number as u8, start, width, networks)?;
@@ -282,7 +222,7 @@ impl LinkReport {
         number: u8,
         start: u64,
         width: u64,
-        networks: &mut Sides<NetworkReport>,
+        networks: &Sides<NetworkReport>,
     ) -> Result<(), AllocError>
         ensures accounts { OnOk result (AccountsMore
             (pends (slice_index_or self.old.pairing.deliveries.items number None)) self.old self.new) }
@@ -293,16 +233,9 @@ impl LinkReport {
         ensures numbers { OnOk result (MeetsOf
             (counted_where (is_held ends_met self.old.pairing number) self.old.fates.met) self.old self.new) }
         ensures link { OnOk result (KeepsLink self.old self.new) }
-        ensures networks { OnOk result (KeepsNetworks networks.old networks.new) }
-        ensures gains { OnOk result (GainBoth (HeldFits start width self.old.pairing)
-            self.old.lanes self.new.lanes networks.old networks.new) }
-        ensures settles { OnOk result (Settles start width (open_held self.old.pairing number) networks.old
+        ensures settles { OnOk result (Settles (open_held self.old.pairing number) networks.now
             self.old.lanes self.new.lanes) }
-        ensures link_marks { OnOk result (KeepLinkMarks networks.old networks.new) }
         ensures losses { OnOk result (KeepsLosses self.old self.new) }
-        ensures runs { self.new.runs ≡ self.old.runs }
-        ensures times { KeepTimes networks.old networks.new }
-        ensures lane_times { KeepLaneTimes self.old.lanes self.new.lanes }
     {
         match self.pairing.latest(number) {
             Some(delivery) => {
@@ -311,37 +244,5 @@ impl LinkReport {
             }
             None => Ok(()),
         }
-    }
-
-    /// Settles the deliveries that the lanes hold.
-    pub(super) fn settle_lanes(
-        &mut self,
-        networks: &mut Sides<NetworkReport>,
-    ) -> Result<(), AllocError>
-        ensures counts { OnOk result ((none : Mark) → counted none self.old < 2 ^ 62
-            → counted none self.new ≡ counted none self.old) }
-        ensures held { OnOk result ((self.new.lanes.a.held.count ≡ 0) × (self.new.lanes.b.held.count ≡ 0)) }
-        ensures ends_a { OnOk result (EndsHeld B networks.old.b self.old.lanes.a self.new.lanes.a) }
-        ensures ends_b { OnOk result (EndsHeld A networks.old.a self.old.lanes.b self.new.lanes.b) }
-        ensures deliveries { OnOk result (self.new.deliveries ≡ self.old.deliveries) }
-        ensures copies { OnOk result (KeepsCopies self.old self.new) }
-        ensures late { OnOk result (KeepsLate self.old self.new) }
-        ensures fates { OnOk result (KeepsFates self.old self.new) }
-        ensures link { OnOk result (KeepsLink self.old self.new) }
-        ensures networks { OnOk result (KeepsNetworks networks.old networks.new) }
-        ensures gains { OnOk result (GainBoth AnyBins self.old.lanes self.new.lanes
-            networks.old networks.new) }
-        ensures pairing { OnOk result (self.new.pairing ≡ self.old.pairing) }
-        ensures link_marks { OnOk result (KeepLinkMarks networks.old networks.new) }
-        ensures losses { OnOk result (KeepsLosses self.old self.new) }
-        ensures runs { self.new.runs ≡ self.old.runs }
-        ensures times { KeepTimes networks.old networks.new }
-        ensures lane_times { KeepLaneTimes self.old.lanes self.new.lanes }
-    {
-        self.lanes.a.settle_held(&networks.b, &mut networks.a)?;
-        self.lanes.b.settle_held(&networks.a, &mut networks.b)?;
-        self.lanes.a.drop_held();
-        self.lanes.b.drop_held();
-        Ok(())
     }
 }

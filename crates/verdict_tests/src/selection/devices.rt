@@ -2,6 +2,7 @@
 
 use cut_run::{CutFault, CutSource, NoObserver, cut_frames, print_lines};
 use line_selection::Selection;
+use packet_format::PacketFormat;
 use pcap_io::{MemSink, MemSource, Script};
 use std::alloc::{AllocError, Global};
 use std::test::Fail;
@@ -91,6 +92,7 @@ fn a_ledger_that_fails_between_lines(rt: HostRuntime) -> Result<(), Fail> {
             ledger,
             a,
             b,
+            PacketFormat::Pcap,
             sink,
             &NoObserver,
         );

@@ -1,11 +1,12 @@
 use Rattle.std.proofs.Common.{refl}
-use Rattle.capture_run.proofs.Whole.{aborted, captured}
+use Rattle.packet_format.specs.Packets.{format_of}
+use Rattle.capture_run.proofs.Whole.{aborted_in, captured_in}
 use Rattle.capture_run.proofs.capture.capture_within.Goals as goal
 
 pub returns-in-Ok-copied-clause-captured : goal.returns-in-Ok-copied-clause-captured
 returns-in-Ok-copied-clause-captured g c =
-    let opened = c.in-Ok.ensures in
-    rw (c.into_source-source.ensures.source, c.finish-sink.ensures) (captured c.args.late _ _ _ _ _ _
+    let opened = c.in-Ok-open.ensures in
+    rw (c.into_source-source.ensures.source, c.finish-sink.ensures) (captured_in _ (format_of c.args.format) c.args.late _ _ _ _ _ _ c.in-Ok-begin.ensures.format
     (record {
       start = opened.start;
       opens = rw opened.remaining opened.opened;
@@ -20,8 +21,8 @@ returns-in-Ok-copied-clause-captured g c =
 
 pub returns-in-Err-copied-clause-aborted : goal.returns-in-Err-copied-clause-aborted
 returns-in-Err-copied-clause-aborted g c =
-    let opened = c.in-Ok.ensures in
-    rw (c.refused-in-Err-copied.ensures, c.into_source-source.ensures.source, c.finish-sink.ensures) (aborted c.args.late _ c.in-Err-copied.fault _ _ _ _
+    let opened = c.in-Ok-open.ensures in
+    rw (c.refused-in-Err-copied.ensures, c.into_source-source.ensures.source, c.finish-sink.ensures) (aborted_in _ (format_of c.args.format) c.args.late _ c.in-Err-copied.fault _ _ _ _ c.in-Ok-begin.ensures.format
     (record {
       start = opened.start;
       opens = rw opened.remaining opened.opened;

@@ -1,16 +1,13 @@
-use Rattle.std.proofs.Common.{◌≡◌, ◌∙◌, [], ◌∷◌, ◌++◌, sym, subst, take, ℕ}
+use Rattle.std.proofs.Common.{◌≡◌, ◌∙◌, [], ◌∷◌, ◌++◌, sym, subst}
 use Rattle.std.proofs.lemmas.Result.{err_from_is_err_and}
-use Rattle.std.proofs.KnownBytes.{Appends-trans}
-use Rattle.std.specs.Io.KnownBytes.{Appends}
-use Rattle.afdx_frame.specs.Frame.{Frame}
-use Rattle.pcap_io.specs.Device.{AppendsPrefix, CountsFailure}
+use Rattle.packet_writer.specs.Writer.{format_in, sink_of}
 use Rattle.pcap_io.specs.Position.{Reads, after_frame}
-use Rattle.pcap_io.specs.Reader.{lent_of, position_of, remaining_of}
-use Rattle.pcap_io.specs.Writer.{sink_of}
+use Rattle.pcap_io.specs.Reader.{lent_of, position_of, reading_of, remaining_of, unread_of}
 use Rattle.pcap_io.specs.declared.position.Position.{Position}
 use Rattle.pcap_io.proofs.Parse.{reads_more}
-use Rattle.capture_run.specs.Capture.{record_of, records_of}
+use Rattle.capture_run.specs.Copy.{copying_of}
 use Rattle.capture_run.proofs.Copying.{written_more}
+use Rattle.capture_run.proofs.Stopping.{left_in, stopped_at, written_in}
 use Rattle.capture_run.proofs.capture.copy_accepted.Goals as goal
 
 pub loop-reader-preserved : goal.loop-reader-preserved
@@ -24,25 +21,28 @@ loop-reader-preserved g c =
     let before = remaining_of g.S.TapSource.remaining c.args.reader.now in
     let after = remaining_of g.S.TapSource.remaining c.advance.new.self in
     let contents = g.W.OutSink.contents in
-    let written = c.in_ok-write_accepted-in-Ok-Frame.ensures in
+    let format = format_in c.args.writer.now in
     let start = contents (sink_of c.loop-reader.writer) in
     let now = contents (sink_of c.write_accepted.new.writer) in
-    let complete : Appends start now (record_of c.args.program.now frame) =
-    subst (λ (x : Frame). Appends start now (record_of c.args.program.now x)) c.frame-frame.ensures written.written.complete in
+    let told = c.in_ok-write_accepted-in-Ok-Frame.ensures in
+    let written = written_in c.args.program.now (format_in c.loop-reader.writer) format _ frame start now
+    (g.W.OutSink.failures (sink_of c.loop-reader.writer)) (g.W.OutSink.failures (sink_of c.write_accepted.new.writer))
+    c.loop-reader.invariant.format c.frame-frame.ensures told.written in
     record {
       copied = (
         at.0 ++ frame ∷ [],
         record {
           reads = subst (λ (x : Position). Reads (position_of c.args.reader.now) before (at.0 ++ frame ∷ []) x after) (sym moved)
               (reads_more (position_of c.args.reader.now) here before _ after at.0 frame at.1.reads taken);
-          written = written_more c.args.program.now (contents (sink_of c.args.writer.now)) start now at.0 frame at.1.written complete;
+          written = written_more format c.args.program.now (contents (sink_of c.args.writer.now)) start now at.0 frame at.1.written written.0;
         },
       );
       reading = rw moved c.loop-reader.invariant.reading;
       bounded = given.bounded;
-      writing = written.going;
+      writing = told.going;
+      format = told.format ∙ c.loop-reader.invariant.format;
       source = given.no_failure ∙ c.loop-reader.invariant.source;
-      sink = written.written.no_failure ∙ c.loop-reader.invariant.sink;
+      sink = written.1 ∙ c.loop-reader.invariant.sink;
     }
 
 pub returns-in_err-write_accepted-in-Ok-Frame-clause-stopped : goal.returns-in_err-write_accepted-in-Ok-Frame-clause-stopped
@@ -54,22 +54,18 @@ returns-in_err-write_accepted-in-Ok-Frame-clause-stopped g c =
     let taken = rw c.in-Ok-Frame.field-0-is at (given.item c.loop-reader.invariant.reading) in
     let before = remaining_of g.S.TapSource.remaining c.args.reader.now in
     let after = remaining_of g.S.TapSource.remaining c.advance.new.self in
-    let contents = g.W.OutSink.contents in
+    let format = format_in c.args.writer.now in
     let told = c.in_err-write_accepted-in-Ok-Frame.ensures in
-    let start = contents (sink_of c.loop-reader.writer) in
-    let now = contents (sink_of c.write_accepted.new.writer) in
-    let part : AppendsPrefix start now (record_of c.args.program.now frame) =
-    subst (λ (x : Frame). AppendsPrefix start now (record_of c.args.program.now x)) c.frame-frame.ensures told.written.prefix in
+    let contents = g.W.OutSink.contents in
+    let fault = c.in_err-write_accepted-in-Ok-Frame.field-0.0 in
+    let left = left_in c.args.program.now (format_in c.loop-reader.writer) format _ frame fault
+    (contents (sink_of c.loop-reader.writer)) (contents (sink_of c.write_accepted.new.writer))
+    (g.W.OutSink.failures (sink_of c.loop-reader.writer)) (g.W.OutSink.failures (sink_of c.write_accepted.new.writer))
+    c.loop-reader.invariant.format c.frame-frame.ensures told.written in
     let p = err_from_is_err_and c.from_residual.result c.from_residual.ensures.1 in
-    rw (p.1, p.2, told.fault) (record {
-      frames = at.0;
-      frame = frame;
-      position = after_frame here frame.stamp;
-      count = part.0;
-      within = part.1;
-      reads = reads_more (position_of c.args.reader.now) here before _ after at.0 frame at.1.reads taken;
-      written = Appends-trans (contents (sink_of c.args.writer.now)) start now (records_of c.args.program.now at.0)
-          (take part.0 (record_of c.args.program.now frame)) at.1.written part.2;
-      source = given.no_failure ∙ c.loop-reader.invariant.source;
-      sink = subst (λ (x : ℕ). CountsFailure x (g.W.OutSink.failures (sink_of c.write_accepted.new.writer))) c.loop-reader.invariant.sink told.written.fault;
-    })
+    rw (p.1, p.2) (stopped_at format c.args.program.now fault at.0 frame (after_frame here frame.stamp)
+    (copying_of (reading_of g.S.TapSource.remaining g.S.TapSource.failures c.args.reader.now) (unread_of c.args.reader.now) (contents (sink_of c.args.writer.now)) (g.W.OutSink.failures (sink_of c.args.writer.now)))
+    (copying_of (reading_of g.S.TapSource.remaining g.S.TapSource.failures c.advance.new.self) (unread_of c.advance.new.self) (contents (sink_of c.write_accepted.new.writer)) (g.W.OutSink.failures (sink_of c.write_accepted.new.writer)))
+    (contents (sink_of c.loop-reader.writer)) (g.W.OutSink.failures (sink_of c.loop-reader.writer)) at.1.written
+    (reads_more (position_of c.args.reader.now) here before _ after at.0 frame at.1.reads taken)
+    (given.no_failure ∙ c.loop-reader.invariant.source) c.loop-reader.invariant.sink left)

@@ -1,7 +1,7 @@
 use Rattle.std.proofs.Common.{◌≡◌, ◌≤◌, ◌-◌, List, false}
 use Rattle.afdx_frame.specs.Frame.{Frame}
+use Rattle.packet_writer.specs.Writer.{format_in, has_failed, sink_of}
 use Rattle.pcap_io.specs.Reader.{position_of, reading_of, remaining_of, source_of, unread_of}
-use Rattle.pcap_io.specs.Writer.{sink_of, has_failed}
 use Rattle.pcap_io.specs.declared.recording.Stage.TheVariants.{Going}
 use Rattle.capture_run.specs.Copy.{HasCopied, copying_of}
 use Rattle.capture_run.proofs.capture.copy_accepted.Given as goal
@@ -10,12 +10,13 @@ use Rattle.capture_run.proofs.capture.copy_accepted.Given as goal
 abbrev pub invariant-loop-reader : goal.invariant-loop-reader
 invariant-loop-reader g l =
     record {
-      copied : (frames : List Frame) × HasCopied l.program frames (position_of l.reader) (remaining_of g.S.TapSource.remaining l.reader)
+      copied : (frames : List Frame) × HasCopied (format_in l.fn.writer) l.program frames (position_of l.reader) (remaining_of g.S.TapSource.remaining l.reader)
           (copying_of (reading_of g.S.TapSource.remaining g.S.TapSource.failures l.fn.reader) (unread_of l.fn.reader) (g.W.OutSink.contents (sink_of l.fn.writer)) (g.W.OutSink.failures (sink_of l.fn.writer)))
           (copying_of (reading_of g.S.TapSource.remaining g.S.TapSource.failures l.reader) (unread_of l.reader) (g.W.OutSink.contents (sink_of l.writer)) (g.W.OutSink.failures (sink_of l.writer)));
       reading : (position_of l.reader).stage ≡ Going;
       bounded : (position_of l.reader).count ≤ (position_of l.reader).most;
       writing : has_failed l.writer ≡ false;
+      format : format_in l.writer ≡ format_in l.fn.writer;
       source : g.S.TapSource.failures (source_of l.reader) ≡ g.S.TapSource.failures (source_of l.fn.reader);
       sink : g.W.OutSink.failures (sink_of l.writer) ≡ g.W.OutSink.failures (sink_of l.fn.writer);
     }

@@ -37,14 +37,7 @@ loop-frame-preserved-in-Ok g c = record {
       (c.in-Ok.ensures.account links (reverse (frame_lines at.0)) right (few_lines at.0 few) at.1.account)
       (c.in-Ok.ensures.span (reverse (frame_lines at.0)) at.1.span)
       (c.in-Ok.ensures.alone links (reverse (frame_lines at.0)) right (few_lines at.0 few) at.1.account at.1.alone)
-      (c.in-Ok.ensures.signs links (reverse (frame_lines at.0)) right (few_lines at.0 few) at.1.account at.1.signs)
-      (c.in-Ok.ensures.sums at.1.sums)
-      (c.in-Ok.ensures.alone_sums links (reverse (frame_lines at.0)) right (few_lines at.0 few) at.1.account at.1.span at.1.bins at.1.alone_sums)
-      (c.in-Ok.ensures.bins (reverse (frame_lines at.0)) at.1.span at.1.bins)
-      (c.in-Ok.ensures.alone_bins links (reverse (frame_lines at.0)) right (few_lines at.0 few) at.1.account at.1.span at.1.bins at.1.alone_bins)
-      (c.in-Ok.ensures.lane_bins links (reverse (frame_lines at.0)) right (few_lines at.0 few) at.1.account at.1.span at.1.bins at.1.lane_bins)
-      (c.in-Ok.ensures.skew_bins links (reverse (frame_lines at.0)) right (few_lines at.0 few) at.1.account at.1.span at.1.bins at.1.skew_bins)
-      (c.in-Ok.ensures.mark_bins links (reverse (frame_lines at.0)) right (few_lines at.0 few) at.1.account at.1.span at.1.bins at.1.mark_bins));
+      (c.in-Ok.ensures.signs links (reverse (frame_lines at.0)) right (few_lines at.0 few) at.1.account at.1.signs));
   sound = c.in-Ok-Line-Frame.ensures.sound c.loop-frame.invariant.sound;
   judged = λ bytes failures table is begun fresh.
       (let at = c.loop-frame.invariant.noted bytes failures table.links (ap (λ (t : VlTable). t.links) is) begun in

@@ -1,6 +1,5 @@
 -- Nothing was read or noted before the first line.
-use Rattle.std.proofs.Common.{[], None, refl, sym, subst, arith, ◌∙◌, reverse}
-use Rattle.ledger_report.specs.AloneBins.{bins_of}
+use Rattle.std.proofs.Common.{[], refl, sym, subst, arith, ◌∙◌, reverse}
 use Rattle.ledger_report.specs.Reading.{HasNoted}
 use Rattle.ledger_report.specs.Judged.{TellsRight}
 use Rattle.ledger_report.specs.Refused.{source_at}
@@ -22,24 +21,16 @@ returns-in-Ok-end-clause-told g c =
       counts_are = c.in-Ok-new.ensures.counts;
       account = c.in-Ok-new.ensures.account;
       span = c.in-Ok-new.ensures.span;
-      alone = c.in-Ok-new.ensures.alone None;
-      alone_bins = c.in-Ok-new.ensures.alone (bins_of reading.statistics.start reading.statistics.width);
+      alone = c.in-Ok-new.ensures.alone;
       signs = c.in-Ok-new.ensures.signs;
-      sums = c.in-Ok-new.ensures.sums None;
-      alone_sums = λ begin. c.in-Ok-new.ensures.sums (bins_of begin reading.statistics.width);
-      bins = c.in-Ok-new.ensures.bins;
-      lane_bins = c.in-Ok-new.ensures.lane_bins;
-      skew_bins = c.in-Ok-new.ensures.skew_bins;
-      mark_bins = c.in-Ok-new.ensures.mark_bins;
       counted_are = c.in-Ok-new.ensures.lines links;
       few = omega arith;
     } in
     let right = c.in_ok-stop.ensures.judged bytes failures c.args.config.now refl begun (c.in-Ok-new.ensures.judged c.args.config.now) in
     let read = right.read in
     let told = tells_ledger bytes links c.read_lines.new.reading.counts c.read_lines.new.reading.statistics c.end.new.self c.read_lines.new.reading.lines c.in_ok-stop.stop
-    c.in-Ok-end.ensures.account c.in-Ok-end.ensures.span c.in-Ok-end.ensures.fates c.in-Ok-end.ensures.medians c.in-Ok-end.ensures.alone
-    c.in-Ok-end.ensures.signs c.in-Ok-end.ensures.sums c.in-Ok-end.ensures.absences c.in-Ok-end.ensures.times
-    c.in-Ok-end.ensures.lane_times c.in-Ok-end.ensures.skews c.in-Ok-end.ensures.link_marks read in
+    c.in-Ok-end.ensures.account c.in-Ok-end.ensures.span c.in-Ok-end.ensures.fates c.in-Ok-end.ensures.alone c.in-Ok-end.ensures.losses
+    c.in-Ok-end.ensures.a c.in-Ok-end.ensures.b read in
     subst (λ (report : Report). TellsRight bytes c.args.config.now report) (sym c.into_report.ensures)
     (record {
       told = told;
@@ -59,15 +50,8 @@ returns-in_err-stop-clause-refused g c =
       counts_are = c.in-Ok-new.ensures.counts;
       account = c.in-Ok-new.ensures.account;
       span = c.in-Ok-new.ensures.span;
-      alone = c.in-Ok-new.ensures.alone None;
-      alone_bins = c.in-Ok-new.ensures.alone (bins_of reading.statistics.start reading.statistics.width);
+      alone = c.in-Ok-new.ensures.alone;
       signs = c.in-Ok-new.ensures.signs;
-      sums = c.in-Ok-new.ensures.sums None;
-      alone_sums = λ begin. c.in-Ok-new.ensures.sums (bins_of begin reading.statistics.width);
-      bins = c.in-Ok-new.ensures.bins;
-      lane_bins = c.in-Ok-new.ensures.lane_bins;
-      skew_bins = c.in-Ok-new.ensures.skew_bins;
-      mark_bins = c.in-Ok-new.ensures.mark_bins;
       counted_are = c.in-Ok-new.ensures.lines table.links;
       few = omega arith;
     } in

@@ -1,25 +1,14 @@
 -- One more link is settled.
 use Rattle.std.proofs.Common.{◌≡◌, ◌∙◌, ℕ, ◌<◌, ◌≤◌, List, ◌++◌, drop, take, get_or, sym, ap, arith, subst, length, length-set}
 use Rattle.std.proofs.lemmas.List.{get_or_default, take_at}
-use Rattle.ledger_report.specs.Absent.{GetsAbsences}
-use Rattle.ledger_report.specs.Copies.{AllCopies}
 use Rattle.ledger_report.specs.Holding.{EndsAlone}
 use Rattle.ledger_report.specs.Keeping.{KeepsReport}
-use Rattle.ledger_report.specs.LaneSeries.{KeepLaneTimes}
 use Rattle.ledger_report.specs.Losses.{KeepsLosses}
 use Rattle.ledger_report.specs.Pairs.{FateNumbers}
 use Rattle.ledger_report.specs.Settling.{GetFates}
-use Rattle.ledger_report.specs.SkewMedians.{GetMedian}
-use Rattle.ledger_report.specs.SkewSeries.{KeepsSkews}
 use Rattle.ledger_report.specs.declared.link.LinkReport.{LinkReport}
-use Rattle.ledger_report.proofs.AbsenceSteps.{gets_from}
 use Rattle.ledger_report.proofs.AccountSteps.{HaveSome, each_set, some_more}
-use Rattle.ledger_report.proofs.AloneTotals.{sums_alone_set}
-use Rattle.ledger_report.proofs.HoldAccounts.{ends_from}
-use Rattle.ledger_report.proofs.KeepSteps.{keeps_networks_on, keeps_report_on}
-use Rattle.ledger_report.proofs.LinkMarkSteps.{link_marks_on}
-use Rattle.ledger_report.specs.AloneSums.{HeldFits}
-use Rattle.ledger_report.proofs.AloneMarks.{held_same}
+use Rattle.ledger_report.proofs.KeepSteps.{keeps_report_on}
 use Rattle.ledger_report.proofs.statistics.end_links.Goals as goal
 
 pub loop-link-preserved : goal.loop-link-preserved
@@ -32,50 +21,23 @@ loop-link-preserved c =
           (λ d. subst (λ (x : LinkReport). KeepsReport x c.end.new.self) (get_or_default items i c.link-item.result d within) (
             c.in_ok-end.ensures.link,
             c.in_ok-end.ensures.deliveries,
-            ap (λ (x : AllCopies). x.numbers) c.in_ok-end.ensures.copies,
+            c.in_ok-end.ensures.copies,
             c.in_ok-end.ensures.pairing,
             record {
-              numbers = ap (λ (f : FateNumbers). record f { met = c.end.new.self.fates.met; late_skews = c.end.new.self.late_skews })
+              numbers = ap (λ (f : FateNumbers). record f { met = c.end.new.self.fates.met })
                   c.in_ok-end.ensures.numbers;
               signs = c.in_ok-end.ensures.late;
             },
           ));
       losses = each_set KeepsLosses (λ a b d first second. second ∙ first) c.deref_mut-link-items.result.now items i c.end.new.self within c.loop-link.invariant.losses
           (λ d. subst (λ (x : LinkReport). KeepsLosses x c.end.new.self) (get_or_default items i c.link-item.result d within) c.in_ok-end.ensures.losses);
-      link_marks = link_marks_on c.args.networks.now c.loop-link.networks c.end.new.networks c.loop-link.invariant.link_marks c.in_ok-end.ensures.link_marks;
-      networks = keeps_networks_on c.args.networks.now c.loop-link.networks c.end.new.networks c.loop-link.invariant.networks c.in_ok-end.ensures.networks;
-      times = c.end.ensures.times ∙ c.loop-link.invariant.times;
-      lane_times = some_more (λ (x y : LinkReport). KeepLaneTimes x.lanes y.lanes) c.deref_mut-link-items.result.now items i c.end.new.self within c.loop-link.invariant.lane_times
-          (λ d. subst (λ (x : LinkReport). KeepLaneTimes x.lanes c.end.new.self.lanes)
-          (get_or_default items i c.link-item.result d within) c.end.ensures.lane_times);
-      skews = some_more KeepsSkews c.deref_mut-link-items.result.now items i c.end.new.self within c.loop-link.invariant.skews
-          (λ d. subst (λ (x : LinkReport). KeepsSkews x c.end.new.self) (get_or_default items i c.link-item.result d within)
-          (record {
-            copies = ap (λ (x : AllCopies). x.skews) c.in_ok-end.ensures.copies;
-            late = ap (λ (f : FateNumbers). f.late_skews) c.in_ok-end.ensures.numbers;
-          }));
       fates = some_more GetFates c.deref_mut-link-items.result.now items i c.end.new.self within c.loop-link.invariant.fates
           (λ d. subst (λ (x : LinkReport). GetFates x c.end.new.self) (get_or_default items i c.link-item.result d within)
           (λ balanced few. (c.in_ok-end.ensures.balanced balanced few, c.in_ok-end.ensures.sums), c.in_ok-end.ensures.numbers));
-      absences = some_more (GetsAbsences c.args.networks.now) c.deref_mut-link-items.result.now items i c.end.new.self within c.loop-link.invariant.absences
-          (λ d. subst (λ (x : LinkReport). GetsAbsences c.args.networks.now x c.end.new.self) (get_or_default items i c.link-item.result d within)
-          (gets_from c.args.networks.now c.loop-link.networks (get_or items i c.link-item.result) c.end.new.self c.loop-link.invariant.networks c.in_ok-end.ensures.absences));
-      medians = some_more GetMedian c.deref_mut-link-items.result.now items i c.end.new.self within c.loop-link.invariant.medians
-          (λ d. subst (λ (x : LinkReport). GetMedian x c.end.new.self) (get_or_default items i c.link-item.result d within) c.in_ok-end.ensures.median);
-      sums = λ scale fits before.
-          (let old = get_or items i c.link-item.result in
-          let below : i < length c.deref_mut-link-items.result.now = omega (arith, within, c.loop-link.invariant.count) in
-          sums_alone_set scale (HeldFits c.args.start c.args.width old.pairing) items i old c.end.new.self c.loop-link.networks c.end.new.networks
-          within (get_or_default items i c.link-item.result old within)
-          (held_same c.args.start c.args.width (get_or c.deref_mut-link-items.result.now i c.link-item.result).pairing old.pairing
-          (c.loop-link.invariant.each i c.link-item.result).3 scale (fits i c.link-item.result below))
-          c.in_ok-end.ensures.gains (c.loop-link.invariant.sums scale fits before));
-      alone = some_more (EndsAlone c.args.start c.args.width c.args.networks.now) c.deref_mut-link-items.result.now items i c.end.new.self within
+      alone = some_more (EndsAlone c.args.networks.now) c.deref_mut-link-items.result.now items i c.end.new.self within
           c.loop-link.invariant.alone
-          (λ d. subst (λ (x : LinkReport). EndsAlone c.args.start c.args.width c.args.networks.now x c.end.new.self)
-          (get_or_default items i c.link-item.result d within)
-          (ends_from c.args.start c.args.width c.args.networks.now c.loop-link.networks
-          (get_or items i c.link-item.result) c.end.new.self c.loop-link.invariant.networks c.in_ok-end.ensures.alone));
+          (λ d. subst (λ (x : LinkReport). EndsAlone c.args.networks.now x c.end.new.self)
+          (get_or_default items i c.link-item.result d within) c.in_ok-end.ensures.alone);
     }
 
 -- each link is settled, once all are
@@ -91,14 +53,6 @@ pub returns-clause-alone : goal.returns-clause-alone
 returns-clause-alone c =
     let value = c.deref_mut-link-items.ensures.value in
     let long = ap (λ (xs : List LinkReport). length xs) value in
-    settled (EndsAlone c.args.start c.args.width c.args.networks.now) c.deref_mut-link-items.result.now c.args.links.now.items c.loop-link.link-items
+    settled (EndsAlone c.args.networks.now) c.deref_mut-link-items.result.now c.args.links.now.items c.loop-link.link-items
     c.loop-link.link-index c.args.links.now.len value (omega (arith, long, c.loop-link.invariant.count, c.args.links.now.ok.0))
     (omega (arith, long, c.loop-link.invariant.count, c.loop-link-test.false)) c.loop-link.invariant.alone
-
-pub returns-clause-absences : goal.returns-clause-absences
-returns-clause-absences c =
-    let value = c.deref_mut-link-items.ensures.value in
-    let long = ap (λ (xs : List LinkReport). length xs) value in
-    settled (GetsAbsences c.args.networks.now) c.deref_mut-link-items.result.now c.args.links.now.items c.loop-link.link-items
-    c.loop-link.link-index c.args.links.now.len value (omega (arith, long, c.loop-link.invariant.count, c.args.links.now.ok.0))
-    (omega (arith, long, c.loop-link.invariant.count, c.loop-link-test.false)) c.loop-link.invariant.absences

@@ -1,16 +1,12 @@
 -- One sign at most takes a hit.
 use Rattle.std.proofs.Common.{refl, sym, subst, arith}
-use Rattle.std.proofs.lemmas.Result.{on_ok_weaker}
 use Rattle.ledger_report.specs.LaneLines.{number_amount}
-use Rattle.ledger_report.specs.LaneMarks.{TakesBins}
 use Rattle.ledger_report.specs.LaneParts.{TakesAmounts}
-use Rattle.ledger_report.specs.MarkBins.{TakesBinned}
 use Rattle.ledger_report.specs.Marks.{TakesHit}
 use Rattle.ledger_report.specs.Numbering.{IsPlain}
 use Rattle.ledger_report.specs.declared.lane.Numbering.{Numbering}
 use Rattle.ledger_report.specs.declared.lane.Numbering.TheVariants.{Follows, Restarts, Repeats, Skips}
 use Rattle.ledger_report.specs.declared.signs.Sign.TheVariants.{Alone, Lost, Repeat, Reset}
-use Rattle.ledger_report.proofs.LaneMarks.{bins_one}
 use Rattle.ledger_report.proofs.MarkMoves.{amounts_none, amounts_one, follows_amount, repeats_amount, restarts_amount, skips_amount}
 use Rattle.ledger_report.proofs.lane.Lane.hit_number.Goals as goal
 
@@ -52,32 +48,3 @@ returns-in-Repeats-clause-alone c = λ none. c.hit-in-Repeats.ensures.others Alo
 
 pub returns-in-Skips-clause-alone : goal.returns-in-Skips-clause-alone
 returns-in-Skips-clause-alone c = λ none. c.hit-in-Skips.ensures.others Alone none refl
-
-pub returns-in-Restarts-clause-bins : goal.returns-in-Restarts-clause-bins
-returns-in-Restarts-clause-bins c =
-    on_ok_weaker c.hit.result
-    (λ takes. subst (λ (n : Numbering). TakesBins (number_amount n) c.args.line.now.at c.args.self.now.signs c.hit.new.self) (sym c.in-Restarts.is)
-    (bins_one Reset (number_amount Restarts) c.args.line.now.at 1 c.args.self.now.signs c.hit.new.self restarts_amount (omega arith) takes))
-    c.hit.ensures.bins
-
-pub returns-in-Repeats-clause-bins : goal.returns-in-Repeats-clause-bins
-returns-in-Repeats-clause-bins c =
-    let new = c.hit-in-Repeats.new.self in
-    on_ok_weaker c.hit-in-Repeats.result
-    (λ takes. subst (λ (n : Numbering). TakesBins (number_amount n) c.args.line.now.at c.args.self.now.signs new) (sym c.in-Repeats.is)
-    (bins_one Repeat (number_amount Repeats) c.args.line.now.at 1 c.args.self.now.signs new repeats_amount (omega arith) takes))
-    c.hit-in-Repeats.ensures.bins
-
-pub returns-in-Skips-clause-bins : goal.returns-in-Skips-clause-bins
-returns-in-Skips-clause-bins c =
-    let at = c.args.line.now.at in
-    let missing = c.in-Skips.missing in
-    let previous = c.in-Skips.previous in
-    let old = c.args.self.now.signs in
-    let new = c.hit-in-Skips.new.self in
-    let plain : IsPlain (Skips previous missing) = subst IsPlain c.in-Skips.is c.requires in
-    on_ok_weaker c.hit-in-Skips.result
-    (λ takes. subst (λ (n : Numbering). TakesBins (number_amount n) at old new) (sym c.in-Skips.is)
-    (bins_one Lost (number_amount (Skips previous missing)) at missing old new (skips_amount previous missing) plain
-    (subst (λ n. TakesBinned Lost at.bin (record { place = at.place; amount = n }) old new) c.from.ensures takes)))
-    c.hit-in-Skips.ensures.bins

@@ -1,9 +1,7 @@
 -- The interval is below the bound.
 use Rattle.std.proofs.Common.{Some, refl, arith, ◌<◌}
-use Rattle.std.proofs.lemmas.Result.{on_ok_weaker}
 use Rattle.ledger_report.specs.LaneLines.{early_amount, is_rule}
 use Rattle.ledger_report.specs.declared.signs.Sign.TheVariants.{Alone, Early, Excess}
-use Rattle.ledger_report.proofs.LaneMarks.{bins_one}
 use Rattle.ledger_report.proofs.LaneMoves.{lead_more}
 use Rattle.ledger_report.proofs.MarkMoves.{amounts_one, early_some}
 use Rattle.ledger_report.proofs.lane.Lane.note_early.Goals as goal
@@ -21,12 +19,3 @@ returns-clause-takes c =
 
 pub returns-clause-alone : goal.returns-clause-alone
 returns-clause-alone c = λ none. c.hit.ensures.others Alone none refl
-
-pub returns-clause-bins : goal.returns-clause-bins
-returns-clause-bins c =
-    let at = c.args.line.now.at in
-    let less : c.args.interval < c.args.least = omega (arith, c.if-interval-least.false) in
-    on_ok_weaker c.hit.result
-    (bins_one Early (early_amount c.args.least (Some c.args.interval)) at 1 c.args.self.now.signs c.hit.new.self
-    (λ other. early_some c.args.least c.args.interval other less) (omega arith))
-    c.hit.ensures.bins

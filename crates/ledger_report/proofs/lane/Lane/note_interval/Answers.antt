@@ -1,7 +1,5 @@
 -- There is an interval.
-use Rattle.std.proofs.Common.{◌∙◌, ℕ, Option, subst, sym, refl, arith}
-use Rattle.ledger_report.specs.LaneLines.{early_amount}
-use Rattle.ledger_report.specs.LaneMarks.{TakesBins}
+use Rattle.std.proofs.Common.{◌∙◌, sym, refl, arith}
 use Rattle.ledger_report.proofs.LaneMoves.{interval_parts}
 use Rattle.ledger_report.proofs.lane.Lane.note_interval.Goals as goal
 
@@ -10,8 +8,3 @@ returns-clause-takes c =
     interval_parts c.args.least c.args.line.now c.args.self.now _ c.note_early.new.self c.in-Some.interval c.note_early.ensures.takes
     (sym c.interval_to.ensures ∙ c.in-Some.is) (omega (arith, c.min-self.ensures)) (omega (arith, c.max-self.ensures))
     (omega (arith, c.saturating_add-self.ensures)) (omega (arith, c.saturating_add-self-2.ensures)) refl refl refl
-
-pub returns-clause-bins : goal.returns-clause-bins
-returns-clause-bins c =
-    subst (λ (o : Option ℕ). TakesBins (early_amount c.args.least o) c.args.line.now.at c.args.self.now.signs c.note_early.new.self.signs)
-    (sym (sym c.interval_to.ensures ∙ c.in-Some.is)) c.in_ok-note_early.ensures.bins

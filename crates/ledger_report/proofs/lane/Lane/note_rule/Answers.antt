@@ -2,13 +2,11 @@
 use Rattle.std.proofs.Common.{Option, Some, subst, ◌∙◌, Bool, ◌+◌, if◌then◌else◌, sym, ap, refl, arith}
 use Rattle.ledger_report.specs.LaneLines.{rule_amount}
 use Rattle.std.proofs.lemmas.Bool.{ne_eqb}
-use Rattle.std.proofs.lemmas.Result.{on_ok_weaker}
 use Rattle.std.specs.Option.{IfSome}
 use Rattle.ledger_report.specs.Marks.{IsRule, sign_index}
 use Rattle.ledger_report.specs.Sums.{saturated}
 use Rattle.ledger_report.specs.declared.signs.Sign.{Sign}
 use Rattle.ledger_report.specs.declared.signs.Sign.TheVariants.{Alone}
-use Rattle.ledger_report.proofs.LaneMarks.{bins_one}
 use Rattle.ledger_report.proofs.MarkMoves.{amounts_one, rule_some}
 use Rattle.ledger_report.proofs.lane.Lane.note_rule.Goals as goal
 
@@ -28,12 +26,3 @@ pub returns-in-Some-clause-alone : goal.returns-in-Some-clause-alone
 returns-in-Some-clause-alone c = λ none.
     let rule : IfSome (Some c.in-Some.rule) IsRule = subst (λ (o : Option Sign). IfSome o IsRule) c.in-Some.is c.requires in
     c.hit.ensures.others Alone none (ne_eqb (sign_index c.in-Some.rule) 11 (omega (arith, rule)))
-
-pub returns-in-Some-clause-bins : goal.returns-in-Some-clause-bins
-returns-in-Some-clause-bins c =
-    let line = c.args.line.now in
-    let counts = sym c.is_out_after_silence.ensures ∙ c.if-is_out_after_silence.false in
-    on_ok_weaker c.hit.result
-    (bins_one c.in-Some.rule (rule_amount line) line.at 1 c.args.self.now.signs c.hit.new.self
-    (λ other. rule_some line c.in-Some.rule other counts c.in-Some.is) (omega arith))
-    c.hit.ensures.bins

@@ -1,12 +1,12 @@
 -- The delivery before is settled, and this one takes its place.
-use Rattle.std.proofs.Common.{None, ◌≡◌, ◌∙◌, ap, arith, slice_index_or}
+use Rattle.std.proofs.Common.{None, Some, ◌≡◌, ◌==◌, ◌∙◌, ap, arith, if◌then◌else◌, slice_index_or}
 use Rattle.afdx_frame.specs.declared.key.Network.{Network}
 use Rattle.ledger_report.specs.Both.{side_of}
+use Rattle.ledger_report.specs.Holding.{before_at}
 use Rattle.ledger_report.specs.Pending.{pends}
 use Rattle.ledger_report.specs.Words.{other_of}
 use Rattle.ledger_report.specs.declared.network.NetworkReport.{NetworkReport}
 use Rattle.ledger_report.specs.declared.pairing.Pairing.{Pairing}
-use Rattle.ledger_report.proofs.HoldNotes.{takes_before_on}
 use Rattle.ledger_report.proofs.link.LinkReport.note_delivery.Goals as goal
 
 pub returns-clause-accounts : goal.returns-clause-accounts
@@ -16,8 +16,9 @@ returns-clause-accounts c = λ none few.
     omega (arith, before, same, c.in_ok-set.ensures)
 
 pub returns-clause-before : goal.returns-clause-before
-returns-clause-before c =
-    let found : c.of.result.now.frames ≡ (side_of (other_of c.args.at.now.network) c.settle_before.new.networks).frames =
-    ap (λ (r : NetworkReport). r.frames) c.of.ensures ∙ ap (λ (n : Network). (side_of n c.settle_before.new.networks).frames) c.other.ensures in
-    takes_before_on c.args.number _ (other_of c.args.at.now.network) c.args.networks.now c.settle_before.new.networks c.args.self.now.pairing
-    c.settle_before.new.self.pairing c.set.new.self c.in_ok-fate.ensures.networks (omega (arith, found)) c.settle_before.ensures.pairing c.in_ok-set.ensures.before
+returns-clause-before c = λ n.
+    let found : c.of.result.now.frames ≡ (side_of (other_of c.args.at.now.network) c.args.networks.now).frames =
+    ap (λ (r : NetworkReport). r.frames) c.of.ensures ∙ ap (λ (n : Network). (side_of n c.args.networks.now).frames) c.other.ensures in
+    c.in_ok-set.ensures.before n ∙ ap (λ k. if n == c.args.number then Some k else before_at c.settle_before.new.self.pairing n) found
+    ∙ ap (λ (p : Pairing). if n == c.args.number then Some (side_of (other_of c.args.at.now.network) c.args.networks.now).frames else before_at p n)
+    c.settle_before.ensures.pairing

@@ -1,13 +1,9 @@
 -- The numbers below are settled.
 use Rattle.std.proofs.Common.{◌≡◌, ◌+◌, ◌<◌, ◌^◌, drop}
-use Rattle.ledger_report.specs.AloneSums.{GainBoth, HeldFits}
 use Rattle.ledger_report.specs.Copies.{KeepsCopies}
 use Rattle.ledger_report.specs.Holding.{SettlesBelow}
-use Rattle.ledger_report.specs.Keeping.{KeepsLink, KeepsNetworks}
-use Rattle.ledger_report.specs.LinkMarks.{KeepLinkMarks}
+use Rattle.ledger_report.specs.Keeping.{KeepsLink}
 use Rattle.ledger_report.specs.Losses.{KeepsLosses}
-use Rattle.ledger_report.specs.LaneSeries.{KeepLaneTimes}
-use Rattle.ledger_report.specs.NetworkSeries.{KeepTimes}
 use Rattle.ledger_report.specs.Pairs.{KeepsLate, MeetsOf, met_with}
 use Rattle.ledger_report.specs.Pending.{pending}
 use Rattle.ledger_report.specs.Settling.{accounted, counted}
@@ -23,13 +19,7 @@ invariant-loop-number l = record {
   copies : KeepsCopies l.initial.self l.self;
   link : KeepsLink l.initial.self l.self;
   losses : KeepsLosses l.initial.self l.self;
-  runs : l.self.runs ≡ l.initial.self.runs;
   numbers : MeetsOf (met_with l.number l.initial.self.pairing l.initial.self.fates.met) l.initial.self l.self;
   late : KeepsLate l.initial.self l.self;
-  alone : SettlesBelow l.fn.start l.fn.width l.number l.initial.networks l.initial.self l.self;
-  networks : KeepsNetworks l.initial.networks l.networks;
-  link_marks : KeepLinkMarks l.initial.networks l.networks;
-  gains : GainBoth (HeldFits l.fn.start l.fn.width l.initial.self.pairing) l.initial.self.lanes l.self.lanes l.initial.networks l.networks;
-  times : KeepTimes l.initial.networks l.networks;
-  lane_times : KeepLaneTimes l.initial.self.lanes l.self.lanes;
+  alone : SettlesBelow l.number l.fn.networks l.initial.self l.self;
 }

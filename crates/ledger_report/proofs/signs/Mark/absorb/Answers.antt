@@ -1,8 +1,6 @@
 -- The other mark's hits in front.
 use Rattle.std.proofs.Common.{arith}
 use Rattle.ledger_report.proofs.Ends.{amounts-append}
-use Rattle.std.proofs.lemmas.Result.{on_ok_weaker}
-use Rattle.ledger_report.proofs.MarkBins.{binned_both}
 use Rattle.ledger_report.proofs.signs.Mark.absorb.Goals as goal
 
 pub returns-clause-hits : goal.returns-clause-hits
@@ -11,6 +9,3 @@ returns-clause-hits c = λ hits more is other. record {
   first = c.first_with-self.ensures hits more is.first other.first;
   last = c.last_with-self.ensures hits more is.last other.last;
 }
-
-pub returns-clause-bins : goal.returns-clause-bins
-returns-clause-bins c = on_ok_weaker c.absorb.result (binned_both c.args.other.now.bins c.args.self.now.bins c.absorb.new.self) c.absorb.ensures.both

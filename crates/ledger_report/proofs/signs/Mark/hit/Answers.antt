@@ -1,8 +1,6 @@
 -- One more hit in front.
 use Rattle.std.proofs.Common.{[], ◌∷◌, Some, arith}
 use Rattle.ledger_report.proofs.Ends.{first_one, last_one, mark_more}
-use Rattle.std.proofs.lemmas.Result.{on_ok_weaker}
-use Rattle.ledger_report.proofs.MarkBins.{binned_hit}
 use Rattle.ledger_report.proofs.signs.Mark.hit.Goals as goal
 
 pub returns-clause-hits : goal.returns-clause-hits
@@ -15,9 +13,3 @@ returns-clause-hits c = λ hits is.
     }) (record { place = c.args.place; amount = c.args.amount } ∷ []) hits c.args.amount c.args.place c.args.place is (omega (arith, c.ranges.amount.fits))
     (first_one c.args.place c.args.amount) (last_one c.args.place c.args.amount)
     (omega (arith, c.saturating_add-self.ensures)) c.earlier.ensures c.later.ensures
-
-pub returns-clause-bins : goal.returns-clause-bins
-returns-clause-bins c =
-    on_ok_weaker c.put.result (binned_hit c.args.bin (record { place = c.args.place; amount = c.args.amount }) c.args.self.now.bins
-    c.put.new.self c.put.ensures.merge)
-    c.put.ensures.takes

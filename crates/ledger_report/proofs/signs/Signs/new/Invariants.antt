@@ -1,6 +1,5 @@
 -- So many marks, each of no hit.
 use Rattle.std.proofs.Common.{◌≡◌, ℕ, ◌<◌, [], get_or, vec_len}
-use Rattle.ledger_report.specs.MarkBins.{IsBinned}
 use Rattle.ledger_report.specs.Places.{IsMarkOf}
 use Rattle.ledger_report.specs.declared.signs.Mark.{Mark}
 use Rattle.ledger_report.proofs.signs.Signs.new.Given as goal
@@ -9,4 +8,3 @@ abbrev pub invariant-loop : goal.invariant-loop
 invariant-loop l =
     (vec_len l.marks ≡ l.counter)
     × ((k : ℕ) (none : Mark) → k < l.counter → IsMarkOf [] (get_or l.marks.items k none))
-    × ((k : ℕ) (none : Mark) (start width : ℕ) → k < l.counter → IsBinned start width [] (get_or l.marks.items k none))
