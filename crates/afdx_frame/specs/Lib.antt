@@ -1,3 +1,4 @@
+pub mod Facts
 pub mod Frame
 pub mod FrameBytes
 pub mod LentFrame

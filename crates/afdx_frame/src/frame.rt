@@ -90,6 +90,22 @@ impl TapFrame {
         }
     }
 
+    /// The network, the index in the recording, when the frame came, its length on the wire and its bytes.
+    #[inline(always)]
+    pub fn into_parts(self) -> (Network, u64, Stamp, u32, FrameBytes)
+        ensures parts { frame_with result.0 result.1 result.2.0 result.3 result.4 ≡ self }
+        ensures bounds { IsFrame self }
+    {
+        let TapFrame {
+            network,
+            number,
+            stamp,
+            whole,
+            bytes,
+        } = self;
+        (network, number, stamp, whole, bytes)
+    }
+
     /// The network of the tap.
     #[inline(always)]
     pub fn network(&self) -> Network

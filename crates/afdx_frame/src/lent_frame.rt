@@ -1,10 +1,12 @@
 //! A frame whose bytes are borrowed.
-ghost use Rattle.std.specs.Prelude.{◌≡◌, IsSome, IfSome, ◌↔◌};
+ghost use Rattle.std.specs.Prelude.{◌≡◌, IsSome, IfSome, length, ◌↔◌};
+ghost use Rattle.afdx_frame.specs.Facts.{AreFactsOf};
 ghost use Rattle.afdx_frame.specs.Frame.{IsFrame, frame_with, key_of};
-ghost use Rattle.afdx_frame.specs.View.{view_bytes};
+ghost use Rattle.afdx_frame.specs.View.{constant_of, link_of, sequence_of, view_bytes};
 
 use crate::bounds::is_within_bounds;
-use crate::key::{Key, Network, Stamp};
+use crate::facts::Facts;
+use crate::key::{Key, Network, Stamp, VlId};
 use crate::view::FrameView;
 
 /// A frame whose captured bytes are borrowed, as a reader finds them in its block. It keeps the
@@ -16,6 +18,8 @@ pub struct LentFrame<'a> {
     stamp: Stamp,
     whole: u32,
     bytes: &'a [u8],
+    facts: Facts,
+    ghost known: { AreFactsOf bytes.now facts },
     ghost bounds: { IsFrame (frame_with network number stamp.0 whole bytes.now) },
 }
 
@@ -43,9 +47,34 @@ impl<'a> LentFrame<'a> {
                 stamp,
                 whole,
                 bytes,
+                facts: Facts::of(bytes),
             })
         } else {
             None
+        }
+    }
+
+    /// A frame of these parts, which keep all bounds, and of whose bytes these are the facts.
+    #[inline(always)]
+    pub fn of(
+        network: Network,
+        number: u64,
+        stamp: Stamp,
+        whole: u32,
+        bytes: &'a [u8],
+        facts: Facts,
+    ) -> LentFrame<'a>
+        requires bounds { IsFrame (frame_with network number stamp.0 whole bytes.now) }
+        requires facts { AreFactsOf bytes.now facts }
+        ensures { frame_of_lent result ≡ frame_with network number stamp.0 whole bytes.now }
+    {
+        LentFrame {
+            network,
+            number,
+            stamp,
+            whole,
+            bytes,
+            facts,
         }
     }
 
@@ -93,6 +122,58 @@ impl<'a> LentFrame<'a> {
             stamp: self.stamp,
             network: self.network,
             number: self.number,
+        }
+    }
+
+    /// How many bytes were captured.
+    #[inline(always)]
+    pub fn captured(&self) -> usize
+        ensures { result ≡ length (frame_of_lent self.now).bytes }
+    {
+        self.bytes.len()
+    }
+
+    /// What the bytes say of the frame's address and place.
+    #[inline(always)]
+    pub fn facts(&self) -> Facts
+        ensures { AreFactsOf (frame_of_lent self.now).bytes result }
+    {
+        self.facts
+    }
+
+    /// The constant field of the destination address. None below 4 bytes.
+    #[inline(always)]
+    pub fn constant(&self) -> Option<u32>
+        ensures { result ≡ constant_of (frame_of_lent self.now).bytes }
+    {
+        if self.bytes.len() >= 4 {
+            Some(self.facts.constant)
+        } else {
+            None
+        }
+    }
+
+    /// The virtual link's identifier. None below 6 bytes.
+    #[inline(always)]
+    pub fn link(&self) -> Option<VlId>
+        ensures { result ≡ link_of (frame_of_lent self.now).bytes }
+    {
+        if self.bytes.len() >= 6 {
+            Some(VlId(self.facts.link))
+        } else {
+            None
+        }
+    }
+
+    /// The sequence number: the last byte. None for no bytes.
+    #[inline(always)]
+    pub fn sequence(&self) -> Option<u8>
+        ensures { result ≡ sequence_of (frame_of_lent self.now).bytes }
+    {
+        if self.bytes.is_empty() {
+            None
+        } else {
+            Some(self.facts.sequence)
         }
     }
 

@@ -1,0 +1,129 @@
+//! The frames of a block.
+ghost use Rattle.std.specs.Prelude.{◌≡◌, ◌<◌, ◌++◌, ◌∷◌, [], IfErr, IfOk, IsFalse, IsTrue, Some, drop, length, slice_get};
+ghost use Rattle.afdx_frame.specs.FrameBytes.{block_bytes};
+ghost use Rattle.afdx_frame.specs.LentFrame.{frame_of_lent};
+ghost use Rattle.frame_batch.specs.Batch.{IsRecordOf, batch_frames};
+
+use crate::frame_record::FrameRecord;
+use afdx_frame::{FrameBlock, LentFrame, TapFrame};
+use std::alloc::{AllocError, Global};
+use std::marker::Model;
+
+/// Frames of a recording that stand in one block, one after another. At least one is left.
+#[derive(Drop)]
+pub struct FrameBatch {
+    block: FrameBlock,
+    first: FrameRecord,
+    more: Vec<FrameRecord>,
+    /// How many were taken out.
+    taken: usize,
+}
+
+impl Model for FrameBatch {
+    ghost use Rattle.std.specs.Prelude.{◌≤◌, ◌∷◌, drop, length};
+    ghost use Rattle.afdx_frame.specs.FrameBytes.{block_bytes};
+    ghost use Rattle.frame_batch.specs.Batch.{AreRecordsOf, BatchState};
+
+    ghost Value = { BatchState };
+
+    ghost view = { λ b. record {
+      block = block_bytes b.block;
+      left = drop b.taken (b.first ∷ b.more.items);
+    } };
+
+    ghost invariant = { λ b. AreRecordsOf (block_bytes b.block) (b.first ∷ b.more.items)
+        × (b.taken ≤ length b.more.items) };
+}
+
+impl FrameBatch {
+    /// A batch that begins with the frame of a record in a block, with room for some more where there is
+    /// memory for them.
+    #[inline]
+    pub fn begin(alloc: Global, block: FrameBlock, first: FrameRecord, room: usize) -> FrameBatch
+        requires { IsRecordOf (block_bytes block) first }
+        ensures { result ≡ record { block = block_bytes block; left = first ∷ [] } }
+    {
+        FrameBatch {
+            block,
+            first,
+            more: Vec::with_capacity(alloc, room).unwrap_or(Vec::new(alloc)),
+            taken: 0,
+        }
+    }
+
+    /// Adds the frame of a record in the same block. False: there is no room, and nothing has changed.
+    #[inline(always)]
+    pub fn push(&mut self, next: FrameRecord) -> bool
+        requires { IsRecordOf self.old.block next }
+        ensures added { IsTrue result → self.new ≡ record self.old { left = self.old.left ++ next ∷ [] } }
+        ensures unchanged { IsFalse result → self.new ≡ self.old }
+    {
+        if self.more.len() == self.more.capacity() {
+            return false;
+        }
+        self.more.push_reserved(next);
+        true
+    }
+
+    /// The bytes of the block.
+    #[inline(always)]
+    pub fn bytes(&self) -> &[u8]
+        ensures { result.now ≡ self.now.block }
+    {
+        self.block.bytes()
+    }
+
+    /// How many frames are left, at least one.
+    #[inline(always)]
+    pub fn count(&self) -> usize
+        ensures count { result ≡ length self.now.left }
+        ensures some { 0 < result }
+    {
+        self.more.len() - self.taken + 1
+    }
+
+    /// The record of a frame that is left.
+    #[inline(always)]
+    pub fn entry(&self, index: usize) -> &FrameRecord
+        requires { index < length self.now.left }
+        ensures entry { slice_get self.now.left index ≡ Some result.now }
+        ensures fits { IsRecordOf self.now.block result.now }
+    {
+        let place = self.taken + index;
+        if place == 0 {
+            &self.first
+        } else {
+            &self.more[place - 1]
+        }
+    }
+
+    /// A frame that is left.
+    #[inline(always)]
+    pub fn frame(&self, index: usize) -> LentFrame<'_>
+        requires { index < length self.now.left }
+        ensures { slice_get (batch_frames self.now) index ≡ Some (frame_of_lent result) }
+    {
+        self.entry(index).lent(self.block.bytes())
+    }
+
+    /// Takes out the first frames, so many that one is left.
+    #[inline]
+    pub fn skip(&mut self, count: usize)
+        requires { count < length self.old.left }
+        ensures { self.new ≡ record self.old { left = drop count self.old.left } }
+    {
+        self.taken += count;
+    }
+
+    /// One more share of the block.
+    ///
+    /// # Errors
+    ///
+    /// Those of [`FrameBlock::share`].
+    #[inline]
+    pub fn share(&self, alloc: Global) -> Result<FrameBlock, AllocError>
+        ensures { IfOk result (λ block. block_bytes block ≡ self.now.block) }
+    {
+        self.block.share(alloc)
+    }
+}

@@ -1,0 +1,61 @@
+//! The frames of a round.
+ghost use Rattle.std.specs.Prelude.{◌≡◌, ◌<◌, IfOk, IsTrue, ◌↔◌, [], Some, length, slice_get};
+ghost use Rattle.afdx_frame.specs.LentFrame.{frame_of_lent};
+ghost use Rattle.frame_batch.specs.Round.{draft_frames};
+
+use crate::batch::FrameBatch;
+use crate::draft::{Placed, RoundDraft};
+use afdx_frame::{LentFrame, TapFrame};
+use std::alloc::{AllocError, Global};
+use std::marker::Model;
+
+/// Frames in an order, by records in the blocks that hold their bytes.
+#[derive(Drop)]
+pub struct Round {
+    draft: RoundDraft,
+}
+
+impl Model for Round {
+    ghost use Rattle.std.specs.Prelude.{List};
+    ghost use Rattle.afdx_frame.specs.Frame.{Frame};
+    ghost use Rattle.frame_batch.specs.Round.{draft_frames};
+
+    ghost Value = { List Frame };
+
+    ghost view = { λ r. draft_frames r.draft };
+}
+
+impl Round {
+    /// The frames of a draft.
+    pub fn of(draft: RoundDraft) -> Round
+        ensures { result ≡ draft_frames draft }
+    {
+        Round { draft }
+    }
+
+    /// How many frames there are.
+    #[inline(always)]
+    pub fn len(&self) -> usize
+        ensures { result ≡ length self.now }
+    {
+        self.draft.places.len()
+    }
+
+    /// Whether there is no frame.
+    #[inline(always)]
+    pub fn is_empty(&self) -> bool
+        ensures { IsTrue result ↔ self.now ≡ [] }
+    {
+        self.draft.places.is_empty()
+    }
+
+    /// The frame of an index.
+    #[inline(always)]
+    pub fn frame(&self, index: usize) -> LentFrame<'_>
+        requires { index < length self.now }
+        ensures { slice_get self.now index ≡ Some (frame_of_lent result) }
+    {
+        let Placed { entry, block } = &self.draft.places[index];
+        entry.lent(self.draft.blocks[*block].bytes())
+    }
+}
