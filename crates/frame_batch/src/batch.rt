@@ -1,5 +1,5 @@
 //! The frames of a block.
-ghost use Rattle.std.specs.Prelude.{◌≡◌, ◌<◌, ◌++◌, ◌∷◌, [], IfErr, IfOk, IsFalse, IsTrue, Some, drop, length, slice_get};
+ghost use Rattle.std.specs.Prelude.{◌≡◌, ◌-◌, ◌<◌, ◌++◌, ◌∷◌, [], IfErr, IfOk, IsFalse, IsTrue, Some, drop, length, slice_get};
 ghost use Rattle.afdx_frame.specs.FrameBytes.{block_bytes};
 ghost use Rattle.afdx_frame.specs.LentFrame.{frame_of_lent};
 ghost use Rattle.frame_batch.specs.Batch.{IsRecordOf, batch_frames};
@@ -104,6 +104,23 @@ impl FrameBatch {
         ensures { slice_get (batch_frames self.now) index ≡ Some (frame_of_lent result) }
     {
         self.entry(index).lent(self.block.bytes())
+    }
+
+    /// The first frame that is left.
+    #[inline(always)]
+    pub fn first(&self) -> LentFrame<'_>
+        ensures { slice_get (batch_frames self.now) 0 ≡ Some (frame_of_lent result) }
+    {
+        let _count = self.count();
+        self.frame(0)
+    }
+
+    /// The last frame.
+    #[inline]
+    pub fn last(&self) -> LentFrame<'_>
+        ensures { slice_get (batch_frames self.now) (length (batch_frames self.now) - 1) ≡ Some (frame_of_lent result) }
+    {
+        self.frame(self.count() - 1)
     }
 
     /// Takes out the first frames, so many that one is left.

@@ -7,11 +7,15 @@
 #![tactic(auto)]
 
 mod batch;
+mod cursor;
 mod draft;
 mod frame_record;
+mod queue;
 mod round;
 
 pub use batch::FrameBatch;
+pub use cursor::QueueCursor;
 pub use draft::RoundDraft;
 pub use frame_record::FrameRecord;
+pub use queue::FrameQueue;
 pub use round::Round;
