@@ -9,6 +9,7 @@ use crate::frame_bytes::FrameBytes;
 use crate::key::{Key, Network, Stamp};
 use crate::lent_frame::LentFrame;
 use crate::view::FrameView;
+use std::alloc::{AllocError, Global};
 use std::marker::Model;
 
 /// A frame as a tap recorded it: the network, its index in the recording, when it came, its length
@@ -104,6 +105,18 @@ impl TapFrame {
             bytes,
         } = self;
         (network, number, stamp, whole, bytes)
+    }
+
+    /// The same frame once more, which shares the bytes where they stand in a block that frames share.
+    ///
+    /// # Errors
+    ///
+    /// Those of [`FrameBlock::share`](crate::FrameBlock::share).
+    pub fn share(&self, alloc: Global) -> Result<TapFrame, AllocError>
+        ensures { IfOk result (λ frame. frame ≡ self.now) }
+    {
+        let bytes = self.bytes.share(alloc)?;
+        Ok(TapFrame::sharing(self.network, self.number, self.stamp, self.whole, bytes).unwrap())
     }
 
     /// The network of the tap.

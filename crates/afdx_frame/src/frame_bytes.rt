@@ -118,6 +118,21 @@ impl FrameBytes {
         (block, from, to)
     }
 
+    /// The same bytes once more.
+    ///
+    /// # Errors
+    ///
+    /// Those of [`FrameBlock::share`].
+    pub fn share(&self, alloc: Global) -> Result<FrameBytes, AllocError>
+        ensures { IfOk result (λ bytes. bytes ≡ self.now) }
+    {
+        Ok(FrameBytes {
+            block: self.block.share(alloc)?,
+            from: self.from,
+            to: self.to,
+        })
+    }
+
     /// The bytes.
     #[inline(always)]
     pub fn as_slice(&self) -> &[u8]

@@ -1,5 +1,5 @@
 -- Batches one after another.
-use Rattle.std.proofs.Common.{◌≡◌, ℕ, zero, suc, ◌+◌, ◌-◌, ◌<◌, ◌≤◌, min, Bool, true, false, cond, nat_lt, List, [], ◌∷◌, ◌++◌, Option, Some, None, IfSome, length, map, take, drop, get_or, slice_get, refl, sym, ap, ◌∙◌, subst, arith}
+use Rattle.std.proofs.Common.{◌≡◌, ℕ, zero, suc, ◌+◌, ◌-◌, ◌<◌, ◌≤◌, min, Bool, true, false, cond, nat_lt, List, [], ◌∷◌, ◌++◌, Option, Some, None, IfSome, length, take, drop, get_or, slice_get, refl, sym, ap, ◌∙◌, subst, arith}
 use Rattle.std.proofs.Math.ListN.{drop_of_length-le}
 use Rattle.std.proofs.Math.Seq.{drop-append_seam, take-length}
 use Rattle.std.proofs.lemmas.Bool.{ltb-false, ltb-true}
@@ -7,7 +7,7 @@ use Rattle.std.proofs.lemmas.List.{append-nil, drop-drop, length-append, length-
 use Rattle.std.proofs.lemmas.Grind.{flat_map-append}
 use Rattle.std.proofs.lemmas.List.Sums.{prefix_len-le-length}
 use Rattle.std.proofs.lemmas.Option.{get_or_from_slice_get, slice_get-get_or, slice_get_within, slice_get-map}
-use Rattle.std.specs.List.{flat_map, prefix_len}
+use Rattle.std.specs.List.{prefix_len}
 use Rattle.std.specs.Option.{ForSome, option_map, option_map_or}
 use Rattle.afdx_frame.specs.Frame.{Frame}
 use Rattle.frame_batch.specs.Batch.{BatchState, batch_frames, record_frame}
@@ -260,7 +260,7 @@ ends_here bs k bound most count more b here size all few is less =
     let within = stops_within p (most - length before) (batch_frames b) after (omega (arith, is, less, here_size, ap (λ (n : ℕ). prefix_len p (take n (batch_frames b))) at)) in
     let past = goes_past p most before (batch_frames b ++ after) (all ∙ size) (omega (arith, size, few)) in
     let sum : count + more ≡ length before + prefix_len p (take (most - length before) (batch_frames b ++ after)) =
-        omega (arith, size, is, within, ap (λ (n : ℕ). prefix_len p (take n (batch_frames b))) at) in
+    omega (arith, size, is, within, ap (λ (n : ℕ). prefix_len p (take n (batch_frames b))) at) in
     sum ∙ sym past ∙ ap (λ (l : List Frame). prefix_len p (take most l)) (sym (all_batches bs k b here))
 
 pub record GoesOn (bs : List BatchState) (k bound most count : ℕ) : Type 0 where
@@ -279,7 +279,7 @@ goes_on bs k bound most count more b here size all few is whole =
     let most_here = few_below p (most - count) (batch_frames b) in
     let same : more ≡ length (batch_frames b) = omega (arith, is, whole, here_size, most_here) in
     let passed : prefix_len p (batch_frames b) ≡ length (batch_frames b) =
-        ap (prefix_len p) (sym (take_all (most - count) (batch_frames b) (omega (arith, is, whole, here_size, most_here)))) ∙ sym is ∙ same in
+    ap (prefix_len p) (sym (take_all (most - count) (batch_frames b) (omega (arith, is, whole, here_size, most_here)))) ∙ sym is ∙ same in
     let next = one_more_batch bs k b here in
     let sizes = ap length next ∙ length-append before (batch_frames b) in
     let both = all_append p before (batch_frames b) (all ∙ size) passed in

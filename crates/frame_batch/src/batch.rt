@@ -51,6 +51,36 @@ impl FrameBatch {
         }
     }
 
+    /// A batch of one frame. An `Err` gives it back: it stands beyond 4 GiB of its block.
+    pub fn of(alloc: Global, frame: TapFrame) -> Result<FrameBatch, TapFrame>
+        ensures frame { IfOk result (λ batch. batch_frames batch ≡ frame ∷ []) }
+        ensures given_back { IfErr result (λ f. f ≡ frame) }
+    {
+        let (block, first) = FrameRecord::of(frame)?;
+        Ok(FrameBatch::begin(alloc, block, first, 0))
+    }
+
+    /// The first frame that is left, with the block.
+    pub fn into_first(self) -> TapFrame
+        ensures { slice_get (batch_frames self) 0 ≡ Some result }
+    {
+        let _count = self.count();
+        let first = *self.entry(0);
+        first.frame(self.block)
+    }
+
+    /// The first frame that is left, with a share of the block.
+    ///
+    /// # Errors
+    ///
+    /// Those of [`FrameBlock::share`].
+    pub fn first_frame(&self, alloc: Global) -> Result<TapFrame, AllocError>
+        ensures { IfOk result (λ frame. slice_get (batch_frames self.now) 0 ≡ Some frame) }
+    {
+        let _count = self.count();
+        Ok(self.entry(0).frame(self.share(alloc)?))
+    }
+
     /// Adds the frame of a record in the same block. False: there is no room, and nothing has changed.
     #[inline(always)]
     pub fn push(&mut self, next: FrameRecord) -> bool

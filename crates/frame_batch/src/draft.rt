@@ -1,11 +1,11 @@
 //! A round that is being made.
-ghost use Rattle.std.specs.Prelude.{◌≡◌, ◌<◌, ◌++◌, ◌∷◌, [], OnOk, IfOk, length, get_or};
+ghost use Rattle.std.specs.Prelude.{◌≡◌, ◌<◌, ◌++◌, ◌∷◌, [], List, ℕ, OnOk, IfOk, length, get_or};
 ghost use Rattle.afdx_frame.specs.FrameBytes.{block_bytes};
 ghost use Rattle.frame_batch.specs.Batch.{IsRecordOf, record_frame};
 ghost use Rattle.frame_batch.specs.Round.{draft_frames};
 
 use crate::frame_record::FrameRecord;
-use afdx_frame::FrameBlock;
+use afdx_frame::{FrameBlock, TapFrame};
 use std::alloc::{AllocError, Global};
 use std::marker::Model;
 
@@ -80,5 +80,21 @@ impl RoundDraft {
     {
         self.places.push(Placed { entry, block })?;
         Ok(())
+    }
+
+    /// Adds a frame with its block.
+    ///
+    /// # Errors
+    ///
+    /// `AllocError` if there is no memory for it.
+    pub fn add_frame(&mut self, frame: TapFrame) -> Result<(), AllocError>
+        ensures blocks { OnOk result ((more : List (List ℕ)) × (self.new.blocks ≡ self.old.blocks ++ more)) }
+        ensures frames { OnOk result (draft_frames self.new ≡ draft_frames self.old ++ frame ∷ []) }
+    {
+        let Ok((block, entry)) = FrameRecord::of(frame) else {
+            return Err(AllocError);
+        };
+        let index = self.add_block(block)?;
+        self.add(index, entry)
     }
 }

@@ -1,5 +1,5 @@
 //! Where a frame stands in its block.
-ghost use Rattle.std.specs.Prelude.{◌≡◌, ◌≤◌, length, slice_range};
+ghost use Rattle.std.specs.Prelude.{◌≡◌, ◌≤◌, IfErr, IfOk, length, slice_range};
 ghost use Rattle.afdx_frame.specs.Frame.{IsFrame, frame_with, key_of};
 ghost use Rattle.afdx_frame.specs.FrameBytes.{block_bytes};
 ghost use Rattle.afdx_frame.specs.LentFrame.{frame_of_lent};
@@ -56,6 +56,27 @@ impl FrameRecord {
             link,
             sequence,
             network,
+        }
+    }
+
+    /// The block and the record of a frame. An `Err` gives it back: it stands beyond 4 GiB of its block.
+    pub fn of(frame: TapFrame) -> Result<(FrameBlock, FrameRecord), TapFrame>
+        ensures frame { IfOk result (λ p. record_frame (block_bytes p.0) p.1 ≡ frame) }
+        ensures fits { IfOk result (λ p. IsRecordOf (block_bytes p.0) p.1) }
+        ensures given_back { IfErr result (λ f. f ≡ frame) }
+    {
+        let (network, number, stamp, whole, bytes) = frame.into_parts();
+        let (block, from, to) = bytes.into_parts();
+        match (u32::try_from(from), u32::try_from(to)) {
+            (Ok(from), Ok(to)) => {
+                let bytes = block.bytes();
+                let entry = FrameRecord::new(network, number, stamp, whole, bytes, from, to);
+                Ok((block, entry))
+            }
+            _ => {
+                let bytes = FrameBytes::of(block, from, to);
+                Err(TapFrame::sharing(network, number, stamp, whole, bytes).unwrap())
+            }
         }
     }
 

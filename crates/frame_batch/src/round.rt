@@ -3,7 +3,6 @@ ghost use Rattle.std.specs.Prelude.{◌≡◌, ◌<◌, IfOk, IsTrue, ◌↔◌,
 ghost use Rattle.afdx_frame.specs.LentFrame.{frame_of_lent};
 ghost use Rattle.frame_batch.specs.Round.{draft_frames};
 
-use crate::batch::FrameBatch;
 use crate::draft::{Placed, RoundDraft};
 use afdx_frame::{LentFrame, TapFrame};
 use std::alloc::{AllocError, Global};
@@ -31,6 +30,21 @@ impl Round {
         ensures { result ≡ draft_frames draft }
     {
         Round { draft }
+    }
+
+    /// These frames.
+    ///
+    /// # Errors
+    ///
+    /// `AllocError` if there is no memory for them.
+    pub fn from_frames(alloc: Global, frames: Vec<TapFrame>) -> Result<Round, AllocError>
+        ensures { IfOk result (λ round. round ≡ frames.items) }
+    {
+        let mut draft = RoundDraft::with_capacity(alloc, frames.len())?;
+        for frame in frames {
+            draft.add_frame(frame)?;
+        }
+        Ok(Round { draft })
     }
 
     /// How many frames there are.

@@ -13,14 +13,14 @@ returns-then-stamp-bound c =
     let b = c.args.batch.now in
     let less = le-ltb c.entry.result.now.stamp.0 c.args.bound (omega (arith, ap (λ (s : Stamp). s.0) c.stamp.ensures, c.if-stamp-bound.true)) in
     sym (stops_there (comes_below c.args.bound) (batch_frames b) c.loop-index.index c.args.most (record_frame b.block c.entry.result.now) c.loop-index.invariant
-        (omega (arith, c.loop-index-test.true, c.min-room.ensures)) (frame_here b c.loop-index.index c.entry.result.now c.entry.ensures.entry) less)
+    (omega (arith, c.loop-index-test.true, c.min-room.ensures)) (frame_here b c.loop-index.index c.entry.result.now c.entry.ensures.entry) less)
 
 pub loop-index-preserved : goal.loop-index-preserved
 loop-index-preserved c =
     let b = c.args.batch.now in
     let less = lt-ltb c.entry.result.now.stamp.0 c.args.bound (omega (arith, ap (λ (s : Stamp). s.0) c.stamp.ensures, c.if-stamp-bound.false)) in
     one_more_below (comes_below c.args.bound) (batch_frames b) c.loop-index.index (record_frame b.block c.entry.result.now) c.loop-index.invariant
-        (frame_here b c.loop-index.index c.entry.result.now c.entry.ensures.entry) less
+    (frame_here b c.loop-index.index c.entry.result.now c.entry.ensures.entry) less
 
 pub returns : goal.returns
 returns c =

@@ -1,7 +1,4 @@
-use Rattle.std.proofs.Common.{◌≡◌, ◌<◌, ◌∷◌, [], ◌++◌, ℕ, List, length, get_or, slice_get, take, Option, Some, None, sym, ap, subst, ◌∙◌, arith}
-use Rattle.std.proofs.lemmas.Option.{slice_get-map}
-use Rattle.std.specs.Option.{option_map}
-use Rattle.afdx_frame.specs.Frame.{Frame}
+use Rattle.std.proofs.Common.{◌≡◌, ◌<◌, ◌∷◌, [], ℕ, List, length, get_or, slice_get, take, Some, sym, ap, subst, ◌∙◌, arith}
 use Rattle.frame_batch.specs.Batch.{BatchState, record_frame}
 use Rattle.frame_batch.specs.Round.{IsBlockAt}
 use Rattle.frame_batch.specs.declared.frame_record.FrameRecord.{FrameRecord}
@@ -17,7 +14,7 @@ pub place_block-requires : goal.place_block-requires
 place_block-requires c =
     let self = c.args.self.now in
     among_here c.args.draft.now.blocks self.batches.now.items self.batch c.index-batch.result.now self.block
-        (here self c.index-batch.result.now c.requires.some c.index-batch.ensures) c.requires.among
+    (here self c.index-batch.result.now c.requires.some c.index-batch.ensures) c.requires.among
 
 pub entry-requires : goal.entry-requires
 entry-requires c =
@@ -62,7 +59,7 @@ returns-then-self-count-clause-among c =
     let self = c.args.self.now in
     let b = c.index-batch.result.now in
     is_among c.add.new.self.blocks self.batches.now.items self.batch c.in_ok-block.block b (here self b c.requires.some c.index-batch.ensures)
-        (subst (λ (l : List (List ℕ)). IsBlockAt l c.in_ok-block.block b.block) (sym c.in_ok-add.ensures.blocks) c.in_ok-block.ensures.here)
+    (subst (λ (l : List (List ℕ)). IsBlockAt l c.in_ok-block.block b.block) (sym c.in_ok-add.ensures.blocks) c.in_ok-block.ensures.here)
 
 pub invariant_of-self : goal.invariant_of-self
 invariant_of-self c =
