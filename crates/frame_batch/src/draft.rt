@@ -40,6 +40,16 @@ impl Model for RoundDraft {
 }
 
 impl RoundDraft {
+    /// No frames yet. Allocates nothing.
+    pub fn new(alloc: Global) -> RoundDraft
+        ensures { result ≡ record { blocks = []; places = [] } }
+    {
+        RoundDraft {
+            blocks: Vec::new(alloc),
+            places: Vec::new(alloc),
+        }
+    }
+
     /// No frames yet, with room for so many.
     pub fn with_capacity(alloc: Global, frames: usize) -> Result<RoundDraft, AllocError>
         ensures { IfOk result (λ draft. draft ≡ record { blocks = []; places = [] }) }

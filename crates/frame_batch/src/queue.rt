@@ -88,6 +88,15 @@ impl FrameQueue {
         }
     }
 
+    /// How many frames there are. No clause says so.
+    pub fn count(&self) -> usize {
+        let mut count = 0usize;
+        for batch in self.batches.iter() {
+            count = count.saturating_add(batch.count());
+        }
+        count
+    }
+
     /// Takes out the first frame, if there is one.
     #[inline]
     pub fn pop(&mut self)

@@ -25,6 +25,15 @@ impl Model for Round {
 }
 
 impl Round {
+    /// No frames. Allocates nothing.
+    pub fn new(alloc: Global) -> Round
+        ensures { result ≡ [] }
+    {
+        Round {
+            draft: RoundDraft::new(alloc),
+        }
+    }
+
     /// The frames of a draft.
     pub fn of(draft: RoundDraft) -> Round
         ensures { result ≡ draft_frames draft }
@@ -45,6 +54,30 @@ impl Round {
             draft.add_frame(frame)?;
         }
         Ok(Round { draft })
+    }
+
+    /// The frames, each with a share of its block.
+    ///
+    /// # Errors
+    ///
+    /// `AllocError` if there is no memory for them.
+    pub fn to_frames(&self, alloc: Global) -> Result<Vec<TapFrame>, AllocError>
+        ensures { IfOk result (λ frames. frames.items ≡ self.now) }
+    {
+        let mut frames = Vec::with_capacity(alloc, self.len())?;
+        for index in 0..self.len() {
+            frames.push(self.owned(index, alloc)?)?;
+        }
+        Ok(frames)
+    }
+
+    /// The frame of an index, with a share of its block.
+    fn owned(&self, index: usize, alloc: Global) -> Result<TapFrame, AllocError>
+        requires { index < length self.now }
+        ensures { IfOk result (λ frame. slice_get self.now index ≡ Some frame) }
+    {
+        let Placed { entry, block } = &self.draft.places[index];
+        Ok(entry.frame(self.draft.blocks[*block].share(alloc)?))
     }
 
     /// How many frames there are.
