@@ -27,10 +27,10 @@ pub fn says(line: &FrameLine, word: Word) -> bool
     ensures { IsTrue result ↔ Says line.now word }
 {
     match word {
-        Word::Class(class) => line.class == class,
-        Word::Policing(policing) => line.policing == Some(policing),
-        Word::Integrity(integrity) => line.integrity == Some(integrity),
-        Word::Redundancy(redundancy) => line.redundancy == Some(redundancy),
+        Word::Class(class) => line.verdict.class == class,
+        Word::Policing(policing) => line.verdict.policing == Some(policing),
+        Word::Integrity(integrity) => line.verdict.integrity == Some(integrity),
+        Word::Redundancy(redundancy) => line.verdict.redundancy == Some(redundancy),
     }
 }
 

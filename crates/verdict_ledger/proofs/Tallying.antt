@@ -7,7 +7,8 @@ use Rattle.std.proofs.lemmas.List.Sums.{count_by-le-length, length-filter}
 use Rattle.afdx_frame.specs.View.{link_of}
 use Rattle.afdx_frame.specs.declared.key.VlId.{VlId}
 use Rattle.verdict_ledger.specs.Entry.{Entry}
-use Rattle.verdict_ledger.specs.Tally.{counts_of, link_counts, is_entry_of, is_on_a_link}
+use Rattle.vl_config.specs.Class.{is_on_a_link}
+use Rattle.verdict_ledger.specs.Tally.{counts_of, link_counts, is_entry_of}
 use Rattle.verdict_ledger.specs.declared.link_counts.LinkCounts.{LinkCounts}
 
 by_test : (b : Bool) (P : Bool → Type 0) → (b ≡ true → P true) → (b ≡ false → P false) → P b
