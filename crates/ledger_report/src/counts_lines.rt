@@ -87,7 +87,6 @@ impl CountsLines {
     }
 
     /// Compares a line with the text that was made, which ends in a newline.
-    #[tactic(auto, using(crate::proofs::TakeSteps::unlike))]
     fn compare(&self, line: &[u8]) -> Result<(), Refusal>
         ensures same { OnOk result (self.now.text.items ≡ line.now ++ codes "\n") }
         ensures differs { IfErr result (λ refusal. (refusal ≡ refusals.Wrong wrongs.Counts)

@@ -209,7 +209,8 @@ impl LinkReport {
     {
         self.check_words(line)?;
         self.note_seen(line, number, at, networks)?;
-        let Some(word) = line.verdict.redundancy else {
+        let verdict = &line.verdict;
+        let Some(word) = verdict.redundancy else {
             return Ok(());
         };
         match word {
@@ -341,11 +342,12 @@ impl LinkReport {
         ensures { result ≡ (if is_off_against (row_in self.now) line.now
             then Err (refusals.Wrong wrongs.Off) else Ok tt) }
     {
-        let integrity = match line.verdict.integrity {
+        let verdict = &line.verdict;
+        let integrity = match verdict.integrity {
             Some(integrity) => (integrity == Integrity::Off) != self.integrity,
             None => true,
         };
-        let redundancy = match line.verdict.redundancy {
+        let redundancy = match verdict.redundancy {
             Some(redundancy) => (redundancy == Redundancy::Both) != self.redundancy,
             None => true,
         };

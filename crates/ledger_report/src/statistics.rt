@@ -49,15 +49,16 @@ pub fn rule_of(line: &FrameLine) -> Option<Sign>
     ensures rule { result ≡ rule_of line.now }
     ensures sign { IfSome result IsRule }
 {
-    match line.verdict.class {
+    let verdict = &line.verdict;
+    match verdict.class {
         Class::Cut => Some(Sign::Cut),
         Class::Runt => Some(Sign::Runt),
         Class::Oversize => Some(Sign::Oversize),
         Class::Foreign => Some(Sign::Foreign),
         Class::Unconfigured => Some(Sign::Unconfigured),
         Class::TooLong => Some(Sign::TooLong),
-        Class::Regular if line.verdict.is_excess() => Some(Sign::Excess),
-        Class::Regular if line.verdict.is_out() => Some(Sign::Out),
+        Class::Regular if verdict.is_excess() => Some(Sign::Excess),
+        Class::Regular if verdict.is_out() => Some(Sign::Out),
         Class::Regular => None,
     }
 }
@@ -119,7 +120,8 @@ fn links_of(alloc: Global, config: &Config) -> Result<Vec<LinkReport>, AllocErro
 fn is_unconfigured(line: &FrameLine) -> bool
     ensures { result ≡ is_class class.Unconfigured line.now.verdict.class }
 {
-    matches!(line.verdict.class, Class::Unconfigured)
+    let verdict = &line.verdict;
+    matches!(verdict.class, Class::Unconfigured)
 }
 
 /// Notes a line for its network, and that the other one is passed.

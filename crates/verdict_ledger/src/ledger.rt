@@ -131,7 +131,7 @@ impl<W: OutSink> Ledger<W> {
         }
         match self.spool.write_line(frame, verdict, keep, mask) {
             Ok(()) => {
-                self.tally.count(frame.view().vl(), verdict, keep, mask);
+                self.tally.count(frame, verdict, keep, mask);
                 Ok(())
             }
             Err(fault) => {

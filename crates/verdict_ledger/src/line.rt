@@ -3,7 +3,6 @@ ghost use Rattle.std.specs.Prelude.{◌≡◌, ◌+◌, ◌*◌, ◌^◌, ◌<�
 ghost use Rattle.afdx_frame.specs.View.{sequence_of};
 ghost use Rattle.verdict_ledger.specs.Entry.{entry_with};
 ghost use Rattle.verdict_ledger.specs.Room.{IsStart};
-ghost use Rattle.vl_config.specs.Class.{is_addressed};
 ghost use Rattle.afdx_frame.specs.Frame.{network_letter};
 ghost use Rattle.verdict_ledger.specs.Text.{word_field, number_field, optional_field, address_text, verdict_text, mask_text, link_number, line_text};
 ghost use Rattle.verdict_ledger.specs.declared.line.TheConstants.{KEY, MASK, MAX_LINE, NUMBER_FIELD};

@@ -5,6 +5,7 @@ ghost use Rattle.verdict_ledger.specs.declared.bounds.TheConstants.{MAX_FILTERS}
 
 use crate::link_counts::LinkCounts;
 use crate::totals::Totals;
+use crate::words::network_field;
 use afdx_frame::Network;
 use itoa::Buffer;
 use pcap_io::Ending;
@@ -123,8 +124,8 @@ fn push_ending(text: &mut Vec<u8>, ending: Ending) -> Result<(), AllocError>
 pub fn push_tap(text: &mut Vec<u8>, network: Network, ending: Ending) -> Result<(), AllocError>
     ensures { OnOk result (text.new.items ≡ text.old.items ++ tap_line network ending) }
 {
-    push_word(text, "tap ")?;
-    push_word(text, network.letter())?;
+    push_word(text, "tap")?;
+    push_word(text, network_field(network))?;
     push_ending(text, ending)?;
     push_word(text, "\n")
 }

@@ -23,7 +23,7 @@ pub struct Tally {
 }
 
 impl Tally {
-    ghost use Rattle.verdict_ledger.specs.Entry.{Entry, entries_of};
+    ghost use Rattle.verdict_ledger.specs.Entry.{Entry, entry_with, entries_of};
     ghost use Rattle.verdict_ledger.specs.Ledger.{IsTallyOf};
 
     /// The counts of no frame.
@@ -51,10 +51,25 @@ impl Tally {
         &self.counts[usize::from(id.0)]
     }
 
-    /// Counts a frame: its link, its verdict, how many bytes of it a filter keeps, and the mask of the filters
-    /// that accept it.
+    /// Counts a frame.
     #[inline]
-    pub fn count(&mut self, link: Option<VlId>, verdict: &Verdict, keep: Option<u32>, mask: u8)
+    pub fn count(&mut self, frame: &TapFrame, verdict: &Verdict, keep: Option<u32>, mask: u8)
+        ensures { (entries : List Entry) → length entries < MAX_LINES → IsTallyOf entries self.old
+            → IsTallyOf (entries ++ entry_with frame.now verdict.now keep mask ∷ []) self.new }
+    {
+        self.count_line(frame.view().vl(), verdict, keep, mask);
+    }
+
+    /// Counts a frame by what its line says: its link, its verdict, how many bytes of it are kept, and the mask
+    /// of the filters that accept it.
+    #[inline]
+    pub fn count_line(
+        &mut self,
+        link: Option<VlId>,
+        verdict: &Verdict,
+        keep: Option<u32>,
+        mask: u8,
+    )
         ensures { (entries : List Entry) (e : Entry) → length entries < MAX_LINES
             → link ≡ link_of e.frame.bytes → verdict.now ≡ e.verdict → keep ≡ e.keep → mask ≡ e.mask
             → IsTallyOf entries self.old → IsTallyOf (entries ++ e ∷ []) self.new }
@@ -81,8 +96,7 @@ impl Tally {
             (entries ++ entries_of frames.now verdicts.now keeps.now masks.now) self.new }
     {
         for index in 0..frames.len() {
-            let link = frames[index].view().vl();
-            self.count(link, &verdicts[index], keeps[index], masks[index]);
+            self.count(&frames[index], &verdicts[index], keeps[index], masks[index]);
         }
     }
 }

@@ -8,7 +8,7 @@ use crate::bounds::NUMBERS;
 use crate::moment::Moment;
 use crate::network::NetworkReport;
 use crate::pairing::{Delivery, Fate};
-use crate::sides::{Sides, other};
+use crate::sides::Sides;
 use crate::signs::Sign;
 use crate::statistics::bin_of;
 use afdx_frame::Network;

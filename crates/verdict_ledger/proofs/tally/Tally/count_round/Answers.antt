@@ -26,7 +26,7 @@ loop-index-preserved c = λ entries few tallied.
     omega (arith, length-append entries (take index all), so_far, few, c.loop-index-test.true) in
     subst (λ (l : List Entry). IsTallyOf l c.count.new.self)
     (append_assoc entries (take index all) (e ∷ []) ∙ ap (λ (l : List Entry). entries ++ l) (sym more))
-    (c.count.ensures (entries ++ take index all) e room ? ? ? ? (c.loop-index.invariant entries few tallied))
+    (c.count.ensures (entries ++ take index all) room (c.loop-index.invariant entries few tallied))
 
 pub returns : goal.returns
 returns c = λ entries few tallied.
