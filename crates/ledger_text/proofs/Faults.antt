@@ -1,8 +1,9 @@
 -- What follows from the fields that are read so far.
-use Rattle.std.proofs.Common.{◌≡◌, ◌∙◌, ℕ, suc, ◌^◌, length, ◌<◌, false, List, [], ◌∷◌, Option, None, Some, IfSome, Result, Ok, Err, is_some, refl, sym, ap, subst, arith, lit<}
+use Rattle.std.proofs.Common.{◌≡◌, ◌∙◌, ℕ, suc, ◌^◌, length, ◌<◌, ◌↔◌, false, List, [], ◌∷◌, Option, None, Some, IfSome, Result, Ok, Err, is_some, refl, sym, ap, subst, arith, lit<}
 use Rattle.std.specs.Option.{option_map_or}
 use Rattle.std.specs.Result.{result_ok}
 use Rattle.std.specs.Fmt.{decimal}
+use Rattle.std.proofs.lemmas.Bool.{false≢true}
 use Rattle.std.proofs.lemmas.Fmt.{decimal_nonempty}
 use Rattle.afdx_frame.specs.declared.key.VlId.{VlId}
 use Rattle.afdx_frame.specs.declared.key.Network.{Network}
@@ -41,7 +42,7 @@ got Fits text field o r x reads part e =
 
 -- the value is read whose text the field is
 pub reads_any : {T : Type 0} (text : T → List ℕ) (field : List ℕ) (o : Option T) → ((x : T) → (text x ≡ field) ↔ (o ≡ Some x)) → Reads Any text field o
-reads_any text field None is = λ x fits e. absurd (cc)
+reads_any {T = T} text field None is = λ x fits e. false≢true (ap (λ (o : Option T). is_some o) ((is x).0 e))
 reads_any text field (Some x) is = (tt, (is x).1 refl)
 
 pub missed : {T : Type 0} (Fits : T → Type 0) (text : T → List ℕ) (field : List ℕ) (o : Option T) (r : Result T FrameFault) (fault : FrameFault)
