@@ -1,16 +1,16 @@
 -- What a run of watch came to, as a person at a terminal is told (this project's format), and which input its counts speak against.
 use Rattle.std.specs.Prelude.{ℕ, ◌-◌, ◌/◌, ◌==◌, nat_lt, nat_le, Bool, ◌&&◌, List, [], ◌++◌, Option, None, Some, codes, decimal, if◌then◌else◌}
+use Rattle.vl_config.specs.Class.{class_word}
+use Rattle.vl_config.specs.declared.class.Class.TheVariants as class
+use Rattle.policing.specs.Word.{policing_word}
+use Rattle.policing.specs.declared.verdict.Policing.TheVariants.{Excess}
+use Rattle.integrity.specs.Word.{integrity_word}
+use Rattle.integrity.specs.declared.verdict.Integrity.TheVariants.{Out}
+use Rattle.pcap_io.specs.Word.{frames_before}
 use Rattle.pcap_io.specs.declared.recording.Ending.{Ending}
-use Rattle.pcap_io.specs.declared.recording.Ending.TheVariants.{Clean, Cut, Bad}
 use Rattle.verdict_ledger.specs.declared.totals.Totals.{Totals}
 use Rattle.command_line.specs.declared.summary.Hint.{Hint}
 use Rattle.command_line.specs.declared.summary.Hint.TheVariants as hint
-
--- how many frames stand before a recording's ending
-abbrev pub frames_before : Ending → ℕ
-frames_before (Clean n) = n
-frames_before (Cut n) = n
-frames_before (Bad n reason) = n
 
 -- all but a tenth of some frames at most
 abbrev pub is_nearly_all : ℕ → ℕ → Bool
@@ -57,8 +57,9 @@ four_counts one k two l three m four n =
 -- what discarded frames, and how many
 unfoldable pub discards_part : Totals → List ℕ
 discards_part t =
-    four_counts (codes "cut") t.cut (codes "runt") t.runt (codes "oversize") t.oversize (codes "foreign") t.foreign ++ codes ", "
-    ++ four_counts (codes "unconfigured") t.unconfigured (codes "toolong") t.toolong (codes "excess") t.excess (codes "out") t.out
+    four_counts (class_word class.Cut) t.cut (class_word class.Runt) t.runt (class_word class.Oversize) t.oversize (class_word class.Foreign) t.foreign
+    ++ codes ", "
+    ++ four_counts (class_word class.Unconfigured) t.unconfigured (class_word class.TooLong) t.toolong (policing_word Excess) t.excess (integrity_word Out) t.out
 
 -- how many frames there are, and of each network
 unfoldable pub frames_part : Ending → Ending → Totals → List ℕ

@@ -1,11 +1,14 @@
 //! What a run of `watch` came to, told to a person at a terminal.
 ghost use Rattle.std.specs.Prelude.{◌≡◌};
-ghost use Rattle.command_line.specs.Summary.{frames_before, hint_of, hint_words, is_nearly_all};
+ghost use Rattle.command_line.specs.Summary.{hint_of, hint_words, is_nearly_all};
 
+use integrity::Integrity;
 use pcap_io::Ending;
+use policing::Policing;
 use std::fmt;
 use std::fmt::{Display, Formatter};
 use verdict_ledger::Totals;
+use vl_config::Class;
 
 /// Which input of a run its counts speak against.
 #[derive(Clone, Copy, PartialEq, Eq)]
@@ -25,15 +28,6 @@ pub enum Hint {
     Clocks,
 }
 
-/// How many frames stand before a recording's ending.
-fn frames_before(ending: Ending) -> u64
-    ensures { result ≡ frames_before ending }
-{
-    match ending {
-        Ending::Clean(count) | Ending::Cut(count) | Ending::Bad(count, _) => count,
-    }
-}
-
 /// Are so many of all frames nearly all of them, nine in ten? Of no frame none are.
 fn is_nearly_all(count: u64, frames: u64) -> bool
     ensures { result ≡ is_nearly_all count frames }
@@ -46,7 +40,7 @@ fn is_nearly_all(count: u64, frames: u64) -> bool
 pub fn hint_of(a: Ending, b: Ending, totals: &Totals) -> Option<Hint>
     ensures { result ≡ hint_of a b totals.now }
 {
-    let (a, b) = (frames_before(a), frames_before(b));
+    let (a, b) = (a.frames(), b.frames());
     if is_nearly_all(totals.foreign, totals.frames) {
         Some(Hint::Constant)
     } else if is_nearly_all(totals.toolong, totals.frames) {
@@ -157,16 +151,16 @@ impl Display for DiscardsPart {
     fn fmt<W: fmt::Write>(&self, f: &mut Formatter<W>) -> fmt::Result {
         let t = self.0;
         let by_class = FourCounts(
-            Count("cut", t.cut),
-            Count("runt", t.runt),
-            Count("oversize", t.oversize),
-            Count("foreign", t.foreign),
+            Count(Class::Cut.word(), t.cut),
+            Count(Class::Runt.word(), t.runt),
+            Count(Class::Oversize.word(), t.oversize),
+            Count(Class::Foreign.word(), t.foreign),
         );
         let by_link = FourCounts(
-            Count("unconfigured", t.unconfigured),
-            Count("toolong", t.toolong),
-            Count("excess", t.excess),
-            Count("out", t.out),
+            Count(Class::Unconfigured.word(), t.unconfigured),
+            Count(Class::TooLong.word(), t.toolong),
+            Count(Policing::Excess.word(), t.excess),
+            Count(Integrity::Out.word(), t.out),
         );
         write!(f, "{by_class}, {by_link}")
     }
@@ -196,8 +190,8 @@ impl Display for FramesPart {
     #[tactic(auto, unfolding(crate::specs::Summary::frames_part))]
     fn fmt<W: fmt::Write>(&self, f: &mut Formatter<W>) -> fmt::Result {
         let Summary { a, b, totals } = self.0;
-        let a = Count("of network A", frames_before(a));
-        let b = Count("of network B", frames_before(b));
+        let a = Count("of network A", a.frames());
+        let b = Count("of network B", b.frames());
         let became = FourCounts(
             Count("frames", totals.frames),
             Count("delivered", totals.delivered),

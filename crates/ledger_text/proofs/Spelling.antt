@@ -12,7 +12,12 @@ use Rattle.integrity.specs.declared.verdict.Integrity.{Integrity}
 use Rattle.integrity.specs.declared.verdict.Integrity.TheVariants.{First, Reset, Next, Skip, Off, Out}
 use Rattle.redundancy.specs.declared.verdict.Redundancy.{Redundancy}
 use Rattle.redundancy.specs.declared.verdict.Redundancy.TheVariants.{Deliver, Copy, Both}
-use Rattle.verdict_ledger.specs.Text.{network_word, class_word, policing_word, integrity_word, redundancy_word, mask_text, hex_digit}
+use Rattle.redundancy.specs.Word.{redundancy_word}
+use Rattle.integrity.specs.Word.{integrity_word}
+use Rattle.policing.specs.Word.{policing_word}
+use Rattle.vl_config.specs.Class.{class_word}
+use Rattle.afdx_frame.specs.Frame.{network_letter}
+use Rattle.verdict_ledger.specs.Text.{mask_text, hex_digit}
 use Rattle.std.specs.Str.Parse.{AllDigits}
 use Rattle.std.proofs.lemmas.Fmt.{digits_decimal}
 use Rattle.afdx_frame.specs.declared.key.VlId.{VlId}
@@ -26,7 +31,7 @@ use Rattle.ledger_text.specs.declared.frame.FrameLine.{FrameLine}
 abbrev code : List ℕ → ℕ
 code word = length word * 65536 + get_or word 0 0 * 256 + get_or word 1 0
 
-pub one_network : (x y : Network) → network_word x ≡ network_word y → x ≡ y
+pub one_network : (x y : Network) → network_letter x ≡ network_letter y → x ≡ y
 one_network A A e = refl
 one_network B B e = refl
 one_network _ _ e = absurd (omega (arith, ap code e))
@@ -119,10 +124,7 @@ make s n i l q c p t r k m = record {
   number = i;
   link = l;
   sequence = q;
-  class = c;
-  policing = p;
-  integrity = t;
-  redundancy = r;
+  verdict = record { class = c; policing = p; integrity = t; redundancy = r };
   kept = k;
   mask = m;
 }
@@ -181,14 +183,14 @@ one_line v w p q e =
     let i = decimal_injective v.number w.number (omega (arith, p.number)) (omega (arith, q.number)) e2 in
     let l = one_link v.link w.link p.link.fits q.link.fits e3 in
     let x = one_number v.sequence w.sequence (wider v.sequence (2 ^ 8) (omega arith) p.sequence.fits) (wider w.sequence (2 ^ 8) (omega arith) q.sequence.fits) e4 in
-    let c = one_class v.class w.class e5 in
-    let g = one_policing v.policing w.policing e6 in
-    let t = one_integrity v.integrity w.integrity e7 in
-    let r = one_redundancy v.redundancy w.redundancy e8 in
+    let c = one_class v.verdict.class w.verdict.class e5 in
+    let g = one_policing v.verdict.policing w.verdict.policing e6 in
+    let t = one_integrity v.verdict.integrity w.verdict.integrity e7 in
+    let r = one_redundancy v.verdict.redundancy w.verdict.redundancy e8 in
     let k = one_number v.kept w.kept (wider v.kept (2 ^ 32) (omega arith) p.kept) (wider w.kept (2 ^ 32) (omega arith) q.kept) e9 in
     let m = one_mask v.mask w.mask p.mask.small q.mask.small e10 in
-    let same : make v.stamp.0 v.network v.number v.link v.sequence v.class v.policing v.integrity v.redundancy v.kept v.mask
-    ≡ make w.stamp.0 w.network w.number w.link w.sequence w.class w.policing w.integrity w.redundancy w.kept w.mask = cc in
+    let same : make v.stamp.0 v.network v.number v.link v.sequence v.verdict.class v.verdict.policing v.verdict.integrity v.verdict.redundancy v.kept v.mask
+    ≡ make w.stamp.0 w.network w.number w.link w.sequence w.verdict.class w.verdict.policing w.verdict.integrity w.verdict.redundancy w.kept w.mask = cc in
     same
 
 -- a list of twelve, by its items

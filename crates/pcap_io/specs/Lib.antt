@@ -12,4 +12,5 @@ pub mod Recording
 pub mod Script
 pub mod Std
 pub mod Supply
+pub mod Word
 pub mod Writer

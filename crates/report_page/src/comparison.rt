@@ -2,20 +2,21 @@
 
 use crate::view::{ROWS, View};
 use crate::writer::{Page, Part, millionths};
+use ledger_report::Sign;
 use report_comparison::{COUNTS, Count, LinkComparison, LinkNumbers, WORSE, Worse};
 
 /// The word of a count.
 pub fn count_word(count: Count) -> &'static str {
     match count {
-        Count::TooLong => "toolong",
-        Count::Excess => "excess",
-        Count::Out => "out",
-        Count::Lost => "lost",
+        Count::TooLong => Sign::TooLong.word(),
+        Count::Excess => Sign::Excess.word(),
+        Count::Out => Sign::Out.word(),
+        Count::Lost => Sign::Lost.word(),
         Count::LostBoth => "lost_both",
-        Count::Repeat => "repeat",
-        Count::Reset => "reset",
-        Count::Alone => "alone",
-        Count::Late => "late",
+        Count::Repeat => Sign::Repeat.word(),
+        Count::Reset => Sign::Reset.word(),
+        Count::Alone => Sign::Alone.word(),
+        Count::Late => Sign::Late.word(),
     }
 }
 

@@ -9,8 +9,8 @@ use crate::ranks::{level_of, level_word, open_signs, signs_of};
 use crate::view::{letter_of, text, word_of};
 use afdx_frame::{Network, VlId};
 use ledger_report::{
-    Absence, Counts, Gaps, Interval, LinkReport, NetworkReport, Place, Report, Series, Sign, Signs,
-    Silence, TapEnd, TapEnding,
+    Absence, Gaps, Interval, LinkCounts, LinkReport, NetworkReport, Place, Report, Series, Sign,
+    Signs, Silence, TapEnd, TapEnding, Totals,
 };
 use run_manifest::Manifest;
 use serde::Serialize;
@@ -351,7 +351,7 @@ fn lane_of(
     })
 }
 
-fn counts_of(counts: Counts) -> JsonCounts {
+fn counts_of(counts: &Totals) -> JsonCounts {
     JsonCounts {
         frames: counts.frames,
         accepted: counts.accepted,
@@ -360,6 +360,24 @@ fn counts_of(counts: Counts) -> JsonCounts {
         oversize: counts.oversize,
         foreign: counts.foreign,
         unconfigured: counts.unconfigured,
+        toolong: counts.toolong,
+        excess: counts.excess,
+        out: counts.out,
+        copy: counts.copy,
+        delivered: counts.delivered,
+    }
+}
+
+/// The counts of a link, which has no frame of the classes that no judgement sees.
+fn link_counts_of(counts: &LinkCounts) -> JsonCounts {
+    JsonCounts {
+        frames: counts.frames,
+        accepted: counts.accepted,
+        cut: 0,
+        runt: 0,
+        oversize: 0,
+        foreign: 0,
+        unconfigured: 0,
         toolong: counts.toolong,
         excess: counts.excess,
         out: counts.out,
@@ -381,7 +399,7 @@ fn link_of<'a>(
         level: level_word(level_of(report, link)),
         signs: signs_of(link),
         open: open_signs(report, link),
-        counts: counts_of(report.counts.link(configured.id)),
+        counts: link_counts_of(report.counts.link(configured.id)),
         deliveries: link.deliveries,
         fates: JsonFates {
             paired: link.fates.paired,

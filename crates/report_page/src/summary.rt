@@ -108,14 +108,14 @@ fn push_gap(page: &mut Page, view: &View<'_>, gap: Option<Interval>) {
 }
 
 /// The signs of a link's line.
-const SIGNS: [(Sign, &str); 7] = [
-    (Sign::TooLong, "toolong"),
-    (Sign::Excess, "excess"),
-    (Sign::Out, "out"),
-    (Sign::Lost, "lost"),
-    (Sign::Late, "late"),
-    (Sign::Alone, "alone"),
-    (Sign::Reset, "reset"),
+const SIGNS: [Sign; 7] = [
+    Sign::TooLong,
+    Sign::Excess,
+    Sign::Out,
+    Sign::Lost,
+    Sign::Late,
+    Sign::Alone,
+    Sign::Reset,
 ];
 
 fn push_link(page: &mut Page, view: &View<'_>, rank: &Rank, report: &LinkReport, link: &Link) {
@@ -127,11 +127,11 @@ fn push_link(page: &mut Page, view: &View<'_>, rank: &Rank, report: &LinkReport,
             Part::Number(frames_of(report)),
         ],
     );
-    for (sign, word) in SIGNS {
+    for sign in SIGNS {
         let counts = counts_of(report, sign);
         if sum(&counts) > 0 {
             let (a, b) = (Part::Number(counts.a), Part::Number(counts.b));
-            page.fill(" @ @/@", &[Part::Text(word), a, b]);
+            page.fill(" @ @/@", &[Part::Text(sign.word()), a, b]);
         }
     }
     push_gap(page, view, gap_of(report));

@@ -49,38 +49,17 @@ pub const DISCARDS: [Sign; 8] = [
 
 /// The word of a sign.
 pub fn word_of(sign: Sign) -> &'static str {
-    match sign {
-        Sign::Cut => "cut",
-        Sign::Runt => "runt",
-        Sign::Oversize => "oversize",
-        Sign::Foreign => "foreign",
-        Sign::Unconfigured => "unconfigured",
-        Sign::TooLong => "toolong",
-        Sign::Excess => "excess",
-        Sign::Out => "out",
-        Sign::Lost => "lost",
-        Sign::Repeat => "repeat",
-        Sign::Reset => "reset",
-        Sign::Alone => "alone",
-        Sign::Late => "late",
-        Sign::Early => "early",
-    }
+    sign.word()
 }
 
 /// The letter of a network.
 pub fn letter_of(network: Network) -> &'static str {
-    match network {
-        Network::A => "A",
-        Network::B => "B",
-    }
+    network.letter()
 }
 
 /// The other network.
 pub fn other(network: Network) -> Network {
-    match network {
-        Network::A => Network::B,
-        Network::B => Network::A,
-    }
+    network.other()
 }
 
 /// Both networks.

@@ -1,12 +1,15 @@
 //! The virtual links with the most discards, for a person at a terminal: read off the lines of the links as
 //! they are written to the ledger, so that the counts are the ledger's.
 use crate::spans::Spans;
+use integrity::Integrity;
+use policing::Policing;
 use run_manifest::Sum;
 use std::alloc::{AllocError, Global};
 use std::fmt::{Display, Formatter};
 use std::io::Write;
 use std::{fmt, io, str};
 use tap_inputs::Blocks;
+use vl_config::Class;
 
 /// How many links are told.
 const MOST: usize = 5;
@@ -56,9 +59,9 @@ impl Display for Discards {
         f.write_str(&self.link)?;
         let mut before = " (";
         for (count, word) in [
-            (self.toolong, "toolong"),
-            (self.excess, "excess"),
-            (self.out, "out"),
+            (self.toolong, Class::TooLong.word()),
+            (self.excess, Policing::Excess.word()),
+            (self.out, Integrity::Out.word()),
         ] {
             if count > 0 {
                 write!(f, "{before}{count} {word}")?;

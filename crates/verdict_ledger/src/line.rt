@@ -3,7 +3,8 @@ ghost use Rattle.std.specs.Prelude.{◌≡◌, ◌+◌, ◌*◌, ◌^◌, ◌<�
 ghost use Rattle.afdx_frame.specs.View.{sequence_of};
 ghost use Rattle.verdict_ledger.specs.Entry.{entry_with};
 ghost use Rattle.verdict_ledger.specs.Room.{IsStart};
-ghost use Rattle.verdict_ledger.specs.Text.{word_field, number_field, optional_field, network_word, address_text, verdict_text, mask_text, is_addressed, link_number, line_text};
+ghost use Rattle.afdx_frame.specs.Frame.{network_letter};
+ghost use Rattle.verdict_ledger.specs.Text.{word_field, number_field, optional_field, address_text, verdict_text, mask_text, link_number, line_text};
 ghost use Rattle.verdict_ledger.specs.declared.line.TheConstants.{KEY, MASK, MAX_LINE, NUMBER_FIELD};
 ghost use Rattle.verdict_ledger.specs.declared.words.TheConstants.{VERDICT};
 
@@ -73,17 +74,6 @@ fn write_optional_field(number: Option<u32>, line: &mut [u8], end: usize) -> usi
     }
 }
 
-/// Do the bytes of a frame of this class say its link and its sequence number?
-#[inline]
-fn is_addressed(class: Class) -> bool
-    ensures { result ≡ is_addressed class }
-{
-    match class {
-        Class::Unconfigured | Class::TooLong | Class::Regular => true,
-        Class::Cut | Class::Runt | Class::Oversize | Class::Foreign => false,
-    }
-}
-
 /// The identifier of the frame's link, where the frame has the bytes.
 #[inline]
 fn link_number(frame: &TapFrame) -> Option<u32>
@@ -114,7 +104,7 @@ fn write_address(class: Class, frame: &TapFrame, line: &mut [u8], end: usize) ->
     ensures start { IsStart (2 * NUMBER_FIELD) end result }
     ensures written { drop result line.new ≡ address_text class frame.now ++ drop end line.old }
 {
-    if !is_addressed(class) {
+    if !class.is_addressed() {
         return write_bytes(b" - -", line, end);
     }
     let start = write_optional_field(sequence_number(frame), line, end);
@@ -154,7 +144,7 @@ fn write_key(frame: &TapFrame, line: &mut [u8], end: usize) -> usize
     requires within { end ≤ length line.old }
     ensures start { result ≤ end }
     ensures written { drop result line.new ≡ decimal frame.now.stamp
-        ++ (word_field (network_word frame.now.network)
+        ++ (word_field (network_letter frame.now.network)
         ++ (number_field frame.now.number ++ drop end line.old)) }
 {
     let number = write_number_field(frame.number(), line, end);

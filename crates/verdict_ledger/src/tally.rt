@@ -1,7 +1,8 @@
 //! The counts that a ledger keeps.
 ghost use Rattle.std.specs.Prelude.{◌≡◌, ◌<◌, ◌≤◌, ◌+◌, List, [], ◌∷◌, ◌++◌, length, None, IfOk, vec_len, if◌then◌else◌};
 ghost use Rattle.afdx_frame.specs.View.{link_of};
-ghost use Rattle.verdict_ledger.specs.Tally.{is_on_a_link, link_counts};
+ghost use Rattle.vl_config.specs.Class.{is_on_a_link};
+ghost use Rattle.verdict_ledger.specs.Tally.{link_counts};
 ghost use Rattle.afdx_frame.specs.declared.key.TheConstants.{VL_ID_COUNT};
 ghost use Rattle.verdict_ledger.specs.declared.bounds.TheConstants.{MAX_LINES};
 
@@ -9,7 +10,6 @@ use crate::link_counts::LinkCounts;
 use crate::totals::Totals;
 use afdx_frame::{TapFrame, VL_ID_COUNT, VlId};
 use std::alloc::{AllocError, Global};
-use vl_config::Class;
 use vl_judge::Verdict;
 
 /// The counts of all frames, and those of each identifier, so that a frame costs the same whatever the
@@ -57,9 +57,20 @@ impl Tally {
         ensures { (entries : List Entry) → length entries < MAX_LINES → IsTallyOf entries self.old
             → IsTallyOf (entries ++ entry_with frame.now verdict.now keep mask ∷ []) self.new }
     {
+        self.count_line(frame.view().vl(), verdict, keep, mask);
+    }
+
+    /// Counts a frame by what its line says: its link, its verdict, how many bytes of it are kept, and the mask
+    /// of the filters that accept it.
+    #[inline]
+    pub fn count_line(&mut self, link: Option<VlId>, verdict: &Verdict, keep: Option<u32>, mask: u8)
+        ensures { (entries : List Entry) (e : Entry) → length entries < MAX_LINES
+            → link ≡ link_of e.frame.bytes → verdict.now ≡ e.verdict → keep ≡ e.keep → mask ≡ e.mask
+            → IsTallyOf entries self.old → IsTallyOf (entries ++ e ∷ []) self.new }
+    {
         self.totals.count(verdict, keep, mask);
-        if let Some(id) = counted_link(frame, verdict) {
-            self.counts[usize::from(id.0)].count(verdict);
+        if let Some(id) = counted_link(link, verdict) {
+            self.counts[usize::from(id.0)].count(verdict, keep);
         }
     }
 
@@ -84,13 +95,14 @@ impl Tally {
     }
 }
 
-/// The identifier of a frame of a configured link.
+/// The link of a frame, where it is configured.
 #[inline]
-fn counted_link(frame: &TapFrame, verdict: &Verdict) -> Option<VlId>
-    ensures { result ≡ (if is_on_a_link verdict.now.class then link_of frame.now.bytes else None) }
+fn counted_link(link: Option<VlId>, verdict: &Verdict) -> Option<VlId>
+    ensures { result ≡ (if is_on_a_link verdict.now.class then link else None) }
 {
-    match verdict.class {
-        Class::TooLong | Class::Regular => frame.view().vl(),
-        _ => None,
+    if verdict.class.is_on_a_link() {
+        link
+    } else {
+        None
     }
 }

@@ -1,8 +1,8 @@
 //! What a frame is before any judgement: a class decides whether policing sees it.
 
-ghost use Rattle.std.specs.Prelude.{◌≡◌};
+ghost use Rattle.std.specs.Prelude.{◌≡◌, ◌↔◌};
 ghost use Rattle.afdx_frame.specs.View.{constant_of};
-ghost use Rattle.vl_config.specs.Class.{class_by, has_constant};
+ghost use Rattle.vl_config.specs.Class.{class_by, class_word, has_constant, is_addressed, is_on_a_link};
 
 use afdx_frame::TapFrame;
 
@@ -26,6 +26,59 @@ pub enum Class {
     TooLong,
     /// None of these.
     Regular,
+}
+
+impl Class {
+    /// The word of the class.
+    pub fn word(self) -> &'static str
+        ensures { result.now ≡ class_word self }
+    {
+        match self {
+            Class::Cut => "cut",
+            Class::Runt => "runt",
+            Class::Oversize => "oversize",
+            Class::Foreign => "foreign",
+            Class::Unconfigured => "unconfigured",
+            Class::TooLong => "toolong",
+            Class::Regular => "regular",
+        }
+    }
+
+    /// The class whose word the bytes are.
+    #[inline]
+    pub fn from_word(word: &[u8]) -> Option<Class>
+        ensures { (class : Class) → (class_word class ≡ word.now) ↔ (result ≡ Some class) }
+    {
+        match word {
+            b"regular" => Some(Class::Regular),
+            b"cut" => Some(Class::Cut),
+            b"runt" => Some(Class::Runt),
+            b"oversize" => Some(Class::Oversize),
+            b"foreign" => Some(Class::Foreign),
+            b"unconfigured" => Some(Class::Unconfigured),
+            b"toolong" => Some(Class::TooLong),
+            _ => None,
+        }
+    }
+
+    /// Do the bytes of a frame of this class hold its link and its sequence number for certain?
+    #[inline(always)]
+    pub fn is_addressed(self) -> bool
+        ensures { result ≡ is_addressed self }
+    {
+        match self {
+            Class::Unconfigured | Class::TooLong | Class::Regular => true,
+            Class::Cut | Class::Runt | Class::Oversize | Class::Foreign => false,
+        }
+    }
+
+    /// Is the link of a frame of this class configured?
+    #[inline(always)]
+    pub fn is_on_a_link(self) -> bool
+        ensures { result ≡ is_on_a_link self }
+    {
+        matches!(self, Class::TooLong | Class::Regular)
+    }
 }
 
 /// An Ethernet frame's least length without its frame check sequence, in bytes (IEEE 802.3).
