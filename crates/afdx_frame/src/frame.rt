@@ -1,7 +1,6 @@
 //! A frame that lasts.
 ghost use Rattle.std.specs.Prelude.{◌≡◌, IsOk, IfOk, IfErr, IsSome, IfSome, ◌↔◌};
 ghost use Rattle.afdx_frame.specs.Frame.{IsFrame, frame_with, key_of};
-ghost use Rattle.afdx_frame.specs.LentFrame.{frame_of_lent};
 ghost use Rattle.afdx_frame.specs.View.{view_bytes};
 
 use crate::bounds::is_within_bounds;
@@ -169,7 +168,7 @@ impl TapFrame {
     /// The same frame with its bytes borrowed.
     #[inline(always)]
     pub fn lent(&self) -> LentFrame<'_>
-        ensures { frame_of_lent result ≡ self.now }
+        ensures { result ≡ self.now }
     {
         let TapFrame {
             network,

@@ -8,10 +8,11 @@ use crate::bounds::is_within_bounds;
 use crate::facts::Facts;
 use crate::key::{Key, Network, Stamp, VlId};
 use crate::view::FrameView;
+use std::marker::Model;
 
 /// A frame whose captured bytes are borrowed, as a reader finds them in its block. It keeps the
 /// bounds of a [`TapFrame`](crate::TapFrame), and copies none of its bytes.
-#[derive(Clone, Copy)]
+#[derive(Drop)]
 pub struct LentFrame<'a> {
     network: Network,
     number: u64,
@@ -19,13 +20,21 @@ pub struct LentFrame<'a> {
     whole: u32,
     bytes: &'a [u8],
     facts: Facts,
-    ghost known: { AreFactsOf bytes.now facts },
-    ghost bounds: { IsFrame (frame_with network number stamp.0 whole bytes.now) },
+}
+
+impl<'a> Model for LentFrame<'a> {
+    ghost use Rattle.afdx_frame.specs.Facts.{AreFactsOf};
+    ghost use Rattle.afdx_frame.specs.Frame.{Frame, IsFrame, frame_with};
+
+    ghost Value = { Frame };
+
+    ghost view = { λ f. frame_with f.network f.number f.stamp.0 f.whole f.bytes.now };
+
+    ghost invariant = { λ f. IsFrame (frame_with f.network f.number f.stamp.0 f.whole f.bytes.now)
+        × AreFactsOf f.bytes.now f.facts };
 }
 
 impl<'a> LentFrame<'a> {
-    ghost use Rattle.afdx_frame.specs.LentFrame.{frame_of_lent};
-
     /// A frame of these parts: `number` counts from 0, `whole` is the length on the wire in bytes.
     /// None: a part is out of bounds.
     #[inline(always)]
@@ -37,8 +46,7 @@ impl<'a> LentFrame<'a> {
         bytes: &'a [u8],
     ) -> Option<LentFrame<'a>>
         ensures some { IsSome result ↔ IsFrame (frame_with network number stamp.0 whole bytes.now) }
-        ensures frame { IfSome result (λ f.
-            frame_of_lent f ≡ frame_with network number stamp.0 whole bytes.now) }
+        ensures frame { IfSome result (λ f. f ≡ frame_with network number stamp.0 whole bytes.now) }
     {
         if is_within_bounds(number, stamp, whole, bytes.len()) {
             Some(LentFrame {
@@ -66,7 +74,7 @@ impl<'a> LentFrame<'a> {
     ) -> LentFrame<'a>
         requires bounds { IsFrame (frame_with network number stamp.0 whole bytes.now) }
         requires facts { AreFactsOf bytes.now facts }
-        ensures { frame_of_lent result ≡ frame_with network number stamp.0 whole bytes.now }
+        ensures { result ≡ frame_with network number stamp.0 whole bytes.now }
     {
         LentFrame {
             network,
@@ -81,7 +89,7 @@ impl<'a> LentFrame<'a> {
     /// The network of the tap.
     #[inline(always)]
     pub fn network(&self) -> Network
-        ensures { result ≡ (frame_of_lent self.now).network }
+        ensures { result ≡ self.now.network }
     {
         self.network
     }
@@ -89,8 +97,8 @@ impl<'a> LentFrame<'a> {
     /// The index in the recording, from 0 and below 2^32.
     #[inline(always)]
     pub fn number(&self) -> u64
-        ensures value { result ≡ (frame_of_lent self.now).number }
-        ensures bounds { IsFrame (frame_of_lent self.now) }
+        ensures value { result ≡ self.now.number }
+        ensures bounds { IsFrame self.now }
     {
         self.number
     }
@@ -98,8 +106,8 @@ impl<'a> LentFrame<'a> {
     /// When the frame came, below 2^32 seconds.
     #[inline(always)]
     pub fn stamp(&self) -> Stamp
-        ensures value { result.0 ≡ (frame_of_lent self.now).stamp }
-        ensures bounds { IsFrame (frame_of_lent self.now) }
+        ensures value { result.0 ≡ self.now.stamp }
+        ensures bounds { IsFrame self.now }
     {
         self.stamp
     }
@@ -107,8 +115,8 @@ impl<'a> LentFrame<'a> {
     /// The frame's length on the wire, in bytes.
     #[inline(always)]
     pub fn whole(&self) -> u32
-        ensures value { result ≡ (frame_of_lent self.now).whole }
-        ensures bounds { IsFrame (frame_of_lent self.now) }
+        ensures value { result ≡ self.now.whole }
+        ensures bounds { IsFrame self.now }
     {
         self.whole
     }
@@ -116,7 +124,7 @@ impl<'a> LentFrame<'a> {
     /// The frame's place in the order of both taps.
     #[inline]
     pub fn key(&self) -> Key
-        ensures { result ≡ key_of (frame_of_lent self.now) }
+        ensures { result ≡ key_of self.now }
     {
         Key {
             stamp: self.stamp,
@@ -128,7 +136,7 @@ impl<'a> LentFrame<'a> {
     /// How many bytes were captured.
     #[inline(always)]
     pub fn captured(&self) -> usize
-        ensures { result ≡ length (frame_of_lent self.now).bytes }
+        ensures { result ≡ length self.now.bytes }
     {
         self.bytes.len()
     }
@@ -136,7 +144,7 @@ impl<'a> LentFrame<'a> {
     /// What the bytes say of the frame's address and place.
     #[inline(always)]
     pub fn facts(&self) -> Facts
-        ensures { AreFactsOf (frame_of_lent self.now).bytes result }
+        ensures { AreFactsOf self.now.bytes result }
     {
         self.facts
     }
@@ -144,7 +152,7 @@ impl<'a> LentFrame<'a> {
     /// The constant field of the destination address. None below 4 bytes.
     #[inline(always)]
     pub fn constant(&self) -> Option<u32>
-        ensures { result ≡ constant_of (frame_of_lent self.now).bytes }
+        ensures { result ≡ constant_of self.now.bytes }
     {
         if self.bytes.len() >= 4 {
             Some(self.facts.constant)
@@ -156,7 +164,7 @@ impl<'a> LentFrame<'a> {
     /// The virtual link's identifier. None below 6 bytes.
     #[inline(always)]
     pub fn link(&self) -> Option<VlId>
-        ensures { result ≡ link_of (frame_of_lent self.now).bytes }
+        ensures { result ≡ link_of self.now.bytes }
     {
         if self.bytes.len() >= 6 {
             Some(VlId(self.facts.link))
@@ -168,7 +176,7 @@ impl<'a> LentFrame<'a> {
     /// The sequence number: the last byte. None for no bytes.
     #[inline(always)]
     pub fn sequence(&self) -> Option<u8>
-        ensures { result ≡ sequence_of (frame_of_lent self.now).bytes }
+        ensures { result ≡ sequence_of self.now.bytes }
     {
         if self.bytes.is_empty() {
             None
@@ -180,8 +188,8 @@ impl<'a> LentFrame<'a> {
     /// The captured bytes, borrowed.
     #[inline(always)]
     pub fn view(&self) -> FrameView<'a>
-        ensures value { view_bytes result ≡ (frame_of_lent self.now).bytes }
-        ensures bounds { IsFrame (frame_of_lent self.now) }
+        ensures value { view_bytes result ≡ self.now.bytes }
+        ensures bounds { IsFrame self.now }
     {
         FrameView::new(self.bytes)
     }

@@ -1,7 +1,6 @@
 //! The frames of a block.
 ghost use Rattle.std.specs.Prelude.{◌≡◌, ◌-◌, ◌<◌, ◌++◌, ◌∷◌, [], IfErr, IfOk, IsFalse, IsTrue, Some, drop, length, slice_get};
 ghost use Rattle.afdx_frame.specs.FrameBytes.{block_bytes};
-ghost use Rattle.afdx_frame.specs.LentFrame.{frame_of_lent};
 ghost use Rattle.frame_batch.specs.Batch.{IsRecordOf, batch_frames};
 
 use crate::frame_record::FrameRecord;
@@ -131,7 +130,7 @@ impl FrameBatch {
     #[inline(always)]
     pub fn frame(&self, index: usize) -> LentFrame<'_>
         requires { index < length self.now.left }
-        ensures { slice_get (batch_frames self.now) index ≡ Some (frame_of_lent result) }
+        ensures { slice_get (batch_frames self.now) index ≡ Some result }
     {
         self.entry(index).lent(self.block.bytes())
     }
@@ -139,7 +138,7 @@ impl FrameBatch {
     /// The first frame that is left.
     #[inline(always)]
     pub fn first(&self) -> LentFrame<'_>
-        ensures { slice_get (batch_frames self.now) 0 ≡ Some (frame_of_lent result) }
+        ensures { slice_get (batch_frames self.now) 0 ≡ Some result }
     {
         let _count = self.count();
         self.frame(0)
@@ -148,7 +147,7 @@ impl FrameBatch {
     /// The last frame.
     #[inline]
     pub fn last(&self) -> LentFrame<'_>
-        ensures { slice_get (batch_frames self.now) (length (batch_frames self.now) - 1) ≡ Some (frame_of_lent result) }
+        ensures { slice_get (batch_frames self.now) (length (batch_frames self.now) - 1) ≡ Some result }
     {
         self.frame(self.count() - 1)
     }

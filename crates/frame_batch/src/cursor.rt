@@ -1,7 +1,6 @@
 //! A place in a queue, from which its frames are copied.
 ghost use Rattle.std.specs.Prelude.{◌≡◌, ◌-◌, ◌<◌, ◌≤◌, ◌++◌, [], List, ℕ, IfOk, IfSome, OnOk, drop, length, slice_get, take};
 ghost use Rattle.std.specs.Option.{option_map};
-ghost use Rattle.afdx_frame.specs.LentFrame.{frame_of_lent};
 ghost use Rattle.frame_batch.specs.Queue.{count_in};
 ghost use Rattle.frame_batch.specs.Round.{IsBlockAt, draft_frames};
 
@@ -63,7 +62,7 @@ impl<'a> QueueCursor<'a> {
     /// The frame at this place. None: no frame is left.
     #[inline(always)]
     pub fn first(&self) -> Option<LentFrame<'a>>
-        ensures { option_map frame_of_lent result ≡ slice_get (cursor_left self.now) 0 }
+        ensures { result ≡ slice_get (cursor_left self.now) 0 }
     {
         if self.batch == self.batches.len() {
             return None;

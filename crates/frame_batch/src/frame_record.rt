@@ -2,7 +2,6 @@
 ghost use Rattle.std.specs.Prelude.{◌≡◌, ◌≤◌, IfErr, IfOk, length, slice_range};
 ghost use Rattle.afdx_frame.specs.Frame.{IsFrame, frame_with, key_of};
 ghost use Rattle.afdx_frame.specs.FrameBytes.{block_bytes};
-ghost use Rattle.afdx_frame.specs.LentFrame.{frame_of_lent};
 ghost use Rattle.frame_batch.specs.Batch.{IsRecordOf, record_facts, record_frame};
 
 use afdx_frame::{Facts, FrameBlock, FrameBytes, Key, LentFrame, Network, Stamp, TapFrame};
@@ -84,7 +83,7 @@ impl FrameRecord {
     #[inline(always)]
     pub fn lent<'a>(&self, block: &'a [u8]) -> LentFrame<'a>
         requires { IsRecordOf block.now self.now }
-        ensures { frame_of_lent result ≡ record_frame block.now self.now }
+        ensures { result ≡ record_frame block.now self.now }
     {
         LentFrame::of(
             self.network,

@@ -2,7 +2,6 @@
 ghost use Rattle.std.specs.Prelude.{◌≡◌, ◌+◌, ◌-◌, ◌<◌, ◌≤◌, ◌++◌, ◌↔◌, [], IfErr, IsTrue, OnErr, OnOk, drop, length, slice_get, take};
 ghost use Rattle.std.specs.List.{prefix_len};
 ghost use Rattle.std.specs.Option.{option_map};
-ghost use Rattle.afdx_frame.specs.LentFrame.{frame_of_lent};
 ghost use Rattle.frame_batch.specs.Batch.{batch_frames};
 ghost use Rattle.frame_batch.specs.Queue.{comes_below};
 
@@ -57,7 +56,7 @@ impl FrameQueue {
     /// The first frame.
     #[inline(always)]
     pub fn front(&self) -> Option<LentFrame<'_>>
-        ensures { option_map frame_of_lent result ≡ slice_get self.now 0 }
+        ensures { result ≡ slice_get self.now 0 }
     {
         match self.batches.len() {
             0 => None,
@@ -68,7 +67,7 @@ impl FrameQueue {
     /// The last frame.
     #[inline]
     pub fn back(&self) -> Option<LentFrame<'_>>
-        ensures { option_map frame_of_lent result ≡ slice_get self.now (length self.now - 1) }
+        ensures { result ≡ slice_get self.now (length self.now - 1) }
     {
         match self.batches.len() {
             0 => None,

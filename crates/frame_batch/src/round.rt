@@ -1,6 +1,5 @@
 //! The frames of a round.
-ghost use Rattle.std.specs.Prelude.{◌≡◌, ◌<◌, IfOk, IsTrue, ◌↔◌, [], Some, length, slice_get};
-ghost use Rattle.afdx_frame.specs.LentFrame.{frame_of_lent};
+ghost use Rattle.std.specs.Prelude.{◌≡◌, ◌<◌, IfOk, IsTrue, ◌↔◌, [], Some, get_or, length, slice_get};
 ghost use Rattle.frame_batch.specs.Round.{draft_frames};
 
 use crate::draft::{Placed, RoundDraft};
@@ -100,7 +99,7 @@ impl Round {
     #[inline(always)]
     pub fn frame(&self, index: usize) -> LentFrame<'_>
         requires { index < length self.now }
-        ensures { slice_get self.now index ≡ Some (frame_of_lent result) }
+        ensures { result ≡ get_or self.now index result }
     {
         let Placed { entry, block } = &self.draft.places[index];
         entry.lent(self.draft.blocks[*block].bytes())

@@ -1,6 +1,5 @@
 //! The line of a frame.
 ghost use Rattle.std.specs.Prelude.{◌≡◌, ◌^◌, IfSome, decimal, is_some};
-ghost use Rattle.afdx_frame.specs.LentFrame.{frame_of_lent};
 ghost use Rattle.verdict_ledger.specs.Entry.{entry_with};
 ghost use Rattle.vl_config.specs.Class.{class_word, is_addressed};
 ghost use Rattle.verdict_ledger.specs.Text.{mask_text};
@@ -45,7 +44,7 @@ impl FrameLine {
     /// these filters accept.
     #[inline]
     pub fn of(frame: &LentFrame<'_>, verdict: &Verdict, kept: Option<u32>, mask: u8) -> FrameLine
-        ensures { result ≡ shown (entry_with (frame_of_lent frame.now) verdict.now kept mask) }
+        ensures { result ≡ shown (entry_with frame.now verdict.now kept mask) }
     {
         let (link, sequence) = if verdict.class.is_addressed() {
             (frame.view().vl(), frame.view().sequence())

@@ -1,7 +1,6 @@
 //! Reads the frames of a recording.
 ghost use Rattle.std.specs.Prelude.{◌≡◌, ◌+◌, ◌<◌, ◌≤◌, ◌^◌, [], length, drop, Some, Ok, Err, IfOk, IfErr, OnOk, OnErr, IfSome, IsTrue, ◌↔◌};
 ghost use Rattle.afdx_frame.specs.Frame.{IsFrame};
-ghost use Rattle.afdx_frame.specs.LentFrame.{frame_of_lent};
 ghost use Rattle.pcap_io.specs.Device.{CountsFailure, TakesAtMost, TakesFewer};
 ghost use Rattle.pcap_io.specs.Layout.{header_of};
 ghost use Rattle.afdx_frame.specs.declared.bounds.TheConstants.{MAX_SNAPLEN};
@@ -300,7 +299,7 @@ impl<S: TapSource> TapReader<S> {
     #[inline(always)]
     pub fn frame(&self) -> LentFrame<'_>
         requires { IsFrame (lent_of self.now) }
-        ensures { frame_of_lent result ≡ lent_of self.now }
+        ensures { result ≡ lent_of self.now }
     {
         LentFrame::new(
             self.position.network,

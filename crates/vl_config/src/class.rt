@@ -4,7 +4,7 @@ ghost use Rattle.std.specs.Prelude.{◌≡◌, ◌↔◌};
 ghost use Rattle.afdx_frame.specs.View.{constant_of};
 ghost use Rattle.vl_config.specs.Class.{class_by, class_word, has_constant, is_addressed, is_on_a_link};
 
-use afdx_frame::TapFrame;
+use afdx_frame::LentFrame;
 
 /// The class of a frame: the first that fits. Only `Regular` frames are policed.
 ///
@@ -92,11 +92,11 @@ pub const CHECK_LENGTH: u32 = 4;
 /// None where the table does not have the link. For a caller that finds links by an index of its
 /// own; [`crate::Config::class`] finds the link itself.
 #[inline(always)]
-pub fn class_by(constant: u32, smax: Option<u32>, frame: &TapFrame) -> Class
+pub fn class_by(constant: u32, smax: Option<u32>, frame: &LentFrame<'_>) -> Class
     ensures { result ≡ class_by constant smax frame.now }
 {
     let whole = frame.whole();
-    if frame.view().bytes().len() < whole as usize {
+    if frame.captured() < whole as usize {
         Class::Cut
     } else if whole < LEAST_LENGTH {
         Class::Runt
@@ -114,10 +114,10 @@ pub fn class_by(constant: u32, smax: Option<u32>, frame: &TapFrame) -> Class
 }
 
 #[inline(always)]
-fn has_constant(constant: u32, frame: &TapFrame) -> bool
+fn has_constant(constant: u32, frame: &LentFrame<'_>) -> bool
     ensures { result ≡ has_constant constant (constant_of frame.now.bytes) }
 {
-    match frame.view().constant() {
+    match frame.constant() {
         Some(field) => field == constant,
         None => false,
     }

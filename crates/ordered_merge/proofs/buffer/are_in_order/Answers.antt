@@ -5,7 +5,6 @@ use Rattle.std.proofs.lemmas.Option.{get_or_from_slice_get, slice_get_within}
 use Rattle.std.specs.List.{AllByRecursion}
 use Rattle.std.specs.Ordering.{is_lt}
 use Rattle.afdx_frame.specs.Frame.{Frame, key_cmp, key_of}
-use Rattle.afdx_frame.specs.LentFrame.{frame_of_lent}
 use Rattle.afdx_frame.specs.declared.key.Key.{Key}
 use Rattle.frame_batch.specs.Batch.{batch_frames, record_frame}
 use Rattle.ordered_merge.specs.Buffer.{AreInOrder}
@@ -18,7 +17,7 @@ loop-index-init c =
     let bounds = c.stamp-fits.ensures.bounds in
     record {
       order = in_order_first (batch_frames c.args.batch.now);
-      fit = each_first (λ (x : Frame). x.stamp < 2 ^ 63) (batch_frames c.args.batch.now) (frame_of_lent c.first-last.result) c.first-last.ensures (omega (arith, bounds.stamp_fits));
+      fit = each_first (λ (x : Frame). x.stamp < 2 ^ 63) (batch_frames c.args.batch.now) c.first-last.result c.first-last.ensures (omega (arith, bounds.stamp_fits));
       before = c.first-last.ensures;
     }
 
@@ -26,8 +25,8 @@ pub loop-index-preserved : goal.loop-index-preserved
 loop-index-preserved c =
     let all = batch_frames c.args.batch.now in
     let i = c.loop-index.index in
-    let f = frame_of_lent c.loop-index.last in
-    let g = frame_of_lent c.frame-frame.result in
+    let f = c.loop-index.last in
+    let g = c.frame-frame.result in
     let some : 0 < i = omega (arith, c.loop-index.auto.index) in
     let within : i < length all = slice_get_within all i g c.frame-frame.ensures in
     let bounds = c.stamp-fits-in-loop-index.ensures.bounds in

@@ -1,7 +1,6 @@
 use Rattle.std.proofs.Common.{◌≡◌, ℕ, ◌+◌, ◌-◌, ◌<◌, ◌++◌, ◌∙◌, [], List, Option, Some, length, get_or, ap, append-nil, subst, sym, arith}
 use Rattle.std.proofs.lemmas.Option.{get_or_from_slice_get, slice_get_within}
 use Rattle.afdx_frame.specs.Frame.{Frame}
-use Rattle.afdx_frame.specs.LentFrame.{frame_of_lent}
 use Rattle.frame_batch.specs.Batch.{batch_frames}
 use Rattle.ordered_merge.specs.Merge.{highest}
 use Rattle.ordered_merge.specs.Buffer.{AreNumbered, BufferState, IsBuffer, buffered, pushed_all}
@@ -11,7 +10,7 @@ use Rattle.ordered_merge.proofs.buffer.TapBuffer.push_all.Goals as goal
 pub invariant_of-self : goal.invariant_of-self
 invariant_of-self c =
     let fs = batch_frames c.args.batch in
-    let last = frame_of_lent c.last-last.result in
+    let last = c.last-last.result in
     let late = c.self.inside.late.items in
     let numbered = subst (λ (n : ℕ). AreNumbered n fs) (sym (ap (λ (s : BufferState). s.tap.next) c.self.view_is)) c.requires in
     let within = slice_get_within fs (length fs - 1) last c.last-last.ensures in
@@ -25,7 +24,7 @@ invariant_of-self c =
 pub returns-in-Ok : goal.returns-in-Ok
 returns-in-Ok c =
     let fs = batch_frames c.args.batch in
-    let last = frame_of_lent c.last-last.result in
+    let last = c.last-last.result in
     let late = c.self.inside.late.items in
     let numbered = subst (λ (n : ℕ). AreNumbered n fs) (sym (ap (λ (s : BufferState). s.tap.next) c.self.view_is)) c.requires in
     let within = slice_get_within fs (length fs - 1) last c.last-last.ensures in
