@@ -9,7 +9,7 @@ ghost use Rattle.verdict_ledger.specs.declared.line.TheConstants.{KEY, MASK, MAX
 ghost use Rattle.verdict_ledger.specs.declared.words.TheConstants.{VERDICT};
 
 use crate::words::{VERDICT, network_field, verdict_field};
-use afdx_frame::TapFrame;
+use afdx_frame::LentFrame;
 use itoa::write_digits;
 use std::alloc::AllocError;
 use vl_config::Class;
@@ -76,10 +76,10 @@ fn write_optional_field(number: Option<u32>, line: &mut [u8], end: usize) -> usi
 
 /// The identifier of the frame's link, where the frame has the bytes.
 #[inline]
-fn link_number(frame: &TapFrame) -> Option<u32>
+fn link_number(frame: &LentFrame<'_>) -> Option<u32>
     ensures { result ≡ link_number frame.now }
 {
-    match frame.view().vl() {
+    match frame.link() {
         Some(id) => Some(u32::from(id.0)),
         None => None,
     }
@@ -87,10 +87,10 @@ fn link_number(frame: &TapFrame) -> Option<u32>
 
 /// The sequence number, where the frame has a byte.
 #[inline]
-fn sequence_number(frame: &TapFrame) -> Option<u32>
+fn sequence_number(frame: &LentFrame<'_>) -> Option<u32>
     ensures { result ≡ sequence_of frame.now.bytes }
 {
-    match frame.view().sequence() {
+    match frame.sequence() {
         Some(number) => Some(u32::from(number)),
         None => None,
     }
@@ -98,7 +98,7 @@ fn sequence_number(frame: &TapFrame) -> Option<u32>
 
 /// Writes the link and the sequence number, or dashes.
 #[inline(always)]
-fn write_address(class: Class, frame: &TapFrame, line: &mut [u8], end: usize) -> usize
+fn write_address(class: Class, frame: &LentFrame<'_>, line: &mut [u8], end: usize) -> usize
     requires room { 2 * NUMBER_FIELD ≤ end }
     requires within { end ≤ length line.old }
     ensures start { IsStart (2 * NUMBER_FIELD) end result }
@@ -139,7 +139,7 @@ fn write_mask(mask: u8, line: &mut [u8], end: usize) -> usize
 /// Writes the timestamp, the network and the number of a frame.
 #[inline(always)]
 #[tactic(auto, using(crate::proofs::Lengths::stamp_short))]
-fn write_key(frame: &TapFrame, line: &mut [u8], end: usize) -> usize
+fn write_key(frame: &LentFrame<'_>, line: &mut [u8], end: usize) -> usize
     requires room { KEY ≤ end }
     requires within { end ≤ length line.old }
     ensures start { result ≤ end }
@@ -157,7 +157,7 @@ fn write_key(frame: &TapFrame, line: &mut [u8], end: usize) -> usize
 #[tactic(auto, unfolding(crate::specs::Text::line_text))]
 fn write_line(
     line: &mut [u8; MAX_LINE],
-    frame: &TapFrame,
+    frame: &LentFrame<'_>,
     verdict: &Verdict,
     keep: Option<u32>,
     mask: u8,
@@ -177,7 +177,7 @@ fn write_line(
 #[inline]
 pub fn push_line(
     text: &mut Vec<u8>,
-    frame: &TapFrame,
+    frame: &LentFrame<'_>,
     verdict: &Verdict,
     keep: Option<u32>,
     mask: u8,

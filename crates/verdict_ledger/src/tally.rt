@@ -8,7 +8,8 @@ ghost use Rattle.verdict_ledger.specs.declared.bounds.TheConstants.{MAX_LINES};
 
 use crate::link_counts::LinkCounts;
 use crate::totals::Totals;
-use afdx_frame::{TapFrame, VL_ID_COUNT, VlId};
+use afdx_frame::{LentFrame, VL_ID_COUNT, VlId};
+use frame_batch::Round;
 use std::alloc::{AllocError, Global};
 use vl_judge::Verdict;
 
@@ -53,11 +54,11 @@ impl Tally {
 
     /// Counts a frame.
     #[inline]
-    pub fn count(&mut self, frame: &TapFrame, verdict: &Verdict, keep: Option<u32>, mask: u8)
+    pub fn count(&mut self, frame: &LentFrame<'_>, verdict: &Verdict, keep: Option<u32>, mask: u8)
         ensures { (entries : List Entry) → length entries < MAX_LINES → IsTallyOf entries self.old
             → IsTallyOf (entries ++ entry_with frame.now verdict.now keep mask ∷ []) self.new }
     {
-        self.count_line(frame.view().vl(), verdict, keep, mask);
+        self.count_line(frame.link(), verdict, keep, mask);
     }
 
     /// Counts a frame by what its line says: its link, its verdict, how many bytes of it are kept, and the mask
@@ -77,7 +78,7 @@ impl Tally {
     /// Counts the frames of a round.
     pub fn count_round(
         &mut self,
-        frames: &[TapFrame],
+        frames: &Round,
         verdicts: &[Verdict],
         keeps: &[Option<u32>],
         masks: &[u8],
@@ -90,7 +91,12 @@ impl Tally {
             (entries ++ entries_of frames.now verdicts.now keeps.now masks.now) self.new }
     {
         for index in 0..frames.len() {
-            self.count(&frames[index], &verdicts[index], keeps[index], masks[index]);
+            self.count(
+                &frames.frame(index),
+                &verdicts[index],
+                keeps[index],
+                masks[index],
+            );
         }
     }
 }

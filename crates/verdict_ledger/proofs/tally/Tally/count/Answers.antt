@@ -1,9 +1,8 @@
-use Rattle.std.proofs.Common.{ap, ◌∙◌, refl}
-use Rattle.afdx_frame.specs.View.{link_of}
+use Rattle.std.proofs.Common.{refl}
 use Rattle.verdict_ledger.specs.Entry.{entry_with}
 use Rattle.verdict_ledger.proofs.tally.Tally.count.Goals as goal
 
 pub returns : goal.returns
 returns c = λ entries few tallied.
     c.count_line.ensures entries (entry_with c.args.frame.now c.args.verdict.now c.args.keep c.args.mask) few
-    (c.vl.ensures ∙ ap link_of c.view.ensures.value) refl refl refl tallied
+    c.link.ensures refl refl refl tallied
