@@ -1,2 +1,2 @@
-mod Drafts
+pub mod Drafts
 pub mod Queues

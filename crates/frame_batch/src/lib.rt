@@ -10,6 +10,7 @@ mod batch;
 mod cursor;
 mod draft;
 mod frame_record;
+mod part;
 mod queue;
 mod round;
 
@@ -17,5 +18,6 @@ pub use batch::FrameBatch;
 pub use cursor::QueueCursor;
 pub use draft::RoundDraft;
 pub use frame_record::FrameRecord;
+pub use part::RoundPart;
 pub use queue::FrameQueue;
 pub use round::Round;

@@ -10,7 +10,7 @@ use std::marker::Model;
 /// Frames in an order, by records in the blocks that hold their bytes.
 #[derive(Drop)]
 pub struct Round {
-    draft: RoundDraft,
+    pub(crate) draft: RoundDraft,
 }
 
 impl Model for Round {

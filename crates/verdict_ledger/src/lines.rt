@@ -4,7 +4,7 @@ ghost use Rattle.verdict_ledger.specs.Entry.{entries_of};
 ghost use Rattle.verdict_ledger.specs.Text.{lines_text};
 
 use crate::line::push_line;
-use frame_batch::Round;
+use frame_batch::RoundPart;
 use std::alloc::AllocError;
 use vl_judge::Verdict;
 
@@ -16,7 +16,7 @@ use vl_judge::Verdict;
 /// There is no memory for a line. The text is as it was.
 pub fn append_lines(
     text: &mut Vec<u8>,
-    frames: &Round,
+    frames: &RoundPart<'_>,
     verdicts: &[Verdict],
     keeps: &[Option<u32>],
     masks: &[u8],

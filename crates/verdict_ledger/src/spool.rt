@@ -137,7 +137,7 @@ impl<W: OutSink> Spool<W> {
         ensures memory { result ≡ Err Memory → self.new.sink ≡ self.old.sink }
     {
         self.text.clear();
-        append_lines(&mut self.text, frames, verdicts, keeps, masks)?;
+        append_lines(&mut self.text, &frames.all(), verdicts, keeps, masks)?;
         self.flush()
     }
 

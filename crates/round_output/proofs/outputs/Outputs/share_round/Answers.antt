@@ -33,7 +33,7 @@ pub returns-clause-written : goal.returns-clause-written
 returns-clause-written g c = λ vl_table capture ledger frames h. record {
   first = frames;
   before = c.args.self.now.lanes;
-  all = ap (λ (r : JudgedRound). frames ++ r.frames.items) (sym c.in-Ok.ensures.round);
+  all = ap (λ (r : JudgedRound). frames ++ r.frames) (sym c.in-Ok.ensures.round);
   lanes = rw c.settle_round.ensures.lanes (rw c.deref.ensures.value at (c.in_ok-verdicts.ensures.after vl_table frames h.lanes));
   written = (rw c.put.ensures.pool at c.in_ok-settle_round.ensures.written) vl_table capture ledger frames c.args.self.now.lanes h;
   judged = rw c.in-Ok.ensures.round (rw c.deref.ensures.value at (c.in_ok-verdicts.ensures.verdicts vl_table frames h.lanes));
