@@ -40,13 +40,7 @@ impl Position {
 
     /// The frame of a packet that stands here, whose bytes stand in a block from one index up to another.
     #[inline(always)]
-    pub fn record(
-        &self,
-        header: &PacketHeader,
-        block: &[u8],
-        from: usize,
-        to: usize,
-    ) -> FrameRecord
+    pub fn record(&self, header: &PacketHeader, block: &[u8], from: usize, to: usize) -> FrameRecord
         requires bounded { self.now.count < 2 ^ 32 }
         requires within_second { header.now.fraction < fractions_of self.now.layout.precision }
         requires ordered { from ≤ to }
@@ -71,6 +65,7 @@ impl Position {
 }
 
 /// What stands at a reader's place.
+#[derive(Clone, Copy)]
 pub enum Start {
     /// The header of a packet that may stand there.
     Header(PacketHeader),

@@ -10,7 +10,7 @@ ghost use Rattle.pcap_io.specs.declared.layout.TheConstants.{FILE_HEADER_LEN};
 ghost use Rattle.pcap_io.specs.declared.packet_header.TheConstants.{PACKET_HEADER_LEN};
 ghost use Rattle.pcap_io.specs.Position.{Advances, HasRoom, HoldsPacket, IsNext, IsOpenFault, IsReadFault, IsStart, ItemLeaves, LacksBytes, Opens, StartLeaves, TakesAPacket, after_item, found_item, start_at};
 
-use crate::block::{BlockSource, DrawnPart};
+use crate::block::BlockSource;
 use crate::device::{DeviceFault, TapSource};
 use crate::item::{Batched, Found, Item, ReadFault, Taken};
 use crate::layout::{FILE_HEADER_LEN, HeaderFault, Layout, layout_of};
@@ -255,9 +255,10 @@ impl<S: TapSource> TapReader<S> {
             Start::End(ending) => return Ok(Taken::End(ending)),
         };
         match self.input.draw_shared(alloc, header.captured_len as usize)? {
-            Some(DrawnPart { block, from, to }) => {
-                let record = self.position.record(&header, block.bytes(), from, to);
-                Ok(Taken::Frame(block, record))
+            Some(part) => {
+                let block = part.block.bytes();
+                let record = self.position.record(&header, block, part.from, part.to);
+                Ok(Taken::Frame(part.block, record))
             }
             None => Ok(Taken::End(Ending::Cut(self.position.count))),
         }
@@ -407,9 +408,10 @@ impl<S: TapSource> TapReader<S> {
         };
         let headers = self.input.unread().len() / PACKET_HEADER_LEN;
         let mut batch = FrameBatch::begin(alloc, block, first, headers.min(most.saturating_sub(1)));
-        if !batch.bytes().is_empty() {
-            self.add_all_held(&mut batch, most);
+        if batch.bytes().is_empty() {
+            return Ok(Batched::Frames(batch));
         }
+        self.add_all_held(&mut batch, most);
         Ok(Batched::Frames(batch))
     }
 
@@ -450,8 +452,7 @@ impl<S: TapSource> TapReader<S> {
         }
         let bytes = self.input.bytes();
         let from = start + PACKET_HEADER_LEN;
-        let Start::Header(header) =
-            start_of(&self.position, &bytes[start..from], PACKET_HEADER_LEN)
+        let Start::Header(header) = start_of(&self.position, &bytes[start..from], PACKET_HEADER_LEN)
         else {
             return false;
         };
