@@ -1,5 +1,5 @@
 -- A packet that stands whole among the unread bytes, and frames that are added to a batch.
-use Rattle.std.proofs.Common.{◌≡◌, ◌≢◌, ℕ, ◌+◌, ◌-◌, ◌<◌, ◌≤◌, List, [], ◌∷◌, ◌++◌, length, map, slice_range, Option, Ok, refl, sym, ap, ◌∙◌, subst, arith, append_assoc, append-nil}
+use Rattle.std.proofs.Common.{◌≡◌, ◌≢◌, ℕ, ◌+◌, ◌-◌, ◌<◌, ◌≤◌, List, [], ◌∷◌, ◌++◌, length, map, slice_range, Option, None, Ok, refl, sym, ap, ◌∙◌, subst, arith, append_assoc, append-nil}
 use Rattle.std.proofs.lemmas.List.{map-append}
 use Rattle.std.specs.Io.KnownBytes.{Consumes, prepend_known}
 use Rattle.afdx_frame.specs.Frame.{Frame}
@@ -7,7 +7,7 @@ use Rattle.frame_batch.specs.Batch.{BatchState, batch_frames, record_frame}
 use Rattle.frame_batch.specs.declared.frame_record.FrameRecord.{FrameRecord}
 use Rattle.pcap_io.specs.Batches.{AddsFrame, AddsFrames, GivesFrames}
 use Rattle.pcap_io.specs.Bytes.{IsBytes}
-use Rattle.pcap_io.specs.Layout.{fractions_of}
+use Rattle.pcap_io.specs.Device.{TakesAtMost}
 use Rattle.pcap_io.specs.Position.{Advances, IsStartOf, Reading, TakesFrame, TakesHeader, after_frame, frame_at}
 use Rattle.pcap_io.specs.Recording.{header_fields, reason_at}
 use Rattle.pcap_io.specs.declared.item.Item.TheVariants as items
@@ -15,20 +15,14 @@ use Rattle.pcap_io.specs.declared.packet_header.PacketHeader.{PacketHeader}
 use Rattle.pcap_io.specs.declared.position.Position.{Position}
 use Rattle.pcap_io.specs.declared.position.Start.TheVariants as starts
 use Rattle.pcap_io.proofs.Draws.{consumes_prefix, length-between, split_at}
-use Rattle.pcap_io.proofs.PacketBytes.{fine_from_none}
 use Rattle.pcap_io.proofs.Steps.{step_frame, takes_packet}
 
--- the header's fraction makes no second
-pub held_within_second : (p : Position) (head : List ℕ) (fields : PacketHeader) → IsStartOf p head 16 (starts.Header fields)
-    → fields.fraction < fractions_of p.layout.precision
-held_within_second p head fields (all, few, read, fine) = (fine_from_none p.layout p.late p.high fields fine).within
-
 -- no more packets were read than are read at most
-pub held_room : (p : Position) (head : List ℕ) (fields : PacketHeader) → p.count ≤ p.most → IsStartOf p head 16 (starts.Header fields) → p.count < p.most
+held_room : (p : Position) (head : List ℕ) (fields : PacketHeader) → p.count ≤ p.most → IsStartOf p head 16 (starts.Header fields) → p.count < p.most
 held_room p head fields within (all, few, read, fine) = omega (arith, few)
 
 -- where in the bytes of a block the header, the captured bytes and what is left stand
-pub record Held (p : Position) (xs : List ℕ) (start from to end : ℕ) (fields : PacketHeader) : Type 0 where
+record Held (p : Position) (xs : List ℕ) (start from to end : ℕ) (fields : PacketHeader) : Type 0 where
   pub after_header : from ≡ start + 16
   pub ordered : from ≤ to
   pub unread : to ≤ end
@@ -39,13 +33,16 @@ pub record Held (p : Position) (xs : List ℕ) (start from to end : ℕ) (fields
 
 header_held : (p : Position) (source : Option (List ℕ)) (xs : List ℕ) (start from to end : ℕ) (fields : PacketHeader) → Held p xs start from to end fields
     → TakesHeader p (prepend_known (slice_range xs start end) source) (prepend_known (slice_range xs from end) source) (slice_range xs start from)
-header_held p source xs start from to end fields h = record {
-  size = omega (arith, length-between start from xs (omega (arith, h.unread, h.ordered, h.within)), h.after_header);
-  are_bytes = h.are_bytes;
-  bounded = h.begins.1;
-  fine = subst (λ (x : PacketHeader). reason_at p.layout p.late p.high x ≡ _) h.begins.2 h.begins.3;
-  gone = consumes_prefix source _ _ _ (split_at start from end xs (omega (arith, h.after_header)) (omega (arith, h.ordered, h.unread)) h.within);
-}
+header_held p source xs start from to end fields h =
+    let size : length (slice_range xs start from) ≡ 16 =
+    omega (arith, length-between start from xs (omega (arith, h.unread, h.ordered, h.within)), h.after_header) in
+    record {
+      size = size;
+      are_bytes = h.are_bytes;
+      bounded = h.begins.1;
+      fine = subst (λ (x : PacketHeader). reason_at p.layout p.late p.high x ≡ None) h.begins.2 h.begins.3;
+      gone = consumes_prefix source _ _ _ (split_at start from end xs (omega (arith, h.after_header)) (omega (arith, h.ordered, h.unread)) h.within);
+    }
 
 body_held : (source : Option (List ℕ)) (xs : List ℕ) (from to end : ℕ) → from ≤ to → to ≤ end → end ≤ length xs
     → Consumes (prepend_known (slice_range xs from end) source) (prepend_known (slice_range xs to end) source) (slice_range xs from to)
@@ -60,7 +57,7 @@ frame_held p source xs start from to end fields few h =
     (ap (λ (x : PacketHeader). frame_at p x (slice_range xs from to)) h.begins.2)
 
 -- the frame of a packet that stands whole in the block is the next
-pub held_advances : (p q : Position) (source after : Option (List ℕ)) (xs : List ℕ) (start from to end failures still : ℕ) (fields : PacketHeader) (f : Frame) → p.count ≤ p.most
+held_advances : (p q : Position) (source after : Option (List ℕ)) (xs : List ℕ) (start from to end failures still : ℕ) (fields : PacketHeader) (f : Frame) → p.count ≤ p.most
     → Held p xs start from to end fields → f ≡ frame_at p fields (slice_range xs from to) → q ≡ after_frame p f.stamp → after ≡ prepend_known (slice_range xs to end) source
     → still ≡ failures
     → Advances (λ item. item) (record { position = p; remaining = prepend_known (slice_range xs start end) source; failures = failures })
@@ -70,13 +67,16 @@ held_advances p q source after xs start from to end failures still fields f few 
     let body = body_held source xs from to end h.ordered h.unread h.within in
     let size : length (slice_range xs from to) ≡ fields.captured_len = length-between from to xs (omega (arith, h.unread, h.within)) ∙ h.size in
     record {
-      item = λ _. rw (same, left) takes;
+      item = λ _. subst (λ (x : Frame). TakesFrame p (prepend_known (slice_range xs start end) source) after x) (sym same)
+          (subst (λ (x : Option (List ℕ)). TakesFrame p (prepend_known (slice_range xs start end) source) x (frame_at p fields (slice_range xs from to))) (sym left) takes);
       after = place;
       after_fault = tt;
       bounded = omega (arith, few, held_room p _ fields few h.begins, ap (λ (x : Position). x.count) place, ap (λ (x : Position). x.most) place);
       no_failure = count;
       fault = tt;
-      taken = rw left (takes_packet p _ _ _ fields (slice_range xs start from, header_held p source xs start from to end fields h, h.begins.2) (slice_range xs from to, omega (arith, size), body));
+      taken = subst (λ (x : Option (List ℕ)). TakesAtMost 262160 (prepend_known (slice_range xs start end) source) x) (sym left)
+          (takes_packet p _ _ _ fields (slice_range xs start from, header_held p source xs start from to end fields h, h.begins.2)
+          (slice_range xs from to, omega (arith, size), body));
       left = λ _. tt;
     }
 
@@ -114,8 +114,8 @@ gives_more a b c (g ∷ fs) f (mid, first, given) next = (mid, first, gives_more
 pub adds_none : (a : Reading) (b : BatchState) → AddsFrames a a b b
 adds_none a b = record { more = []; frames = sym (append-nil (batch_frames b)); gives = refl }
 
-pub adds_more : (a b c : Reading) (x y z : BatchState) → x.block ≡ y.block → AddsFrames a b x y → AddsFrame b c y z → AddsFrames a c x z
-adds_more a b c x y z block first next =
+pub adds_more : (a b c : Reading) (x y z : BatchState) → AddsFrames a b x y → AddsFrame b c y z → AddsFrames a c x z
+adds_more a b c x y z first next =
     let f = record_frame y.block next.added in
     record {
       more = first.more ++ f ∷ [];

@@ -427,10 +427,12 @@ impl<S: TapSource> TapReader<S> {
         ensures some { 0 < length batch.new.left }
         ensures few { length batch.new.left ≤ max most 1 }
     {
-        for _ in 1..most {
+        let mut count = 1;
+        while count < most {
             if !self.add_held(batch) {
-                break;
+                return;
             }
+            count += 1;
         }
     }
 
@@ -444,7 +446,8 @@ impl<S: TapSource> TapReader<S> {
             (reading_of S.remaining S.failures self.new) batch.old batch.new }
         ensures going { (position_of self.new).stage ≡ Going }
         ensures block { batch.new.block ≡ block_of self.new }
-        ensures unchanged { IsFalse result → (self.new ≡ self.old) × (batch.new ≡ batch.old) }
+        ensures unchanged { IsFalse result → (reading_of S.remaining S.failures self.new
+            ≡ reading_of S.remaining S.failures self.old) × (batch.new ≡ batch.old) }
     {
         let (start, end) = self.input.unread_place();
         if end - start < PACKET_HEADER_LEN {

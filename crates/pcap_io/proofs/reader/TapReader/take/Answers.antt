@@ -4,12 +4,8 @@ use Rattle.pcap_io.specs.Block.{part_bytes}
 use Rattle.pcap_io.specs.Position.{frame_at}
 use Rattle.pcap_io.specs.declared.position.Position.{Position}
 use Rattle.pcap_io.specs.Reader.{position_of}
-use Rattle.pcap_io.proofs.Steps.{body_fault, cut_found, frame_found, takes_packet, within_second}
+use Rattle.pcap_io.proofs.Steps.{body_fault, cut_found, frame_found, takes_packet}
 use Rattle.pcap_io.proofs.reader.TapReader.take.Goals as goal
-
-pub record-requires-clause-within_second : goal.record-requires-clause-within_second
-record-requires-clause-within_second g c =
-    within_second _ _ _ _ _ c.read_header.ensures.position (rw c.in-Header.is at c.in_ok-header.ensures.start)
 
 pub returns-in_err-part-clause-fault : goal.returns-in_err-part-clause-fault
 returns-in_err-part-clause-fault g c =
@@ -25,12 +21,12 @@ returns-in-Some-clause-item g c =
     let start = rw c.in-Header.is at c.in_ok-header.ensures.start in
     let (held, gone, share) = rw c.in-Some.is at c.in_ok-part.ensures.complete in
     frame_found p _ _ _ header bytes _ (search rules) start held gone
-    ((rw c.bytes-block.ensures at c.record.ensures.frame) ∙ ap (λ (x : Position). frame_at x header bytes) c.read_header.ensures.position)
+    ((rw c.bytes-block.ensures at c.record-record.ensures.frame) ∙ ap (λ (x : Position). frame_at x header bytes) c.read_header.ensures.position)
 
 pub returns-in-Some-clause-held : goal.returns-in-Some-clause-held
 returns-in-Some-clause-held g c =
     let (held, gone, share) = rw c.in-Some.is at c.in_ok-part.ensures.complete in
-    (ap (λ (x : Position). x.stage) c.read_header.ensures.position ∙ c.requires, (rw c.bytes-block.ensures at c.record.ensures.fits, share))
+    (ap (λ (x : Position). x.stage) c.read_header.ensures.position ∙ c.requires, rw c.bytes-block.ensures at c.record-record.ensures.fits, share)
 
 pub returns-in-Some-clause-taken : goal.returns-in-Some-clause-taken
 returns-in-Some-clause-taken g c =
