@@ -1,5 +1,5 @@
 -- Frames that stand in one block: a record says where each stands, and what is known of it without its bytes.
-use Rattle.std.specs.Prelude.{ℕ, ◌≤◌, List, length, map, slice_range}
+use Rattle.std.specs.Prelude.{ℕ, ◌≤◌, List, [], length, map, slice_range, Option, Some, None}
 use Rattle.std.specs.List.{AllByRecursion}
 use Rattle.afdx_frame.specs.Facts.{AreFactsOf}
 use Rattle.afdx_frame.specs.Frame.{Frame, IsFrame, frame_with}
@@ -36,3 +36,8 @@ pub record BatchState : Type 0 where
 -- the frames that weren't taken out, in the order of the recording
 abbrev pub batch_frames : BatchState → List Frame
 batch_frames b = map (record_frame b.block) b.left
+
+-- those of what may be left of a batch
+abbrev pub frames_left : Option BatchState → List Frame
+frames_left None = []
+frames_left (Some b) = batch_frames b

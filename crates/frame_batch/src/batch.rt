@@ -1,7 +1,7 @@
 //! The frames of a block.
 ghost use Rattle.std.specs.Prelude.{◌≡◌, ◌-◌, ◌<◌, ◌++◌, ◌∷◌, [], IfErr, IfOk, IsFalse, IsTrue, Some, drop, length, slice_get};
 ghost use Rattle.afdx_frame.specs.FrameBytes.{block_bytes};
-ghost use Rattle.frame_batch.specs.Batch.{IsRecordOf, batch_frames};
+ghost use Rattle.frame_batch.specs.Batch.{IsRecordOf, batch_frames, frames_left};
 
 use crate::frame_record::FrameRecord;
 use afdx_frame::{FrameBlock, LentFrame, TapFrame};
@@ -159,6 +159,27 @@ impl FrameBatch {
         ensures { self.new ≡ record self.old { left = drop count self.old.left } }
     {
         self.taken += count;
+    }
+
+    /// The first frame that is left, and the others, where there are any.
+    ///
+    /// # Errors
+    ///
+    /// The same batch, if there is no further share of its block.
+    pub fn split_first(self, alloc: Global) -> Result<(TapFrame, Option<FrameBatch>), FrameBatch>
+        ensures split { IfOk result (λ parts. batch_frames self ≡ parts.0 ∷ frames_left parts.1) }
+        ensures given_back { IfErr result (λ batch. batch ≡ self) }
+    {
+        if self.count() == 1 {
+            return Ok((self.into_first(), None));
+        }
+        let Ok(block) = self.share(alloc) else {
+            return Err(self);
+        };
+        let mut others = self;
+        let first = *others.entry(0);
+        others.skip(1);
+        Ok((first.frame(block), Some(others)))
     }
 
     /// One more share of the block.

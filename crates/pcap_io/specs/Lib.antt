@@ -1,3 +1,4 @@
+pub mod Batches
 pub mod Block
 pub mod Bytes
 pub mod Capture
