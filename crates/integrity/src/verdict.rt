@@ -51,7 +51,8 @@ impl Integrity {
     /// The verdict whose word the bytes are.
     #[inline]
     pub fn from_word(word: &[u8]) -> Option<Integrity>
-        ensures { (integrity : Integrity) → (integrity_word integrity ≡ word.now) ↔ (result ≡ Some integrity) }
+        ensures { (integrity : Integrity)
+            → (integrity_word integrity ≡ word.now) ↔ (result ≡ Some integrity) }
     {
         match word {
             b"next" => Some(Integrity::Next),

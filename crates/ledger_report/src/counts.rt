@@ -74,7 +74,7 @@ impl FrameCounts {
             → AreCountsOf (lines ++ line.now ∷ []) self.new }
     {
         self.tally
-            .count_line(line.link, &line.verdict, line.kept, line.mask);
+            .count_by(line.link, &line.verdict, line.kept, line.mask);
         count_on(&mut self.a, Network::A, line);
         count_on(&mut self.b, Network::B, line);
     }

@@ -413,8 +413,9 @@ impl Statistics {
     fn note_outside(&mut self, id: VlId, at: &Moment) -> Result<(), AllocError>
         ensures rest { self.new ≡ record self.old { outside = self.new.outside } }
         ensures line { OnOk result ((line : FrameLine) (lines : List FrameLine) → length lines < MOST_LINES
-            → is_class class.Unconfigured line.verdict.class ≡ true → line.link ≡ Some id → IsMomentOf line at.now
-            → IsOutsideOf lines self.old.outside.items → IsOutsideOf (line ∷ lines) self.new.outside.items) }
+            → is_class class.Unconfigured line.verdict.class ≡ true → line.link ≡ Some id
+            → IsMomentOf line at.now → IsOutsideOf lines self.old.outside.items
+            → IsOutsideOf (line ∷ lines) self.new.outside.items) }
     {
         self.make_outside()?;
         if let Some(held) = self.outside.get_mut(usize::from(id.0)) {

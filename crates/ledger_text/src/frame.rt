@@ -139,6 +139,12 @@ pub fn read_frame(line: &[u8]) -> Result<FrameLine, FrameFault>
     let policing = policing_of(fields.next(), class).ok_or(FrameFault::Policing)?;
     let integrity = integrity_of(fields.next(), policing).ok_or(FrameFault::Integrity)?;
     let redundancy = redundancy_of(fields.next(), integrity).ok_or(FrameFault::Redundancy)?;
+    let verdict = Verdict {
+        class,
+        policing,
+        integrity,
+        redundancy,
+    };
     let kept = kept_of(fields.next()).ok_or(FrameFault::Kept)?;
     let mask = mask_with(fields.next(), kept).ok_or(FrameFault::Mask)?;
     if !fields.is_at_end() {
@@ -150,12 +156,7 @@ pub fn read_frame(line: &[u8]) -> Result<FrameLine, FrameFault>
         number: number as u32,
         link,
         sequence,
-        verdict: Verdict {
-            class,
-            policing,
-            integrity,
-            redundancy,
-        },
+        verdict,
         kept,
         mask,
     })

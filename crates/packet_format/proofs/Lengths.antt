@@ -38,3 +38,5 @@ pub redundancy_short : (redundancy : Redundancy) → length (redundancy_word red
 redundancy_short Deliver = omega arith
 redundancy_short Copy = omega arith
 redundancy_short Both = omega arith
+
+pub ruleset short_words = (class_short, policing_short, integrity_short, redundancy_short)

@@ -10,7 +10,7 @@ pub const OUTCOME: usize = 20;
 
 /// The last word that the line says of its frame, and who says it.
 #[inline]
-#[tactic(auto, using(crate::proofs::Lengths::class_short, crate::proofs::Lengths::integrity_short, crate::proofs::Lengths::policing_short, crate::proofs::Lengths::redundancy_short))]
+#[tactic(auto, using(crate::proofs::Lengths::short_words))]
 pub fn outcome_of(line: &FrameLine) -> (&'static str, &'static str)
     ensures text { result.0.now ++ result.1.now ≡ outcome_text line.now }
     ensures short { length result.0.now + length result.1.now ≤ OUTCOME }

@@ -39,7 +39,8 @@ impl Redundancy {
     /// The verdict whose word the bytes are.
     #[inline]
     pub fn from_word(word: &[u8]) -> Option<Redundancy>
-        ensures { (redundancy : Redundancy) → (redundancy_word redundancy ≡ word.now) ↔ (result ≡ Some redundancy) }
+        ensures { (redundancy : Redundancy)
+            → (redundancy_word redundancy ≡ word.now) ↔ (result ≡ Some redundancy) }
     {
         match word {
             b"deliver" => Some(Redundancy::Deliver),

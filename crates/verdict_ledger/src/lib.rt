@@ -26,9 +26,9 @@
 //! - [`Ledger`], with its faults [`LedgerFault`] and [`LedgerRefused`].
 //! - [`append_lines`], the lines of a round as text, for callers that format on other threads and then
 //!   hand the text to [`Ledger::round_text`].
-//! - [`Totals`], the counts of all frames, and [`LinkCounts`], those of a link. Each frame counts in one column
-//!   of its line ([`counts_add_up`]). A [`Tally`] counts both; [`push_link`], [`push_filter`] and [`push_total`]
-//!   write their lines.
+//! - [`Totals`], the counts of all frames, and [`LinkCounts`], those of a link. Each frame counts in one
+//!   column of its line ([`counts_add_up`]). A [`Tally`] counts both; [`push_link`], [`push_filter`] and
+//!   [`push_total`] write their lines.
 #![tactic(auto)]
 
 mod bounds;

@@ -58,13 +58,13 @@ impl Tally {
         ensures { (entries : List Entry) → length entries < MAX_LINES → IsTallyOf entries self.old
             → IsTallyOf (entries ++ entry_with frame.now verdict.now keep mask ∷ []) self.new }
     {
-        self.count_line(frame.link(), verdict, keep, mask);
+        self.count_by(frame.link(), verdict, keep, mask);
     }
 
     /// Counts a frame by what its line says: its link, its verdict, how many bytes of it are kept, and the mask
     /// of the filters that accept it.
     #[inline]
-    pub fn count_line(&mut self, link: Option<VlId>, verdict: &Verdict, keep: Option<u32>, mask: u8)
+    pub fn count_by(&mut self, link: Option<VlId>, verdict: &Verdict, keep: Option<u32>, mask: u8)
         ensures { (entries : List Entry) (e : Entry) → length entries < MAX_LINES
             → link ≡ link_of e.frame.bytes → verdict.now ≡ e.verdict → keep ≡ e.keep → mask ≡ e.mask
             → IsTallyOf entries self.old → IsTallyOf (entries ++ e ∷ []) self.new }

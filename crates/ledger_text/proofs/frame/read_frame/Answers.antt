@@ -18,6 +18,14 @@ use Rattle.ledger_text.proofs.Spelling.{make}
 use Rattle.ledger_text.proofs.Faults.{got, missed, reads_any, told, whole, fits, fault_stamp, fault_network, fault_index, fault_link, fault_sequence, fault_class, fault_policing, fault_integrity, fault_redundancy, fault_kept, fault_mask, fault_fields}
 use Rattle.ledger_text.proofs.frame.read_frame.Goals as goal
 
+-- each verdict is there where it is reached
+pub invariant_of-verdict : goal.invariant_of-verdict
+invariant_of-verdict c =
+    let x6 = got (Optional Any (is_regular c.in_ok-class.class)) (dash_or policing_word) c.next-7.result.now c.policing_of.result c.ok_or-7.result c.in_ok-policing.policing c.policing_of.ensures c.ok_or-7.ensures.ok_part c.in_ok-policing.was in
+    let x7 = got (Optional Any (option_map_or is_within c.in_ok-policing.policing false)) (dash_or integrity_word) c.next-8.result.now c.integrity_of.result c.ok_or-8.result c.in_ok-integrity.integrity c.integrity_of.ensures c.ok_or-8.ensures.ok_part c.in_ok-integrity.was in
+    let x8 = got (Optional Any (option_map_or is_valid c.in_ok-integrity.integrity false)) (dash_or redundancy_word) c.next-9.result.now c.redundancy_of.result c.ok_or-9.result c.in_ok-redundancy.redundancy c.redundancy_of.ensures c.ok_or-9.ensures.ok_part c.in_ok-redundancy.was in
+    record { policing = x6.0.present; integrity = x7.0.present; redundancy = x8.0.present }
+
 pub returns-in_err-stamp : goal.returns-in_err-stamp
 returns-in_err-stamp c =
     let line = c.args.line.now in

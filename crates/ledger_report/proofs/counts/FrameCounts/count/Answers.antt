@@ -10,8 +10,8 @@ pub returns : goal.returns
 returns c = λ lines few are.
     let line = c.args.line.now in
     record {
-      tally = subst (λ (es : List Entry). IsTallyOf es c.count_line.new.self) (sym (entries_more lines line))
-          (c.count_line.ensures (entries_of lines) (entry_of line) (few_entries lines few) (link_back line.link) refl refl refl are.tally);
+      tally = subst (λ (es : List Entry). IsTallyOf es c.count_by.new.self) (sym (entries_more lines line))
+          (c.count_by.ensures (entries_of lines) (entry_of line) (few_entries lines few) (link_back line.link) refl refl refl are.tally);
       a = c.count_on.ensures lines few are.a;
       b = c.count_on-2.ensures lines few are.b;
     }

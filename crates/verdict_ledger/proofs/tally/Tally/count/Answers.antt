@@ -4,5 +4,5 @@ use Rattle.verdict_ledger.proofs.tally.Tally.count.Goals as goal
 
 pub returns : goal.returns
 returns c = λ entries few tallied.
-    c.count_line.ensures entries (entry_with c.args.frame.now c.args.verdict.now c.args.keep c.args.mask) few
+    c.count_by.ensures entries (entry_with c.args.frame.now c.args.verdict.now c.args.keep c.args.mask) few
     c.link.ensures refl refl refl tallied

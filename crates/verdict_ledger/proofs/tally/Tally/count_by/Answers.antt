@@ -3,7 +3,7 @@ use Rattle.std.proofs.Common.{ℕ, ◌<◌, ap, ◌∙◌, sym, arith}
 use Rattle.std.specs.List.{filter}
 use Rattle.verdict_ledger.specs.Tally.{is_entry_of, link_counts}
 use Rattle.verdict_ledger.proofs.Tallying.{counted_by, counts_move, counts_stay, few_of_link}
-use Rattle.verdict_ledger.proofs.tally.Tally.count_line.Goals as goal
+use Rattle.verdict_ledger.proofs.tally.Tally.count_by.Goals as goal
 
 pub returns-in-Some : goal.returns-in-Some
 returns-in-Some c = λ entries e few linked judged kept masked tallied.
