@@ -177,7 +177,7 @@ fn judges(rt: &(impl Abort + AllocGlobal), config: &Config, cases: &[(Row, Said)
     assert!(rt; lanes.last() == None);
     for (row, said) in cases {
         let frame = frame_of(rt.alloc(), row)?;
-        assert!(rt; config.class(&frame) == said.0);
+        assert!(rt; config.class(&frame.lent()) == said.0);
         says(rt, &judge_next(rt, &mut lanes, &frame), said);
         assert!(rt; lanes.last() == Some(frame.key()));
     }
