@@ -9,8 +9,7 @@ use Rattle.pcap_io.specs.Batches.{GivesBatch, GivesFrames, HasAtMost}
 use Rattle.pcap_io.specs.declared.item.Batched.{Batched}
 use Rattle.pcap_io.specs.declared.item.Batched.TheVariants as read
 use Rattle.pcap_io.specs.declared.item.ReadFault.{ReadFault}
-use Rattle.tap_queue.specs.Batches.{items_of, batch_from}
-use Rattle.tap_queue.specs.Items.{Gives, IsFed, frame_items, is_last, is_over}
+use Rattle.tap_queue.specs.Items.{Gives, IsFed, batch_from, frame_items, is_last, is_over, items_of}
 use Rattle.tap_queue.specs.Ring.{PutsMore, PutsSome, SamePut, put_items}
 use Rattle.tap_queue.specs.declared.item.TapItem.{TapItem}
 use Rattle.tap_queue.specs.declared.ring.TapPut.{TapPut}
