@@ -61,7 +61,7 @@ length-frame_items [] = refl
 length-frame_items (f ∷ fs) = ap suc (length-frame_items fs)
 
 pub count-frame_items : (b : BatchState) → length (frame_items (batch_frames b)) ≡ length b.left
-count-frame_items b = length-frame_items (batch_frames b) ∙ length-map (record_frame b.block) b.left
+count-frame_items b = length-frame_items (batch_frames b) ∙ length-map b.left (record_frame b.block)
 
 pub some_taken : (most : ℕ) (r : Result Batched ReadFault) → IfOk r (HasAtMost most) → 0 < length (items_of (batch_from r))
 some_taken most (Ok (read.Frames batch)) some = omega (arith, some.0, count-frame_items batch)

@@ -46,5 +46,5 @@ returns-clause-next c = λ _ before counted highest.
     (let b = c.args.frames.now in
     let all = batch_frames b in
     let whole : take c.loop-index.index all ≡ all =
-    take_all c.loop-index.index all (omega (arith, c.loop-index-test.false, c.count-index-end.ensures.count, length-map (record_frame b.block) b.left)) in
+    take_all c.loop-index.index all (omega (arith, c.loop-index-test.false, c.count-index-end.ensures.count, length-map b.left (record_frame b.block))) in
     subst (λ (l : List Frame). PassesAll before l c.args.self.now c.loop-index.next) whole (c.loop-index.invariant.passes before counted highest))
