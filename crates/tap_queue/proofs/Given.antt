@@ -1,7 +1,6 @@
 -- Items that a reader gives one after another.
 use Rattle.std.proofs.Common.{rules, ◌≡◌, ◌<◌, ℕ, suc, length, arith, IfOk, Ok, Err, Result, true, false, List, [], ◌∷◌, ◌++◌, refl, sym, ap, ◌∙◌, subst, append_assoc}
 use Rattle.std.proofs.lemmas.List.{append-nil, length-map}
-use Rattle.std.proofs.lemmas.Bool.{false≢true}
 use Rattle.afdx_frame.specs.Frame.{Frame}
 use Rattle.pcap_io.specs.Position.{Reading}
 use Rattle.frame_batch.specs.Batch.{BatchState, batch_frames, record_frame}

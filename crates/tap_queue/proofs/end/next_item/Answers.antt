@@ -1,7 +1,7 @@
-use Rattle.std.proofs.Common.{◌≡◌, ◌++◌, ◌∷◌, [], ◌∙◌, ap}
+use Rattle.std.proofs.Common.{◌++◌, ◌∷◌, [], ◌∙◌, ap}
 use Rattle.rtrb.specs.Ring.{received}
 use Rattle.frame_batch.specs.Batch.{batch_frames, frames_left}
-use Rattle.tap_queue.specs.Batches.{items_in, rest_items, taken_of}
+use Rattle.tap_queue.specs.Batches.{rest_items, taken_of}
 use Rattle.tap_queue.specs.Items.{items_of}
 use Rattle.tap_queue.specs.declared.item.TapBatch.{TapBatch}
 use Rattle.tap_queue.specs.declared.item.TapItem.TheVariants.{Frame as frame}
