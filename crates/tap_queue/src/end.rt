@@ -271,9 +271,9 @@ impl TapEnd {
         Ok(item)
     }
 
-    /// Takes what came together: what is left of the frames of which [`take`](TapEnd::take) gave the first, or
-    /// else the next ones, or the ending or a fault, and waits where there is none. Each frame is the network's
-    /// next, as one that `take` gives.
+    /// Takes what came together: what is left of the frames of which [`take`](TapEnd::take) gave the
+    /// first, or else the next ones, or the ending or a fault, and waits where there is none. Each frame
+    /// is the network's next, as one that `take` gives.
     ///
     /// # Errors
     ///
