@@ -1,5 +1,5 @@
 -- A packet that stands whole among the unread bytes, and frames that are added to a batch.
-use Rattle.std.proofs.Common.{◌≡◌, ◌≢◌, ℕ, ◌+◌, ◌-◌, ◌<◌, ◌≤◌, List, [], ◌∷◌, ◌++◌, length, map, slice_range, Option, None, Ok, refl, sym, ap, ◌∙◌, subst, arith, append_assoc, append-nil}
+use Rattle.std.proofs.Common.{◌≡◌, ℕ, ◌+◌, ◌-◌, ◌<◌, ◌≤◌, List, [], ◌∷◌, ◌++◌, length, slice_range, Option, None, Ok, refl, sym, ap, ◌∙◌, subst, arith, append_assoc, append-nil}
 use Rattle.std.proofs.lemmas.List.{map-append}
 use Rattle.std.specs.Io.KnownBytes.{Consumes, prepend_known}
 use Rattle.afdx_frame.specs.Frame.{Frame}
@@ -9,7 +9,7 @@ use Rattle.pcap_io.specs.Batches.{AddsFrame, AddsFrames, GivesFrames}
 use Rattle.pcap_io.specs.Bytes.{IsBytes}
 use Rattle.pcap_io.specs.Device.{TakesAtMost}
 use Rattle.pcap_io.specs.Position.{Advances, IsStartOf, Reading, TakesFrame, TakesHeader, after_frame, frame_at}
-use Rattle.pcap_io.specs.Recording.{header_fields, reason_at}
+use Rattle.pcap_io.specs.Recording.{reason_at}
 use Rattle.pcap_io.specs.declared.item.Item.TheVariants as items
 use Rattle.pcap_io.specs.declared.packet_header.PacketHeader.{PacketHeader}
 use Rattle.pcap_io.specs.declared.position.Position.{Position}

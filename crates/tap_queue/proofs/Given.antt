@@ -1,7 +1,6 @@
 -- Items that a reader gives one after another.
 use Rattle.std.proofs.Common.{rules, ◌≡◌, ◌<◌, ℕ, suc, length, arith, IfOk, Ok, Err, Result, true, false, List, [], ◌∷◌, ◌++◌, refl, sym, ap, ◌∙◌, subst, append_assoc}
 use Rattle.std.proofs.lemmas.List.{append-nil, length-map}
-use Rattle.std.proofs.lemmas.Bool.{false≢true}
 use Rattle.afdx_frame.specs.Frame.{Frame}
 use Rattle.pcap_io.specs.Position.{Reading}
 use Rattle.frame_batch.specs.Batch.{BatchState, batch_frames, record_frame}
@@ -9,8 +8,7 @@ use Rattle.pcap_io.specs.Batches.{GivesBatch, GivesFrames, HasAtMost}
 use Rattle.pcap_io.specs.declared.item.Batched.{Batched}
 use Rattle.pcap_io.specs.declared.item.Batched.TheVariants as read
 use Rattle.pcap_io.specs.declared.item.ReadFault.{ReadFault}
-use Rattle.tap_queue.specs.Batches.{items_of, batch_from}
-use Rattle.tap_queue.specs.Items.{Gives, IsFed, frame_items, is_last, is_over}
+use Rattle.tap_queue.specs.Items.{Gives, IsFed, batch_from, frame_items, is_last, is_over, items_of}
 use Rattle.tap_queue.specs.Ring.{PutsMore, PutsSome, SamePut, put_items}
 use Rattle.tap_queue.specs.declared.item.TapItem.{TapItem}
 use Rattle.tap_queue.specs.declared.ring.TapPut.{TapPut}
@@ -62,7 +60,7 @@ length-frame_items [] = refl
 length-frame_items (f ∷ fs) = ap suc (length-frame_items fs)
 
 pub count-frame_items : (b : BatchState) → length (frame_items (batch_frames b)) ≡ length b.left
-count-frame_items b = length-frame_items (batch_frames b) ∙ length-map (record_frame b.block) b.left
+count-frame_items b = length-frame_items (batch_frames b) ∙ length-map b.left (record_frame b.block)
 
 pub some_taken : (most : ℕ) (r : Result Batched ReadFault) → IfOk r (HasAtMost most) → 0 < length (items_of (batch_from r))
 some_taken most (Ok (read.Frames batch)) some = omega (arith, some.0, count-frame_items batch)

@@ -6,14 +6,14 @@ use Rattle.afdx_frame.specs.Frame.{Frame}
 use Rattle.afdx_frame.specs.declared.key.Network.{Network}
 use Rattle.pcap_io.specs.declared.recording.Ending.{Ending}
 use Rattle.pcap_io.specs.declared.item.ReadFault.{ReadFault}
-use Rattle.tap_queue.specs.Items.{AreNextFrames, Follows, IsNextFrame, frame_items, IsNextItem, frames_in, high_of, is_last, is_over}
+use Rattle.tap_queue.specs.Items.{AreNextFrames, Follows, IsNextFrame, frame_items, IsNextItem, frames_in, high_of, is_last, is_over, items_of}
 use Rattle.tap_queue.specs.Passing.{PassesAll}
 use Rattle.tap_queue.specs.declared.next_frame.NextFrame.{NextFrame}
 use Rattle.tap_queue.specs.declared.item.TapItem.{TapItem}
 use Rattle.tap_queue.specs.declared.item.TapBatch.{TapBatch}
 use Rattle.tap_queue.specs.declared.item.TapBatch.TheVariants as batches
 use Rattle.frame_batch.specs.Batch.{BatchState, batch_frames}
-use Rattle.tap_queue.specs.Batches.{AreNextItems, items_of}
+use Rattle.tap_queue.specs.Batches.{AreNextItems}
 use Rattle.tap_queue.specs.declared.item.TapItem.TheVariants.{Frame as frame, End, Failed}
 
 -- ---- the greatest stamp

@@ -1,29 +1,13 @@
 -- Batches of items, which go through a ring one after another.
-use Rattle.std.specs.Prelude.{◌≡◌, ◌⊎◌, ℕ, ◌-◌, false, List, [], ◌∷◌, ◌++◌, length, take, Option, Result, Ok, Err}
+use Rattle.std.specs.Prelude.{◌≡◌, ◌⊎◌, ℕ, ◌-◌, false, List, ◌++◌, length, take, Option}
 use Rattle.std.specs.List.{flat_map}
 use Rattle.afdx_frame.specs.declared.key.Network.{Network}
 use Rattle.frame_batch.specs.Batch.{BatchState, batch_frames, frames_left}
-use Rattle.pcap_io.specs.declared.item.Batched.{Batched}
-use Rattle.pcap_io.specs.declared.item.Batched.TheVariants as read
-use Rattle.pcap_io.specs.declared.item.ReadFault.{ReadFault}
-use Rattle.tap_queue.specs.Items.{AreNextFrames, frame_items, frames_in, is_over}
+use Rattle.tap_queue.specs.Items.{AreNextFrames, frame_items, frames_in, is_over, items_of}
 use Rattle.tap_queue.specs.declared.item.Batch.{Batch}
 use Rattle.tap_queue.specs.declared.item.TapBatch.{TapBatch}
 use Rattle.tap_queue.specs.declared.item.TapBatch.TheVariants.{Frames, End, Failed}
 use Rattle.tap_queue.specs.declared.item.TapItem.{TapItem}
-use Rattle.tap_queue.specs.declared.item.TapItem.TheVariants as items
-
--- what a call of a reader gave
-abbrev pub batch_from : Result Batched ReadFault → TapBatch
-batch_from (Ok (read.Frames batch)) = Frames batch
-batch_from (Ok (read.End e)) = End e
-batch_from (Err fault) = Failed fault
-
--- what was given together, item by item
-abbrev pub items_of : TapBatch → List TapItem
-items_of (Frames batch) = frame_items (batch_frames batch)
-items_of (End e) = items.End e ∷ []
-items_of (Failed fault) = items.Failed fault ∷ []
 
 -- the items of a batch, in order
 abbrev pub batch_items : Batch → List TapItem

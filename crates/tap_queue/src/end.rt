@@ -1,8 +1,8 @@
 //! The end of a ring that items are taken from.
 ghost use Rattle.std.specs.Prelude.{◌≡◌, ◌++◌, ◌∷◌, ◌^◌, ◌≤◌, [], length, false, None, MatchOption};
 ghost use Rattle.rtrb.specs.Ring.{SameConsumer, received};
-ghost use Rattle.tap_queue.specs.Items.{frames_in, high_of, is_over};
-ghost use Rattle.tap_queue.specs.Batches.{IsRest, items_of, rest_items, taken_of};
+ghost use Rattle.tap_queue.specs.Items.{frames_in, high_of, is_over, items_of};
+ghost use Rattle.tap_queue.specs.Batches.{IsRest, rest_items, taken_of};
 
 use crate::bell::{Bell, Bells};
 use crate::feeding::Fed;
@@ -271,9 +271,9 @@ impl TapEnd {
         Ok(item)
     }
 
-    /// Takes what came together: what is left of the frames of which [`take`](TapEnd::take) gave the first, or
-    /// else the next ones, or the ending or a fault, and waits where there is none. Each frame is the network's
-    /// next, as one that `take` gives.
+    /// Takes what came together: what is left of the frames of which [`take`](TapEnd::take) gave the
+    /// first, or else the next ones, or the ending or a fault, and waits where there is none. Each frame
+    /// is the network's next, as one that `take` gives.
     ///
     /// # Errors
     ///

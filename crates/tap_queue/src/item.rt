@@ -1,7 +1,6 @@
 //! What goes through a ring, and what is taken of it.
 ghost use Rattle.std.specs.Prelude.{◌≡◌, ◌<◌, length};
-ghost use Rattle.tap_queue.specs.Batches.{items_of};
-ghost use Rattle.tap_queue.specs.Items.{is_over};
+ghost use Rattle.tap_queue.specs.Items.{is_over, items_of};
 
 use afdx_frame::TapFrame;
 use frame_batch::FrameBatch;
@@ -31,7 +30,7 @@ pub enum TapBatch {
 }
 
 impl TapBatch {
-    ghost use Rattle.tap_queue.specs.Batches.{batch_from};
+    ghost use Rattle.tap_queue.specs.Items.{batch_from};
 
     /// What a call of a reader gave.
     pub(crate) fn of(read: Result<Batched, ReadFault>) -> TapBatch

@@ -31,5 +31,5 @@ mod ring;
 pub use end::TapEnd;
 pub use feeding::{Fed, feed, fill};
 pub use gate::TapGate;
-pub use item::{RingLost, TapItem, TapBatch};
+pub use item::{RingLost, TapBatch, TapItem};
 pub use ring::{BATCH_LEN, RING_LEN, RingSizes, TapPut, sized_tap_ring, tap_ring};

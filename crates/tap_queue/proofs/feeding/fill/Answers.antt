@@ -1,10 +1,9 @@
-use Rattle.std.proofs.Common.{rules, List, ◌++◌, [], ap, ◌∙◌, sym, refl, arith}
+use Rattle.std.proofs.Common.{rules, [], ap, ◌∙◌, sym, refl, arith}
 use Rattle.std.proofs.lemmas.Bool.{false≢true}
 use Rattle.std.proofs.lemmas.List.{append-nil}
 use Rattle.tap_queue.specs.Batches.{batch_items}
 use Rattle.tap_queue.specs.Items.{is_over}
 use Rattle.tap_queue.specs.Ring.{put_items, put_of}
-use Rattle.tap_queue.specs.declared.item.TapItem.{TapItem}
 use Rattle.tap_queue.proofs.Given.{over_append, puts_on, puts_some}
 use Rattle.tap_queue.proofs.feeding.fill.Goals as goal
 

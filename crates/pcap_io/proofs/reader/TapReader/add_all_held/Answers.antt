@@ -1,4 +1,4 @@
-use Rattle.std.proofs.Common.{List, [], ◌∷◌, length, ap, ◌∙◌, arith, sym}
+use Rattle.std.proofs.Common.{[], ◌∷◌, length, ap, arith}
 use Rattle.std.proofs.lemmas.List.{length-append}
 use Rattle.frame_batch.specs.Batch.{BatchState}
 use Rattle.pcap_io.proofs.Held.{adds_more, adds_none}

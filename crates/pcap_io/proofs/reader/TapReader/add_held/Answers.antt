@@ -1,4 +1,4 @@
-use Rattle.std.proofs.Common.{rules, ◌+◌, ap, refl, arith}
+use Rattle.std.proofs.Common.{rules, ◌+◌, ap, refl}
 use Rattle.afdx_frame.specs.declared.key.Stamp.{Stamp}
 use Rattle.pcap_io.specs.Reader.{block_of, position_of, source_of}
 use Rattle.pcap_io.proofs.Held.{held_added}

@@ -1,4 +1,4 @@
-use Rattle.std.proofs.Common.{rules, ◌≡◌, ◌∙◌, ap, Ok}
+use Rattle.std.proofs.Common.{rules, ◌∙◌, ap, Ok}
 use Rattle.std.proofs.lemmas.Result.{err_from_is_err_and}
 use Rattle.pcap_io.specs.Block.{part_bytes}
 use Rattle.pcap_io.specs.Position.{frame_at}

@@ -1,10 +1,10 @@
 use Rattle.std.proofs.Common.{◌≡◌, ◌++◌, ◌∷◌, [], length, sym, ap, ◌∙◌, inr, List}
 use Rattle.std.proofs.lemmas.Bool.{not-false, not-true, false≢true}
 use Rattle.frame_batch.specs.Batch.{batch_frames}
-use Rattle.tap_queue.specs.Batches.{items_of, rest_items, taken_of}
+use Rattle.tap_queue.specs.Batches.{rest_items, taken_of}
 use Rattle.tap_queue.specs.Ring.{taken_items}
 use Rattle.rtrb.specs.Ring.{received}
-use Rattle.tap_queue.specs.Items.{frame_items, frames_in, high_of, is_over}
+use Rattle.tap_queue.specs.Items.{frame_items, frames_in, high_of, is_over, items_of}
 use Rattle.tap_queue.specs.declared.item.TapBatch.{TapBatch}
 use Rattle.tap_queue.specs.declared.item.TapItem.{TapItem}
 use Rattle.tap_queue.specs.declared.end.TapEnd.{TapEnd}

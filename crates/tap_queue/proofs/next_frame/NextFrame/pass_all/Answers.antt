@@ -1,4 +1,4 @@
-use Rattle.std.proofs.Common.{◌≡◌, ◌+◌, ◌<◌, ◌++◌, ◌∷◌, [], ◌∙◌, ℕ, List, Some, append_assoc, drop, length, take, slice_get, subst, sym, ap, arith}
+use Rattle.std.proofs.Common.{◌≡◌, ◌+◌, ◌++◌, ◌∷◌, [], ◌∙◌, ℕ, List, Some, append_assoc, drop, take, slice_get, subst, sym, ap, arith}
 use Rattle.std.proofs.lemmas.List.{length-map, take_all, take_more, take-append-drop}
 use Rattle.std.proofs.lemmas.Bool.{false≢true}
 use Rattle.std.proofs.lemmas.Option.{get_or_from_slice_get, slice_get_within}
@@ -45,5 +45,5 @@ returns-clause-next c = λ _ before counted highest.
     (let b = c.args.frames.now in
     let all = batch_frames b in
     let whole : take c.loop-index.index all ≡ all =
-    take_all c.loop-index.index all (omega (arith, c.loop-index-test.false, c.count.ensures.count, length-map (record_frame b.block) b.left)) in
+    take_all c.loop-index.index all (omega (arith, c.loop-index-test.false, c.count-index-end.ensures.count, length-map b.left (record_frame b.block))) in
     subst (λ (l : List Frame). PassesAll before l c.args.self.now c.loop-index.next) whole (c.loop-index.invariant.passes before counted highest))
