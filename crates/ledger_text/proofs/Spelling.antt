@@ -192,21 +192,3 @@ one_line v w p q e =
     let same : make v.stamp.0 v.network v.number v.link v.sequence v.verdict.class v.verdict.policing v.verdict.integrity v.verdict.redundancy v.kept v.mask
     ≡ make w.stamp.0 w.network w.number w.link w.sequence w.verdict.class w.verdict.policing w.verdict.integrity w.verdict.redundancy w.kept w.mask = cc in
     same
-
--- a list of twelve, by its items
-pub twelve : (a0 a1 a2 a3 a4 a5 a6 a7 a8 a9 a10 a11 : ℕ) (l : List ℕ) → length l ≡ 12 → get_or l 0 0 ≡ a0 → get_or l 1 0 ≡ a1 → get_or l 2 0 ≡ a2 → get_or l 3 0 ≡ a3 → get_or l 4 0 ≡ a4 → get_or l 5 0 ≡ a5 → get_or l 6 0 ≡ a6 → get_or l 7 0 ≡ a7 → get_or l 8 0 ≡ a8 → get_or l 9 0 ≡ a9 → get_or l 10 0 ≡ a10 → get_or l 11 0 ≡ a11
-    → (a0 ∷ a1 ∷ a2 ∷ a3 ∷ a4 ∷ a5 ∷ a6 ∷ a7 ∷ a8 ∷ a9 ∷ a10 ∷ a11 ∷ []) ≡ l
-twelve a0 a1 a2 a3 a4 a5 a6 a7 a8 a9 a10 a11 [] e h0 h1 h2 h3 h4 h5 h6 h7 h8 h9 h10 h11 = absurd (omega (arith, e))
-twelve a0 a1 a2 a3 a4 a5 a6 a7 a8 a9 a10 a11 (x0 ∷ []) e h0 h1 h2 h3 h4 h5 h6 h7 h8 h9 h10 h11 = absurd (omega (arith, e))
-twelve a0 a1 a2 a3 a4 a5 a6 a7 a8 a9 a10 a11 (x0 ∷ x1 ∷ []) e h0 h1 h2 h3 h4 h5 h6 h7 h8 h9 h10 h11 = absurd (omega (arith, e))
-twelve a0 a1 a2 a3 a4 a5 a6 a7 a8 a9 a10 a11 (x0 ∷ x1 ∷ x2 ∷ []) e h0 h1 h2 h3 h4 h5 h6 h7 h8 h9 h10 h11 = absurd (omega (arith, e))
-twelve a0 a1 a2 a3 a4 a5 a6 a7 a8 a9 a10 a11 (x0 ∷ x1 ∷ x2 ∷ x3 ∷ []) e h0 h1 h2 h3 h4 h5 h6 h7 h8 h9 h10 h11 = absurd (omega (arith, e))
-twelve a0 a1 a2 a3 a4 a5 a6 a7 a8 a9 a10 a11 (x0 ∷ x1 ∷ x2 ∷ x3 ∷ x4 ∷ []) e h0 h1 h2 h3 h4 h5 h6 h7 h8 h9 h10 h11 = absurd (omega (arith, e))
-twelve a0 a1 a2 a3 a4 a5 a6 a7 a8 a9 a10 a11 (x0 ∷ x1 ∷ x2 ∷ x3 ∷ x4 ∷ x5 ∷ []) e h0 h1 h2 h3 h4 h5 h6 h7 h8 h9 h10 h11 = absurd (omega (arith, e))
-twelve a0 a1 a2 a3 a4 a5 a6 a7 a8 a9 a10 a11 (x0 ∷ x1 ∷ x2 ∷ x3 ∷ x4 ∷ x5 ∷ x6 ∷ []) e h0 h1 h2 h3 h4 h5 h6 h7 h8 h9 h10 h11 = absurd (omega (arith, e))
-twelve a0 a1 a2 a3 a4 a5 a6 a7 a8 a9 a10 a11 (x0 ∷ x1 ∷ x2 ∷ x3 ∷ x4 ∷ x5 ∷ x6 ∷ x7 ∷ []) e h0 h1 h2 h3 h4 h5 h6 h7 h8 h9 h10 h11 = absurd (omega (arith, e))
-twelve a0 a1 a2 a3 a4 a5 a6 a7 a8 a9 a10 a11 (x0 ∷ x1 ∷ x2 ∷ x3 ∷ x4 ∷ x5 ∷ x6 ∷ x7 ∷ x8 ∷ []) e h0 h1 h2 h3 h4 h5 h6 h7 h8 h9 h10 h11 = absurd (omega (arith, e))
-twelve a0 a1 a2 a3 a4 a5 a6 a7 a8 a9 a10 a11 (x0 ∷ x1 ∷ x2 ∷ x3 ∷ x4 ∷ x5 ∷ x6 ∷ x7 ∷ x8 ∷ x9 ∷ []) e h0 h1 h2 h3 h4 h5 h6 h7 h8 h9 h10 h11 = absurd (omega (arith, e))
-twelve a0 a1 a2 a3 a4 a5 a6 a7 a8 a9 a10 a11 (x0 ∷ x1 ∷ x2 ∷ x3 ∷ x4 ∷ x5 ∷ x6 ∷ x7 ∷ x8 ∷ x9 ∷ x10 ∷ []) e h0 h1 h2 h3 h4 h5 h6 h7 h8 h9 h10 h11 = absurd (omega (arith, e))
-twelve a0 a1 a2 a3 a4 a5 a6 a7 a8 a9 a10 a11 (x0 ∷ x1 ∷ x2 ∷ x3 ∷ x4 ∷ x5 ∷ x6 ∷ x7 ∷ x8 ∷ x9 ∷ x10 ∷ x11 ∷ []) e h0 h1 h2 h3 h4 h5 h6 h7 h8 h9 h10 h11 = cc
-twelve a0 a1 a2 a3 a4 a5 a6 a7 a8 a9 a10 a11 (x0 ∷ x1 ∷ x2 ∷ x3 ∷ x4 ∷ x5 ∷ x6 ∷ x7 ∷ x8 ∷ x9 ∷ x10 ∷ x11 ∷ y ∷ l) e h0 h1 h2 h3 h4 h5 h6 h7 h8 h9 h10 h11 = absurd (omega (arith, e))
