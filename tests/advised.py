@@ -24,6 +24,8 @@ MENDS = (
     ("-C -4", {"in.pcap": header(link_type=0x24000001) + b"".join(record(stamp, data + b"fcs.") for stamp, data in FRAMES)}, FRAMES),
     ("1-2", {"in.pcap": header() + b"".join(record(*one) for one in FRAMES[:2]) + BAD}, FRAMES[:2]),
     ("-c 1000000000", {"in.pcap": WHOLE}, FRAMES),
+    (" -d ", {"in.pcap": header() + b"".join(record(stamp + later, data) for stamp, data in FRAMES for later in (0, 1))}, FRAMES),
+    ("-i 60", {"in.pcap": WHOLE}, FRAMES),
     ("reordercap", {"in.pcap": header() + b"".join(record(*one) for one in FRAMES[::-1])}, FRAMES),
     ("editcap -F nsecpcap in.pcap out.pcap", {"in.pcap": header(version=(2, 3)) + WHOLE[24:]}, FRAMES),
     ("gunzip", {"in.pcap": WHOLE}, FRAMES),

@@ -145,7 +145,7 @@ def silences(folder):
         found, told, shown, tile = judged.findings(), judged.json(), judged.terminal(), judged.tile("Lost numbers")
         missing = {n: [one[n]["missing_in_silences"] for one in told["links"]] for n in "ab"}
         words = "Neither network has a frame" if gone == "AB" else "Network A silent"
-        claims = [(named(found, words, "for 5s, from 7.99", "about 2500 numbers of the links", "of 1 links the rate isn't known"), "a finding"),
+        claims = [(named(found, words, "for 5s, from 7.99", "about 2500 numbers of the links", "of 1 link the rate isn't known"), "a finding"),
                   (all(near(n, 625) for n in missing["a"][:4]) and missing["a"][4] is None, f"missing: {missing}"),
                   (missing["b"] == ([0] * 5 if gone == "A" else missing["a"]), f"missing on B: {missing}"),
                   (all(one["lost_both"] == 0 and not one["gap"] and one["level"] == "clean" for one in told["links"]), "links are clean"),

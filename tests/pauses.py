@@ -10,7 +10,7 @@ import time
 from analyser import watch
 from harness import EVERY, PROGRAM, SUCCESS, frame, say, shown
 from progress import Screen
-from summaries import ONE_RECORDING, summary_of
+from summaries import summary_of
 from watching import TABLE, Desk, tap
 
 MS = 10**6
@@ -102,8 +102,7 @@ def at_terminal(name, pipes, feed, told, *more):
     screen, begun = Screen(), time.monotonic()
     status, whole = screen.run([*pipes.arguments(), *more], feed, stdin=subprocess.DEVNULL)
     left, ledger = pipes.left()
-    hint = None if pipes.recordings["a"] != pipes.recordings["b"] else ONE_RECORDING
-    expected = "" if more else (told + "\n" if told else "") + summary_of(ledger, hint)
+    expected = "" if more else (told + "\n" if told else "") + summary_of(ledger, None)
     fault = "" if (status, shown(whole)) == (SUCCESS, expected) else f"status {status}, {shown(whole)!r}, not {expected!r}"
     when = next((at - begun for at, text in screen.pieces if told and told.split(":")[1] in text), 10)
     if not fault and not 10 <= when <= 12.5:

@@ -1,4 +1,113 @@
-//! The look of the page.
+//! The text of the page.
+
+/// The skeleton of the page. `$name$` is a part, and `@name@` what code draws. The policy in the head makes a
+/// browser refuse scripts and links out.
+pub const PAGE: &str = "\
+<!doctype html><html lang=\"en\"><head><meta charset=\"utf-8\"/>
+<meta http-equiv=\"Content-Security-Policy\" content=\"default-src 'none';style-src 'unsafe-inline'\"/>
+<meta name=\"viewport\" content=\"width=device-width,initial-scale=1\"/>
+<title>AFDX recording, $start$</title><style>$style$</style></head><body>\
+<header><h1>AFDX recording</h1><p>$start$ <b>t = 0</b> &#183; $length$ &#183; $rows$ links \
+&#183; ledger version 2@filters@</p>@run@\
+<p class=\"key\"><span class=\"sw a\"></span>A, drawn upwards \
+<span class=\"sw b\"></span>B, drawn downwards \
+<span class=\"sw si\"></span>network silent <span class=\"sw nr\"></span>nothing \
+recorded &#183; pairs of numbers are \
+<span class=\"a\">A</span><i>/</i><span class=\"b\">B</span> &#183; #n is the frame's \
+number in that recording, from 0</p></header>\
+<div class=\"tiles\">\
+<div class=\"tile$?trouble$ hot$/$\"><h3>Links</h3><p class=\"big\">$trouble$\
+<small> of $links$ in trouble</small></p><p class=\"sub\">\
+$notice$ notice &#183; $silent$ never seen &#183; $clean$ clean</p></div>\
+<div class=\"tile\"><h3>Frames</h3><p class=\"big\">$frames$</p><p class=\"sub\">$pair$ on A / on B</p></div>\
+<div class=\"tile\"><h3>Delivered</h3><p class=\"big\">$delivered$</p>\
+<p class=\"sub\">$copies$ copies taken off</p></div>\
+<div class=\"tile$?discards$ hot$/$\"><h3>Discarded</h3><p class=\"big\">$discards$\
+<small> = $tenths$ %</small></p><p class=\"sub\">@reasons@</p></div>\
+<div class=\"tile$?missing$ hot$/$\"><h3>Lost numbers</h3><p class=\"big\">\
+$?bound$<small>at least </small>$/$$lost$</p><p class=\"sub\">missing in the links' count, outside silences\
+$?about$ &#183; in them about $about$$/$$?least$ &#183; in them at least $least$$/$\
+$?lost_cut$ &#183; up to $lost_cut$ of them may be frames cut short$/$</p></div>\
+<div class=\"tile$?alone$ hot$/$\"><h3>Alone</h3><p class=\"big\">$alone$</p>\
+<p class=\"sub\">came on this network only, the other being alive\
+$?alone_cut$ &#183; up to $alone_cut$ of them may be frames cut short$/$</p></div>\
+<div class=\"tile$?late$ hot$/$\"><h3>Skew, greatest</h3><p class=\"big\">@skew@</p></div>\
+<div class=\"tile taps$?ends$ hot$/$\"><h3>Recordings</h3><p class=\"big\">\
+<span class=\"tap a\"><b>A</b> @ending a@</span><span class=\"tap b\"><b>B</b> @ending b@</span></p>\
+<p class=\"sub\">silent A $silent_a$ B $silent_b$ </p></div></div>\
+<section><h2>What to look at first</h2><ol class=\"find\">@findings@</section>\
+<section class=\"tl\"><h2>Timeline <small>a column is $column$; each row has its own scale</small></h2>\
+@timeline@</section>\
+<section><h2>Links, worst first <small>$trouble$ in trouble \
+(3 signs or more and one in each thousand frames, a gap, or never seen on one network), \
+$notice$ notice, $silent$ never seen, $clean$ clean</small></h2>@links@</section>\
+<section class=\"dets\"><h2>Links in trouble</h2>@strips@</section>@comparison@\
+<section class=\"leg\"><h2>Words and rules</h2><div class=\"lgs\">\
+<div class=\"lg\"><h4>Class: the first that fits</h4><dl>\
+<dt>cut</dt><dd>fewer bytes recorded than were on the wire <i>the recorder's limit</i></dd>\
+<dt>runt</dt><dd>wire length below 60 <i>least Ethernet frame, without FCS</i></dd>\
+<dt>oversize</dt><dd>wire length above 1514 <i>greatest Ethernet frame, without FCS</i></dd>\
+<dt>foreign</dt><dd>the first four bytes aren't the constant field <i>Part 7, link addressing</i></dd>\
+<dt>unconfigured</dt><dd>the link isn't in the table <i>Part 7, filtering by link</i></dd>\
+<dt>toolong</dt><dd>wire length + 4 above the link's Smax <i>Part 7, filtering by size</i></dd>\
+</dl></div>\
+<div class=\"lg\"><h4>Policing, integrity checking, redundancy</h4><dl>\
+<dt>excess</dt><dd>the link's account on this network doesn't hold the frame <i>Part 7, policing</i></dd>\
+<dt>next, skip</dt><dd>the number after the one before, or one further <i>Part 7, integrity \
+checking</i></dd>\
+<dt>out</dt><dd>any other number; discarded <i>Part 7, integrity checking</i></dd>\
+<dt>first, reset</dt><dd>the run's first frame of the link, or number 0 <i>this project's profile</i></dd>\
+<dt>deliver</dt><dd>the first valid frame of its number wins <i>Part 7, redundancy management</i></dd>\
+<dt>copy</dt><dd>same number on the other network, at most SkewMax after <i>Part 7</i></dd>\
+</dl></div>\
+<div class=\"lg\"><h4>Read from the lines (this project's profile)</h4><dl>\
+<dt>lost</dt><dd>numbers missing between two frames of a link on one network</dd>\
+<dt>repeat</dt><dd>the same number twice running on one network</dd>\
+<dt>early</dt><dd>closer than BAG less jitter to the link's frame before</dd>\
+<dt>alone</dt><dd>delivered here, while the other network was alive and didn't bring it</dd>\
+<dt>late</dt><dd>second of a pair, beyond SkewMax, so delivered twice; within 127 BAG</dd>\
+<dt>network silent</dt><dd>64 or more lines of the other network between two, or a second and 8 times \
+what is usual</dd>\
+<dt>gap</dt><dd>not delivered for more than 8 times its BAG and its longest time between deliveries but \
+three</dd>\
+<dt>trouble</dt><dd>3 signs or more and one in each 1000 frames, a gap, or never seen on a network</dd>\
+</dl></div>\
+</div></section>\
+<footer><p>$tie$@whole@$sizes$\
+Numbers count to 255 and go on with 1: in a gap of more than 127 numbers lost is a lower bound. \
+This page has no script and fetches nothing.</p></footer></body></html>\n";
+
+/// The program that ran, and its command line.
+pub const RUN: &str = "<p class=\"of\">$name$ $version$ (commit $commit$): <code>";
+
+/// A file of the run. The facts after its size are those of a recording.
+pub const FILE: &str = "\
+<br/>$word$ <b>$path$</b>: $bytes$ bytes$?counted$, $frames$ frames$/$\
+$?first$ from $first$ to $last$$/$$?end$, ends $end$$/$$?reason$ ($reason$)$/$\
+$?sha256$, SHA-256 <code>$sha256$</code>$/$";
+
+/// What the page says where it has no manifest, and where it has one.
+pub const NOT_TIED: &str = "Table and ledger were not tied: no manifest of the run was given. ";
+
+pub const TIED: &str =
+    "The table has the SHA-256 of the run's manifest, and the ledger its length. ";
+
+pub const TIED_BY_DIGESTS: &str = "Table and ledger have the SHA-256 of the run's manifest. ";
+
+/// Where a ledger ends that isn't whole.
+pub const STOP: &str = "\
+The ledger isn't whole: its run was stopped, or goes on. It ends \
+$?within$within line $next$$/$$?without$without its total$/$; whole lines: $lines$. ";
+
+/// What the page says of a ledger that is whole.
+pub const WHOLE: &str = "The lines of counts agree with the lines of frames. ";
+
+/// What the page says where the ledger doesn't tell sizes, and where it does.
+pub const NO_SIZES: &str = "\
+No filter of the table takes every frame whole, so the ledger doesn't tell sizes: loads are left out. ";
+
+pub const SIZES: &str =
+    "Sizes are those kept by a filter of the table that takes every frame whole. ";
 
 /// The style sheet. A is blue and drawn upwards, B orange and drawn downwards, everywhere; what is wrong has
 /// one colour more.
