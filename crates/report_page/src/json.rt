@@ -135,11 +135,11 @@ impl Json {
     /// The signs that occur.
     fn signs(&mut self, signs: &Signs) {
         self.open("signs", "[");
-        for (sign, word) in SIGNS {
+        for sign in SIGNS {
             let mark = signs.of(sign);
             if mark.count > 0 {
                 self.open("", "{");
-                members!(self; sign = Quoted(word), count = Number(mark.count));
+                members!(self; sign = Quoted(sign.word()), count = Number(mark.count));
                 self.place("first", mark.first);
                 self.place("last", mark.last);
                 self.close("}");
@@ -231,8 +231,8 @@ impl Json {
         ] {
             self.row(row, series);
         }
-        for (sign, word) in SIGNS {
-            self.row(word, &side.signs.of(sign).bins);
+        for sign in SIGNS {
+            self.row(sign.word(), &side.signs.of(sign).bins);
         }
         self.close("]}");
     }

@@ -26,7 +26,7 @@ fn given_if(text: &Option<String>) -> Part<'_> {
 }
 
 fn push_file<'x>(page: &mut Page, word: &'x str, file: &'x FileRecord) {
-    fill!(page; text::FILE; word = Text(sign.word()), path = Given(&file.path), bytes = Grouped(file.bytes),
+    fill!(page; text::FILE; word = Text(word), path = Given(&file.path), bytes = Grouped(file.bytes),
         sha256 = given_if(&file.sha256));
 }
 
@@ -35,7 +35,7 @@ fn push_recording<'x>(page: &mut Page, word: &'x str, file: &'x RecordingRecord)
         (Some(first), Some(last)) => (Given(first), Given(last)),
         _ => (Text(""), Text("")),
     };
-    fill!(page; text::FILE; word = Text(sign.word()), path = Given(&file.path), first, last,
+    fill!(page; text::FILE; word = Text(word), path = Given(&file.path), first, last,
         bytes = Grouped(file.bytes.unwrap_or(0)), frames = Grouped(file.frames.unwrap_or(0)),
         counted = flag(file.frames.is_some()), end = given_if(&file.end), reason = given_if(&file.reason),
         sha256 = given_if(&file.sha256));

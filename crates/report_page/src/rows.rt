@@ -197,7 +197,7 @@ fn push_link_sign(page: &mut Page, view: &View<'_>, link: &LinkReport, sign: Sig
     if counts.sum() == 0 {
         return;
     }
-    let is_discard = SIGNS.iter().take(DISCARDS).any(|row| row.0 == sign);
+    let is_discard = SIGNS.iter().take(DISCARDS).any(|discard| *discard == sign);
     let classes = if is_discard { DISCARDED } else { FRAMES };
     let texts = (word_of(sign), "", "per column");
     push_row(
