@@ -36,10 +36,12 @@ fn merge_item<R: Wait>(
     ensures lost { result ≡ Err WatchFault.RingLost → IsLost end.old end.new }
 {
     match end.take_batch(rt)? {
-        TapBatch::Frames(frames) => match merger.fetch_all(network, frames) {
-            Ok(()) => Ok(None),
-            Err(_) => Err(WatchFault::Memory),
-        },
+        TapBatch::Frames(frames) => {
+            if merger.fetch_all(network, frames).is_err() {
+                return Err(WatchFault::Memory);
+            }
+            Ok(None)
+        }
         TapBatch::End(ending) => {
             merger.end(network);
             Ok(Some(ending))
