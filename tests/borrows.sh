@@ -67,7 +67,7 @@ fi
 printf 'borrows: a body kept beyond its frame is refused: %s\n' "$refusal"
 
 # The crates below filter_workers, and the crate itself, as they are here.
-for crate in bpf_isa bpf_loader bpf_machine filter_workers; do
+for crate in bpf_isa bpf_loader bpf_machine frame_batch filter_workers; do
     mkdir -p "$work/crates/$crate"
     for folder in src specs proofs out; do
         if [ -d "$top/crates/$crate/$folder" ]; then
@@ -75,7 +75,7 @@ for crate in bpf_isa bpf_loader bpf_machine filter_workers; do
         fi
     done
 done
-grep -E '^(afdx_frame|bpf_isa|bpf_loader|bpf_machine|filter_workers)[ :]' "$top/crates.txt" > "$work/crates.txt"
+grep -E '^(afdx_frame|frame_batch|bpf_isa|bpf_loader|bpf_machine|filter_workers)[ :]' "$top/crates.txt" > "$work/crates.txt"
 cp "$top/HANDLES" "$work/HANDLES"
 
 # Has the toolchain read the copy of filter_workers without proving it.

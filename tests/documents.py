@@ -100,10 +100,14 @@ def facts():
     """What a reader looks up: of each kind where it stands in the program's sources, and in which page it has to stand."""
     faults = found_in(r'"(\d [A-Z]\w*(?: \d [A-Z]\w*)?(?: \w+)?)"', "command_line", "src") - UNTOLD
     say("documents: each fault", lacks(faults, "MESSAGES.md TABLE.md DEBUGGER.md", r"`[^`\n]*\bWORD\b"))
-    say("documents: each ending's word", lacks(found_in(r'BadReason::\w+ => "( ?[a-z]+)"', "verdict_ledger", "src"), "FORMATS.md", r"bad\(n, WORD\)"))
+    say("documents: each ending's word", lacks(found_in(r'BadReason::\w+ => "([a-z]+)"', "pcap_io", "src"), "FORMATS.md", r"bad\(n, WORD\)"))
     say("documents: each ending's message", lacks(found_in(r'BadReason::\w+ => "([^"]+)"', "command_line", "src", "message.rt"), "MESSAGES.md FORMATS.md", "WORD"))
     say("documents: each key", lacks(found_in(r'Key::\w+ => "(\w+)"', "vl_config", "src"), "TABLE.md", r"\n\| `WORD` "))
-    words = found_in(r'(?:Class|Integrity|Redundancy|Policing)::\w+\)? => "(\w+)"', "line_selection", "src") - {"discarded", "faults"}
+    words = {
+        word
+        for kind, crate in (("Class", "vl_config"), ("Policing", "policing"), ("Integrity", "integrity"), ("Redundancy", "redundancy"))
+        for word in found_in(rf'{kind}::\w+ => "(\w+)"', crate, "src")
+    }
     say("documents: each word of a verdict", lacks(words, "LEDGER.md", r"\n\| `WORD` "))
 
 

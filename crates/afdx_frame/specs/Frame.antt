@@ -1,5 +1,5 @@
 -- A frame as its recording holds it, without where it lies in memory, and the order of both taps' frames.
-use Rattle.std.specs.Prelude.{ℕ, ◌<◌, ◌≤◌, ◌*◌, ◌^◌, List, length}
+use Rattle.std.specs.Prelude.{ℕ, ◌<◌, ◌≤◌, ◌*◌, ◌^◌, List, codes, length}
 use Rattle.std.specs.Ordering.{nat_cmp, ordering_then}
 use Rattle.std.specs.declared.cmp.Ordering.{Ordering}
 use Rattle.std.specs.declared.cmp.Ordering.TheVariants.{Less, Equal, Greater}
@@ -44,6 +44,16 @@ AreWithin number stamp whole captured =
 -- the frame's place in the order of both taps
 abbrev pub key_of : Frame → Key
 key_of f = record { stamp = record { 0 = f.stamp }; network = f.network; number = f.number }
+
+-- the letters of the networks, as tables, ledgers and reports write them (this project's format)
+abbrev pub network_letter : Network → List ℕ
+network_letter A = codes "A"
+network_letter B = codes "B"
+
+-- the other of the two networks
+abbrev pub other_network : Network → Network
+other_network A = B
+other_network B = A
 
 -- network A stands before B
 abbrev pub network_cmp : Network → Network → Ordering

@@ -1,7 +1,6 @@
 //! A frame that lasts.
 ghost use Rattle.std.specs.Prelude.{◌≡◌, IsOk, IfOk, IfErr, IsSome, IfSome, ◌↔◌};
 ghost use Rattle.afdx_frame.specs.Frame.{IsFrame, frame_with, key_of};
-ghost use Rattle.afdx_frame.specs.LentFrame.{frame_of_lent};
 ghost use Rattle.afdx_frame.specs.View.{view_bytes};
 
 use crate::bounds::is_within_bounds;
@@ -9,6 +8,7 @@ use crate::frame_bytes::FrameBytes;
 use crate::key::{Key, Network, Stamp};
 use crate::lent_frame::LentFrame;
 use crate::view::FrameView;
+use std::alloc::{AllocError, Global};
 use std::marker::Model;
 
 /// A frame as a tap recorded it: the network, its index in the recording, when it came, its length
@@ -90,6 +90,34 @@ impl TapFrame {
         }
     }
 
+    /// The network, the index in the recording, when the frame came, its length on the wire and its bytes.
+    #[inline(always)]
+    pub fn into_parts(self) -> (Network, u64, Stamp, u32, FrameBytes)
+        ensures parts { frame_with result.0 result.1 result.2.0 result.3 result.4 ≡ self }
+        ensures bounds { IsFrame self }
+    {
+        let TapFrame {
+            network,
+            number,
+            stamp,
+            whole,
+            bytes,
+        } = self;
+        (network, number, stamp, whole, bytes)
+    }
+
+    /// The same frame once more, which shares the bytes where they stand in a block that frames share.
+    ///
+    /// # Errors
+    ///
+    /// Those of [`FrameBlock::share`](crate::FrameBlock::share).
+    pub fn share(&self, alloc: Global) -> Result<TapFrame, AllocError>
+        ensures { IfOk result (λ frame. frame ≡ self.now) }
+    {
+        let bytes = self.bytes.share(alloc)?;
+        Ok(TapFrame::sharing(self.network, self.number, self.stamp, self.whole, bytes).unwrap())
+    }
+
     /// The network of the tap.
     #[inline(always)]
     pub fn network(&self) -> Network
@@ -140,7 +168,7 @@ impl TapFrame {
     /// The same frame with its bytes borrowed.
     #[inline(always)]
     pub fn lent(&self) -> LentFrame<'_>
-        ensures { frame_of_lent result ≡ self.now }
+        ensures { result ≡ self.now }
     {
         let TapFrame {
             network,

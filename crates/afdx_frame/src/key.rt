@@ -1,6 +1,6 @@
 //! Networks, links, timestamps, and the order of both taps' frames.
-ghost use Rattle.std.specs.Prelude.{◌≡◌};
-ghost use Rattle.afdx_frame.specs.Frame.{key_cmp};
+ghost use Rattle.std.specs.Prelude.{◌≡◌, ◌↔◌};
+ghost use Rattle.afdx_frame.specs.Frame.{key_cmp, network_letter, other_network};
 ghost use Rattle.afdx_frame.specs.declared.key.Key.{Key};
 
 /// One of the two redundant networks of an AFDX system (ARINC 664 Part 7). A sender puts each frame
@@ -9,6 +9,41 @@ ghost use Rattle.afdx_frame.specs.declared.key.Key.{Key};
 pub enum Network {
     A,
     B,
+}
+
+impl Network {
+    /// The letter of the network.
+    pub fn letter(self) -> &'static str
+        ensures { result.now ≡ network_letter self }
+    {
+        match self {
+            Network::A => "A",
+            Network::B => "B",
+        }
+    }
+
+    /// The network whose letter the bytes are.
+    #[inline]
+    pub fn from_letter(letter: &[u8]) -> Option<Network>
+        ensures { (network : Network) → (network_letter network ≡ letter.now) ↔ (result ≡ Some network) }
+    {
+        match letter {
+            b"A" => Some(Network::A),
+            b"B" => Some(Network::B),
+            _ => None,
+        }
+    }
+
+    /// The other network.
+    #[inline(always)]
+    pub fn other(self) -> Network
+        ensures { result ≡ other_network self }
+    {
+        match self {
+            Network::A => Network::B,
+            Network::B => Network::A,
+        }
+    }
 }
 
 /// The identifier of a virtual link, the 16 lowest bits of the destination address (ARINC 664 Part

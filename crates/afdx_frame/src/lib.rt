@@ -17,6 +17,7 @@
 #![tactic(auto)]
 
 mod bounds;
+mod facts;
 mod frame;
 mod frame_bytes;
 mod key;
@@ -24,8 +25,9 @@ mod lent_frame;
 mod view;
 
 pub use bounds::MAX_SNAPLEN;
+pub use facts::Facts;
 pub use frame::TapFrame;
-pub use frame_bytes::FrameBytes;
+pub use frame_bytes::{FrameBlock, FrameBytes};
 pub use key::{Key, Network, Stamp, VL_ID_COUNT, VlId, key_order};
 pub use lent_frame::LentFrame;
 pub use view::FrameView;

@@ -1,6 +1,5 @@
 //! One tap, one filter, a capture.
 ghost use Rattle.std.specs.Prelude.{◌≡◌, ◌≤◌, None, Some, IfOk, IfErr, IfSome, IsSome, OnOk, false};
-ghost use Rattle.afdx_frame.specs.LentFrame.{frame_of_lent};
 ghost use Rattle.packet_format.specs.Packets.{format_of};
 ghost use Rattle.packet_writer.specs.Writer.{format_in, has_failed, sink_of};
 ghost use Rattle.pcap_io.specs.Reader.{position_of, reading_of, unread_of};
@@ -27,7 +26,7 @@ fn write_accepted<W: OutSink>(
     writer: &mut PacketWriter<'_, W>,
 ) -> Result<(), WatchFault>
     requires { has_failed writer.old ≡ false }
-    ensures written { WritesAccepted (format_in writer.old) program.now (frame_of_lent frame.now) result
+    ensures written { WritesAccepted (format_in writer.old) program.now frame.now result
         (W.contents (sink_of writer.old)) (W.contents (sink_of writer.new))
         (W.failures (sink_of writer.old)) (W.failures (sink_of writer.new)) }
     ensures format { format_in writer.new ≡ format_in writer.old }

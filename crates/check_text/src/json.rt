@@ -3,9 +3,7 @@
 use crate::answer::{Answer, FilterAnswer, TapAnswer};
 use crate::faults::{ToldFault, told_faults};
 use crate::verdict::verdict_of;
-use crate::words::{
-    Asked, Moment, ending_word, format_words, frames_before, letter_of, question_word,
-};
+use crate::words::{Asked, Moment, format_words, question_word};
 use afdx_frame::{Network, VlId};
 use command_line::{Fault, reason_words};
 use input_check::{Overlap, Question};
@@ -146,9 +144,9 @@ fn tap_of<'a>(alloc: Global, tap: &TapAnswer<'a>) -> Result<JsonTap<'a>, AllocEr
     let mut json = JsonTap {
         path: tap.name,
         format: format_words(tap.format),
-        frames: frames_before(recorded.ending),
+        frames: recorded.ending.frames(),
         whole: recorded.whole,
-        end: ending_word(recorded.ending),
+        end: recorded.ending.word(),
         reason: match recorded.ending {
             Ending::Bad(_, reason) => Some(reason_words(reason)),
             Ending::Clean(_) | Ending::Cut(_) => None,
@@ -181,7 +179,7 @@ fn tap_if<'a>(
 fn difference_of(alloc: Global, question: &Question) -> Result<Option<JsonDifference>, AllocError> {
     match question {
         Question::Clocks(Some(difference)) => Ok(Some(JsonDifference {
-            ahead: letter_of(difference.ahead),
+            ahead: difference.ahead.letter(),
             nanoseconds: decimal(alloc, difference.nanos)?,
             links: difference.links as u64,
             of: difference.of as u64,

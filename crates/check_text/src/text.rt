@@ -4,7 +4,7 @@ use crate::answer::{Answer, FilterAnswer, TapAnswer};
 use crate::faults::{ToldFault, told_faults};
 use crate::lines::{push_absent, push_unlisted};
 use crate::verdict::verdict_of;
-use crate::words::{Asked, Counted, Moment, format_words, frames_before};
+use crate::words::{Asked, Counted, Moment, format_words};
 use command_line::{Fault, reason_words};
 use input_check::Overlap;
 use pcap_io::Ending;
@@ -93,7 +93,7 @@ fn push_ending(out: &mut String, tap: &TapAnswer<'_>) -> Result<(), AllocError> 
 
 fn push_tap(out: &mut String, network: &str, tap: &TapAnswer<'_>) -> Result<(), AllocError> {
     let (name, format) = (tap.name, format_words(tap.format));
-    let frames = Counted(frames_before(tap.recorded.ending), "frame");
+    let frames = Counted(tap.recorded.ending.frames(), "frame");
     write!(out, "network {network}: {name}: {format}; {frames}")?;
     if let Some(span) = tap.recorded.span {
         let (least, greatest) = (Moment(span.least), Moment(span.greatest));
@@ -146,7 +146,7 @@ fn push_extent(out: &mut String, answer: &Answer<'_>) -> Result<(), AllocError> 
     for (network, tap) in [("A", answer.a), ("B", answer.b)] {
         if let Some(tap) = tap {
             if !tap.recorded.whole {
-                let frames = Counted(frames_before(tap.recorded.ending), "frame");
+                let frames = Counted(tap.recorded.ending.frames(), "frame");
                 write!(out, "; of {network} by its first {frames}")?;
             }
         }

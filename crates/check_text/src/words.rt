@@ -3,18 +3,9 @@
 use afdx_frame::Network;
 use input_check::{Constant, Difference, Drift, Format, Order, Question, Unit, Wiring};
 use jiff::Timestamp;
-use pcap_io::Ending;
 use std::fmt;
 use std::fmt::{Display, Formatter};
 use vl_config::ConfigFault;
-
-/// The letter of a network.
-pub fn letter_of(network: Network) -> &'static str {
-    match network {
-        Network::A => "A",
-        Network::B => "B",
-    }
-}
 
 /// The name of a fault of the table, as its line has it.
 pub fn fault_word(fault: ConfigFault) -> &'static str {
@@ -40,22 +31,6 @@ pub fn format_words(format: Option<Format>) -> &'static str {
         Some(Format::Pcap(Order::Big, Unit::Nano)) => "pcap, big-endian, nanoseconds",
         Some(Format::Pcapng) => "pcapng",
         None => "unknown",
-    }
-}
-
-/// How a recording ends, in one word.
-pub fn ending_word(ending: Ending) -> &'static str {
-    match ending {
-        Ending::Clean(_) => "clean",
-        Ending::Cut(_) => "cut",
-        Ending::Bad(..) => "bad",
-    }
-}
-
-/// How many frames stand before an ending.
-pub fn frames_before(ending: Ending) -> u64 {
-    match ending {
-        Ending::Clean(count) | Ending::Cut(count) | Ending::Bad(count, _) => count,
     }
 }
 
@@ -197,7 +172,7 @@ impl Display for DifferencePart {
         let Some(difference) = self.0 else {
             return Ok(());
         };
-        let (ahead, nanos) = (letter_of(difference.ahead), Seconds(difference.nanos));
+        let (ahead, nanos) = (difference.ahead.letter(), Seconds(difference.nanos));
         let (links, of) = (difference.links, difference.of);
         write!(
             f,
@@ -220,7 +195,7 @@ struct DriftPart(Drift);
 
 impl Display for DriftPart {
     fn fmt<W: fmt::Write>(&self, f: &mut Formatter<W>) -> fmt::Result {
-        let faster = letter_of(self.0.faster);
+        let faster = self.0.faster.letter();
         let (whole, tenth) = (self.0.parts / 1_000_000, self.0.parts / 100_000 % 10);
         let (links, of) = (self.0.links, self.0.of);
         write!(
@@ -243,14 +218,14 @@ impl Display for RecorderPart<'_> {
                 of,
                 snaplen,
             } => {
-                let network = letter_of(network);
+                let network = network.letter();
                 write!(
                     f,
                     "does the recorder of network {network} {CUT} {snaplen} bytes? {frames} of {of} {WHOLE}"
                 )
             }
             Question::Twice { network, mixed } => {
-                let network = letter_of(network);
+                let network = network.letter();
                 let advice = if mixed { SPLIT } else { ONCE };
                 write!(f, "does the recording of network {network} {advice}")
             }
@@ -272,7 +247,7 @@ impl Display for Asked<'_> {
                 write!(f, "{CONSTANT} {frames} of {of} frames{part}")
             }
             Question::CheckSequence(network) => {
-                let network = letter_of(network);
+                let network = network.letter();
                 write!(f, "does the recording of network {network} {TAKE_THEM_OFF}")
             }
             Question::TooLong { frames, of } => {

@@ -7,7 +7,7 @@ use Rattle.pcap_io.specs.declared.recording.BadReason.{BadReason}
 use Rattle.pcap_io.specs.declared.recording.BadReason.TheVariants as reasons
 use Rattle.pcap_io.specs.declared.recording.Ending.{Ending}
 use Rattle.pcap_io.specs.declared.recording.Ending.TheVariants.{Clean, Cut, Bad}
-use Rattle.command_line.specs.Line.{network_part}
+use Rattle.afdx_frame.specs.Frame.{network_letter}
 use Rattle.command_line.specs.declared.summary.Summary.{Summary}
 use Rattle.command_line.specs.declared.exit.Exit.{Exit}
 use Rattle.command_line.specs.declared.exit.Exit.TheVariants as exit
@@ -99,7 +99,7 @@ abbrev pub note_of : Ending → List ℕ
 note_of ending = codes "afdxmon: note: recording" ++ ending_part ending
 
 abbrev pub tap_note_of : Network → Ending → List ℕ
-tap_note_of network ending = codes "afdxmon: note: recording of network " ++ network_part network ++ ending_part ending
+tap_note_of network ending = codes "afdxmon: note: recording of network " ++ network_letter network ++ ending_part ending
 
 -- so many packets
 abbrev pub packets_text : ℕ → List ℕ
@@ -108,5 +108,5 @@ packets_text n = decimal n ++ (if n == 1 then codes " packet" else codes " packe
 -- the note on packets that are not of Ethernet, of one of two recordings or of the command's one
 abbrev pub skipped_note_of : Option Network → ℕ → List ℕ
 skipped_note_of (Some network) n =
-    codes "afdxmon: note: recording of network " ++ network_part network ++ codes " has " ++ packets_text n ++ codes " not of Ethernet"
+    codes "afdxmon: note: recording of network " ++ network_letter network ++ codes " has " ++ packets_text n ++ codes " not of Ethernet"
 skipped_note_of None n = codes "afdxmon: note: recording has " ++ packets_text n ++ codes " not of Ethernet"

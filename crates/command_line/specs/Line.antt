@@ -1,7 +1,6 @@
 -- The lines that the program prints for faults (this project's format): the group, the fault's number and name, and where it is.
 use Rattle.std.specs.Prelude.{ℕ, List, [], ◌++◌, Option, Some, None, codes, decimal}
-use Rattle.afdx_frame.specs.declared.key.Network.{Network}
-use Rattle.afdx_frame.specs.declared.key.Network.TheVariants as networks
+use Rattle.afdx_frame.specs.Frame.{network_letter}
 use Rattle.bpf_isa.specs.declared.numeric.fault.NumericFault.{NumericFault}
 use Rattle.bpf_isa.specs.declared.numeric.fault.NumericFault.TheVariants as numeric
 use Rattle.bpf_loader.specs.declared.fault.LoadFault.{LoadFault}
@@ -131,14 +130,10 @@ header_part header.SectionLength = codes "7 SectionLength"
 header_part header.SectionLengthsDiffer = codes "8 SectionLengthsDiffer"
 header_part header.SectionOption = codes "9 SectionOption"
 
-abbrev pub network_part : Network → List ℕ
-network_part networks.A = codes "A"
-network_part networks.B = codes "B"
-
 abbrev pub watch_part : WatchFault → List ℕ
 watch_part watch.Workers = codes "1 Workers"
-watch_part (watch.Header network f) = codes "2 Header " ++ network_part network ++ codes " " ++ header_part f
-watch_part (watch.Read network) = codes "3 Read " ++ network_part network
+watch_part (watch.Header network f) = codes "2 Header " ++ network_letter network ++ codes " " ++ header_part f
+watch_part (watch.Read network) = codes "3 Read " ++ network_letter network
 watch_part (watch.Write output.Capture) = codes "4 Write capture"
 watch_part (watch.Write output.Ledger) = codes "4 Write ledger"
 watch_part watch.Spawn = codes "5 Spawn"
@@ -177,13 +172,13 @@ line_fault_part line.TooMany = codes "toomany"
 
 abbrev pub source_part : CutSource → List ℕ
 source_part source.Ledger = codes "Ledger"
-source_part (source.Recording network) = network_part network
+source_part (source.Recording network) = network_letter network
 
 abbrev pub cut_part : CutFault → List ℕ
 cut_part (cut.Ledger at f) = codes "1 Ledger at " ++ decimal at ++ codes " " ++ line_fault_part f
 cut_part (cut.Order at) = codes "2 Order at " ++ decimal at
 cut_part (cut.Absent at) = codes "3 Absent at " ++ decimal at
-cut_part (cut.Header network f) = codes "4 Header " ++ network_part network ++ codes " " ++ header_part f
+cut_part (cut.Header network f) = codes "4 Header " ++ network_letter network ++ codes " " ++ header_part f
 cut_part (cut.Read from) = codes "5 Read " ++ source_part from
 cut_part cut.Write = codes "6 Write Output"
 cut_part cut.Memory = codes "7 Memory"

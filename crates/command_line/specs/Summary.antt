@@ -1,16 +1,10 @@
 -- What a run of watch came to, as a person at a terminal is told (this project's format), and which input its counts speak against.
 use Rattle.std.specs.Prelude.{ℕ, ◌-◌, ◌/◌, ◌==◌, nat_lt, nat_le, Bool, ◌&&◌, List, [], ◌++◌, Option, None, Some, codes, decimal, if◌then◌else◌}
+use Rattle.pcap_io.specs.Word.{frames_before}
 use Rattle.pcap_io.specs.declared.recording.Ending.{Ending}
-use Rattle.pcap_io.specs.declared.recording.Ending.TheVariants.{Clean, Cut, Bad}
 use Rattle.verdict_ledger.specs.declared.totals.Totals.{Totals}
 use Rattle.command_line.specs.declared.summary.Hint.{Hint}
 use Rattle.command_line.specs.declared.summary.Hint.TheVariants as hint
-
--- how many frames stand before a recording's ending
-abbrev pub frames_before : Ending → ℕ
-frames_before (Clean n) = n
-frames_before (Cut n) = n
-frames_before (Bad n reason) = n
 
 -- all but a tenth of some frames at most
 abbrev pub is_nearly_all : ℕ → ℕ → Bool

@@ -1,7 +1,8 @@
 //! The line that says why a command was aborted.
 ghost use Rattle.std.specs.Prelude.{◌≡◌, ◌++◌, IfOk, codes, string_bytes};
 ghost use Rattle.vl_config.specs.Keys.{key_name};
-ghost use Rattle.command_line.specs.Line.{asm_part, config_part, contradiction_part, cut_part, debug_part, field_part, file_part, filtered_text, header_part, icd_part, line_fault_part, line_of, line_text, load_part, manifest_part, network_part, numeric_part, part_text, placed_text, report_part, selection_part, source_part, watch_part};
+ghost use Rattle.afdx_frame.specs.Frame.{network_letter};
+ghost use Rattle.command_line.specs.Line.{asm_part, config_part, contradiction_part, cut_part, debug_part, field_part, file_part, filtered_text, header_part, icd_part, line_fault_part, line_of, line_text, load_part, manifest_part, numeric_part, part_text, placed_text, report_part, selection_part, source_part, watch_part};
 
 use crate::fault::{Contradiction, Fault, FileOption, ManifestFault, ReportFault, SelectionOption};
 use afdx_frame::Network;
@@ -228,15 +229,6 @@ fn header_name(fault: HeaderFault) -> &'static str
     }
 }
 
-pub(crate) fn network_name(network: Network) -> &'static str
-    ensures { result.now ≡ network_part network }
-{
-    match network {
-        Network::A => "A",
-        Network::B => "B",
-    }
-}
-
 /// A fault that names what it concerns.
 fn with_word(name: &'static str, word: &'static str) -> Part
     ensures { result ≡ record { name = name.entry; about = About.Word word.entry } }
@@ -250,11 +242,11 @@ fn with_word(name: &'static str, word: &'static str) -> Part
 /// The fault of a recording's header.
 fn with_header(name: &'static str, network: Network, fault: HeaderFault) -> Part
     ensures { part_text result
-        ≡ name.entry.now ++ (codes " " ++ network_part network ++ codes " " ++ header_part fault) }
+        ≡ name.entry.now ++ (codes " " ++ network_letter network ++ codes " " ++ header_part fault) }
 {
     Part {
         name,
-        about: About::Words(network_name(network), header_name(fault)),
+        about: About::Words(network.letter(), header_name(fault)),
     }
 }
 
@@ -264,7 +256,7 @@ fn watch_part(fault: WatchFault) -> Part
     match fault {
         WatchFault::Workers => plain("1 Workers"),
         WatchFault::Header { network, fault } => with_header("2 Header", network, fault),
-        WatchFault::Read { network } => with_word("3 Read", network_name(network)),
+        WatchFault::Read { network } => with_word("3 Read", network.letter()),
         WatchFault::Write {
             output: Output::Capture,
         } => plain("4 Write capture"),
@@ -316,7 +308,7 @@ fn source_name(source: CutSource) -> &'static str
 {
     match source {
         CutSource::Ledger => "Ledger",
-        CutSource::Recording(network) => network_name(network),
+        CutSource::Recording(network) => network.letter(),
     }
 }
 

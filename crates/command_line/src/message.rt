@@ -2,7 +2,6 @@
 ghost use Rattle.std.specs.Prelude.{◌≡◌};
 ghost use Rattle.command_line.specs.Exit.{reason_text};
 
-use crate::line::network_name;
 use afdx_frame::Network;
 use pcap_io::{BadReason, Ending};
 use std::fmt;
@@ -131,7 +130,7 @@ impl Display for SkippedNote {
         let packets = Packets(self.1);
         match self.0 {
             Some(network) => {
-                let network = network_name(network);
+                let network = network.letter();
                 write!(
                     f,
                     "afdxmon: note: recording of network {network} has {packets} not of Ethernet"
@@ -153,7 +152,7 @@ impl Display for TapNote {
     ghost output = { λ note. Some (tap_note_of note.0 note.1) };
 
     fn fmt<W: fmt::Write>(&self, f: &mut Formatter<W>) -> fmt::Result {
-        let (network, ending) = (network_name(self.0), EndingPart(self.1));
+        let (network, ending) = (self.0.letter(), EndingPart(self.1));
         write!(f, "afdxmon: note: recording of network {network}{ending}")
     }
 }

@@ -1,6 +1,6 @@
 //! What a run of `watch` came to, told to a person at a terminal.
 ghost use Rattle.std.specs.Prelude.{◌≡◌};
-ghost use Rattle.command_line.specs.Summary.{frames_before, hint_of, hint_words, is_nearly_all};
+ghost use Rattle.command_line.specs.Summary.{hint_of, hint_words, is_nearly_all};
 
 use pcap_io::Ending;
 use std::fmt;
@@ -25,15 +25,6 @@ pub enum Hint {
     Clocks,
 }
 
-/// How many frames stand before a recording's ending.
-fn frames_before(ending: Ending) -> u64
-    ensures { result ≡ frames_before ending }
-{
-    match ending {
-        Ending::Clean(count) | Ending::Cut(count) | Ending::Bad(count, _) => count,
-    }
-}
-
 /// Are so many of all frames nearly all of them, nine in ten? Of no frame none are.
 fn is_nearly_all(count: u64, frames: u64) -> bool
     ensures { result ≡ is_nearly_all count frames }
@@ -46,7 +37,7 @@ fn is_nearly_all(count: u64, frames: u64) -> bool
 pub fn hint_of(a: Ending, b: Ending, totals: &Totals) -> Option<Hint>
     ensures { result ≡ hint_of a b totals.now }
 {
-    let (a, b) = (frames_before(a), frames_before(b));
+    let (a, b) = (a.frames(), b.frames());
     if is_nearly_all(totals.foreign, totals.frames) {
         Some(Hint::Constant)
     } else if is_nearly_all(totals.toolong, totals.frames) {
@@ -196,8 +187,8 @@ impl Display for FramesPart {
     #[tactic(auto, unfolding(crate::specs::Summary::frames_part))]
     fn fmt<W: fmt::Write>(&self, f: &mut Formatter<W>) -> fmt::Result {
         let Summary { a, b, totals } = self.0;
-        let a = Count("of network A", frames_before(a));
-        let b = Count("of network B", frames_before(b));
+        let a = Count("of network A", a.frames());
+        let b = Count("of network B", b.frames());
         let became = FourCounts(
             Count("frames", totals.frames),
             Count("delivered", totals.delivered),

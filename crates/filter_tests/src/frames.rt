@@ -129,7 +129,7 @@ fn is_sample(frame: &TapFrame) -> bool {
         && frame.view().bytes() == FRAME.as_slice()
 }
 
-fn is_lent_sample(frame: LentFrame<'_>) -> bool {
+fn is_lent_sample(frame: &LentFrame<'_>) -> bool {
     frame.network() == Network::B
         && frame.number() == 3
         && frame.stamp() == Stamp(8)
@@ -144,7 +144,7 @@ fn parts_of_a_frame(rt: HostRuntime) {
         panic!(rt; "no frame within the bounds");
     };
     assert!(rt; is_sample(&frame));
-    assert!(rt; is_lent_sample(frame.lent()));
+    assert!(rt; is_lent_sample(&frame.lent()));
 }
 
 #[test]

@@ -3,6 +3,7 @@
 use afdx_frame::{Network, Stamp, TapFrame};
 use bpf_loader::Program;
 use filter_workers::{Decision, RoundFault, RunGate, filter_round};
+use frame_batch::Round;
 use std::alloc::Global;
 use std::process::Abort;
 use std::sync::Wait;
@@ -42,7 +43,7 @@ pub(crate) fn programs_of(alloc: Global, texts: &[&str]) -> Result<Vec<Program>,
 pub(crate) fn filtered<R: Threads + Wait + Sync + Abort + AllocGlobal, G: RunGate + Sync>(
     rt: &R,
     programs: &[Program],
-    frames: &[TapFrame],
+    frames: &Round,
     workers: u32,
     gate: &G,
 ) -> Result<Vec<Decision>, RoundFault> {

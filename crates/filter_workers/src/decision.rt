@@ -4,9 +4,10 @@ ghost use Rattle.afdx_frame.specs.View.{view_bytes};
 ghost use Rattle.bpf_machine.specs.Run.{answer_of};
 ghost use Rattle.filter_workers.specs.Filters.{accepts_bit, decision_by, decisions_by};
 
-use afdx_frame::{FrameView, TapFrame};
+use afdx_frame::{FrameView, LentFrame};
 use bpf_loader::Program;
 use bpf_machine::run;
+use frame_batch::Round;
 use std::alloc::{AllocError, Global};
 
 /// The most filters of a run: a bit of a mask for each.
@@ -41,7 +42,7 @@ fn accepts_bit(answer: u32) -> u32
 }
 
 /// Runs each filter on a frame, at most [`MAX_FILTERS`] of them.
-pub fn filter_frame(programs: &[Program], frame: &TapFrame) -> Decision
+pub fn filter_frame(programs: &[Program], frame: &LentFrame<'_>) -> Decision
     requires { length programs.now ≤ MAX_FILTERS }
     ensures { result ≡ decision_by programs.now frame.now }
 {
@@ -66,15 +67,15 @@ pub fn filter_frame(programs: &[Program], frame: &TapFrame) -> Decision
 pub fn filter_frames(
     alloc: Global,
     programs: &[Program],
-    frames: &[TapFrame],
+    frames: &Round,
 ) -> Result<Vec<Decision>, AllocError>
     requires { length programs.now ≤ MAX_FILTERS }
     ensures decisions { IfOk result (λ all. all.items ≡ decisions_by programs.now frames.now) }
     ensures memory { IfErr result (λ _. 0 < length frames.now) }
 {
     let mut decisions = Vec::with_capacity(alloc, frames.len())?;
-    for frame in frames {
-        decisions.push(filter_frame(programs, frame))?;
+    for index in 0..frames.len() {
+        decisions.push(filter_frame(programs, &frames.frame(index)))?;
     }
     Ok(decisions)
 }

@@ -11,8 +11,8 @@ use crate::desk::{ClaimDesk, DeskSeat};
 use crate::fault::RoundFault;
 use crate::gate::RunGate;
 use crate::worker::{Batch, BorrowedRound, Numbered};
-use afdx_frame::TapFrame;
 use bpf_loader::Program;
+use frame_batch::Round;
 use std::alloc::Global;
 use std::snapshot::Snapshot;
 use std::sync::Wait;
@@ -27,7 +27,7 @@ pub const MAX_WORKERS: u32 = 8;
 struct Promised<'a> {
     desk: &'a ClaimDesk,
     programs: &'a [Program],
-    frames: &'a [TapFrame],
+    frames: &'a Round,
     seat: Snapshot<DeskSeat>,
 }
 
@@ -141,7 +141,7 @@ pub fn filter_round<R: Threads + Wait + Sync, G: RunGate + Sync>(
     rt: &R,
     alloc: Global,
     programs: &[Program],
-    frames: &[TapFrame],
+    frames: &Round,
     workers: u32,
     gate: &G,
 ) -> Result<Vec<Decision>, RoundFault>

@@ -6,8 +6,8 @@ ghost use Rattle.filter_workers.specs.declared.decision.TheConstants.{MAX_FILTER
 use crate::decision::{Decision, filter_frame};
 use crate::desk::{ClaimDesk, DeskSeat};
 use crate::gate::RunGate;
-use afdx_frame::TapFrame;
 use bpf_loader::Program;
+use frame_batch::Round;
 use std::alloc::{AllocError, Global};
 
 /// What the filters say of the frame of a number.
@@ -29,7 +29,7 @@ pub(crate) struct Batch {
 pub(crate) struct BorrowedRound<'a, G> {
     pub(crate) desk: &'a ClaimDesk,
     pub(crate) programs: &'a [Program],
-    pub(crate) frames: &'a [TapFrame],
+    pub(crate) frames: &'a Round,
     pub(crate) gate: &'a G,
 }
 
@@ -59,7 +59,7 @@ impl<'a, G: RunGate> BorrowedRound<'a, G> {
                 break;
             };
             self.gate.run(worker, number);
-            let decision = filter_frame(self.programs, &self.frames[number as usize]);
+            let decision = filter_frame(self.programs, &self.frames.frame(number as usize));
             decisions.push(Numbered { number, decision })?;
         }
         Ok(Batch { seat, decisions })

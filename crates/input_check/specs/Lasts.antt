@@ -1,9 +1,10 @@
 -- The last frame of a link that both networks brought, over the list of its frames on both, the newest first (this project's profile).
 use Rattle.std.specs.Prelude.{◌≡◌, ℕ, ◌==◌, List, [], ◌∷◌, find, Option, Some, None, if◌then◌else◌}
 use Rattle.std.specs.Option.{option_map, option_or}
+use Rattle.afdx_frame.specs.Frame.{other_network}
 use Rattle.afdx_frame.specs.declared.key.Network.{Network}
 use Rattle.afdx_frame.specs.declared.key.Network.TheVariants.{A, B}
-use Rattle.link_estimate.specs.CopyPairs.{SeenFrame, is_same, other_than}
+use Rattle.link_estimate.specs.CopyPairs.{SeenFrame, is_same}
 use Rattle.input_check.specs.declared.clocks.Meeting.{Meeting}
 use Rattle.input_check.specs.declared.clocks.Sample.{Sample}
 use Rattle.input_check.specs.declared.last.LastFrames.{LastFrames}
@@ -29,7 +30,7 @@ last_on network frames = option_map sample_of (find (λ frame. is_same frame.net
 abbrev pub last_meeting : List SeenFrame → Option Meeting
 last_meeting [] = None
 last_meeting (frame ∷ before) =
-    option_or (met_with frame.network (sample_of frame) (last_on (other_than frame.network) before)) (last_meeting before)
+    option_or (met_with frame.network (sample_of frame) (last_on (other_network frame.network) before)) (last_meeting before)
 
 pub record HasLast (frames : List SeenFrame) (held : LastFrames) : Type 0 where
   pub a : held.a ≡ last_on A frames

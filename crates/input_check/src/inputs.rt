@@ -7,7 +7,7 @@ ghost use Rattle.input_check.specs.Taps.{CountsTap};
 
 use crate::link::LinkTally;
 use crate::tap::TapTally;
-use afdx_frame::{Network, TapFrame, VL_ID_COUNT, VlId};
+use afdx_frame::{LentFrame, Network, VL_ID_COUNT, VlId};
 use std::alloc::{AllocError, Global};
 use survey_run::Observer;
 use vl_config::{Class, Config, Link, class_by};
@@ -85,7 +85,7 @@ impl<'a> Listed<'a> {
 
     /// Counts a frame by its class under the table.
     #[inline]
-    fn see(&mut self, frame: &TapFrame) -> Result<Class, AllocError> {
+    fn see(&mut self, frame: &LentFrame<'_>) -> Result<Class, AllocError> {
         let id = frame.view().vl().unwrap_or(VlId(0));
         let place = self.place(id);
         let smax = self.links.get(place).map(|link| link.smax);
@@ -103,7 +103,7 @@ impl<'a> Listed<'a> {
     }
 
     #[inline]
-    fn see_link(&mut self, place: usize, frame: &TapFrame) {
+    fn see_link(&mut self, place: usize, frame: &LentFrame<'_>) {
         let number = frame.view().sequence().unwrap_or(0);
         if let Some(tally) = self.tallies.get_mut(place) {
             tally.see(frame.network(), frame.stamp(), number);
@@ -207,7 +207,7 @@ impl<'a> Inputs<'a> {
 impl<'a> Inputs<'a> {
     /// Counts a frame for the table, if there is one, and says its class.
     #[inline(always)]
-    fn see_listed(&mut self, frame: &TapFrame) -> Result<Option<Class>, AllocError>
+    fn see_listed(&mut self, frame: &LentFrame<'_>) -> Result<Option<Class>, AllocError>
         ensures a { self.new.a ≡ self.old.a }
         ensures b { self.new.b ≡ self.old.b }
     {
@@ -225,7 +225,7 @@ impl Observer for Inputs<'_> {
         → CountsNetwork A last.a frames × CountsNetwork B last.b frames };
 
     #[inline]
-    fn see(&mut self, alloc: Global, frame: &TapFrame) -> Result<(), AllocError> {
+    fn see(&mut self, alloc: Global, frame: &LentFrame<'_>) -> Result<(), AllocError> {
         let _ = alloc;
         let class = self.see_listed(frame)?;
         match frame.network() {

@@ -6,7 +6,7 @@ ghost use Rattle.input_check.specs.Taps.{Classed, CountsTap, are_same, ends_of, 
 
 use crate::checksum::ends_with_check;
 use crate::decide::Marks;
-use afdx_frame::TapFrame;
+use afdx_frame::LentFrame;
 use vl_config::Class;
 
 /// Of how many frames at most the frame check sequence is looked for.
@@ -63,7 +63,7 @@ impl TapTally {
 
     /// Counts a frame, and its class where there is a table.
     #[inline]
-    pub fn see(&mut self, frame: &TapFrame, class: Option<Class>)
+    pub fn see(&mut self, frame: &LentFrame<'_>, class: Option<Class>)
         ensures { (frames : List Classed) → length frames < 2 ^ 32 → CountsTap self.old frames
             → CountsTap self.new (record {
               frame = frame.now;

@@ -1,7 +1,8 @@
 //! The verdict, apart from the state that it is judged by, since crates above count and print it.
 
-ghost use Rattle.std.specs.Prelude.{◌≡◌};
+ghost use Rattle.std.specs.Prelude.{◌≡◌, ◌↔◌};
 ghost use Rattle.integrity.specs.Sequence.{is_valid};
+ghost use Rattle.integrity.specs.Word.{integrity_word};
 
 /// What integrity checking says of a frame. All but [`Integrity::Out`] are valid: redundancy
 /// management sees the frame.
@@ -31,5 +32,36 @@ impl Integrity {
         ensures { result ≡ is_valid self }
     {
         !matches!(self, Integrity::Out)
+    }
+
+    /// The word of the verdict.
+    pub fn word(self) -> &'static str
+        ensures { result.now ≡ integrity_word self }
+    {
+        match self {
+            Integrity::First => "first",
+            Integrity::Reset => "reset",
+            Integrity::Next => "next",
+            Integrity::Skip => "skip",
+            Integrity::Off => "off",
+            Integrity::Out => "out",
+        }
+    }
+
+    /// The verdict whose word the bytes are.
+    #[inline]
+    pub fn from_word(word: &[u8]) -> Option<Integrity>
+        ensures { (integrity : Integrity)
+            → (integrity_word integrity ≡ word.now) ↔ (result ≡ Some integrity) }
+    {
+        match word {
+            b"next" => Some(Integrity::Next),
+            b"first" => Some(Integrity::First),
+            b"reset" => Some(Integrity::Reset),
+            b"skip" => Some(Integrity::Skip),
+            b"off" => Some(Integrity::Off),
+            b"out" => Some(Integrity::Out),
+            _ => None,
+        }
     }
 }

@@ -7,8 +7,9 @@ use Rattle.afdx_frame.specs.declared.key.VlId.{VlId}
 use Rattle.vl_config.specs.Link.{VirtualLink}
 use Rattle.vl_config.specs.declared.class.Class.{Class}
 use Rattle.vl_config.specs.declared.class.Class.TheVariants.{Cut, Runt, Oversize, Foreign, Unconfigured, TooLong, Regular}
-use Rattle.verdict_ledger.specs.Tally.{is_class, is_on_a_link}
-use Rattle.verdict_ledger.specs.Text.{is_addressed}
+use Rattle.vl_config.specs.Class.{is_on_a_link}
+use Rattle.verdict_ledger.specs.Tally.{is_class}
+use Rattle.vl_config.specs.Class.{is_addressed}
 use Rattle.ledger_text.specs.FrameText.{IsFrameLine}
 use Rattle.ledger_text.specs.declared.frame.FrameLine.{FrameLine}
 use Rattle.ledger_report.specs.Keeping.{KeepsAccount, KeepsLinks, KeepsNetworks, NotesLane}
@@ -151,31 +152,31 @@ account_from links lines after networks reports index one two three are links_ar
   outside = room;
 }
 
-pub addressed : (line : FrameLine) (id : VlId) → IsFrameLine line → line.link ≡ Some id → is_addressed line.class ≡ true
+pub addressed : (line : FrameLine) (id : VlId) → IsFrameLine line → line.link ≡ Some id → is_addressed line.verdict.class ≡ true
 addressed line id is of_link = sym is.link.present ∙ ap (λ (o : Option VlId). is_some o) of_link
 
 -- a line of a link outside the table
 pub account_outside : (links : List VirtualLink) (line : FrameLine) (lines : List FrameLine) (s after : Statistics) (id : VlId) → IsFrameLine line → line.link ≡ Some id →
-    is_class Unconfigured line.class ≡ true → after ≡ record s { outside = after.outside } → AreNetworksOf (line ∷ lines) s.networks →
+    is_class Unconfigured line.verdict.class ≡ true → after ≡ record s { outside = after.outside } → AreNetworksOf (line ∷ lines) s.networks →
     AreLinksOf links lines s.links.items → IsIndexOf links s.index.items → AreBalanced s.links.items → AreEach CountsMet links lines s.links.items →
     IsOutsideOf (line ∷ lines) after.outside.items → IsAccountOf links (line ∷ lines) after
 account_outside links line lines s after id is of_link other same are links_are index_is balanced met room =
-    let unseen : is_seen line ≡ false = seen_where line.class (addressed line id is of_link) ∙ ap not other in
+    let unseen : is_seen line ≡ false = seen_where line.verdict.class (addressed line id is of_link) ∙ ap not other in
     account_from links (line ∷ lines) after s.networks s.links.items s.index.items (ap (λ (x : Statistics). x.networks) same)
     (ap (λ (x : Statistics). x.links.items) same) (ap (λ (x : Statistics). x.index.items) same)
     are (links_unseen links line lines s.links.items unseen links_are) index_is balanced (met_unseen links line lines s.links.items unseen met) room
 
 -- a line without a link, or without a number
-pub account_unseen : (links : List VirtualLink) (line : FrameLine) (lines : List FrameLine) (s : Statistics) → is_addressed line.class ≡ false →
+pub account_unseen : (links : List VirtualLink) (line : FrameLine) (lines : List FrameLine) (s : Statistics) → is_addressed line.verdict.class ≡ false →
     AreNetworksOf (line ∷ lines) s.networks → AreLinksOf links lines s.links.items → IsIndexOf links s.index.items → AreBalanced s.links.items →
     AreEach CountsMet links lines s.links.items → IsOutsideOf lines s.outside.items → IsAccountOf links (line ∷ lines) s
 account_unseen links line lines s off are links_are index_is balanced met room = record {
   networks_are = are;
-  links_are = links_unseen links line lines s.links.items (unseen_where line.class off) links_are;
+  links_are = links_unseen links line lines s.links.items (unseen_where line.verdict.class off) links_are;
   index_is = index_is;
   balanced = balanced;
-  met_are = met_unseen links line lines s.links.items (unseen_where line.class off) met;
-  outside = outside_other line lines s.outside.items (unconfigured_where line.class off) room;
+  met_are = met_unseen links line lines s.links.items (unseen_where line.verdict.class off) met;
+  outside = outside_other line lines s.outside.items (unconfigured_where line.verdict.class off) room;
 }
 
 -- a line of the table's link at this place
@@ -208,14 +209,14 @@ pub record NotesLink (line : FrameLine) (number : ℕ) (at : Moment) (before net
 -- a line of the table's link at this place
 pub account_more : (links : List VirtualLink) (line : FrameLine) (lines : List FrameLine) (s after : Statistics) (id : VlId) (number : ℕ) (at : Moment) (place : ℕ)
     (old new : LinkReport) (networks : Sides NetworkReport) → length lines < 2 ^ 34 → IsFrameLine line → IsMomentOf line at → line.link ≡ Some id →
-    line.sequence ≡ Some number → is_class Unconfigured line.class ≡ false → AreNetworksOf (line ∷ lines) s.networks → AreLinksOf links lines s.links.items →
+    line.sequence ≡ Some number → is_class Unconfigured line.verdict.class ≡ false → AreNetworksOf (line ∷ lines) s.networks → AreLinksOf links lines s.links.items →
     IsIndexOf links s.index.items → AreBalanced s.links.items → AreEach CountsMet links lines s.links.items → place ≡ get_or s.index.items id.0 65535 → place < length s.links.items →
     old ≡ get_or s.links.items place old → NotesLink line number at s.networks networks old new →
     after.networks ≡ networks → after.links.items ≡ set s.links.items place new → after.index.items ≡ s.index.items → IsOutsideOf lines after.outside.items →
     IsAccountOf links (line ∷ lines) after
 account_more links line lines s after id number at place old new networks few is moment of_link sequence known are links_are index_is balanced met found within held notes
     one two three room =
-    let seen : is_seen line ≡ true = seen_where line.class (addressed line id is of_link) ∙ ap not known in
+    let seen : is_seen line ≡ true = seen_where line.verdict.class (addressed line id is of_link) ∙ ap not known in
     let was : (link : VirtualLink) → IsLinkOf (row_of (get_or links place link)) lines old =
     λ link. subst (IsLinkOf (row_of (get_or links place link)) lines) (sym held) (links_are.each place link old (omega (arith, within, links_are.count))) in
     let own : (link : VirtualLink) → is_seen_of (row_of (get_or links place link)).id line ≡ true =

@@ -26,7 +26,8 @@ use Rattle.ledger_report.specs.Pairs.{DiscardsWhere, HasKnown, comes_late, known
 use Rattle.ledger_report.specs.Settling.{SumsLanes}
 use Rattle.ledger_report.specs.Standings.{Standing, frames_on}
 use Rattle.ledger_report.specs.Sums.{saturated}
-use Rattle.ledger_report.specs.Words.{is_seen_of, other_of, rule_of}
+use Rattle.afdx_frame.specs.Frame.{other_network}
+use Rattle.ledger_report.specs.Words.{is_seen_of, rule_of}
 use Rattle.ledger_report.specs.declared.lane.Lane.{Lane}
 use Rattle.ledger_report.specs.declared.link.LinkReport.{LinkReport}
 use Rattle.ledger_report.specs.declared.moment.Moment.{Moment}
@@ -141,7 +142,7 @@ alone_more row line lines number at networks old new seen sequence moment reache
     }
       where
         quiet : (is_some (rule_of line) && old.redundancy) ≡ false
-        quiet = ap (λ (o : Option Sign). is_some o && old.redundancy) (judged_none line reached (deliver_some line.redundancy on))
+        quiet = ap (λ (o : Option Sign). is_some o && old.redundancy) (judged_none line reached (deliver_some line.verdict.redundancy on))
 
         pairing : mid.pairing ≡ old.pairing
         pairing = subst (λ (b : Bool). DiscardsWhere b number at (saturated (old.bag * 127)) old.pairing mid.pairing) quiet notes.discards
@@ -167,7 +168,7 @@ alone_more row line lines number at networks old new seen sequence moment reache
             ∙ ap (λ (d : Bool). if d && not (is_late rules number (line ∷ lines)) then open_on rules n number lines else None) own_delivered
             ∙ ap (λ (l : Bool). if not l then open_on rules n number lines else None) same)
 
-        lane_now : (n : Network) (twin : NetworkReport) (was between now : Lane) → IsNetworkOf (other_of n) (line ∷ lines) twin →
+        lane_now : (n : Network) (twin : NetworkReport) (was between now : Lane) → IsNetworkOf (other_network n) (line ∷ lines) twin →
             KeepsMissed was between →
             LaneSettles n twin (settled_by_next number at mid) between now →
             HasMissed (missed_before rules n lines) was →
@@ -193,10 +194,10 @@ alone_more row line lines number at networks old new seen sequence moment reache
                 (slice_index_or mid.pairing.deliveries.items number None) (latest_of row.id number lines) (known.held number) (mid_before number)
                 (stands_later row.id number line lines) taken)
 
-        frames : (side_of (other_of at.network) networks).frames ≡ frames_on (other_of line.network) (line ∷ lines)
-        frames = ap (λ (n : Network). (side_of (other_of n) networks).frames) moment.network ∙ at_side line.network
+        frames : (side_of (other_network at.network) networks).frames ≡ frames_on (other_network line.network) (line ∷ lines)
+        frames = ap (λ (n : Network). (side_of (other_network n) networks).frames) moment.network ∙ at_side line.network
           where
-            at_side : (n : Network) → (side_of (other_of n) networks).frames ≡ frames_on (other_of n) (line ∷ lines)
+            at_side : (n : Network) → (side_of (other_network n) networks).frames ≡ frames_on (other_network n) (line ∷ lines)
             at_side A = are.b.frames
             at_side B = are.a.frames
 
@@ -209,7 +210,7 @@ alone_more row line lines number at networks old new seen sequence moment reache
                 (delivered n ∙ ap (λ (d : Bool). d && (n == number)) on ∙ same))
 
             at_test : (b : Bool) → (n == number) ≡ b →
-                (if b then Some (side_of (other_of at.network) networks).frames else before_at mid.pairing n)
+                (if b then Some (side_of (other_network at.network) networks).frames else before_at mid.pairing n)
                 ≡ option_map lines_before (latest_of row.id n (line ∷ lines))
             at_test true here = ap (λ (k : ℕ). Some k) frames ∙ ap (λ (o : Option Standing). option_map lines_before o) (latest true here)
             at_test false there = mid_before n ∙ ap (λ (o : Option Standing). option_map lines_before o) (latest false there)
@@ -244,7 +245,7 @@ one_below number networks first old new same before settles row lines are is h =
     here : Settles (open_held first.pairing number) networks old.lanes new.lanes
     here = subst (λ (p : Pairing). Settles (open_held p number) networks old.lanes new.lanes) same settles
 
-    lane_now : (n : Network) (twin : NetworkReport) (was now : Lane) → IsNetworkOf (other_of n) lines twin →
+    lane_now : (n : Network) (twin : NetworkReport) (was now : Lane) → IsNetworkOf (other_network n) lines twin →
         LaneSettles n twin (open_held first.pairing number) was now →
         HasMissed (missed_below rules n lines number) was →
         HasMissed (map (missed_by n lines) (cons_option (open_on rules n number lines) (open_below rules n lines number)) ++ missed_before rules n lines) now

@@ -15,7 +15,7 @@ use Rattle.integrity.specs.declared.verdict.Integrity.TheVariants.{Out, First, R
 use Rattle.integrity.specs.Sequence.{is_valid}
 use Rattle.redundancy.specs.declared.verdict.Redundancy.{Redundancy}
 use Rattle.redundancy.specs.declared.verdict.Redundancy.TheVariants.{Deliver, Copy, Both}
-use Rattle.verdict_ledger.specs.Tally.{is_excess_policing, is_out_integrity}
+use Rattle.vl_judge.specs.Judgement.{is_excess_policing, is_out_integrity}
 use Rattle.ledger_text.specs.FrameText.{IsFrameLine}
 use Rattle.ledger_text.specs.declared.frame.FrameLine.{FrameLine}
 use Rattle.ledger_report.specs.Copies.{Spot, delivers, latest_delivery, spot_in}
@@ -120,15 +120,15 @@ regular_is TooLong undelivered = absurd (false≢true undelivered)
 regular_is Regular says = refl
 
 -- it has no rule
-pub judged_none : (line : FrameLine) → IsFrameLine line → is_some line.redundancy ≡ true → rule_of line ≡ None
+pub judged_none : (line : FrameLine) → IsFrameLine line → is_some line.verdict.redundancy ≡ true → rule_of line ≡ None
 judged_none line is judged =
-    let valid : option_map_or is_valid line.integrity false ≡ true = sym is.reached.redundancy ∙ judged in
-    let within : option_map_or is_within line.policing false ≡ true = sym is.reached.integrity ∙ valid_some line.integrity valid in
-    let regular : is_regular line.class ≡ true = sym is.reached.policing ∙ within_some line.policing within in
-    ap (λ (c : Class). class_rule c line) (regular_is line.class regular)
-    ∙ ap (λ (b : Bool). if b then Some signs.Excess else (if option_map_or is_out_integrity line.integrity false then Some signs.Out else None))
-    (not_excess line.policing within)
-    ∙ ap (λ (b : Bool). if b then Some signs.Out else None) (not_out line.integrity valid)
+    let valid : option_map_or is_valid line.verdict.integrity false ≡ true = sym is.reached.redundancy ∙ judged in
+    let within : option_map_or is_within line.verdict.policing false ≡ true = sym is.reached.integrity ∙ valid_some line.verdict.integrity valid in
+    let regular : is_regular line.verdict.class ≡ true = sym is.reached.policing ∙ within_some line.verdict.policing within in
+    ap (λ (c : Class). class_rule c line) (regular_is line.verdict.class regular)
+    ∙ ap (λ (b : Bool). if b then Some signs.Excess else (if option_map_or is_out_integrity line.verdict.integrity false then Some signs.Out else None))
+    (not_excess line.verdict.policing within)
+    ∙ ap (λ (b : Bool). if b then Some signs.Out else None) (not_out line.verdict.integrity valid)
 
 pub deliver_some : (o : Option Redundancy) → option_map_or says_deliver o false ≡ true → is_some o ≡ true
 deliver_some None none = none

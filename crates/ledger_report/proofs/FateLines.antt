@@ -18,7 +18,8 @@ use Rattle.ledger_report.specs.Pairs.{Changes, Discards, DiscardsWhere, FateNumb
 use Rattle.ledger_report.specs.Settling.{fate_sum}
 use Rattle.ledger_report.specs.Standings.{Standing, standings}
 use Rattle.ledger_report.specs.Sums.{greatest_of, saturated}
-use Rattle.ledger_report.specs.Words.{is_on, is_same_network, is_seen_of, other_of, rule_of}
+use Rattle.afdx_frame.specs.Frame.{other_network}
+use Rattle.ledger_report.specs.Words.{is_on, is_same_network, is_seen_of, rule_of}
 use Rattle.ledger_report.specs.declared.link.LinkReport.{LinkReport}
 use Rattle.ledger_report.specs.declared.moment.Moment.{Moment}
 use Rattle.ledger_report.specs.declared.moment.Place.{Place}
@@ -161,12 +162,12 @@ module _ (rules : PairingRules) (line : FrameLine) (lines : List FrameLine) (num
       KeepsGone old.pairing new.pairing → HasKnown rules lines old.pairing → HasKnown rules (line ∷ lines) new.pairing
   takes_delivery at old new network place same says off changes kept h = record {
     held = held_more old.pairing new.pairing (Some (known_after number at old)) changes
-        (ap (λ (b : Bool). known_with at.network at.place b (is_gone_by at.place.stamp (window_in old) (gone_in old.pairing number (other_of at.network))))
+        (ap (λ (b : Bool). known_with at.network at.place b (is_gone_by at.place.stamp (window_in old) (gone_in old.pairing number (other_network at.network))))
         (comes_late_same at old network place same h)
-        ∙ ap (λ (s : Network). known_with s at.place late_now (is_gone_by at.place.stamp (window_in old) (gone_in old.pairing number (other_of s)))) network
-        ∙ ap (λ (p : Place). known_with line.network p late_now (is_gone_by p.stamp (window_in old) (gone_in old.pairing number (other_of line.network)))) place
-        ∙ ap (λ n. known_with line.network (place_of line) late_now (is_gone_by line.stamp.0 n (gone_in old.pairing number (other_of line.network)))) same
-        ∙ ap (λ (o : Option ℕ). known_with line.network (place_of line) late_now (is_gone_by line.stamp.0 rules.window o)) (h.gone number (other_of line.network))
+        ∙ ap (λ (s : Network). known_with s at.place late_now (is_gone_by at.place.stamp (window_in old) (gone_in old.pairing number (other_network s)))) network
+        ∙ ap (λ (p : Place). known_with line.network p late_now (is_gone_by p.stamp (window_in old) (gone_in old.pairing number (other_network line.network)))) place
+        ∙ ap (λ n. known_with line.network (place_of line) late_now (is_gone_by line.stamp.0 n (gone_in old.pairing number (other_network line.network)))) same
+        ∙ ap (λ (o : Option ℕ). known_with line.network (place_of line) late_now (is_gone_by line.stamp.0 rules.window o)) (h.gone number (other_network line.network))
         ∙ sym (known_delivered rules number line lines (delivers_own ∙ says)))
         h.held;
     gone = λ n side. kept n side ∙ h.gone n side ∙ sym (gone_kept off n side);
@@ -469,7 +470,7 @@ module _ (rules : PairingRules) (line : FrameLine) (lines : List FrameLine) (num
       let have = late_gained late_now line.network (place_of line) (late_hits rules A lines) (late_hits rules B lines) old new gained h.late_on_a h.late_on_b in
       let hits_now = λ (side : Network). sym (hits_more side
       ∙ ap (λ (b : Bool). hits_with ((b && late_now) && is_on side line) (place_of line) (late_hits rules side lines)) says) in
-      let gone = is_gone_by line.stamp.0 rules.window (discarded_of rules number (other_of line.network) lines) in
+      let gone = is_gone_by line.stamp.0 rules.window (discarded_of rules number (other_network line.network) lines) in
       let now = known_delivered rules number line lines (delivers_own ∙ says) in
       let own_late : one_where (is_deliver line && late_now) ≡ one_where late_now = ap (λ (b : Bool). one_where (b && late_now)) says in
       record {
@@ -523,7 +524,7 @@ module _ (rules : PairingRules) (line : FrameLine) (lines : List FrameLine) (num
       before : counts_discarded rules line ≡ false → HasFatesOf rules lines mid
       before off = keeps_fates rules lines old mid (discards false off) (but_met old mid notes.numbers) notes.signs h
 
-      plain : is_some line.redundancy ≡ true → counts_discarded rules line ≡ false
+      plain : is_some line.verdict.redundancy ≡ true → counts_discarded rules line ≡ false
       plain judged = ap (λ (o : Option Sign). is_some o && rules.redundancy) (judged_none line is judged)
 
       by_rule : (b : Bool) → counts_discarded rules line ≡ b → is_deliver line ≡ false → is_copy line ≡ false → HasKnown rules (line ∷ lines) mid.pairing
@@ -537,10 +538,10 @@ module _ (rules : PairingRules) (line : FrameLine) (lines : List FrameLine) (num
 
       by_word : (d c : Bool) → is_deliver line ≡ d → is_copy line ≡ c → NotesWordWhere d c number at mid new → HasFatesOf rules (line ∷ lines) new
       by_word true c says copy (takes, gains) =
-          let off = plain (deliver_some line.redundancy says) in
-          fates_delivery at mid new few within network place mid_window says (deliver_alone line.redundancy says) off takes gains (before off)
+          let off = plain (deliver_some line.verdict.redundancy says) in
+          fates_delivery at mid new few within network place mid_window says (deliver_alone line.verdict.redundancy says) off takes gains (before off)
       by_word false true undelivered says takes =
-          let off = plain (copy_some line.redundancy says) in
+          let off = plain (copy_some line.verdict.redundancy says) in
           fates_copy mid new few within undelivered says off takes (before off)
       by_word false false undelivered other (same, kept, late) =
           fates_still old new undelivered other (but_met old new (kept ∙ notes.numbers))
@@ -567,7 +568,7 @@ module _ (rules : PairingRules) (line : FrameLine) (lines : List FrameLine) (num
       by_word : (d c : Bool) → is_deliver line ≡ d → is_copy line ≡ c → NotesWordWhere d c number at mid new → new.fates.met ≡ settled_count ends_met rules (line ∷ lines)
       by_word true c says copy (takes, gains) =
           let off : counts_discarded rules line ≡ false =
-          ap (λ (o : Option Sign). is_some o && rules.redundancy) (judged_none line is (deliver_some line.redundancy says)) in
+          ap (λ (o : Option Sign). is_some o && rules.redundancy) (judged_none line is (deliver_some line.verdict.redundancy says)) in
           let pairing : mid.pairing ≡ old.pairing = subst (λ (b : Bool). DiscardsWhere b number at (window_in old) old.pairing mid.pairing)
           (ap (λ (r : Bool). is_some (rule_of line) && r) redundancy ∙ off) notes.discards in
           let one : one_where (is_held ends_met mid.pairing number) ≡ one_where (is_deliver line && met_now) =

@@ -34,7 +34,7 @@ notes_discards line number at lane network seen old numbered mid same row pairin
     (subst (λ (l : LaneLine). DiscardsWhere (is_some l.rule && numbered.redundancy) l.number l.at (window_in numbered) numbered.pairing mid.pairing) same discards))
 
 -- the line is taken, and then its word
-pub notes_fates : (line : FrameLine) (number : ℕ) (at : Moment) (word : Option Redundancy) (old mid new : LinkReport) → line.redundancy ≡ word →
+pub notes_fates : (line : FrameLine) (number : ℕ) (at : Moment) (word : Option Redundancy) (old mid new : LinkReport) → line.verdict.redundancy ≡ word →
     row_in mid ≡ row_in old → KeepsFates old mid → KeepsLate old mid →
     DiscardsWhere (is_some (rule_of line) && old.redundancy) number at (window_in old) old.pairing mid.pairing →
     NotesWordWhere (option_map_or says_deliver word false) (option_map_or says_copy word false) number at mid new →

@@ -10,7 +10,8 @@ use Rattle.ledger_report.specs.Copies.{delivers, spot_of}
 use Rattle.ledger_report.specs.Fates.{Known, PairingRules, discarded_of, fate_at, fate_where, is_copy_of, is_discarded, is_late, is_late_after, is_met, is_open, is_paired, is_within, known_at, known_of, latest_of, meets, pairs, since, was_met}
 use Rattle.ledger_report.specs.Pairs.{awaits, fate_so_far, is_gone_by, met_by, paired, with_fate}
 use Rattle.ledger_report.specs.Standings.{Standing}
-use Rattle.ledger_report.specs.Words.{is_on, is_same_network, other_of}
+use Rattle.afdx_frame.specs.Frame.{other_network}
+use Rattle.ledger_report.specs.Words.{is_on, is_same_network}
 use Rattle.ledger_report.specs.declared.pairing.Fate.{Fate}
 use Rattle.ledger_report.specs.declared.pairing.Fate.TheVariants.{Paired, Met}
 
@@ -82,7 +83,7 @@ known_quiet rules n line lines off other kept =
     (fate_step rules n line lines delivery off
     ∙ ap (λ (b : Bool). fate_where (is_late rules n lines) (b || is_paired rules.id n lines) (meets rules n delivery.line line || is_met rules n delivery lines)) other
     ∙ ap (λ (b : Bool). fate_where (is_late rules n lines) (is_paired rules.id n lines) (b || is_met rules n delivery lines))
-    (and_left (is_discarded rules n (other_of delivery.line.network) line) (is_within rules delivery.line.stamp.0 line.stamp.0) (kept (other_of delivery.line.network)))))
+    (and_left (is_discarded rules n (other_network delivery.line.network) line) (is_within rules delivery.line.stamp.0 line.stamp.0) (kept (other_network delivery.line.network)))))
     ∙ same_known (known_of rules n lines)
 
 met_fate : (late paired met now : Bool) → fate_where late paired (now || met)
@@ -105,7 +106,7 @@ with_test : (known : Known) (b : Bool) (next : Fate) → record { spot = known.s
 with_test known true next = refl
 with_test known false next = refl
 
-other_side : (n m : Network) → is_same_network (other_of n) m ≡ not (is_same_network n m)
+other_side : (n m : Network) → is_same_network (other_network n) m ≡ not (is_same_network n m)
 other_side A A = refl
 other_side A B = refl
 other_side B A = refl
@@ -122,7 +123,7 @@ known_met rules n line lines off other gone =
     let now = not (is_same_network delivery.line.network line.network) && nat_le (line.stamp.0 - delivery.line.stamp.0) rules.window in
     let meets_now : meets rules n delivery.line line ≡ now =
     ap (λ (b : Bool). b && is_within rules delivery.line.stamp.0 line.stamp.0)
-    (gone (other_of delivery.line.network) ∙ other_side delivery.line.network line.network) in
+    (gone (other_network delivery.line.network) ∙ other_side delivery.line.network line.network) in
     ap (λ (f : Fate). record { spot = spot_of delivery.line; fate = f })
     (fate_step rules n line lines delivery off
     ∙ ap (λ (b : Bool). fate_where (is_late rules n lines) (b || is_paired rules.id n lines) (meets rules n delivery.line line || is_met rules n delivery lines)) other
@@ -141,7 +142,7 @@ known_paired rules n line lines off own kept =
     (fate_step rules n line lines delivery off
     ∙ ap (λ (b : Bool). fate_where (is_late rules n lines) (b || is_paired rules.id n lines) (meets rules n delivery.line line || is_met rules n delivery lines)) own
     ∙ ap (λ (b : Bool). fate_where (is_late rules n lines) true (b || is_met rules n delivery lines))
-    (and_left (is_discarded rules n (other_of delivery.line.network) line) (is_within rules delivery.line.stamp.0 line.stamp.0) (kept (other_of delivery.line.network)))
+    (and_left (is_discarded rules n (other_network delivery.line.network) line) (is_within rules delivery.line.stamp.0 line.stamp.0) (kept (other_network delivery.line.network)))
     ∙ paired_fate (is_late rules n lines) (is_paired rules.id n lines) (is_met rules n delivery lines))
     ∙ with_test known (pairs known.fate) Paired))
 
@@ -155,7 +156,7 @@ and_swap true false false = refl
 and_swap false b true = refl
 and_swap false b false = refl
 
-other_back : (n m : Network) → is_same_network (other_of n) m ≡ not (is_same_network m n)
+other_back : (n m : Network) → is_same_network (other_network n) m ≡ not (is_same_network m n)
 other_back A A = refl
 other_back A B = refl
 other_back B A = refl
@@ -170,7 +171,7 @@ late_by_known rules n line lines = at (latest_of rules.id n lines)
         ≡ option_map_or (awaits line.network line.stamp.0 rules.window) (option_map (known_at rules n lines) o) false
     at None = refl
     at (Some first) =
-        and_swap (is_on (other_of line.network) first.line) (is_within rules first.line.stamp.0 line.stamp.0) (is_open (fate_at rules n lines first))
+        and_swap (is_on (other_network line.network) first.line) (is_within rules first.line.stamp.0 line.stamp.0) (is_open (fate_at rules n lines first))
         ∙ ap (λ (b : Bool). is_open (fate_at rules n lines first) && (b && is_within rules first.line.stamp.0 line.stamp.0))
         (other_back line.network first.line.network)
 
@@ -189,7 +190,7 @@ pub known_delivered : (rules : PairingRules) (n : ℕ) (line : FrameLine) (lines
     known_of rules n (line ∷ lines) ≡ Some (record {
       spot = spot_of line;
       fate = fate_so_far (option_map_or (awaits line.network line.stamp.0 rules.window) (known_of rules n lines) false)
-          (is_gone_by line.stamp.0 rules.window (discarded_of rules n (other_of line.network) lines));
+          (is_gone_by line.stamp.0 rules.window (discarded_of rules n (other_network line.network) lines));
     })
 known_delivered rules n line lines on =
     let own : Standing = record { line = line; before = lines } in
@@ -198,7 +199,7 @@ known_delivered rules n line lines on =
     (ap (λ (b : Bool). fate_where b (is_paired rules.id n (line ∷ lines)) (is_met rules n own (line ∷ lines))) (late_own rules n line lines on)
     ∙ ap (λ (b : Bool). fate_where late (list_any (is_copy_of rules.id n) (if b then [] else (line ∷ since rules.id n lines))) (is_met rules n own (line ∷ lines))) on
     ∙ ap (λ (b : Bool). fate_where late false (list_any (meets rules n line) (if b then [] else (line ∷ since rules.id n lines)) || was_met rules n own)) on
-    ∙ ap (λ (b : Bool). fate_where late false b) (gone_by_found rules line.stamp.0 (find (is_discarded rules n (other_of line.network)) lines)))
+    ∙ ap (λ (b : Bool). fate_where late false b) (gone_by_found rules line.stamp.0 (find (is_discarded rules n (other_network line.network)) lines)))
   where
     late : Bool
     late = option_map_or (awaits line.network line.stamp.0 rules.window) (known_of rules n lines) false

@@ -5,7 +5,7 @@ use Rattle.afdx_frame.specs.declared.key.VlId.{VlId}
 use Rattle.vl_config.specs.Link.{VirtualLink}
 use Rattle.vl_config.specs.declared.class.Class.TheVariants.{Unconfigured}
 use Rattle.verdict_ledger.specs.Tally.{is_class}
-use Rattle.verdict_ledger.specs.Text.{is_addressed}
+use Rattle.vl_config.specs.Class.{is_addressed}
 use Rattle.ledger_text.specs.FrameText.{IsFrameLine}
 use Rattle.ledger_text.specs.declared.frame.FrameLine.{FrameLine}
 use Rattle.ledger_report.specs.Holding.{EndAlone, HasBefore, HoldsAlone, KeepAllPlaces, KeepsPlaces, NotesMissed}
@@ -67,16 +67,16 @@ alone_unseen links line lines reports off h i link report within =
     alone_other row line lines (get_or reports i report) (and_left (is_seen line) (is_of_id row.id line.link) off) (h i link report within)
 
 pub alone_unaddressed : (links : List VirtualLink) (line : FrameLine) (lines : List FrameLine) (reports : List LinkReport) →
-    is_addressed line.class ≡ false →
+    is_addressed line.verdict.class ≡ false →
     AreEach HoldsAlone links lines reports → AreEach HoldsAlone links (line ∷ lines) reports
-alone_unaddressed links line lines reports off h = alone_unseen links line lines reports (unseen_where line.class off) h
+alone_unaddressed links line lines reports off h = alone_unseen links line lines reports (unseen_where line.verdict.class off) h
 
 pub alone_outside : (links : List VirtualLink) (line : FrameLine) (lines : List FrameLine) (reports : List LinkReport)
     (id : VlId) →
     IsFrameLine line → line.link ≡ Some id →
-    is_class Unconfigured line.class ≡ true → AreEach HoldsAlone links lines reports → AreEach HoldsAlone links (line ∷ lines) reports
+    is_class Unconfigured line.verdict.class ≡ true → AreEach HoldsAlone links lines reports → AreEach HoldsAlone links (line ∷ lines) reports
 alone_outside links line lines reports id is of_link other h =
-    alone_unseen links line lines reports (seen_where line.class (addressed line id is of_link) ∙ ap not other) h
+    alone_unseen links line lines reports (seen_where line.verdict.class (addressed line id is of_link) ∙ ap not other) h
 
 -- ---- a line of the table's link at this place
 
@@ -85,7 +85,7 @@ pub alone_set : (links : List VirtualLink) (line : FrameLine) (lines : List Fram
     (networks : Sides NetworkReport) (id : VlId)
     (number : ℕ) (at : Moment) (place : ℕ) (old new : LinkReport) → IsFrameLine line → IsMomentOf line at → line.link ≡ Some id →
     line.sequence ≡ Some number →
-    is_class Unconfigured line.class ≡ false → AreNetworksOf (line ∷ lines) networks → AreLinksOf links lines reports → IsIndexOf links index →
+    is_class Unconfigured line.verdict.class ≡ false → AreNetworksOf (line ∷ lines) networks → AreLinksOf links lines reports → IsIndexOf links index →
     place ≡ get_or index id.0 65535 → place < length reports → old ≡ get_or reports place old →
     NotesMissed line number at networks old new →
     AreEach HoldsAlone links lines reports → AreEach HoldsAlone links (line ∷ lines) (set reports place new)
@@ -93,7 +93,7 @@ alone_set links line lines reports index networks id number at place old new is 
     index_is found within
     held notes h =
     let below : place < length links = omega (arith, within, links_are.count) in
-    let seen : is_seen line ≡ true = seen_where line.class (addressed line id is of_link) ∙ ap not known in
+    let seen : is_seen line ≡ true = seen_where line.verdict.class (addressed line id is of_link) ∙ ap not known in
     each_set_of HoldsAlone alone_other links line lines reports index id place new index_is found within of_link
     (λ link. (
     let row = row_of (get_or links place link) in

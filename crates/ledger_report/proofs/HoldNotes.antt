@@ -75,7 +75,7 @@ settles_next late number at old networks new before is awaited settles =
 -- ---- a line
 
 pub notes_missed : (line : FrameLine) (number : ℕ) (at : Moment) (word : Option Redundancy) (networks : Sides NetworkReport)
-    (old mid new : LinkReport) → line.redundancy ≡ word → row_in mid ≡ row_in old → KeepsPlaces old.lanes mid.lanes →
+    (old mid new : LinkReport) → line.verdict.redundancy ≡ word → row_in mid ≡ row_in old → KeepsPlaces old.lanes mid.lanes →
     DiscardsWhere (is_some (rule_of line) && old.redundancy) number at (window_in old) old.pairing mid.pairing →
     KeepsBefore old.pairing mid.pairing → SettlesWhere (option_map_or says_deliver word false) number at networks mid new →
     NotesMissed line number at networks old new

@@ -17,7 +17,8 @@ use Rattle.ledger_report.specs.LinkLines.{place_of}
 use Rattle.ledger_report.specs.Networks.{IsNetworkOf}
 use Rattle.ledger_report.specs.Pairs.{known_in}
 use Rattle.ledger_report.specs.Standings.{Standing, frames_on}
-use Rattle.ledger_report.specs.Words.{is_on, is_same_network, other_of}
+use Rattle.afdx_frame.specs.Frame.{other_network}
+use Rattle.ledger_report.specs.Words.{is_on, is_same_network}
 use Rattle.ledger_report.specs.declared.lane.Lane.{Lane}
 use Rattle.ledger_report.specs.declared.moment.Place.{Place}
 use Rattle.ledger_report.specs.declared.network.NetworkReport.{NetworkReport}
@@ -51,17 +52,17 @@ abbrev pub StandsIn : List FrameLine → Standing → Type 0
 StandsIn lines standing = (later : List FrameLine) × (later ++ (standing.line ∷ standing.before) ≡ lines)
 
 module _ (rules : PairingRules) (network : Network) (number : ℕ) (before lines : List FrameLine) (missed : List Missed) (twin : NetworkReport)
-    (old new : Lane) (are : IsNetworkOf (other_of network) lines twin) (h : HasMissed missed old) where
+    (old new : Lane) (are : IsNetworkOf (other_network network) lines twin) (h : HasMissed missed old) where
   -- of the network, and open
   one_taken : (delivery : Delivery) (standing : Standing) → delivery.place ≡ place_of standing.line →
-      frames_on (other_of network) (standing.line ∷ standing.before) ≡ delivery.before → StandsIn lines standing →
-      TakesMissed (other_of network) twin delivery.before delivery.place old new → HasMissed (missed_by network lines standing ∷ missed) new
+      frames_on (other_network network) (standing.line ∷ standing.before) ≡ delivery.before → StandsIn lines standing →
+      TakesMissed (other_network network) twin delivery.before delivery.place old new → HasMissed (missed_by network lines standing ∷ missed) new
   one_taken delivery standing spot count (later, whole) takes =
       let taken = takes later (standing.line ∷ standing.before)
-      (subst (λ (ls : List FrameLine). IsNetworkOf (other_of network) ls twin) (sym whole) are) count in
-      has_taken missed standing (covers_place (other_of network) lines standing) old new
-      (subst (λ (b : Bool). TakesOpen b (place_of standing.line) old new) (sym (covers_at (other_of network) lines later standing whole))
-      (subst (λ (p : Place). TakesOpen (is_covered (other_of network) later (standing.line ∷ standing.before)) p old new) spot taken)) h
+      (subst (λ (ls : List FrameLine). IsNetworkOf (other_network network) ls twin) (sym whole) are) count in
+      has_taken missed standing (covers_place (other_network network) lines standing) old new
+      (subst (λ (b : Bool). TakesOpen b (place_of standing.line) old new) (sym (covers_at (other_network network) lines later standing whole))
+      (subst (λ (p : Place). TakesOpen (is_covered (other_network network) later (standing.line ∷ standing.before)) p old new) spot taken)) h
 
   one_settled : (delivery : Delivery) (standing : Standing) → known_in delivery ≡ known_at rules number before standing →
       delivery.before ≡ lines_before standing →
@@ -96,14 +97,14 @@ module _ (rules : PairingRules) (network : Network) (number : ℕ) (before lines
           HasMissed (cons_option (option_map (missed_by network lines) (open_at rules network number before standing)) missed) new
       by_tests true true same fate takes =
           let own : network ≡ standing.line.network = same_network network standing.line.network (here ∙ same) in
-          let counts : frames_on (other_of network) (standing.line ∷ standing.before) ≡ delivery.before =
-          ap (λ (n : Network). frames_on (other_of n) (standing.line ∷ standing.before)) own ∙ sym count in
+          let counts : frames_on (other_network network) (standing.line ∷ standing.before) ≡ delivery.before =
+          ap (λ (n : Network). frames_on (other_network n) (standing.line ∷ standing.before)) own ∙ sym count in
           told true true same fate
           (one_taken delivery standing spot counts stands
-          (subst (λ (b : Bool). TakesOneWhere b (other_of network) twin delivery old new) same takes))
+          (subst (λ (b : Bool). TakesOneWhere b (other_network network) twin delivery old new) same takes))
       by_tests false true same fate keeps =
           told false true same fate
-          (has_kept missed old new (subst (λ (b : Bool). TakesOneWhere b (other_of network) twin delivery old new) same keeps) h)
+          (has_kept missed old new (subst (λ (b : Bool). TakesOneWhere b (other_network network) twin delivery old new) same keeps) h)
       by_tests true false same fate keeps = told true false same fate (has_kept missed old new keeps h)
       by_tests false false same fate keeps = told false false same fate (has_kept missed old new keeps h)
 

@@ -22,7 +22,8 @@ use Rattle.ledger_report.specs.Numbers.{distance, is_loss}
 use Rattle.ledger_report.specs.Pairs.{window_in}
 use Rattle.ledger_report.specs.Standings.{Standing, standings}
 use Rattle.ledger_report.specs.Sums.{saturated}
-use Rattle.ledger_report.specs.Words.{is_on, is_same_network, is_seen_of, other_of}
+use Rattle.afdx_frame.specs.Frame.{other_network}
+use Rattle.ledger_report.specs.Words.{is_on, is_same_network, is_seen_of}
 use Rattle.ledger_report.specs.declared.lane.Lane.{Lane}
 use Rattle.ledger_report.specs.declared.lane.LaneLine.{LaneLine}
 use Rattle.ledger_report.specs.declared.lane.Numbering.{Numbering}
@@ -129,20 +130,20 @@ pub loses_none : (passed : ℕ → Bool) (at : Moment) (window : ℕ) (losses : 
     LosesAt passed at window losses losses
 loses_none passed at window losses none rooms = record {
   moves = record {
-    here = λ n below. sym (ap (λ (b : Bool). if b then (if is_lost_within at.place.stamp window (held_at (losses_on (other_of at.network) losses) n) then None else Some at.place.stamp)
+    here = λ n below. sym (ap (λ (b : Bool). if b then (if is_lost_within at.place.stamp window (held_at (losses_on (other_network at.network) losses) n) then None else Some at.place.stamp)
         else held_at (losses_on at.network losses) n) (none n));
-    there = λ n below. sym (ap (λ (b : Bool). if b && is_lost_within at.place.stamp window (held_at (losses_on (other_of at.network) losses) n) then None
-        else held_at (losses_on (other_of at.network) losses) n) (none n));
+    there = λ n below. sym (ap (λ (b : Bool). if b && is_lost_within at.place.stamp window (held_at (losses_on (other_network at.network) losses) n) then None
+        else held_at (losses_on (other_network at.network) losses) n) (none n));
     room = one at.network rooms;
-    other_room = one (other_of at.network) rooms;
+    other_room = one (other_network at.network) rooms;
   };
   both = sym (ap (λ n. both_with n losses.both) nothing);
   first = sym (ap (λ n. first_with n at losses.first) nothing ∙ still losses.first);
 }
   where
-    nothing : both_passed passed at.place.stamp window (losses_on (other_of at.network) losses) ≡ 0
-    nothing = count_none (λ n. passed n && is_lost_within at.place.stamp window (held_at (losses_on (other_of at.network) losses) n)) 256
-        (λ n. ap (λ (b : Bool). b && is_lost_within at.place.stamp window (held_at (losses_on (other_of at.network) losses) n)) (none n))
+    nothing : both_passed passed at.place.stamp window (losses_on (other_network at.network) losses) ≡ 0
+    nothing = count_none (λ n. passed n && is_lost_within at.place.stamp window (held_at (losses_on (other_network at.network) losses) n)) 256
+        (λ n. ap (λ (b : Bool). b && is_lost_within at.place.stamp window (held_at (losses_on (other_network at.network) losses) n)) (none n))
 
     still : (o : Option (Network × Place)) → first_with 0 at o ≡ o
     still None = refl
@@ -154,11 +155,11 @@ loses_none passed at window losses none rooms = record {
 
 -- the numbers of the network of a line
 pub moves_here : (network : Network) (passed : ℕ → Bool) (at : Moment) (held window : ℕ) (old new : Losses) → at.network ≡ network → held ≡ window →
-    MovesLosses passed at.place.stamp held (losses_on network old) (losses_on (other_of network) old) (losses_on network new) (losses_on (other_of network) new) →
-    MovesLosses passed at.place.stamp window (losses_on at.network old) (losses_on (other_of at.network) old) (losses_on at.network new) (losses_on (other_of at.network) new)
+    MovesLosses passed at.place.stamp held (losses_on network old) (losses_on (other_network network) old) (losses_on network new) (losses_on (other_network network) new) →
+    MovesLosses passed at.place.stamp window (losses_on at.network old) (losses_on (other_network at.network) old) (losses_on at.network new) (losses_on (other_network at.network) new)
 moves_here network passed at held window old new here same moves =
-    subst (λ (n : Network). MovesLosses passed at.place.stamp window (losses_on n old) (losses_on (other_of n) old) (losses_on n new) (losses_on (other_of n) new)) (sym here)
-    (subst (λ w. MovesLosses passed at.place.stamp w (losses_on network old) (losses_on (other_of network) old) (losses_on network new) (losses_on (other_of network) new)) same moves)
+    subst (λ (n : Network). MovesLosses passed at.place.stamp window (losses_on n old) (losses_on (other_network n) old) (losses_on n new) (losses_on (other_network n) new)) (sym here)
+    (subst (λ w. MovesLosses passed at.place.stamp w (losses_on network old) (losses_on (other_network network) old) (losses_on network new) (losses_on (other_network network) new)) same moves)
 
 -- ---- a line of another link
 
@@ -167,7 +168,7 @@ lost_other : (row : Row) (network : Network) (number : ℕ) (line : FrameLine) (
 unfolding lost_since
 lost_other row network number line lines off =
     let st : Standing = record { line = line; before = lines } in
-    ap (λ (b : Bool). if b && is_lost_within line.stamp.0 (window_of row) (lost_since row (other_of line.network) number lines) then None
+    ap (λ (b : Bool). if b && is_lost_within line.stamp.0 (window_of row) (lost_since row (other_network line.network) number lines) then None
     else (if loses row network number st then Some line.stamp.0 else (if sees row network number line then None else lost_since row network number lines)))
     (none line.network)
     ∙ ap (λ (b : Bool). if b then Some line.stamp.0 else (if sees row network number line then None else lost_since row network number lines)) (none network)
@@ -183,7 +184,7 @@ both_other row line lines off =
     let st : Standing = record { line = line; before = lines } in
     count_none (λ number. is_lost_both row number st) 256
     (λ number. and_left (loses row line.network number st)
-    (is_lost_within line.stamp.0 (window_of row) (lost_since row (other_of line.network) number lines))
+    (is_lost_within line.stamp.0 (window_of row) (lost_since row (other_network line.network) number lines))
     (and_left (is_lane_line row.id line.network line) (passes (said_at row line.network st) number)
     (and_left (is_seen_of row.id line) (is_on line.network line) off)))
 
@@ -248,7 +249,7 @@ seen_own integrity A number losses = refl
 seen_own integrity B number losses = refl
 
 seen_other : (integrity : Bool) (network : Network) (number : ℕ) (losses : Losses) →
-    losses_on (other_of network) (with_seen integrity network number losses) ≡ losses_on (other_of network) losses
+    losses_on (other_network network) (with_seen integrity network number losses) ≡ losses_on (other_network network) losses
 seen_other integrity A number losses = refl
 seen_other integrity B number losses = refl
 
@@ -264,11 +265,11 @@ same_side : (network : Network) → is_same_network network network ≡ true
 same_side A = refl
 same_side B = refl
 
-other_side : (network : Network) → is_same_network (other_of network) network ≡ false
+other_side : (network : Network) → is_same_network (other_network network) network ≡ false
 other_side A = refl
 other_side B = refl
 
-either : (n network : Network) → (network ≡ n) ⊎ (network ≡ other_of n)
+either : (n network : Network) → (network ≡ n) ⊎ (network ≡ other_network n)
 either A A = inl refl
 either A B = inr refl
 either B A = inr refl
@@ -356,8 +357,8 @@ losses_own row line lines number bin networks old new seen sequence are link not
     own_line : is_lane_line row.id line.network line ≡ true
     own_line = and_from (is_seen_of row.id line) (is_on line.network line) seen (same_side line.network)
 
-    no_line : is_lane_line row.id (other_of line.network) line ≡ false
-    no_line = and_right (is_seen_of row.id line) (is_on (other_of line.network) line) (other_side line.network)
+    no_line : is_lane_line row.id (other_network line.network) line ≡ false
+    no_line = and_right (is_seen_of row.id line) (is_on (other_network line.network) line) (other_side line.network)
 
     has_it : (n : ℕ) → has_number n line ≡ (number == n)
     has_it n = ap (λ (o : Option ℕ). option_map_or (λ k. k == n) o false) sequence
@@ -366,18 +367,18 @@ losses_own row line lines number bin networks old new seen sequence are link not
     loses_it n = ap (λ (b : Bool). b && passed n) own_line
 
     -- what is held of the other network, and of this one
-    other_held : (n : ℕ) → n < 256 → held_at (losses_on (other_of line.network) mid) n ≡ lost_since row (other_of line.network) n lines
-    other_held n below = ap (λ (ls : List (Option ℕ)). held_at ls n) (seen_other row.integrity line.network number (losses_in old)) ∙ h.held (other_of line.network) n below
+    other_held : (n : ℕ) → n < 256 → held_at (losses_on (other_network line.network) mid) n ≡ lost_since row (other_network line.network) n lines
+    other_held n below = ap (λ (ls : List (Option ℕ)). held_at ls n) (seen_other row.integrity line.network number (losses_in old)) ∙ h.held (other_network line.network) n below
 
     own_held : (n : ℕ) → n < 256 → held_at (losses_on line.network mid) n ≡ (if row.integrity && (number == n) then None else lost_since row line.network n lines)
     own_held n below = ap (λ (ls : List (Option ℕ)). held_at ls n) (seen_own row.integrity line.network number (losses_in old))
         ∙ held_seen row.integrity number n (losses_on line.network (losses_in old))
         ∙ ap (λ (o : Option ℕ). if row.integrity && (number == n) then None else o) (h.held line.network n below)
 
-    held_on : (network : Network) (n : ℕ) → n < 256 → (network ≡ line.network) ⊎ (network ≡ other_of line.network) →
+    held_on : (network : Network) (n : ℕ) → n < 256 → (network ≡ line.network) ⊎ (network ≡ other_network line.network) →
         held_at (losses_on network (losses_in new)) n ≡ lost_since row network n (line ∷ lines)
     held_on network n below (inl here) =
-        let other = lost_since row (other_of line.network) n lines in
+        let other = lost_since row (other_network line.network) n lines in
         let own = lost_since row line.network n lines in
         subst (λ (m : Network). held_at (losses_on m (losses_in new)) n ≡ lost_since row m n (line ∷ lines)) (sym here)
         (moved.moves.here n below
@@ -392,30 +393,30 @@ losses_own row line lines number bin networks old new seen sequence are link not
         ∙ ap (λ (b : Bool). if passed n && is_lost_within line.stamp.0 (window_of row) other then None
         else (if passed n then Some line.stamp.0 else (if row.integrity && b then None else own))) (has_it n)))
     held_on network n below (inr there) =
-        let other = lost_since row (other_of line.network) n lines in
+        let other = lost_since row (other_network line.network) n lines in
         subst (λ (m : Network). held_at (losses_on m (losses_in new)) n ≡ lost_since row m n (line ∷ lines)) (sym there)
         (moved.moves.there n below
         ∙ ap (λ (o : Option ℕ). if passed n && is_lost_within line.stamp.0 (window_of row) o then None else o) (other_held n below)
         ∙ sym (ap (λ (b : Bool). if b && is_lost_within line.stamp.0 (window_of row) other then None
-        else (if loses row (other_of line.network) n st then Some line.stamp.0 else (if sees row (other_of line.network) n line then None else other))) (loses_it n)
+        else (if loses row (other_network line.network) n st then Some line.stamp.0 else (if sees row (other_network line.network) n line then None else other))) (loses_it n)
         ∙ ap (λ (b : Bool). if passed n && is_lost_within line.stamp.0 (window_of row) other then None
-        else (if b then Some line.stamp.0 else (if sees row (other_of line.network) n line then None else other)))
-        (and_left (is_lane_line row.id (other_of line.network) line) (passes (said_at row (other_of line.network) st) n) no_line)
+        else (if b then Some line.stamp.0 else (if sees row (other_network line.network) n line then None else other)))
+        (and_left (is_lane_line row.id (other_network line.network) line) (passes (said_at row (other_network line.network) st) n) no_line)
         ∙ ap (λ (b : Bool). if passed n && is_lost_within line.stamp.0 (window_of row) other then None else (if b then None else other))
-        (and_left (is_lane_line row.id (other_of line.network) line) (row.integrity && has_number n line) no_line)))
+        (and_left (is_lane_line row.id (other_network line.network) line) (row.integrity && has_number n line) no_line)))
 
-    rooms : (n : Network) → IsRoom (losses_on n (losses_in new)) → IsRoom (losses_on (other_of n) (losses_in new)) → AreRoom (losses_in new)
+    rooms : (n : Network) → IsRoom (losses_on n (losses_in new)) → IsRoom (losses_on (other_network n) (losses_in new)) → AreRoom (losses_in new)
     rooms A own other = (own, other)
     rooms B own other = (other, own)
 
     counted : ℕ
-    counted = both_passed passed line.stamp.0 (window_of row) (losses_on (other_of line.network) mid)
+    counted = both_passed passed line.stamp.0 (window_of row) (losses_on (other_network line.network) mid)
 
     counted_is : counted ≡ both_at row st
     counted_is = count_same (λ n. is_lost_both row n st)
-        (λ n. passed n && is_lost_within line.stamp.0 (window_of row) (held_at (losses_on (other_of line.network) mid) n)) 256
+        (λ n. passed n && is_lost_within line.stamp.0 (window_of row) (held_at (losses_on (other_network line.network) mid) n)) 256
         (λ n below. ap (λ (o : Option ℕ). passed n && is_lost_within line.stamp.0 (window_of row) o) (other_held n below)
-        ∙ sym (ap (λ (b : Bool). b && is_lost_within line.stamp.0 (window_of row) (lost_since row (other_of line.network) n lines)) (loses_it n)))
+        ∙ sym (ap (λ (b : Bool). b && is_lost_within line.stamp.0 (window_of row) (lost_since row (other_network line.network) n lines)) (loses_it n)))
 
     first_at : (b : Bool) → nat_lt 0 counted ≡ b → first_with counted at (first_both row lines) ≡ first_both row (line ∷ lines)
     first_at true some =

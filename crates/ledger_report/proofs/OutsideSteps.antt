@@ -8,7 +8,7 @@ use Rattle.afdx_frame.specs.declared.key.VlId.{VlId}
 use Rattle.vl_config.specs.declared.class.Class.{Class}
 use Rattle.vl_config.specs.declared.class.Class.TheVariants.{Cut, Runt, Oversize, Foreign, Unconfigured, TooLong, Regular}
 use Rattle.verdict_ledger.specs.Tally.{is_class}
-use Rattle.verdict_ledger.specs.Text.{is_addressed}
+use Rattle.vl_config.specs.Class.{is_addressed}
 use Rattle.ledger_text.specs.declared.frame.FrameLine.{FrameLine}
 use Rattle.ledger_report.specs.LinkLines.{place_of}
 use Rattle.ledger_report.specs.Noting.{IsMomentOf}
@@ -39,13 +39,13 @@ outside_few lines outside h = elim h.room [
 lines_other : (id : ℕ) (line : FrameLine) (lines : List FrameLine) → is_outside id line ≡ false → outside_lines id (line ∷ lines) ≡ outside_lines id lines
 lines_other id line lines off = ap (λ (b : Bool). cond b (line ∷ outside_lines id lines) (outside_lines id lines)) off
 
-pub outside_other : (line : FrameLine) (lines : List FrameLine) (outside : List OutsideLink) → is_class Unconfigured line.class ≡ false → IsOutsideOf lines outside →
+pub outside_other : (line : FrameLine) (lines : List FrameLine) (outside : List OutsideLink) → is_class Unconfigured line.verdict.class ≡ false → IsOutsideOf lines outside →
     IsOutsideOf (line ∷ lines) outside
 outside_other line lines outside off h = record {
   room = h.room;
   each = λ id within.
       subst (λ (ls : List FrameLine). IsOutsideLink ls (outside_at outside id))
-      (sym (lines_other id line lines (and_left (is_class Unconfigured line.class) (is_of_id id line.link) off))) (h.each id within);
+      (sym (lines_other id line lines (and_left (is_class Unconfigured line.verdict.class) (is_of_id id line.link) off))) (h.each id within);
 }
 
 -- ---- a line of such a link
@@ -66,7 +66,7 @@ pub record CountsLine (at : Moment) (old new : OutsideLink) : Type 0 where
   pub first : new.first ≡ (if old.frames == 0 then at.place else old.first)
 
 pub outside_more : (line : FrameLine) (lines : List FrameLine) (id : VlId) (at : Moment) (outside : List OutsideLink) (new : OutsideLink) → length lines < 2 ^ 34 →
-    is_class Unconfigured line.class ≡ true → line.link ≡ Some id → IsMomentOf line at → length outside ≡ 65536 → id.0 < 65536 →
+    is_class Unconfigured line.verdict.class ≡ true → line.link ≡ Some id → IsMomentOf line at → length outside ≡ 65536 → id.0 < 65536 →
     CountsLine at (outside_at outside id.0) new → IsOutsideOf lines outside → IsOutsideOf (line ∷ lines) (set outside id.0 new)
 outside_more line lines id at outside new few is of_link moment full small counts h = record {
   room = inr (length-set outside id.0 new ∙ full);
@@ -82,7 +82,7 @@ outside_more line lines id at outside new few is of_link moment full small count
         let before = h.each id.0 small in
         let count = length-filter (is_outside id.0) lines in
         let less = count_by-le-length (is_outside id.0) lines in
-        let on : is_outside id.0 line ≡ true = and_from (is_class Unconfigured line.class) (is_of_id id.0 line.link) is (test id.0 ∙ eq-eqb id.0 id.0 refl) in
+        let on : is_outside id.0 line ≡ true = and_from (is_class Unconfigured line.verdict.class) (is_of_id id.0 line.link) is (test id.0 ∙ eq-eqb id.0 id.0 refl) in
         let more : outside_lines id.0 (line ∷ lines) ≡ line ∷ ls = ap (λ (b : Bool). cond b (line ∷ ls) ls) on in
         let now : IsOutsideLink (line ∷ ls) new = record {
           frames = omega (arith, counts.frames, before.frames, count, less, few);
@@ -99,7 +99,7 @@ outside_more line lines id at outside new few is of_link moment full small count
         (subst (IsOutsideLink (outside_lines id.0 (line ∷ lines))) (sym (get_or-set_same outside id.0 new no_frames (omega (arith, full, small)))) own)
     by other within (inr differ) =
         let off : is_outside other line ≡ false =
-        and_right (is_class Unconfigured line.class) (is_of_id other line.link) (test other ∙ ne_eqb id.0 other (λ (e : id.0 ≡ other). differ (sym e))) in
+        and_right (is_class Unconfigured line.verdict.class) (is_of_id other line.link) (test other ∙ ne_eqb id.0 other (λ (e : id.0 ≡ other). differ (sym e))) in
         subst (IsOutsideLink (outside_lines other (line ∷ lines))) (sym (get_or-set_other outside id.0 other new no_frames differ))
         (subst (λ (ls : List FrameLine). IsOutsideLink ls (outside_at outside other)) (sym (lines_other other line lines off)) (h.each other within))
 

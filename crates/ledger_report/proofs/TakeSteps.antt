@@ -1,34 +1,37 @@
 -- A line of counts is compared with the text that is made of the counts.
-use Rattle.std.proofs.Common.{◌≡◌, ◌≢◌, ◌∙◌, ℕ, ◌<◌, ◌≤◌, Bool, true, false, not, if◌then◌else◌, List, ◌++◌, length, get_or, Option, is_some, Result, Ok, Err, append_assoc, refl, sym, ap, subst, arith}
-use Rattle.std.specs.Prelude.{IfErr, OnOk, codes, decimal}
+use Rattle.std.proofs.Common.{◌≡◌, ◌≢◌, ◌∙◌, ℕ, ◌<◌, ◌≤◌, Bool, true, false, not, if◌then◌else◌, List, ◌++◌, length, get_or, Option, is_some, Result, Ok, Err, refl, sym, subst, arith}
+use Rattle.std.specs.Prelude.{IfErr, OnOk, codes}
 use Rattle.std.proofs.lemmas.Bool.{true≢false}
 use Rattle.std.proofs.lemmas.List.{append_cancel_right}
 use Rattle.afdx_frame.specs.declared.key.Network.{Network}
 use Rattle.afdx_frame.specs.declared.key.Network.TheVariants.{A, B}
-use Rattle.verdict_ledger.specs.Text.{count_field, filter_line, link_line, word_field}
+use Rattle.verdict_ledger.specs.Text.{filter_line, link_line}
+use Rattle.verdict_ledger.specs.declared.link_counts.LinkCounts.{LinkCounts}
 use Rattle.vl_config.specs.Document.{VlTable}
 use Rattle.vl_config.specs.Link.{VirtualLink}
 use Rattle.ledger_text.specs.declared.frame.FrameLine.{FrameLine}
 use Rattle.ledger_text.specs.declared.order.Counts.TheVariants as kinds
 use Rattle.ledger_report.specs.CountsRight.{IsRightLine, TakesWhere, tap_frames, tap_network, taps_in}
-use Rattle.ledger_report.specs.CountsText.{IsFilterLine, IsLinkLine, link_row}
+use Rattle.ledger_report.specs.CountsText.{IsFilterLine, IsLinkLine}
 use Rattle.ledger_report.specs.TapLines.{IsTapLine, Said}
 use Rattle.ledger_report.specs.Words.{filter_count, link_counts}
-use Rattle.ledger_report.specs.declared.counts.Counts.{Counts}
 use Rattle.ledger_report.specs.declared.counts_lines.TapEnding.{TapEnding}
 use Rattle.ledger_report.specs.declared.fault.Refusal.{Refusal}
 use Rattle.ledger_report.specs.declared.fault.Refusal.TheVariants as refusals
 use Rattle.ledger_report.specs.declared.fault.WrongLine.TheVariants as wrongs
 use Rattle.ledger_report.specs.declared.sides.Sides.{Sides}
 
+-- a text that isn't the line, and its newline
+pub unlike : (made text line : List ℕ) → made ≡ text ++ codes "\n" → text ≢ line → made ≢ line ++ codes "\n"
+unlike made text line is differs same = differs (append_cancel_right text line (codes "\n") (sym is ∙ same))
+
 -- The line is right exactly where it is the text.
-pub taken_by : (P : Type 0) (made line text : List ℕ) (result : Result (Unit {0}) Refusal) → OnOk result (made ≡ line)
-    → IfErr result (λ refusal. (refusal ≡ refusals.Wrong wrongs.Counts) × (made ≢ line)) → made ++ codes "\n" ≡ text → (line ++ codes "\n" ≡ text → P)
-    → (P → line ++ codes "\n" ≡ text) → TakesWhere P result
-taken_by P made line text (Ok done) same differs whole to from = to (ap (λ (xs : List ℕ). xs ++ codes "\n") (sym same) ∙ whole)
+pub taken_by : (P : Type 0) (made line text : List ℕ) (result : Result (Unit {0}) Refusal) → OnOk result (made ≡ line ++ codes "\n")
+    → IfErr result (λ refusal. (refusal ≡ refusals.Wrong wrongs.Counts) × (made ≢ line ++ codes "\n")) → made ≡ text
+    → (line ++ codes "\n" ≡ text → P) → (P → line ++ codes "\n" ≡ text) → TakesWhere P result
+taken_by P made line text (Ok done) same differs whole to from = to (sym same ∙ whole)
 taken_by P made line text (Err refusal) same differs whole to from =
-    subst (λ (r : Refusal). TakesWhere P (Err r)) (sym differs.0)
-    (refl, λ (p : P). differs.1 (append_cancel_right made line (codes "\n") (whole ∙ sym (from p))))
+    subst (λ (r : Refusal). TakesWhere P (Err r)) (sym differs.0) (refl, λ (p : P). differs.1 (whole ∙ sym (from p)))
 
 -- ---- how many lines `tap` stood
 
@@ -38,30 +41,30 @@ both_told endings is = rw is (omega arith)
 -- ---- the lines of links and of filters
 
 -- the line of the table's link at this place, which has these counts
-pub link_right : (table : VlTable) (frames : List FrameLine) (links filters taps : ℕ) (link : VirtualLink) (counts : Counts) (made line : List ℕ)
+pub link_right : (table : VlTable) (frames : List FrameLine) (links filters taps : ℕ) (link : VirtualLink) (counts : LinkCounts) (made line : List ℕ)
     (result : Result (Unit {0}) Refusal) → links < length table.links → ((d : VirtualLink) → link ≡ get_or table.links links d)
-    → counts ≡ link_counts frames link.id.0 → OnOk result (made ≡ line)
-    → IfErr result (λ refusal. (refusal ≡ refusals.Wrong wrongs.Counts) × (made ≢ line)) → made ++ codes "\n" ≡ link_line link (link_row counts)
+    → counts ≡ link_counts frames link.id.0 → OnOk result (made ≡ line ++ codes "\n")
+    → IfErr result (λ refusal. (refusal ≡ refusals.Wrong wrongs.Counts) × (made ≢ line ++ codes "\n")) → made ≡ link_line link counts
     → TakesWhere (IsRightLine table frames links filters taps kinds.Link line) result
 link_right table frames links filters taps link counts made line result within at are same differs whole =
-    taken_by (IsRightLine table frames links filters taps kinds.Link line) made line (link_line link (link_row counts)) result same differs whole
+    taken_by (IsRightLine table frames links filters taps kinds.Link line) made line (link_line link counts) result same differs whole
     (λ says. record {
       place = within;
       says = (
         within,
         λ d. subst (λ (l : VirtualLink). IsLinkLine l (link_counts frames l.id.0) line) (at d)
-            (subst (λ (cs : Counts). IsLinkLine link cs line) are says),
+            (subst (λ (cs : LinkCounts). IsLinkLine link cs line) are says),
       );
       ending = tt;
     })
-    (λ right. subst (λ (cs : Counts). IsLinkLine link cs line) (sym are)
+    (λ right. subst (λ (cs : LinkCounts). IsLinkLine link cs line) (sym are)
     (subst (λ (l : VirtualLink). IsLinkLine l (link_counts frames l.id.0) line) (sym (at link)) (right.says.1 link)))
 
 -- the line of the next filter, which accepts so many frames
 pub filter_right : (table : VlTable) (frames : List FrameLine) (links filters taps accepted : ℕ) (made line : List ℕ)
     (result : Result (Unit {0}) Refusal) → length table.links ≤ links → filters ≤ length table.filters → filters < 8
-    → accepted ≡ filter_count frames filters → OnOk result (made ≡ line)
-    → IfErr result (λ refusal. (refusal ≡ refusals.Wrong wrongs.Counts) × (made ≢ line)) → made ++ codes "\n" ≡ filter_line filters accepted
+    → accepted ≡ filter_count frames filters → OnOk result (made ≡ line ++ codes "\n")
+    → IfErr result (λ refusal. (refusal ≡ refusals.Wrong wrongs.Counts) × (made ≢ line ++ codes "\n")) → made ≡ filter_line filters accepted
     → TakesWhere (IsRightLine table frames links filters taps kinds.Filter line) result
 filter_right table frames links filters taps accepted made line result all few below are same differs whole =
     taken_by (IsRightLine table frames links filters taps kinds.Filter line) made line (filter_line filters accepted) result same differs whole
@@ -121,11 +124,3 @@ tap_there frames endings network count said line none is counts h =
 pub was_none : (known none : Bool) → known ≡ not none → known ≡ false → none ≡ true
 was_none known true same is = refl
 was_none known false same is = absurd (true≢false (sym same ∙ is))
-
--- ---- the text of a link's line
-
-pub link_made : (id frames : ℕ) (name judged written : List ℕ)
-    → written ≡ codes "link " ++ (decimal id ++ (codes " " ++ (name ++ (codes " frames " ++ decimal frames))))
-    → written ++ judged ≡ count_field (codes "link") id ++ (word_field name ++ (count_field (codes " frames") frames ++ judged))
-unfolding count_field
-link_made id frames name judged written is = rw is (simp append_assoc)

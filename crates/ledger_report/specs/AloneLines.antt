@@ -16,7 +16,8 @@ use Rattle.ledger_report.specs.Links.{Row, pairing_rules}
 use Rattle.ledger_report.specs.Marks.{HasHits}
 use Rattle.ledger_report.specs.Standings.{Standing, standings}
 use Rattle.ledger_report.specs.Sums.{saturated}
-use Rattle.ledger_report.specs.Words.{is_on, other_of}
+use Rattle.afdx_frame.specs.Frame.{other_network}
+use Rattle.ledger_report.specs.Words.{is_on}
 use Rattle.ledger_report.specs.declared.bounds.TheConstants.{NUMBERS}
 use Rattle.ledger_report.specs.declared.lane.Lane.{Lane}
 use Rattle.ledger_report.specs.declared.link.LinkReport.{LinkReport}
@@ -57,7 +58,7 @@ pub record Missed : Type 0 where
 -- by these lines
 abbrev pub missed_by : Network → List FrameLine → Standing → Missed
 missed_by network lines delivery =
-    record { delivery = delivery; covered = covers_place (other_of network) lines delivery }
+    record { delivery = delivery; covered = covers_place (other_network network) lines delivery }
 
 -- those with a later delivery of their number, by the lines up to it
 abbrev pub settled_at : PairingRules → Network → Standing → Option Missed

@@ -17,10 +17,10 @@ says_copy Copy = true
 says_copy Both = false
 
 abbrev pub is_deliver : FrameLine → Bool
-is_deliver line = option_map_or says_deliver line.redundancy false
+is_deliver line = option_map_or says_deliver line.verdict.redundancy false
 
 abbrev pub is_copy : FrameLine → Bool
-is_copy line = option_map_or says_copy line.redundancy false
+is_copy line = option_map_or says_copy line.verdict.redundancy false
 
 -- how many lines of the link with this identifier say it
 abbrev pub deliver_count : ℕ → List FrameLine → ℕ

@@ -9,7 +9,8 @@ use Rattle.ledger_report.specs.Deliveries.{is_copy}
 use Rattle.ledger_report.specs.Extremes.{Hit}
 use Rattle.ledger_report.specs.LinkLines.{place_of}
 use Rattle.ledger_report.specs.Standings.{Standing, standings}
-use Rattle.ledger_report.specs.Words.{is_on, is_seen_of, other_of, rule_of}
+use Rattle.afdx_frame.specs.Frame.{other_network}
+use Rattle.ledger_report.specs.Words.{is_on, is_seen_of, rule_of}
 use Rattle.ledger_report.specs.declared.bounds.TheConstants.{NUMBERS}
 use Rattle.ledger_report.specs.declared.pairing.Fate.{Fate}
 use Rattle.ledger_report.specs.declared.pairing.Fate.TheVariants.{Open, Late, Paired, Met}
@@ -60,11 +61,11 @@ is_paired id number lines = list_any (is_copy_of id number) (since id number lin
 abbrev pub was_met : PairingRules → ℕ → Standing → Bool
 was_met rules number delivery =
     option_map_or (λ line. is_within rules line.stamp.0 delivery.line.stamp.0)
-    (find (is_discarded rules number (other_of delivery.line.network)) delivery.before) false
+    (find (is_discarded rules number (other_network delivery.line.network)) delivery.before) false
 
 -- The other network brings it after, by at most the window, and it is discarded there.
 abbrev pub meets : PairingRules → ℕ → FrameLine → FrameLine → Bool
-meets rules number delivery line = is_discarded rules number (other_of delivery.network) line && is_within rules delivery.stamp.0 line.stamp.0
+meets rules number delivery line = is_discarded rules number (other_network delivery.network) line && is_within rules delivery.stamp.0 line.stamp.0
 
 abbrev pub is_met : PairingRules → ℕ → Standing → List FrameLine → Bool
 is_met rules number delivery lines = list_any (meets rules number delivery.line) (since rules.id number lines) || was_met rules number delivery
@@ -81,7 +82,7 @@ is_open Met = false
 
 -- It comes on the other network than the one before, by at most the window after it.
 abbrev pub is_second : PairingRules → FrameLine → FrameLine → Bool
-is_second rules first line = is_on (other_of line.network) first && is_within rules first.stamp.0 line.stamp.0
+is_second rules first line = is_on (other_network line.network) first && is_within rules first.stamp.0 line.stamp.0
 
 -- It is late: the delivery of its number before it, `first`, is open up to it and on the other network, by at most the window before it.
 abbrev pub is_late_after : PairingRules → ℕ → FrameLine → List FrameLine → Bool → Standing → Bool

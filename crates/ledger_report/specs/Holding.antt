@@ -13,7 +13,8 @@ use Rattle.ledger_report.specs.Links.{IsLinkOf, Row, pairing_rules, row_in}
 use Rattle.ledger_report.specs.Networks.{IsNetworkOf}
 use Rattle.ledger_report.specs.Pairs.{DiscardsWhere, comes_late, window_in}
 use Rattle.ledger_report.specs.Standings.{Standing, frames_on}
-use Rattle.ledger_report.specs.Words.{is_same_network, other_of, rule_of}
+use Rattle.afdx_frame.specs.Frame.{other_network}
+use Rattle.ledger_report.specs.Words.{is_same_network, rule_of}
 use Rattle.ledger_report.specs.declared.lane.Lane.{Lane}
 use Rattle.ledger_report.specs.declared.link.LinkReport.{LinkReport}
 use Rattle.ledger_report.specs.declared.moment.Moment.{Moment}
@@ -38,7 +39,7 @@ TakesBefore number before old new = (n : ℕ) → before_at new n ≡ (if n == n
 
 -- of a delivery among the lines
 abbrev pub lines_before : Standing → ℕ
-lines_before delivery = frames_on (other_of delivery.line.network) (delivery.line ∷ delivery.before)
+lines_before delivery = frames_on (other_network delivery.line.network) (delivery.line ∷ delivery.before)
 
 -- by these lines, for each number
 abbrev pub HasBefore : ℕ → List FrameLine → Pairing → Type 0
@@ -59,7 +60,7 @@ TakesOneWhere false other twin delivery old new = KeepsMissed old new
 abbrev pub LaneSettles : Network → NetworkReport → Option Delivery → Lane → Lane → Type 0
 LaneSettles network twin None old new = KeepsMissed old new
 LaneSettles network twin (Some delivery) old new =
-    TakesOneWhere (is_same_network network delivery.network) (other_of network) twin delivery old new
+    TakesOneWhere (is_same_network network delivery.network) (other_network network) twin delivery old new
 
 -- on both networks
 abbrev pub Settles : Option Delivery → Sides NetworkReport → Sides Lane → Sides Lane → Type 0
@@ -84,7 +85,7 @@ settled_by_next number at report = if comes_late number at report then None else
 abbrev pub SettlesWhere : Bool → ℕ → Moment → Sides NetworkReport → LinkReport → LinkReport → Type 0
 SettlesWhere true number at networks old new =
     Settles (settled_by_next number at old) networks old.lanes new.lanes
-    × TakesBefore number (side_of (other_of at.network) networks).frames old.pairing new.pairing
+    × TakesBefore number (side_of (other_network at.network) networks).frames old.pairing new.pairing
 SettlesWhere false number at networks old new = KeepsPlaces old.lanes new.lanes × KeepsBefore old.pairing new.pairing
 
 -- The line is taken by its lane, and as a discarded one where it is one, and then by its word.

@@ -11,7 +11,7 @@ use Rattle.ledger_report.specs.Noting.{seen_line}
 use Rattle.ledger_report.specs.Numbers.{distance}
 use Rattle.ledger_report.specs.Pairs.{window_in}
 use Rattle.ledger_report.specs.Sums.{saturated}
-use Rattle.ledger_report.specs.Words.{other_of}
+use Rattle.afdx_frame.specs.Frame.{other_network}
 use Rattle.ledger_report.specs.declared.bounds.TheConstants.{NUMBERS}
 use Rattle.ledger_report.specs.declared.lane.Numbering.{Numbering}
 use Rattle.ledger_report.specs.declared.lane.Numbering.TheVariants.{Follows, Restarts, Repeats, Skips}
@@ -109,10 +109,10 @@ first_with more at None = if nat_lt 0 more then Some (at.network, at.place) else
 
 -- A line passes over numbers.
 pub record LosesAt (passed : ℕ → Bool) (at : Moment) (window : ℕ) (old new : Losses) : Type 0 where
-  pub moves : MovesLosses passed at.place.stamp window (losses_on at.network old) (losses_on (other_of at.network) old)
-      (losses_on at.network new) (losses_on (other_of at.network) new)
-  pub both : new.both ≡ both_with (both_passed passed at.place.stamp window (losses_on (other_of at.network) old)) old.both
-  pub first : new.first ≡ first_with (both_passed passed at.place.stamp window (losses_on (other_of at.network) old)) at old.first
+  pub moves : MovesLosses passed at.place.stamp window (losses_on at.network old) (losses_on (other_network at.network) old)
+      (losses_on at.network new) (losses_on (other_network at.network) new)
+  pub both : new.both ≡ both_with (both_passed passed at.place.stamp window (losses_on (other_network at.network) old)) old.both
+  pub first : new.first ≡ first_with (both_passed passed at.place.stamp window (losses_on (other_network at.network) old)) at old.first
 
 -- A line of the link is seen, and the numbers that it passes over are lost.
 abbrev pub NotesLosses : FrameLine → ℕ → Moment → Sides NetworkReport → LinkReport → LinkReport → Type 0

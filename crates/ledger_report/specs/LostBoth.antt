@@ -14,7 +14,7 @@ use Rattle.ledger_report.specs.Losses.{AreRoom, held_at, is_lost_within, losses_
 use Rattle.ledger_report.specs.Numbering.{counted_numbering}
 use Rattle.ledger_report.specs.Standings.{Standing, standings}
 use Rattle.ledger_report.specs.Sums.{saturated, total_of}
-use Rattle.ledger_report.specs.Words.{other_of}
+use Rattle.afdx_frame.specs.Frame.{other_network}
 use Rattle.ledger_report.specs.declared.bounds.TheConstants.{NUMBERS, WINDOW_BAGS}
 use Rattle.ledger_report.specs.declared.lane.Numbering.{Numbering}
 use Rattle.ledger_report.specs.declared.link.LinkReport.{LinkReport}
@@ -51,14 +51,14 @@ is_both row number standing lost =
 unfoldable pub lost_since : Row → Network → ℕ → List FrameLine → Option ℕ
 lost_since row network number [] = None
 lost_since row network number (line ∷ before) =
-    if is_both row number (record { line = line; before = before }) (lost_since row (other_of line.network) number before) then None
+    if is_both row number (record { line = line; before = before }) (lost_since row (other_network line.network) number before) then None
     else (if loses row network number (record { line = line; before = before }) then Some line.stamp.0
     else (if sees row network number line then None
     else lost_since row network number before))
 
 -- It is lost on both networks: lost at this line, and on the other network at most a window before, where it was neither seen since nor counted.
 abbrev pub is_lost_both : Row → ℕ → Standing → Bool
-is_lost_both row number standing = is_both row number standing (lost_since row (other_of standing.line.network) number standing.before)
+is_lost_both row number standing = is_both row number standing (lost_since row (other_network standing.line.network) number standing.before)
 
 -- ---- all numbers
 

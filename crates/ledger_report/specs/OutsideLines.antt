@@ -13,7 +13,7 @@ use Rattle.ledger_report.specs.Words.{is_of_id}
 use Rattle.ledger_report.specs.declared.report.OutsideLink.{OutsideLink}
 
 abbrev pub is_outside : ℕ → FrameLine → Bool
-is_outside id line = is_class class.Unconfigured line.class && is_of_id id line.link
+is_outside id line = is_class class.Unconfigured line.verdict.class && is_of_id id line.link
 
 -- those of one identifier
 abbrev pub outside_lines : ℕ → List FrameLine → List FrameLine

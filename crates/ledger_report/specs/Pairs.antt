@@ -10,7 +10,8 @@ use Rattle.ledger_report.specs.Deliveries.{deliver_count, is_copy, is_deliver}
 use Rattle.ledger_report.specs.Fates.{Known, PairingRules, discarded_of, ends_late, ends_met, ends_open, ends_paired, fate_count, is_open, known_of, late_count, late_hits, late_skews, paired_count, pairs}
 use Rattle.ledger_report.specs.Marks.{GainsHit, HasHits, KeepsHits}
 use Rattle.ledger_report.specs.Sums.{greatest_of, saturated}
-use Rattle.ledger_report.specs.Words.{is_same_network, other_of, rule_of}
+use Rattle.afdx_frame.specs.Frame.{other_network}
+use Rattle.ledger_report.specs.Words.{is_same_network, rule_of}
 use Rattle.ledger_report.specs.declared.bounds.TheConstants.{WINDOW_BAGS}
 use Rattle.ledger_report.specs.declared.lane.Lane.{Lane}
 use Rattle.ledger_report.specs.declared.link.LinkReport.{LinkReport}
@@ -160,7 +161,7 @@ abbrev pub known_after : ℕ → Moment → LinkReport → Known
 known_after number at report = record {
   spot = record { network = at.network; place = at.place };
   fate = fate_so_far (comes_late number at report)
-      (is_gone_by at.place.stamp (window_in report) (gone_in report.pairing number (other_of at.network)));
+      (is_gone_by at.place.stamp (window_in report) (gone_in report.pairing number (other_network at.network)));
 }
 
 -- The delivery before is settled: it is counted where it stays met, and where this one is late, which is counted too.

@@ -1,16 +1,20 @@
 -- What a ledger's line of a frame says by its words, and how many lines say what (this project's format).
-use Rattle.std.specs.Prelude.{◌≡◌, ℕ, ◌<◌, slice_index_or, ◌==◌, Bool, true, false, ◌&&◌, List, filter, count_by, length, Option, Some, None, is_some, if◌then◌else◌}
+use Rattle.std.specs.Prelude.{ℕ, ◌/◌, ◌%◌, ◌==◌, Bool, true, false, ◌&&◌, List, [], ◌∷◌, filter, map, slice_index, Option, Some, None, if◌then◌else◌}
 use Rattle.std.specs.Option.{option_map_or}
+use Rattle.afdx_frame.specs.Frame.{frame_with}
 use Rattle.afdx_frame.specs.declared.key.Network.{Network}
 use Rattle.afdx_frame.specs.declared.key.Network.TheVariants.{A, B}
-use Rattle.afdx_frame.specs.declared.key.TheConstants.{VL_ID_COUNT}
 use Rattle.afdx_frame.specs.declared.key.VlId.{VlId}
 use Rattle.vl_config.specs.declared.class.Class.{Class}
 use Rattle.vl_config.specs.declared.class.Class.TheVariants as class
-use Rattle.verdict_ledger.specs.Tally.{is_class, is_excess, is_out, is_copy, is_delivered, is_on_a_link, has_bit}
-use Rattle.ledger_text.specs.FrameText.{judgement_of}
+use Rattle.vl_config.specs.Class.{is_on_a_link}
+use Rattle.vl_judge.specs.Judgement.{is_excess, is_out}
+use Rattle.verdict_ledger.specs.Entry.{Entry, entry_with}
+use Rattle.verdict_ledger.specs.Tally as tally
+use Rattle.verdict_ledger.specs.Tally.{totals_of}
+use Rattle.verdict_ledger.specs.declared.link_counts.LinkCounts.{LinkCounts}
+use Rattle.verdict_ledger.specs.declared.totals.Totals.{Totals}
 use Rattle.ledger_text.specs.declared.frame.FrameLine.{FrameLine}
-use Rattle.ledger_report.specs.declared.counts.Counts.{Counts}
 use Rattle.ledger_report.specs.declared.signs.Sign.{Sign}
 use Rattle.ledger_report.specs.declared.signs.Sign.TheVariants as signs
 
@@ -18,17 +22,13 @@ use Rattle.ledger_report.specs.declared.signs.Sign.TheVariants as signs
 
 -- The frame came, whatever became of it, and has a link of the table and a sequence number.
 abbrev pub is_seen : FrameLine → Bool
-is_seen line = is_on_a_link line.class
+is_seen line = is_on_a_link line.verdict.class
 
 abbrev pub is_same_network : Network → Network → Bool
 is_same_network A A = true
 is_same_network A B = false
 is_same_network B A = false
 is_same_network B B = true
-
-abbrev pub other_of : Network → Network
-other_of A = B
-other_of B = A
 
 abbrev pub is_on : Network → FrameLine → Bool
 is_on network line = is_same_network network line.network
@@ -42,48 +42,39 @@ is_seen_of id line = is_seen line && is_of_id id line.link
 
 -- ---- how many lines say what
 
-abbrev pub class_count : Class → List FrameLine → ℕ
-class_count class lines = count_by (λ line. is_class class line.class) lines
+-- the first bytes of a frame of this link
+abbrev pub address_of : Option VlId → List ℕ
+address_of None = []
+address_of (Some id) = 0 ∷ 0 ∷ 0 ∷ 0 ∷ id.0 / 256 ∷ id.0 % 256 ∷ []
 
-unfoldable pub counts_of : List FrameLine → Counts
-counts_of lines = record {
-  frames = length lines;
-  accepted = count_by (λ line. is_some line.kept) lines;
-  cut = class_count class.Cut lines;
-  runt = class_count class.Runt lines;
-  oversize = class_count class.Oversize lines;
-  foreign = class_count class.Foreign lines;
-  unconfigured = class_count class.Unconfigured lines;
-  toolong = class_count class.TooLong lines;
-  excess = count_by (λ line. is_excess (judgement_of line)) lines;
-  out = count_by (λ line. is_out (judgement_of line)) lines;
-  copy = count_by (λ line. is_copy (judgement_of line)) lines;
-  delivered = count_by (λ line. is_delivered (judgement_of line)) lines;
-}
+-- an entry that counts as the line does: with its link, its verdict, how many bytes are kept, and its mask
+abbrev pub entry_of : FrameLine → Entry
+entry_of line = entry_with (frame_with line.network line.number line.stamp.0 0 (address_of line.link)) line.verdict line.kept line.mask
 
-abbrev pub network_counts : List FrameLine → Network → Counts
+abbrev pub entries_of : List FrameLine → List Entry
+entries_of lines = map entry_of lines
+
+abbrev pub counts_of : List FrameLine → Totals
+counts_of lines = totals_of (entries_of lines)
+
+abbrev pub network_counts : List FrameLine → Network → Totals
 network_counts lines network = counts_of (filter (is_on network) lines)
 
 -- by an identifier, the counts of its seen lines
-abbrev pub link_counts : List FrameLine → ℕ → Counts
-link_counts lines id = counts_of (filter (is_seen_of id) lines)
-
--- the counts are those of each link
-abbrev pub AreLinkCounts : List FrameLine → List Counts → Type 0
-AreLinkCounts lines counts =
-    (id : ℕ) (none : Counts) → id < VL_ID_COUNT → slice_index_or counts id none ≡ link_counts lines id
+abbrev pub link_counts : List FrameLine → ℕ → LinkCounts
+link_counts lines id = tally.link_counts (entries_of lines) (record { 0 = id })
 
 -- how many frames a filter accepts
 abbrev pub filter_count : List FrameLine → ℕ → ℕ
-filter_count lines i = count_by (λ line. has_bit i line.mask) lines
+filter_count lines filter = slice_index (counts_of lines).filters filter
 
 -- ---- the rule by which a frame is discarded
 
 -- of a regular line: what policing says, then integrity checking
 abbrev pub judged_rule : FrameLine → Option Sign
 judged_rule line =
-    if is_excess (judgement_of line) then Some signs.Excess
-    else (if is_out (judgement_of line) then Some signs.Out else None)
+    if is_excess line.verdict then Some signs.Excess
+    else (if is_out line.verdict then Some signs.Out else None)
 
 -- the class, unless it is regular
 abbrev pub class_rule : Class → FrameLine → Option Sign
@@ -96,4 +87,4 @@ class_rule class.TooLong line = Some signs.TooLong
 class_rule class.Regular line = judged_rule line
 
 abbrev pub rule_of : FrameLine → Option Sign
-rule_of line = class_rule line.class line
+rule_of line = class_rule line.verdict.class line

@@ -3,7 +3,7 @@
 use Rattle.std.specs.Prelude.{◌≡◌, ℕ, ◌-◌, ◌==◌, nat_lt, Bool, true, false, not, ◌&&◌, ◌||◌, List, [], ◌∷◌, find, Option, Some, None, is_some, is_none, Result, Ok, Err, option_and_then, if◌then◌else◌, ⊤}
 use Rattle.std.specs.Option.{option_map, option_map_or}
 use Rattle.std.specs.Ordering.{is_lt}
-use Rattle.afdx_frame.specs.Frame.{key_cmp}
+use Rattle.afdx_frame.specs.Frame.{key_cmp, other_network}
 use Rattle.afdx_frame.specs.declared.key.Key.{Key}
 use Rattle.afdx_frame.specs.declared.key.Network.{Network}
 use Rattle.afdx_frame.specs.declared.key.VlId.{VlId}
@@ -19,7 +19,7 @@ use Rattle.ledger_report.specs.Copies.{Spot, latest_delivery, spot_of}
 use Rattle.ledger_report.specs.Deliveries.{is_copy}
 use Rattle.ledger_report.specs.Fates.{number_of}
 use Rattle.ledger_report.specs.Links.{Row, row_of}
-use Rattle.ledger_report.specs.Words.{is_same_network, other_of}
+use Rattle.ledger_report.specs.Words.{is_same_network}
 use Rattle.ledger_report.specs.declared.fault.Refusal.{Refusal}
 use Rattle.ledger_report.specs.declared.fault.Refusal.TheVariants as refusals
 use Rattle.ledger_report.specs.declared.fault.WrongLine.{WrongLine}
@@ -59,7 +59,7 @@ row_for links line = option_and_then (row_at links) line.link
 
 -- The line says that the table doesn't have its link.
 abbrev pub is_unconfigured : FrameLine → Bool
-is_unconfigured line = is_class class.Unconfigured line.class
+is_unconfigured line = is_class class.Unconfigured line.verdict.class
 
 -- ---- a line of a link of the table
 
@@ -81,8 +81,8 @@ departs false off = not off
 -- Integrity checking or redundancy management is off in the table and not in the line, or the other way round, where the line has a word of it.
 abbrev pub is_off_against : Row → FrameLine → Bool
 is_off_against row line =
-    option_map_or (λ word. departs row.integrity (says_off word)) line.integrity false
-    || option_map_or (λ word. departs row.redundancy (says_both word)) line.redundancy false
+    option_map_or (λ word. departs row.integrity (says_off word)) line.verdict.integrity false
+    || option_map_or (λ word. departs row.redundancy (says_both word)) line.verdict.redundancy false
 
 -- where the latest delivery of the line's number stands
 abbrev pub latest_spot : Row → List FrameLine → FrameLine → Option Spot
@@ -90,7 +90,7 @@ latest_spot row before line = option_map spot_of (latest_delivery row.id (number
 
 -- It stands on the other network.
 abbrev pub is_beside : Network → Option Spot → Bool
-is_beside network latest = option_map_or (λ spot. is_same_network (other_of network) spot.network) latest false
+is_beside network latest = option_map_or (λ spot. is_same_network (other_network network) spot.network) latest false
 
 -- how much later than it a time is
 abbrev pub skew_to : ℕ → Option Spot → ℕ

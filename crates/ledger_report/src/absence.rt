@@ -4,7 +4,7 @@ ghost use Rattle.afdx_frame.specs.declared.key.Network.TheVariants.{A};
 
 use crate::bounds::ABSENT_LINES;
 use crate::network::NetworkReport;
-use crate::sides::{Sides, other};
+use crate::sides::Sides;
 use afdx_frame::Network;
 
 /// A block of lines of a link that are all on one network while the other was alive.
@@ -30,7 +30,7 @@ struct Run {
 impl Run {
     /// Counts the latest lines, where the other network was alive around them.
     fn settle(&mut self, networks: &Sides<NetworkReport>) {
-        if !networks.of(other(self.network)).covers(self.before) {
+        if !networks.of(self.network.other()).covers(self.before) {
             return;
         }
         if self.counted.lines == 0 {
@@ -65,13 +65,13 @@ impl Absences {
     /// The absence that lasts to the end, and the network that the link is absent from.
     pub(crate) fn last(&self) -> Option<(Network, Absence)> {
         match self.run {
-            Some(run) => Some((other(run.network), run.counted)),
+            Some(run) => Some((run.network.other(), run.counted)),
             None => None,
         }
     }
 
     fn keep(&mut self, run: Run) {
-        let longest = self.longest.of_mut(other(run.network));
+        let longest = self.longest.of_mut(run.network.other());
         let most = match longest {
             Some(absence) => absence.lines,
             None => 0,
@@ -84,7 +84,7 @@ impl Absences {
     /// Notes a line of the link.
     #[inline]
     pub(crate) fn note(&mut self, network: Network, stamp: u64, networks: &Sides<NetworkReport>) {
-        let before = networks.of(other(network)).frames;
+        let before = networks.of(network.other()).frames;
         let one = Absence {
             lines: 1,
             from: stamp,

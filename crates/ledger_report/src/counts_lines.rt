@@ -1,29 +1,26 @@
 //! A ledger's lines of counts, compared with what its lines of frames give.
 
-ghost use Rattle.std.specs.Prelude.{◌≡◌, ◌+◌, ◌<◌, ◌++◌, List, [], codes, slice_index, true, OnOk};
+ghost use Rattle.std.specs.Prelude.{◌≡◌, ◌≢◌, ◌+◌, ◌++◌, ℕ, List, [], codes, true, IfErr, IfOk, MatchOption, OnOk};
 ghost use Rattle.std.specs.String.{string_bytes};
-ghost use Rattle.verdict_ledger.specs.Text.{classes_text, judged_text};
 ghost use Rattle.vl_config.specs.Document.{VlTable};
 ghost use Rattle.vl_config.specs.Link.{VirtualLink};
 ghost use Rattle.ledger_text.specs.declared.frame.FrameLine.{FrameLine};
 ghost use Rattle.ledger_text.specs.declared.order.Counts.TheVariants as kinds;
 ghost use Rattle.ledger_report.specs.Counting.{AreCountsOf};
-ghost use Rattle.ledger_report.specs.CountsLines.{HasCounted, IsCountsLine, Moves};
-ghost use Rattle.ledger_report.specs.CountsText.{IsFilterLine, IsTotalLine, totals_of};
+ghost use Rattle.ledger_report.specs.CountsLines.{HasCounted, Moves};
 ghost use Rattle.ledger_report.specs.CountsRight.{HasEndings, IsRightLine, MovesEndings, TakesWhere, taps_in};
 ghost use Rattle.ledger_report.specs.TapLines.{IsReason, IsTapLine, Said, reason_text, said_in};
-ghost use Rattle.ledger_report.specs.Words.{counts_of};
 ghost use Rattle.ledger_report.specs.declared.fault.Refusal.TheVariants as refusals;
 ghost use Rattle.ledger_report.specs.declared.fault.WrongLine.TheVariants as wrongs;
-ghost use Rattle.std.specs.Prelude.{◌≢◌, ℕ, IfErr, IfOk, MatchOption};
 
-use crate::counts::{Counts, FrameCounts};
+use crate::counts::FrameCounts;
 use crate::fault::{Refusal, WrongLine};
 use crate::sides::Sides;
 use afdx_frame::Network;
 use ledger_text::Counts as CountsLine;
 use std::alloc::{AllocError, Global};
 use std::fmt::Write;
+use verdict_ledger::{push_filter, push_link, push_total};
 use vl_config::Config;
 
 /// How a recording ends.
@@ -56,47 +53,7 @@ pub struct CountsLines {
     filters: usize,
     pub endings: Sides<Option<TapEnding>>,
     pub whole: bool,
-    text: String,
-}
-
-/// The counts of what the judgements say, at the end of a line.
-#[tactic(auto, unfolding(verdict_ledger::specs::Text::judged_text, verdict_ledger::specs::Text::count_field))]
-fn push_judged(text: &mut String, counts: &Counts) -> Result<(), AllocError>
-    ensures { OnOk result (string_bytes text.new ++ codes "\n" ≡ string_bytes text.old ++ judged_text
-        counts.now.toolong counts.now.excess counts.now.out counts.now.copy counts.now.delivered) }
-{
-    let Counts {
-        toolong,
-        excess,
-        out,
-        copy,
-        delivered,
-        ..
-    } = *counts;
-    write!(
-        text,
-        " toolong {toolong} excess {excess} out {out} copy {copy} delivered {delivered}"
-    )
-}
-
-/// The counts of the frames that no judgement sees.
-#[tactic(auto, unfolding(verdict_ledger::specs::Text::classes_text, verdict_ledger::specs::Text::count_field))]
-fn push_classes(text: &mut String, counts: &Counts) -> Result<(), AllocError>
-    ensures { OnOk result (string_bytes text.new
-        ≡ string_bytes text.old ++ classes_text (totals_of counts.now)) }
-{
-    let Counts {
-        cut,
-        runt,
-        oversize,
-        foreign,
-        unconfigured,
-        ..
-    } = *counts;
-    write!(
-        text,
-        " cut {cut} runt {runt} oversize {oversize} foreign {foreign} unconfigured {unconfigured}"
-    )
+    text: Vec<u8>,
 }
 
 /// What stands after the words that are expected.
@@ -105,6 +62,14 @@ fn after<'a>(line: &'a [u8], words: &str) -> Option<&'a [u8]>
         (λ rest. line.now ≡ words.now ++ rest.now) }
 {
     line.strip_prefix(words.as_bytes())
+}
+
+/// What stands before the newline at the end.
+fn before_newline(text: &[u8]) -> Option<&[u8]>
+    ensures { MatchOption result ((front : List ℕ) → text.now ≢ front ++ codes "\n")
+        (λ front. text.now ≡ front.now ++ codes "\n") }
+{
+    text.strip_suffix("\n".as_bytes())
 }
 
 impl CountsLines {
@@ -117,17 +82,20 @@ impl CountsLines {
             filters: 0,
             endings: Sides { a: None, b: None },
             whole: false,
-            text: String::new(alloc),
+            text: Vec::new(alloc),
         }
     }
 
-    /// Compares a line with the text that was made.
+    /// Compares a line with the text that was made, which ends in a newline.
     fn compare(&self, line: &[u8]) -> Result<(), Refusal>
-        ensures same { OnOk result (string_bytes self.now.text ≡ line.now) }
+        ensures same { OnOk result (self.now.text.items ≡ line.now ++ codes "\n") }
         ensures differs { IfErr result (λ refusal. (refusal ≡ refusals.Wrong wrongs.Counts)
-            × (string_bytes self.now.text ≢ line.now)) }
+            × (self.now.text.items ≢ line.now ++ codes "\n")) }
     {
-        if self.text.as_bytes() == line {
+        let Some(text) = before_newline(&self.text) else {
+            return Err(Refusal::Wrong(WrongLine::Counts));
+        };
+        if text == line {
             Ok(())
         } else {
             Err(Refusal::Wrong(WrongLine::Counts))
@@ -143,8 +111,6 @@ impl CountsLines {
         kind: CountsLine,
         line: &[u8],
     ) -> Result<(), Refusal>
-        ensures line { OnOk result ((lines : List FrameLine) → AreCountsOf lines counts.now
-            → IsCountsLine config.now.links lines self.old.links self.old.filters kind line.now) }
         ensures moves { OnOk result (Moves kind self.old self.new) }
         ensures right { (lines : List FrameLine) → AreCountsOf lines counts.now
             → TakesWhere (IsRightLine config.now lines self.old.links self.old.filters
@@ -161,16 +127,13 @@ impl CountsLines {
         }
     }
 
-    #[tactic(auto, unfolding(verdict_ledger::specs::Text::link_line, verdict_ledger::specs::Text::count_field))]
     fn take_link(
         &mut self,
         config: &Config,
         counts: &FrameCounts,
         line: &[u8],
     ) -> Result<(), Refusal>
-        requires { string_bytes self.old.text ≡ [] }
-        ensures line { OnOk result ((lines : List FrameLine) → AreCountsOf lines counts.now
-            → IsCountsLine config.now.links lines self.old.links self.old.filters kinds.Link line.now) }
+        requires { self.old.text.items ≡ [] }
         ensures place { OnOk result (self.new.links ≡ self.old.links + 1) }
         ensures right { (lines : List FrameLine) → AreCountsOf lines counts.now
             → TakesWhere (IsRightLine config.now lines self.old.links self.old.filters
@@ -182,25 +145,18 @@ impl CountsLines {
         };
         self.links = self.links.saturating_add(1);
         let of_link = counts.link(link.id);
-        let id = link.id.0;
-        let name = link.name.as_str();
-        let frames = of_link.frames;
-        write!(self.text, "link {id} {name} frames {frames}")?;
-        push_judged(&mut self.text, &of_link)?;
+        push_link(&mut self.text, link, of_link)?;
         self.compare(line)
     }
 
-    #[tactic(auto, unfolding(verdict_ledger::specs::Text::filter_line, verdict_ledger::specs::Text::count_field))]
     fn take_filter(
         &mut self,
         config: &Config,
         counts: &FrameCounts,
         line: &[u8],
     ) -> Result<(), Refusal>
-        requires { string_bytes self.old.text ≡ [] }
-        ensures line { OnOk result (IsFilterLine self.old.filters
-            (slice_index counts.now.filters self.old.filters) line.now) }
-        ensures place { OnOk result ((self.old.filters < 8) × (self.new.filters ≡ self.old.filters + 1)) }
+        requires { self.old.text.items ≡ [] }
+        ensures place { OnOk result (self.new.filters ≡ self.old.filters + 1) }
         ensures right { (lines : List FrameLine) → AreCountsOf lines counts.now
             → TakesWhere (IsRightLine config.now lines self.old.links self.old.filters
             (taps_in self.old.endings) kinds.Filter line.now) result }
@@ -215,7 +171,7 @@ impl CountsLines {
             return Err(Refusal::Wrong(WrongLine::Counts));
         }
         self.filters = filter.saturating_add(1);
-        write!(self.text, "filter {filter} accepted {accepted}")?;
+        push_filter(&mut self.text, filter, *accepted)?;
         self.compare(line)
     }
 
@@ -249,30 +205,19 @@ impl CountsLines {
         }
     }
 
-    #[tactic(auto, unfolding(verdict_ledger::specs::Text::total_line, verdict_ledger::specs::Text::count_field))]
     fn take_total(&mut self, counts: &FrameCounts, line: &[u8]) -> Result<(), Refusal>
-        requires { string_bytes self.old.text ≡ [] }
-        ensures line { OnOk result ((lines : List FrameLine) → AreCountsOf lines counts.now
-            → IsTotalLine (counts_of lines) line.now) }
+        requires { self.old.text.items ≡ [] }
         ensures whole { OnOk result (self.new.whole ≡ true) }
         ensures right { (table : VlTable) (lines : List FrameLine) → AreCountsOf lines counts.now
             → TakesWhere (IsRightLine table lines self.old.links self.old.filters
             (taps_in self.old.endings) kinds.Total line.now) result }
         ensures rest { self.new ≡ record self.old { whole = self.new.whole; text = self.new.text } }
     {
-        let all = counts.all();
-        let Counts {
-            frames,
-            accepted,
-            ..
-        } = all;
-        write!(self.text, "total frames {frames} accepted {accepted}")?;
-        push_classes(&mut self.text, &all)?;
-        push_judged(&mut self.text, &all)?;
         if self.endings.b.is_none() {
             return Err(Refusal::Wrong(WrongLine::Counts));
         }
         self.whole = true;
+        push_total(&mut self.text, counts.all())?;
         self.compare(line)
     }
 }

@@ -3,7 +3,6 @@
 ghost use Rattle.std.specs.Prelude.{◌<◌, ◌^◌};
 ghost use Rattle.ledger_text.specs.declared.frame.FrameLine.{FrameLine};
 
-use crate::counts::is_delivered;
 use crate::median::Classes;
 use crate::network::NetworkReport;
 use ledger_text::FrameLine;
@@ -97,7 +96,7 @@ impl DeliveryTimes {
         line: &FrameLine,
         network: &NetworkReport,
     ) -> Result<(), AllocError> {
-        if !is_delivered(line) {
+        if !line.verdict.is_delivered() {
             return Ok(());
         }
         let interval = interval_after(self.last, line.stamp.0, network);

@@ -34,7 +34,7 @@ pub use bounds::{
     ABSENT_LINES, BINS, FIRST_WIDTH, LONG_TIME, LONG_TIMES, MOST_SILENCES, SILENT_LINES,
     STOPPED_LINES, WINDOW_BAGS, bounds_are_documented,
 };
-pub use counts::{Counts, FrameCounts};
+pub use counts::FrameCounts;
 pub use counts_lines::{TapEnd, TapEnding};
 pub use fault::{ReportFault, WrongLine};
 pub use gaps::{Gaps, Interval};
@@ -46,3 +46,4 @@ pub use report::{OutsideLink, Report, read_report};
 pub use series::Series;
 pub use sides::Sides;
 pub use signs::{Mark, Sign, Signs};
+pub use verdict_ledger::{LinkCounts, Totals};

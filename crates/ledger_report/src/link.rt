@@ -22,7 +22,7 @@ use crate::network::NetworkReport;
 use crate::pairing::{Delivery, Fate, Pairing};
 use crate::presence::Presence;
 use crate::series::{Merge, Series};
-use crate::sides::{Sides, other};
+use crate::sides::Sides;
 use crate::signs::Sign;
 use crate::statistics::rule_of;
 use afdx_frame::{Network, VlId};
@@ -117,7 +117,8 @@ impl LinkReport {
     ghost use Rattle.ledger_report.specs.Pairs.{MeetsOf, NotesFates, PairsCopy};
     ghost use Rattle.ledger_report.specs.Pairs.{TakesDelivery, comes_late};
     ghost use Rattle.ledger_report.specs.Pairs.{met_with, window_in};
-    ghost use Rattle.ledger_report.specs.Words.{other_of, rule_of};
+    ghost use Rattle.afdx_frame.specs.Frame.{other_network};
+    ghost use Rattle.ledger_report.specs.Words.{rule_of};
     ghost use Rattle.ledger_report.specs.Settling.{AccountsMore, AccountsSame, IsBalanced, SumsLanes};
     ghost use Rattle.ledger_report.specs.Settling.{accounted, counted, fate_sum};
     ghost use Rattle.ledger_report.specs.declared.signs.Mark.{Mark};
@@ -208,7 +209,8 @@ impl LinkReport {
     {
         self.check_words(line)?;
         self.note_seen(line, number, at, networks)?;
-        let Some(word) = line.redundancy else {
+        let verdict = &line.verdict;
+        let Some(word) = verdict.redundancy else {
             return Ok(());
         };
         match word {
@@ -340,11 +342,12 @@ impl LinkReport {
         ensures { result ≡ (if is_off_against (row_in self.now) line.now
             then Err (refusals.Wrong wrongs.Off) else Ok tt) }
     {
-        let integrity = match line.integrity {
+        let verdict = &line.verdict;
+        let integrity = match verdict.integrity {
             Some(integrity) => (integrity == Integrity::Off) != self.integrity,
             None => true,
         };
-        let redundancy = match line.redundancy {
+        let redundancy = match verdict.redundancy {
             Some(redundancy) => (redundancy == Redundancy::Both) != self.redundancy,
             None => true,
         };
@@ -413,12 +416,12 @@ impl LinkReport {
         ensures moves { OnOk result (lost < 255 → AreRoom (losses_in self.old)
             → MovesLosses (is_passed previous lost) at.now.place.stamp (window_in self.old)
             (losses_on at.now.network (losses_in self.old))
-            (losses_on (other_of at.now.network) (losses_in self.old))
+            (losses_on (other_network at.now.network) (losses_in self.old))
             (losses_on at.now.network (losses_in self.new))
-            (losses_on (other_of at.now.network) (losses_in self.new))) }
+            (losses_on (other_network at.now.network) (losses_in self.new))) }
         ensures both { IfOk result (λ both. lost < 255 → AreRoom (losses_in self.old)
             → both ≡ both_passed (is_passed previous lost) at.now.place.stamp (window_in self.old)
-            (losses_on (other_of at.now.network) (losses_in self.old))) }
+            (losses_on (other_network at.now.network) (losses_in self.old))) }
         ensures told { (self.new.lost_both ≡ self.old.lost_both)
             × (self.new.first_lost_both ≡ self.old.first_lost_both) }
     {
@@ -523,7 +526,7 @@ impl LinkReport {
         ensures settles { OnOk result (Settles (settled_by_next number at.now self.old)
             networks.now self.old.lanes self.new.lanes) }
         ensures before { OnOk result (TakesBefore number
-            (side_of (other_of at.now.network) networks.now).frames self.old.pairing self.new.pairing) }
+            (side_of (other_network at.now.network) networks.now).frames self.old.pairing self.new.pairing) }
         ensures losses { OnOk result (KeepsLosses self.old self.new) }
     {
         self.deliveries = self.deliveries.saturating_add(1);
@@ -533,7 +536,7 @@ impl LinkReport {
             Delivery {
                 network: at.network,
                 place: at.place,
-                before: networks.of(other(at.network)).frames,
+                before: networks.of(at.network.other()).frames,
                 fate,
             },
         )?;

@@ -7,7 +7,7 @@ ghost use Rattle.ledger_report.specs.Pending.{pending, pends};
 
 use crate::bounds::NUMBERS;
 use crate::moment::Place;
-use crate::sides::{Sides, other};
+use crate::sides::Sides;
 use afdx_frame::Network;
 use std::alloc::{AllocError, Global};
 
@@ -84,7 +84,7 @@ impl Pairing {
     ghost use Rattle.ledger_report.specs.Holding.{KeepsBefore, TakesBefore};
     ghost use Rattle.ledger_report.specs.Pairs.{Changes, TakesGone, gone_in, held_of};
     ghost use Rattle.ledger_report.specs.Pairs.{is_gone_by, known_in, met_by};
-    ghost use Rattle.ledger_report.specs.Words.{other_of};
+    ghost use Rattle.afdx_frame.specs.Frame.{other_network};
 
     pub(crate) fn new(alloc: Global) -> Pairing
         ensures pending { pending result.deliveries.items ≡ 0 }
@@ -211,9 +211,9 @@ impl Pairing {
         stamp: u64,
         window: u64,
     ) -> bool
-        ensures { result ≡ is_gone_by stamp window (gone_in self.now number (other_of network)) }
+        ensures { result ≡ is_gone_by stamp window (gone_in self.now number (other_network network)) }
     {
-        match self.discarded.of(other(network)).get(usize::from(number)) {
+        match self.discarded.of(network.other()).get(usize::from(number)) {
             Some(Some(when)) => stamp.saturating_sub(*when) <= window,
             _ => false,
         }

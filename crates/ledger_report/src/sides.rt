@@ -1,7 +1,6 @@
 //! One value for each network.
 
 ghost use Rattle.std.specs.Prelude.{◌≡◌};
-ghost use Rattle.ledger_report.specs.Words.{other_of};
 
 use afdx_frame::Network;
 
@@ -40,16 +39,5 @@ impl<T> Sides<T> {
             Network::A => &mut self.a,
             Network::B => &mut self.b,
         }
-    }
-}
-
-/// The other network.
-#[inline(always)]
-pub fn other(network: Network) -> Network
-    ensures { result ≡ other_of network }
-{
-    match network {
-        Network::A => Network::B,
-        Network::B => Network::A,
     }
 }

@@ -7,7 +7,10 @@ ghost use Rattle.ledger_report.specs.Extremes.{Hit, IsFirst, IsLast};
 
 use crate::moment::Place;
 use crate::series::{Merge, Series};
+use integrity::Integrity;
+use policing::Policing;
 use std::alloc::{AllocError, Global};
+use vl_config::Class;
 
 /// What is counted.
 #[derive(Clone, Copy, PartialEq, Eq)]
@@ -26,6 +29,28 @@ pub enum Sign {
     Alone,
     Late,
     Early,
+}
+
+impl Sign {
+    /// The word of the sign: that of the ledger, where it has one.
+    pub fn word(self) -> &'static str {
+        match self {
+            Sign::Cut => Class::Cut.word(),
+            Sign::Runt => Class::Runt.word(),
+            Sign::Oversize => Class::Oversize.word(),
+            Sign::Foreign => Class::Foreign.word(),
+            Sign::Unconfigured => Class::Unconfigured.word(),
+            Sign::TooLong => Class::TooLong.word(),
+            Sign::Excess => Policing::Excess.word(),
+            Sign::Out => Integrity::Out.word(),
+            Sign::Lost => "lost",
+            Sign::Repeat => "repeat",
+            Sign::Reset => Integrity::Reset.word(),
+            Sign::Alone => "alone",
+            Sign::Late => "late",
+            Sign::Early => "early",
+        }
+    }
 }
 
 /// How many signs there are.

@@ -28,7 +28,6 @@ ghost use Rattle.ledger_report.specs.Words.{rule_of};
 ghost use Rattle.ledger_report.specs.declared.signs.Sign.TheVariants as signs;
 
 use crate::bounds::{BINS, FIRST_WIDTH};
-use crate::counts::{is_excess, is_out};
 use crate::fault::{Refusal, WrongLine};
 use crate::link::LinkReport;
 use crate::moment::{Moment, Place};
@@ -50,15 +49,16 @@ pub fn rule_of(line: &FrameLine) -> Option<Sign>
     ensures rule { result ≡ rule_of line.now }
     ensures sign { IfSome result IsRule }
 {
-    match line.class {
+    let verdict = &line.verdict;
+    match verdict.class {
         Class::Cut => Some(Sign::Cut),
         Class::Runt => Some(Sign::Runt),
         Class::Oversize => Some(Sign::Oversize),
         Class::Foreign => Some(Sign::Foreign),
         Class::Unconfigured => Some(Sign::Unconfigured),
         Class::TooLong => Some(Sign::TooLong),
-        Class::Regular if is_excess(line) => Some(Sign::Excess),
-        Class::Regular if is_out(line) => Some(Sign::Out),
+        Class::Regular if verdict.is_excess() => Some(Sign::Excess),
+        Class::Regular if verdict.is_out() => Some(Sign::Out),
         Class::Regular => None,
     }
 }
@@ -118,9 +118,10 @@ fn links_of(alloc: Global, config: &Config) -> Result<Vec<LinkReport>, AllocErro
 /// Is its link none of the table's?
 #[inline]
 fn is_unconfigured(line: &FrameLine) -> bool
-    ensures { result ≡ is_class class.Unconfigured line.now.class }
+    ensures { result ≡ is_class class.Unconfigured line.now.verdict.class }
 {
-    matches!(line.class, Class::Unconfigured)
+    let verdict = &line.verdict;
+    matches!(verdict.class, Class::Unconfigured)
 }
 
 /// Notes a line for its network, and that the other one is passed.
@@ -412,8 +413,9 @@ impl Statistics {
     fn note_outside(&mut self, id: VlId, at: &Moment) -> Result<(), AllocError>
         ensures rest { self.new ≡ record self.old { outside = self.new.outside } }
         ensures line { OnOk result ((line : FrameLine) (lines : List FrameLine) → length lines < MOST_LINES
-            → is_class class.Unconfigured line.class ≡ true → line.link ≡ Some id → IsMomentOf line at.now
-            → IsOutsideOf lines self.old.outside.items → IsOutsideOf (line ∷ lines) self.new.outside.items) }
+            → is_class class.Unconfigured line.verdict.class ≡ true → line.link ≡ Some id
+            → IsMomentOf line at.now → IsOutsideOf lines self.old.outside.items
+            → IsOutsideOf (line ∷ lines) self.new.outside.items) }
     {
         self.make_outside()?;
         if let Some(held) = self.outside.get_mut(usize::from(id.0)) {

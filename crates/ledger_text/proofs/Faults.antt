@@ -1,8 +1,9 @@
 -- What follows from the fields that are read so far.
-use Rattle.std.proofs.Common.{◌≡◌, ◌∙◌, ℕ, suc, ◌^◌, length, ◌<◌, false, List, [], ◌∷◌, Option, None, Some, IfSome, Result, Ok, Err, is_some, refl, sym, ap, subst, arith, lit<}
+use Rattle.std.proofs.Common.{◌≡◌, ◌∙◌, ℕ, suc, ◌^◌, length, ◌<◌, ◌↔◌, false, List, [], ◌∷◌, Option, None, Some, IfSome, Result, Ok, Err, is_some, refl, sym, ap, subst, arith, lit<}
 use Rattle.std.specs.Option.{option_map_or}
 use Rattle.std.specs.Result.{result_ok}
 use Rattle.std.specs.Fmt.{decimal}
+use Rattle.std.proofs.lemmas.Bool.{false≢true}
 use Rattle.std.proofs.lemmas.Fmt.{decimal_nonempty}
 use Rattle.afdx_frame.specs.declared.key.VlId.{VlId}
 use Rattle.afdx_frame.specs.declared.key.Network.{Network}
@@ -17,7 +18,12 @@ use Rattle.integrity.specs.Sequence.{is_valid}
 use Rattle.redundancy.specs.declared.verdict.Redundancy.{Redundancy}
 use Rattle.redundancy.specs.declared.verdict.Redundancy.TheVariants.{Deliver, Copy, Both}
 use Rattle.vl_judge.specs.Judgement.{is_regular, is_within}
-use Rattle.verdict_ledger.specs.Text.{network_word, class_word, policing_word, integrity_word, redundancy_word, mask_text, is_addressed}
+use Rattle.redundancy.specs.Word.{redundancy_word}
+use Rattle.integrity.specs.Word.{integrity_word}
+use Rattle.policing.specs.Word.{policing_word}
+use Rattle.vl_config.specs.Class.{class_word, is_addressed}
+use Rattle.afdx_frame.specs.Frame.{network_letter}
+use Rattle.verdict_ledger.specs.Text.{mask_text}
 use Rattle.ledger_text.specs.Reads.{Any, Below, Optional, Reads, dash_or}
 use Rattle.ledger_text.specs.Fields.{Agrees, first_field, next_fields, fields_of}
 use Rattle.ledger_text.specs.FrameText.{IsFrameLine, IsFrameFault, IsFrameText, IsMaskOf, IsReadOf, frame_fields, link_fits, link_text, stamp_bound}
@@ -33,6 +39,11 @@ pub got : {T : Type 0} (Fits : T → Type 0) (text : T → List ℕ) (field : Li
 got Fits text field o r x reads part e =
     let some : o ≡ Some x = part ∙ ap result_ok e in
     subst (Reads Fits text field) some reads
+
+-- the value is read whose text the field is
+pub reads_any : {T : Type 0} (text : T → List ℕ) (field : List ℕ) (o : Option T) → ((x : T) → (text x ≡ field) ↔ (o ≡ Some x)) → Reads Any text field o
+reads_any {T = T} text field None is = λ x fits e. false≢true (ap (λ (o : Option T). is_some o) ((is x).0 e))
+reads_any text field (Some x) is = (tt, (is x).1 refl)
 
 pub missed : {T : Type 0} (Fits : T → Type 0) (text : T → List ℕ) (field : List ℕ) (o : Option T) (r : Result T FrameFault) (fault : FrameFault)
     → Reads Fits text field o → o ≡ result_ok r → r ≡ Err fault → (x : T) → Fits x → text x ≡ field → ⊥
@@ -164,13 +175,13 @@ fault_stamp fields none = record {
 }
 
 pub fault_network : (fields : List (List ℕ)) (s : ℕ) → s < stamp_bound → Agrees 1 (decimal s ∷ []) fields
-    → ((n : Network) → Any n → network_word n ≡ first_field (next_fields fields) → ⊥) → IsFrameFault fields faults.Network
+    → ((n : Network) → Any n → network_letter n ≡ first_field (next_fields fields) → ⊥) → IsFrameFault fields faults.Network
 fault_network fields s hs b none = record {
   before = (from_link s A 0 None None, link_fit s A 0 None None hs (lit< tt) tt (some_sequence None), b);
   departs = λ w p a. none w.network tt a.1.0;
 }
 
-pub fault_index : (fields : List (List ℕ)) (s : ℕ) (n : Network) → s < stamp_bound → Agrees 2 (decimal s ∷ network_word n ∷ []) fields
+pub fault_index : (fields : List (List ℕ)) (s : ℕ) (n : Network) → s < stamp_bound → Agrees 2 (decimal s ∷ network_letter n ∷ []) fields
     → ((i : ℕ) → Below (2 ^ 32) i → decimal i ≡ first_field (next_fields (next_fields fields)) → ⊥) → IsFrameFault fields faults.Index
 fault_index fields s n hs b none = record {
   before = (from_link s n 0 None None, link_fit s n 0 None None hs (lit< tt) tt (some_sequence None), b);
@@ -182,7 +193,7 @@ any_fits None = tt
 any_fits (Some x) = tt
 
 pub fault_link : (fields : List (List ℕ)) (s : ℕ) (n : Network) (i : ℕ) → s < stamp_bound → i < 2 ^ 32
-    → Agrees 3 (decimal s ∷ network_word n ∷ decimal i ∷ []) fields
+    → Agrees 3 (decimal s ∷ network_letter n ∷ decimal i ∷ []) fields
     → ((x : Option VlId) → IfSome x link_fits → dash_or link_text x ≡ first_field (next_fields (next_fields (next_fields fields))) → ⊥) → IsFrameFault fields faults.Link
 fault_link fields s n i hs hi b none = record {
   before = (from_link s n i None None, link_fit s n i None None hs hi tt (some_sequence None), b);
@@ -190,7 +201,7 @@ fault_link fields s n i hs hi b none = record {
 }
 
 pub fault_sequence : (fields : List (List ℕ)) (s : ℕ) (n : Network) (i : ℕ) (l : Option VlId) → s < stamp_bound → i < 2 ^ 32 → IfSome l link_fits
-    → Agrees 4 (decimal s ∷ network_word n ∷ decimal i ∷ dash_or link_text l ∷ []) fields
+    → Agrees 4 (decimal s ∷ network_letter n ∷ decimal i ∷ dash_or link_text l ∷ []) fields
     → ((x : Option ℕ) → Optional (Below (2 ^ 8)) (is_some l) x → dash_or decimal x ≡ first_field (next_fields (next_fields (next_fields (next_fields fields)))) → ⊥) → IsFrameFault fields faults.Sequence
 fault_sequence fields s n i l hs hi hl b none = record {
   before = (from_link s n i l (any_sequence l), link_fit s n i l (any_sequence l) hs hi hl (some_sequence l), b);
@@ -198,39 +209,39 @@ fault_sequence fields s n i l hs hi hl b none = record {
 }
 
 pub fault_class : (fields : List (List ℕ)) (s : ℕ) (n : Network) (i : ℕ) (l : Option VlId) (q : Option ℕ) → s < stamp_bound → i < 2 ^ 32 → IfSome l link_fits → Optional (Below (2 ^ 8)) (is_some l) q
-    → Agrees 5 (decimal s ∷ network_word n ∷ decimal i ∷ dash_or link_text l ∷ dash_or decimal q ∷ []) fields
+    → Agrees 5 (decimal s ∷ network_letter n ∷ decimal i ∷ dash_or link_text l ∷ dash_or decimal q ∷ []) fields
     → ((x : Class) → is_addressed x ≡ is_some l → class_word x ≡ first_field (next_fields (next_fields (next_fields (next_fields (next_fields fields))))) → ⊥) → IsFrameFault fields faults.Class
 fault_class fields s n i l q hs hi hl hq b none = record {
   before = (from_link s n i l q, link_fit s n i l q hs hi hl hq, b);
-  departs = λ w z a. let same = one_link w.link l z.link.fits hl (a.1.1.1.0 ∙ sym b.1.1.1.0) in none w.class (sym z.link.present ∙ ap is_some same) a.1.1.1.1.1.0;
+  departs = λ w z a. let same = one_link w.link l z.link.fits hl (a.1.1.1.0 ∙ sym b.1.1.1.0) in none w.verdict.class (sym z.link.present ∙ ap is_some same) a.1.1.1.1.1.0;
 }
 
 pub fault_policing : (fields : List (List ℕ)) (s : ℕ) (n : Network) (i : ℕ) (l : Option VlId) (q : Option ℕ) (c : Class) → s < stamp_bound → i < 2 ^ 32 → IfSome l link_fits → Optional (Below (2 ^ 8)) (is_some l) q → is_addressed c ≡ is_some l
-    → Agrees 6 (decimal s ∷ network_word n ∷ decimal i ∷ dash_or link_text l ∷ dash_or decimal q ∷ class_word c ∷ []) fields
+    → Agrees 6 (decimal s ∷ network_letter n ∷ decimal i ∷ dash_or link_text l ∷ dash_or decimal q ∷ class_word c ∷ []) fields
     → ((x : Option Policing) → Optional Any (is_regular c) x → dash_or policing_word x ≡ first_field (next_fields (next_fields (next_fields (next_fields (next_fields (next_fields fields)))))) → ⊥) → IsFrameFault fields faults.Policing
 fault_policing fields s n i l q c hs hi hl hq hc b none = record {
   before = (make s n i l q c (any_policing c) (any_integrity (any_policing c)) (any_redundancy (any_integrity (any_policing c))) None 0, fits s n i l q c (any_policing c) (any_integrity (any_policing c)) (any_redundancy (any_integrity (any_policing c))) None 0 (record { stamp = hs; number = hi; link = hl; sequence = hq; class = hc; policing = some_policing c; integrity = some_integrity (any_policing c); redundancy = some_redundancy (any_integrity (any_policing c)); kept = tt; mask = no_mask }), b);
-  departs = λ w z a. let same = one_class w.class c (a.1.1.1.1.1.0 ∙ sym b.1.1.1.1.1.0) in none w.policing (record { present = z.reached.policing ∙ ap is_regular same; fits = any_fits w.policing }) a.1.1.1.1.1.1.0;
+  departs = λ w z a. let same = one_class w.verdict.class c (a.1.1.1.1.1.0 ∙ sym b.1.1.1.1.1.0) in none w.verdict.policing (record { present = z.reached.policing ∙ ap is_regular same; fits = any_fits w.verdict.policing }) a.1.1.1.1.1.1.0;
 }
 
 pub fault_integrity : (fields : List (List ℕ)) (s : ℕ) (n : Network) (i : ℕ) (l : Option VlId) (q : Option ℕ) (c : Class) (p : Option Policing) → s < stamp_bound → i < 2 ^ 32 → IfSome l link_fits → Optional (Below (2 ^ 8)) (is_some l) q → is_addressed c ≡ is_some l → is_some p ≡ is_regular c
-    → Agrees 7 (decimal s ∷ network_word n ∷ decimal i ∷ dash_or link_text l ∷ dash_or decimal q ∷ class_word c ∷ dash_or policing_word p ∷ []) fields
+    → Agrees 7 (decimal s ∷ network_letter n ∷ decimal i ∷ dash_or link_text l ∷ dash_or decimal q ∷ class_word c ∷ dash_or policing_word p ∷ []) fields
     → ((x : Option Integrity) → Optional Any (option_map_or is_within p false) x → dash_or integrity_word x ≡ first_field (next_fields (next_fields (next_fields (next_fields (next_fields (next_fields (next_fields fields))))))) → ⊥) → IsFrameFault fields faults.Integrity
 fault_integrity fields s n i l q c p hs hi hl hq hc hp b none = record {
   before = (make s n i l q c p (any_integrity p) (any_redundancy (any_integrity p)) None 0, fits s n i l q c p (any_integrity p) (any_redundancy (any_integrity p)) None 0 (record { stamp = hs; number = hi; link = hl; sequence = hq; class = hc; policing = hp; integrity = some_integrity p; redundancy = some_redundancy (any_integrity p); kept = tt; mask = no_mask }), b);
-  departs = λ w z a. let same = one_policing w.policing p (a.1.1.1.1.1.1.0 ∙ sym b.1.1.1.1.1.1.0) in none w.integrity (record { present = z.reached.integrity ∙ ap (λ (o : Option Policing). option_map_or is_within o false) same; fits = any_fits w.integrity }) a.1.1.1.1.1.1.1.0;
+  departs = λ w z a. let same = one_policing w.verdict.policing p (a.1.1.1.1.1.1.0 ∙ sym b.1.1.1.1.1.1.0) in none w.verdict.integrity (record { present = z.reached.integrity ∙ ap (λ (o : Option Policing). option_map_or is_within o false) same; fits = any_fits w.verdict.integrity }) a.1.1.1.1.1.1.1.0;
 }
 
 pub fault_redundancy : (fields : List (List ℕ)) (s : ℕ) (n : Network) (i : ℕ) (l : Option VlId) (q : Option ℕ) (c : Class) (p : Option Policing) (t : Option Integrity) → s < stamp_bound → i < 2 ^ 32 → IfSome l link_fits → Optional (Below (2 ^ 8)) (is_some l) q → is_addressed c ≡ is_some l → is_some p ≡ is_regular c → is_some t ≡ option_map_or is_within p false
-    → Agrees 8 (decimal s ∷ network_word n ∷ decimal i ∷ dash_or link_text l ∷ dash_or decimal q ∷ class_word c ∷ dash_or policing_word p ∷ dash_or integrity_word t ∷ []) fields
+    → Agrees 8 (decimal s ∷ network_letter n ∷ decimal i ∷ dash_or link_text l ∷ dash_or decimal q ∷ class_word c ∷ dash_or policing_word p ∷ dash_or integrity_word t ∷ []) fields
     → ((x : Option Redundancy) → Optional Any (option_map_or is_valid t false) x → dash_or redundancy_word x ≡ first_field (next_fields (next_fields (next_fields (next_fields (next_fields (next_fields (next_fields (next_fields fields)))))))) → ⊥) → IsFrameFault fields faults.Redundancy
 fault_redundancy fields s n i l q c p t hs hi hl hq hc hp ht b none = record {
   before = (make s n i l q c p t (any_redundancy t) None 0, fits s n i l q c p t (any_redundancy t) None 0 (record { stamp = hs; number = hi; link = hl; sequence = hq; class = hc; policing = hp; integrity = ht; redundancy = some_redundancy t; kept = tt; mask = no_mask }), b);
-  departs = λ w z a. let same = one_integrity w.integrity t (a.1.1.1.1.1.1.1.0 ∙ sym b.1.1.1.1.1.1.1.0) in none w.redundancy (record { present = z.reached.redundancy ∙ ap (λ (o : Option Integrity). option_map_or is_valid o false) same; fits = any_fits w.redundancy }) a.1.1.1.1.1.1.1.1.0;
+  departs = λ w z a. let same = one_integrity w.verdict.integrity t (a.1.1.1.1.1.1.1.0 ∙ sym b.1.1.1.1.1.1.1.0) in none w.verdict.redundancy (record { present = z.reached.redundancy ∙ ap (λ (o : Option Integrity). option_map_or is_valid o false) same; fits = any_fits w.verdict.redundancy }) a.1.1.1.1.1.1.1.1.0;
 }
 
 pub fault_kept : (fields : List (List ℕ)) (s : ℕ) (n : Network) (i : ℕ) (l : Option VlId) (q : Option ℕ) (c : Class) (p : Option Policing) (t : Option Integrity) (r : Option Redundancy) → s < stamp_bound → i < 2 ^ 32 → IfSome l link_fits → Optional (Below (2 ^ 8)) (is_some l) q → is_addressed c ≡ is_some l → is_some p ≡ is_regular c → is_some t ≡ option_map_or is_within p false → is_some r ≡ option_map_or is_valid t false
-    → Agrees 9 (decimal s ∷ network_word n ∷ decimal i ∷ dash_or link_text l ∷ dash_or decimal q ∷ class_word c ∷ dash_or policing_word p ∷ dash_or integrity_word t ∷ dash_or redundancy_word r ∷ []) fields
+    → Agrees 9 (decimal s ∷ network_letter n ∷ decimal i ∷ dash_or link_text l ∷ dash_or decimal q ∷ class_word c ∷ dash_or policing_word p ∷ dash_or integrity_word t ∷ dash_or redundancy_word r ∷ []) fields
     → ((x : Option ℕ) → IfSome x (Below (2 ^ 32)) → dash_or decimal x ≡ first_field (next_fields (next_fields (next_fields (next_fields (next_fields (next_fields (next_fields (next_fields (next_fields fields))))))))) → ⊥) → IsFrameFault fields faults.Kept
 fault_kept fields s n i l q c p t r hs hi hl hq hc hp ht hr b none = record {
   before = (make s n i l q c p t r None 0, fits s n i l q c p t r None 0 (record { stamp = hs; number = hi; link = hl; sequence = hq; class = hc; policing = hp; integrity = ht; redundancy = hr; kept = tt; mask = no_mask }), b);
@@ -238,7 +249,7 @@ fault_kept fields s n i l q c p t r hs hi hl hq hc hp ht hr b none = record {
 }
 
 pub fault_mask : (fields : List (List ℕ)) (s : ℕ) (n : Network) (i : ℕ) (l : Option VlId) (q : Option ℕ) (c : Class) (p : Option Policing) (t : Option Integrity) (r : Option Redundancy) (k : Option ℕ) → s < stamp_bound → i < 2 ^ 32 → IfSome l link_fits → Optional (Below (2 ^ 8)) (is_some l) q → is_addressed c ≡ is_some l → is_some p ≡ is_regular c → is_some t ≡ option_map_or is_within p false → is_some r ≡ option_map_or is_valid t false → IfSome k (Below (2 ^ 32))
-    → Agrees 10 (decimal s ∷ network_word n ∷ decimal i ∷ dash_or link_text l ∷ dash_or decimal q ∷ class_word c ∷ dash_or policing_word p ∷ dash_or integrity_word t ∷ dash_or redundancy_word r ∷ dash_or decimal k ∷ []) fields
+    → Agrees 10 (decimal s ∷ network_letter n ∷ decimal i ∷ dash_or link_text l ∷ dash_or decimal q ∷ class_word c ∷ dash_or policing_word p ∷ dash_or integrity_word t ∷ dash_or redundancy_word r ∷ dash_or decimal k ∷ []) fields
     → ((x : ℕ) → IsMaskOf k x → mask_text x ≡ first_field (next_fields (next_fields (next_fields (next_fields (next_fields (next_fields (next_fields (next_fields (next_fields (next_fields fields)))))))))) → ⊥) → IsFrameFault fields faults.Mask
 fault_mask fields s n i l q c p t r k hs hi hl hq hc hp ht hr hk b none = record {
   before = (make s n i l q c p t r k (any_mask k), fits s n i l q c p t r k (any_mask k) (record { stamp = hs; number = hi; link = hl; sequence = hq; class = hc; policing = hp; integrity = ht; redundancy = hr; kept = hk; mask = some_mask k }), b);
@@ -246,7 +257,7 @@ fault_mask fields s n i l q c p t r k hs hi hl hq hc hp ht hr hk b none = record
 }
 
 pub fault_fields : (fields : List (List ℕ)) (s : ℕ) (n : Network) (i : ℕ) (l : Option VlId) (q : Option ℕ) (c : Class) (p : Option Policing) (t : Option Integrity) (r : Option Redundancy) (k : Option ℕ) (m : ℕ) → s < stamp_bound → i < 2 ^ 32 → IfSome l link_fits → Optional (Below (2 ^ 8)) (is_some l) q → is_addressed c ≡ is_some l → is_some p ≡ is_regular c → is_some t ≡ option_map_or is_within p false → is_some r ≡ option_map_or is_valid t false → IfSome k (Below (2 ^ 32)) → IsMaskOf k m
-    → Agrees 11 (decimal s ∷ network_word n ∷ decimal i ∷ dash_or link_text l ∷ dash_or decimal q ∷ class_word c ∷ dash_or policing_word p ∷ dash_or integrity_word t ∷ dash_or redundancy_word r ∷ dash_or decimal k ∷ mask_text m ∷ []) fields
+    → Agrees 11 (decimal s ∷ network_letter n ∷ decimal i ∷ dash_or link_text l ∷ dash_or decimal q ∷ class_word c ∷ dash_or policing_word p ∷ dash_or integrity_word t ∷ dash_or redundancy_word r ∷ dash_or decimal k ∷ mask_text m ∷ []) fields
     → ((next_fields (next_fields (next_fields (next_fields (next_fields (next_fields (next_fields (next_fields (next_fields (next_fields (next_fields fields))))))))))) ≡ [] → ⊥) → IsFrameFault fields faults.Fields
 fault_fields fields s n i l q c p t r k m hs hi hl hq hc hp ht hr hk hm b none = record {
   before = (make s n i l q c p t r k m, fits s n i l q c p t r k m (record { stamp = hs; number = hi; link = hl; sequence = hq; class = hc; policing = hp; integrity = ht; redundancy = hr; kept = hk; mask = hm }), b);
@@ -265,7 +276,7 @@ joined [] fields h a = a
 joined (x ∷ xs) [] h a = absurd (omega (arith, h.0, ap length a.0))
 joined (x ∷ xs) (y ∷ ys) h a = let rest = joined xs ys h.1 a.1 in let first = a.0 in cc
 
-network_some : (n : Network) → 0 < length (network_word n)
+network_some : (n : Network) → 0 < length (network_letter n)
 network_some A = lit< tt
 network_some B = lit< tt
 
@@ -318,13 +329,13 @@ all_some v z = (
         (
           number_some v.sequence (wider v.sequence (2 ^ 8) (omega arith) z.sequence.fits),
           (
-            class_some v.class,
+            class_some v.verdict.class,
             (
-              policing_some v.policing,
+              policing_some v.verdict.policing,
               (
-                integrity_some v.integrity,
+                integrity_some v.verdict.integrity,
                 (
-                  redundancy_some v.redundancy,
+                  redundancy_some v.verdict.redundancy,
                   (number_some v.kept (wider v.kept (2 ^ 32) (omega arith) z.kept), (lit< tt, tt)),
                 ),
               ),

@@ -12,7 +12,12 @@ use Rattle.integrity.specs.declared.verdict.Integrity.{Integrity}
 use Rattle.integrity.specs.declared.verdict.Integrity.TheVariants.{First, Reset, Next, Skip, Off, Out}
 use Rattle.redundancy.specs.declared.verdict.Redundancy.{Redundancy}
 use Rattle.redundancy.specs.declared.verdict.Redundancy.TheVariants.{Deliver, Copy, Both}
-use Rattle.verdict_ledger.specs.Text.{network_word, class_word, policing_word, integrity_word, redundancy_word, mask_text, hex_digit}
+use Rattle.redundancy.specs.Word.{redundancy_word}
+use Rattle.integrity.specs.Word.{integrity_word}
+use Rattle.policing.specs.Word.{policing_word}
+use Rattle.vl_config.specs.Class.{class_word}
+use Rattle.afdx_frame.specs.Frame.{network_letter}
+use Rattle.verdict_ledger.specs.Text.{mask_text, hex_digit}
 use Rattle.std.specs.Str.Parse.{AllDigits}
 use Rattle.std.proofs.lemmas.Fmt.{digits_decimal}
 use Rattle.afdx_frame.specs.declared.key.VlId.{VlId}
@@ -26,7 +31,7 @@ use Rattle.ledger_text.specs.declared.frame.FrameLine.{FrameLine}
 abbrev code : List ℕ → ℕ
 code word = length word * 65536 + get_or word 0 0 * 256 + get_or word 1 0
 
-pub one_network : (x y : Network) → network_word x ≡ network_word y → x ≡ y
+pub one_network : (x y : Network) → network_letter x ≡ network_letter y → x ≡ y
 one_network A A e = refl
 one_network B B e = refl
 one_network _ _ e = absurd (omega (arith, ap code e))
@@ -119,10 +124,7 @@ make s n i l q c p t r k m = record {
   number = i;
   link = l;
   sequence = q;
-  class = c;
-  policing = p;
-  integrity = t;
-  redundancy = r;
+  verdict = record { class = c; policing = p; integrity = t; redundancy = r };
   kept = k;
   mask = m;
 }
@@ -181,30 +183,12 @@ one_line v w p q e =
     let i = decimal_injective v.number w.number (omega (arith, p.number)) (omega (arith, q.number)) e2 in
     let l = one_link v.link w.link p.link.fits q.link.fits e3 in
     let x = one_number v.sequence w.sequence (wider v.sequence (2 ^ 8) (omega arith) p.sequence.fits) (wider w.sequence (2 ^ 8) (omega arith) q.sequence.fits) e4 in
-    let c = one_class v.class w.class e5 in
-    let g = one_policing v.policing w.policing e6 in
-    let t = one_integrity v.integrity w.integrity e7 in
-    let r = one_redundancy v.redundancy w.redundancy e8 in
+    let c = one_class v.verdict.class w.verdict.class e5 in
+    let g = one_policing v.verdict.policing w.verdict.policing e6 in
+    let t = one_integrity v.verdict.integrity w.verdict.integrity e7 in
+    let r = one_redundancy v.verdict.redundancy w.verdict.redundancy e8 in
     let k = one_number v.kept w.kept (wider v.kept (2 ^ 32) (omega arith) p.kept) (wider w.kept (2 ^ 32) (omega arith) q.kept) e9 in
     let m = one_mask v.mask w.mask p.mask.small q.mask.small e10 in
-    let same : make v.stamp.0 v.network v.number v.link v.sequence v.class v.policing v.integrity v.redundancy v.kept v.mask
-    ≡ make w.stamp.0 w.network w.number w.link w.sequence w.class w.policing w.integrity w.redundancy w.kept w.mask = cc in
+    let same : make v.stamp.0 v.network v.number v.link v.sequence v.verdict.class v.verdict.policing v.verdict.integrity v.verdict.redundancy v.kept v.mask
+    ≡ make w.stamp.0 w.network w.number w.link w.sequence w.verdict.class w.verdict.policing w.verdict.integrity w.verdict.redundancy w.kept w.mask = cc in
     same
-
--- a list of twelve, by its items
-pub twelve : (a0 a1 a2 a3 a4 a5 a6 a7 a8 a9 a10 a11 : ℕ) (l : List ℕ) → length l ≡ 12 → get_or l 0 0 ≡ a0 → get_or l 1 0 ≡ a1 → get_or l 2 0 ≡ a2 → get_or l 3 0 ≡ a3 → get_or l 4 0 ≡ a4 → get_or l 5 0 ≡ a5 → get_or l 6 0 ≡ a6 → get_or l 7 0 ≡ a7 → get_or l 8 0 ≡ a8 → get_or l 9 0 ≡ a9 → get_or l 10 0 ≡ a10 → get_or l 11 0 ≡ a11
-    → (a0 ∷ a1 ∷ a2 ∷ a3 ∷ a4 ∷ a5 ∷ a6 ∷ a7 ∷ a8 ∷ a9 ∷ a10 ∷ a11 ∷ []) ≡ l
-twelve a0 a1 a2 a3 a4 a5 a6 a7 a8 a9 a10 a11 [] e h0 h1 h2 h3 h4 h5 h6 h7 h8 h9 h10 h11 = absurd (omega (arith, e))
-twelve a0 a1 a2 a3 a4 a5 a6 a7 a8 a9 a10 a11 (x0 ∷ []) e h0 h1 h2 h3 h4 h5 h6 h7 h8 h9 h10 h11 = absurd (omega (arith, e))
-twelve a0 a1 a2 a3 a4 a5 a6 a7 a8 a9 a10 a11 (x0 ∷ x1 ∷ []) e h0 h1 h2 h3 h4 h5 h6 h7 h8 h9 h10 h11 = absurd (omega (arith, e))
-twelve a0 a1 a2 a3 a4 a5 a6 a7 a8 a9 a10 a11 (x0 ∷ x1 ∷ x2 ∷ []) e h0 h1 h2 h3 h4 h5 h6 h7 h8 h9 h10 h11 = absurd (omega (arith, e))
-twelve a0 a1 a2 a3 a4 a5 a6 a7 a8 a9 a10 a11 (x0 ∷ x1 ∷ x2 ∷ x3 ∷ []) e h0 h1 h2 h3 h4 h5 h6 h7 h8 h9 h10 h11 = absurd (omega (arith, e))
-twelve a0 a1 a2 a3 a4 a5 a6 a7 a8 a9 a10 a11 (x0 ∷ x1 ∷ x2 ∷ x3 ∷ x4 ∷ []) e h0 h1 h2 h3 h4 h5 h6 h7 h8 h9 h10 h11 = absurd (omega (arith, e))
-twelve a0 a1 a2 a3 a4 a5 a6 a7 a8 a9 a10 a11 (x0 ∷ x1 ∷ x2 ∷ x3 ∷ x4 ∷ x5 ∷ []) e h0 h1 h2 h3 h4 h5 h6 h7 h8 h9 h10 h11 = absurd (omega (arith, e))
-twelve a0 a1 a2 a3 a4 a5 a6 a7 a8 a9 a10 a11 (x0 ∷ x1 ∷ x2 ∷ x3 ∷ x4 ∷ x5 ∷ x6 ∷ []) e h0 h1 h2 h3 h4 h5 h6 h7 h8 h9 h10 h11 = absurd (omega (arith, e))
-twelve a0 a1 a2 a3 a4 a5 a6 a7 a8 a9 a10 a11 (x0 ∷ x1 ∷ x2 ∷ x3 ∷ x4 ∷ x5 ∷ x6 ∷ x7 ∷ []) e h0 h1 h2 h3 h4 h5 h6 h7 h8 h9 h10 h11 = absurd (omega (arith, e))
-twelve a0 a1 a2 a3 a4 a5 a6 a7 a8 a9 a10 a11 (x0 ∷ x1 ∷ x2 ∷ x3 ∷ x4 ∷ x5 ∷ x6 ∷ x7 ∷ x8 ∷ []) e h0 h1 h2 h3 h4 h5 h6 h7 h8 h9 h10 h11 = absurd (omega (arith, e))
-twelve a0 a1 a2 a3 a4 a5 a6 a7 a8 a9 a10 a11 (x0 ∷ x1 ∷ x2 ∷ x3 ∷ x4 ∷ x5 ∷ x6 ∷ x7 ∷ x8 ∷ x9 ∷ []) e h0 h1 h2 h3 h4 h5 h6 h7 h8 h9 h10 h11 = absurd (omega (arith, e))
-twelve a0 a1 a2 a3 a4 a5 a6 a7 a8 a9 a10 a11 (x0 ∷ x1 ∷ x2 ∷ x3 ∷ x4 ∷ x5 ∷ x6 ∷ x7 ∷ x8 ∷ x9 ∷ x10 ∷ []) e h0 h1 h2 h3 h4 h5 h6 h7 h8 h9 h10 h11 = absurd (omega (arith, e))
-twelve a0 a1 a2 a3 a4 a5 a6 a7 a8 a9 a10 a11 (x0 ∷ x1 ∷ x2 ∷ x3 ∷ x4 ∷ x5 ∷ x6 ∷ x7 ∷ x8 ∷ x9 ∷ x10 ∷ x11 ∷ []) e h0 h1 h2 h3 h4 h5 h6 h7 h8 h9 h10 h11 = cc
-twelve a0 a1 a2 a3 a4 a5 a6 a7 a8 a9 a10 a11 (x0 ∷ x1 ∷ x2 ∷ x3 ∷ x4 ∷ x5 ∷ x6 ∷ x7 ∷ x8 ∷ x9 ∷ x10 ∷ x11 ∷ y ∷ l) e h0 h1 h2 h3 h4 h5 h6 h7 h8 h9 h10 h11 = absurd (omega (arith, e))

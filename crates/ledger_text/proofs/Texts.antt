@@ -23,7 +23,12 @@ use Rattle.integrity.specs.declared.verdict.Integrity.TheVariants.{First, Reset,
 use Rattle.redundancy.specs.declared.verdict.Redundancy.{Redundancy}
 use Rattle.redundancy.specs.declared.verdict.Redundancy.TheVariants.{Deliver, Copy, Both}
 use Rattle.verdict_ledger.specs.Entry.{Entry}
-use Rattle.verdict_ledger.specs.Text.{line_text, is_addressed, optional_field, verdict_text, word_field, number_field, network_word, class_word, policing_word, integrity_word, redundancy_word, mask_text, hex_digit}
+use Rattle.redundancy.specs.Word.{redundancy_word}
+use Rattle.integrity.specs.Word.{integrity_word}
+use Rattle.policing.specs.Word.{policing_word}
+use Rattle.afdx_frame.specs.Frame.{network_letter}
+use Rattle.vl_config.specs.Class.{is_addressed, class_word}
+use Rattle.verdict_ledger.specs.Text.{line_text, optional_field, verdict_text, word_field, number_field, mask_text, hex_digit}
 use Rattle.ledger_text.specs.Reads.{dash_or, Below}
 use Rattle.ledger_text.specs.Fields.{fields_of, is_space}
 use Rattle.ledger_text.specs.FrameText.{IsFrameLine, IsFrameText, frame_fields, link_fits, link_text, shown}
@@ -62,11 +67,11 @@ unfolding line_text
 entry_text e =
     let v = shown e in
     let rest = optional_field e.keep ++ (word_field (mask_text e.mask) ++ codes "\n") in
-    let front = λ (x : List ℕ). decimal e.frame.stamp ++ (word_field (network_word e.frame.network) ++ (number_field e.frame.number ++ x)) in
+    let front = λ (x : List ℕ). decimal e.frame.stamp ++ (word_field (network_letter e.frame.network) ++ (number_field e.frame.number ++ x)) in
     ap (λ (x : List ℕ). front (x ++ (verdict_text e.verdict ++ rest))) (address_by (is_addressed e.verdict.class) (link_of e.frame.bytes) (sequence_of e.frame.bytes))
     ∙ ap (λ (x : List ℕ). front (((32 ∷ dash_or link_text v.link) ++ (32 ∷ dash_or decimal v.sequence)) ++ (verdict_text e.verdict ++ (x ++ (word_field (mask_text e.mask) ++ codes "\n"))))) (optional_is e.keep)
-    ∙ spread (decimal v.stamp.0) (network_word v.network) (decimal v.number) (dash_or link_text v.link) (dash_or decimal v.sequence) (class_word v.class)
-    (dash_or policing_word v.policing) (dash_or integrity_word v.integrity) (dash_or redundancy_word v.redundancy) (dash_or decimal v.kept) (mask_text v.mask) (codes "\n")
+    ∙ spread (decimal v.stamp.0) (network_letter v.network) (decimal v.number) (dash_or link_text v.link) (dash_or decimal v.sequence) (class_word v.verdict.class)
+    (dash_or policing_word v.verdict.policing) (dash_or integrity_word v.verdict.integrity) (dash_or redundancy_word v.verdict.redundancy) (dash_or decimal v.kept) (mask_text v.mask) (codes "\n")
 
 -- ---- no field has a byte up to the space
 
@@ -90,7 +95,7 @@ digits_clear (d ∷ ds) h =
 decimal_clear : (n : ℕ) → n < 2 ^ 64 → is_clear (decimal n) ≡ true
 decimal_clear n h = digits_clear (decimal n) (digits_decimal own n h)
 
-network_clear : (n : Network) → is_clear (network_word n) ≡ true
+network_clear : (n : Network) → is_clear (network_letter n) ≡ true
 network_clear A = refl
 network_clear B = refl
 
@@ -167,13 +172,13 @@ all_clear v z = (
         (
           number_clear v.sequence (2 ^ 8) (omega arith) z.sequence.fits,
           (
-            class_clear v.class,
+            class_clear v.verdict.class,
             (
-              policing_clear v.policing,
+              policing_clear v.verdict.policing,
               (
-                integrity_clear v.integrity,
+                integrity_clear v.verdict.integrity,
                 (
-                  redundancy_clear v.redundancy,
+                  redundancy_clear v.verdict.redundancy,
                   (number_clear v.kept (2 ^ 32) (omega arith) z.kept, (mask_clear v.mask z.mask.small, tt)),
                 ),
               ),

@@ -2,9 +2,14 @@
 use Rattle.std.specs.Prelude.{◌≡◌, ℕ, suc, ◌^◌, ◌<◌, List, [], ◌∷◌, None, decimal, IfSome, is_some, nat_lt, Option, Result, Ok, Err, if◌then◌else◌}
 use Rattle.afdx_frame.specs.View.{link_of, sequence_of}
 use Rattle.afdx_frame.specs.declared.key.VlId.{VlId}
-use Rattle.vl_judge.specs.Judgement.{Judgement, IsReached}
+use Rattle.vl_judge.specs.Judgement.{IsReached}
 use Rattle.verdict_ledger.specs.Entry.{Entry}
-use Rattle.verdict_ledger.specs.Text.{network_word, class_word, policing_word, integrity_word, redundancy_word, mask_text, is_addressed}
+use Rattle.redundancy.specs.Word.{redundancy_word}
+use Rattle.integrity.specs.Word.{integrity_word}
+use Rattle.policing.specs.Word.{policing_word}
+use Rattle.vl_config.specs.Class.{class_word, is_addressed}
+use Rattle.afdx_frame.specs.Frame.{network_letter}
+use Rattle.verdict_ledger.specs.Text.{mask_text}
 use Rattle.ledger_text.specs.Reads.{dash_or, Optional, Below}
 use Rattle.ledger_text.specs.Fields.{fields_of, Agrees}
 use Rattle.ledger_text.specs.declared.frame.FrameLine.{FrameLine}
@@ -17,13 +22,10 @@ link_text id = decimal id.0
 -- the fields of a frame's line
 abbrev pub frame_fields : FrameLine → List (List ℕ)
 frame_fields v =
-    decimal v.stamp.0 ∷ network_word v.network ∷ decimal v.number
+    decimal v.stamp.0 ∷ network_letter v.network ∷ decimal v.number
     ∷ dash_or link_text v.link ∷ dash_or decimal v.sequence
-    ∷ class_word v.class ∷ dash_or policing_word v.policing ∷ dash_or integrity_word v.integrity ∷ dash_or redundancy_word v.redundancy
+    ∷ class_word v.verdict.class ∷ dash_or policing_word v.verdict.policing ∷ dash_or integrity_word v.verdict.integrity ∷ dash_or redundancy_word v.verdict.redundancy
     ∷ dash_or decimal v.kept ∷ mask_text v.mask ∷ []
-
-abbrev pub judgement_of : FrameLine → Judgement
-judgement_of v = record { class = v.class; policing = v.policing; integrity = v.integrity; redundancy = v.redundancy }
 
 -- timestamps are below 2^32 seconds, in nanoseconds
 abbrev pub stamp_bound : ℕ
@@ -42,9 +44,9 @@ pub record IsMaskOf (kept : Option ℕ) (mask : ℕ) : Type 0 where
 pub record IsFrameLine (v : FrameLine) : Type 0 where
   pub stamp : v.stamp.0 < stamp_bound
   pub number : v.number < 2 ^ 32
-  pub link : Optional link_fits (is_addressed v.class) v.link
-  pub sequence : Optional (Below (2 ^ 8)) (is_addressed v.class) v.sequence
-  pub reached : IsReached (judgement_of v)
+  pub link : Optional link_fits (is_addressed v.verdict.class) v.link
+  pub sequence : Optional (Below (2 ^ 8)) (is_addressed v.verdict.class) v.sequence
+  pub reached : IsReached v.verdict
   pub kept : IfSome v.kept (Below (2 ^ 32))
   pub mask : IsMaskOf v.kept v.mask
 
@@ -86,10 +88,7 @@ shown e = record {
   number = e.frame.number;
   link = if is_addressed e.verdict.class then link_of e.frame.bytes else None;
   sequence = if is_addressed e.verdict.class then sequence_of e.frame.bytes else None;
-  class = e.verdict.class;
-  policing = e.verdict.policing;
-  integrity = e.verdict.integrity;
-  redundancy = e.verdict.redundancy;
+  verdict = e.verdict;
   kept = e.keep;
   mask = e.mask;
 }

@@ -1,23 +1,20 @@
 //! The line of a frame.
 ghost use Rattle.std.specs.Prelude.{◌≡◌, ◌^◌, IfSome, decimal, is_some};
-ghost use Rattle.afdx_frame.specs.LentFrame.{frame_of_lent};
 ghost use Rattle.verdict_ledger.specs.Entry.{entry_with};
-ghost use Rattle.verdict_ledger.specs.Text.{class_word, is_addressed, mask_text};
+ghost use Rattle.vl_config.specs.Class.{class_word, is_addressed};
+ghost use Rattle.verdict_ledger.specs.Text.{mask_text};
 ghost use Rattle.ledger_text.specs.FrameText.{IsMaskOf, IsReadOf, link_fits, link_text, shown};
 ghost use Rattle.ledger_text.specs.Reads.{Below, Optional, Reads, dash_or};
 
 use crate::fault::FrameFault;
 use crate::fields::Fields;
 use crate::number::number_of;
-use crate::words::{class_of, integrity_of, mask_of, network_of, policing_of, redundancy_of};
+use crate::words::{integrity_of, mask_of, policing_of, redundancy_of};
 
 /// Timestamps are below 2^32 seconds, in nanoseconds.
 const STAMP_BOUND: u64 = 1_000_000_000 << 32;
 
 use afdx_frame::{LentFrame, Network, Stamp, VlId};
-use integrity::Integrity;
-use policing::Policing;
-use redundancy::Redundancy;
 use vl_config::Class;
 use vl_judge::Verdict;
 
@@ -34,14 +31,8 @@ pub struct FrameLine {
     pub link: Option<VlId>,
     /// The sequence number, where the class has a link.
     pub sequence: Option<u8>,
-    /// The class.
-    pub class: Class,
-    /// What policing says, of a regular frame.
-    pub policing: Option<Policing>,
-    /// What integrity checking says, of a frame within its account.
-    pub integrity: Option<Integrity>,
-    /// What redundancy management says, of a valid frame.
-    pub redundancy: Option<Redundancy>,
+    /// The verdict.
+    pub verdict: Verdict,
     /// How many bytes the capture holds, where a filter accepts the frame.
     pub kept: Option<u32>,
     /// The mask of the filters that accept the frame: bit i is that of filter i.
@@ -53,9 +44,9 @@ impl FrameLine {
     /// these filters accept.
     #[inline]
     pub fn of(frame: &LentFrame<'_>, verdict: &Verdict, kept: Option<u32>, mask: u8) -> FrameLine
-        ensures { result ≡ shown (entry_with (frame_of_lent frame.now) verdict.now kept mask) }
+        ensures { result ≡ shown (entry_with frame.now verdict.now kept mask) }
     {
-        let (link, sequence) = if is_addressed(verdict.class) {
+        let (link, sequence) = if verdict.class.is_addressed() {
             (frame.view().vl(), frame.view().sequence())
         } else {
             (None, None)
@@ -66,24 +57,10 @@ impl FrameLine {
             number: frame.number() as u32,
             link,
             sequence,
-            class: verdict.class,
-            policing: verdict.policing,
-            integrity: verdict.integrity,
-            redundancy: verdict.redundancy,
+            verdict: *verdict,
             kept,
             mask,
         }
-    }
-}
-
-/// Is there a link where the class has one, and none elsewhere?
-#[inline]
-fn is_addressed(class: Class) -> bool
-    ensures { result ≡ is_addressed class }
-{
-    match class {
-        Class::Unconfigured | Class::TooLong | Class::Regular => true,
-        Class::Cut | Class::Runt | Class::Oversize | Class::Foreign => false,
     }
 }
 
@@ -115,8 +92,8 @@ fn sequence_of(field: &[u8], link: Option<VlId>) -> Option<Option<u8>>
 fn class_with(field: &[u8], link: Option<VlId>) -> Option<Class>
     ensures { Reads (λ class. is_addressed class ≡ is_some link) class_word field.now result }
 {
-    let class = class_of(field)?;
-    if is_addressed(class) == link.is_some() {
+    let class = Class::from_word(field)?;
+    if class.is_addressed() == link.is_some() {
         Some(class)
     } else {
         None
@@ -154,7 +131,7 @@ pub fn read_frame(line: &[u8]) -> Result<FrameLine, FrameFault>
 {
     let mut fields = Fields::new(line);
     let stamp = number_of(fields.next(), STAMP_BOUND).ok_or(FrameFault::Timestamp)?;
-    let network = network_of(fields.next()).ok_or(FrameFault::Network)?;
+    let network = Network::from_letter(fields.next()).ok_or(FrameFault::Network)?;
     let number = number_of(fields.next(), 1 << 32).ok_or(FrameFault::Index)?;
     let link = link_of(fields.next()).ok_or(FrameFault::Link)?;
     let sequence = sequence_of(fields.next(), link).ok_or(FrameFault::Sequence)?;
@@ -162,6 +139,12 @@ pub fn read_frame(line: &[u8]) -> Result<FrameLine, FrameFault>
     let policing = policing_of(fields.next(), class).ok_or(FrameFault::Policing)?;
     let integrity = integrity_of(fields.next(), policing).ok_or(FrameFault::Integrity)?;
     let redundancy = redundancy_of(fields.next(), integrity).ok_or(FrameFault::Redundancy)?;
+    let verdict = Verdict {
+        class,
+        policing,
+        integrity,
+        redundancy,
+    };
     let kept = kept_of(fields.next()).ok_or(FrameFault::Kept)?;
     let mask = mask_with(fields.next(), kept).ok_or(FrameFault::Mask)?;
     if !fields.is_at_end() {
@@ -173,10 +156,7 @@ pub fn read_frame(line: &[u8]) -> Result<FrameLine, FrameFault>
         number: number as u32,
         link,
         sequence,
-        class,
-        policing,
-        integrity,
-        redundancy,
+        verdict,
         kept,
         mask,
     })

@@ -37,10 +37,10 @@ moment_of first (Near of_day) = (first.0 - half_day) + until_of_day (first.0 - h
 
 -- the line's field has this word
 abbrev pub Says : FrameLine → Word → Type 0
-Says line (words.Class class) = line.class ≡ class
-Says line (words.Policing policing) = line.policing ≡ Some policing
-Says line (words.Integrity integrity) = line.integrity ≡ Some integrity
-Says line (words.Redundancy redundancy) = line.redundancy ≡ Some redundancy
+Says line (words.Class class) = line.verdict.class ≡ class
+Says line (words.Policing policing) = line.verdict.policing ≡ Some policing
+Says line (words.Integrity integrity) = line.verdict.integrity ≡ Some integrity
+Says line (words.Redundancy redundancy) = line.verdict.redundancy ≡ Some redundancy
 
 -- one of the words is among the line's
 abbrev pub SaysOne : FrameLine → List Word → Type 0

@@ -7,7 +7,10 @@ use Rattle.vl_config.specs.declared.class.Class.TheVariants as class
 use Rattle.policing.specs.declared.verdict.Policing.TheVariants as policing
 use Rattle.integrity.specs.declared.verdict.Integrity.TheVariants as integrity
 use Rattle.redundancy.specs.declared.verdict.Redundancy.TheVariants as redundancy
-use Rattle.verdict_ledger.specs.Text.{class_word, policing_word, integrity_word, redundancy_word}
+use Rattle.redundancy.specs.Word.{redundancy_word}
+use Rattle.integrity.specs.Word.{integrity_word}
+use Rattle.policing.specs.Word.{policing_word}
+use Rattle.vl_config.specs.Class.{class_word}
 use Rattle.line_selection.specs.declared.word.Word.{Word}
 use Rattle.line_selection.specs.declared.word.Word.TheVariants as words
 use Rattle.line_selection.specs.declared.words.WordFault.{WordFault}

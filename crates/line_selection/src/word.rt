@@ -26,11 +26,12 @@ pub enum Word {
 pub fn says(line: &FrameLine, word: Word) -> bool
     ensures { IsTrue result ↔ Says line.now word }
 {
+    let verdict = &line.verdict;
     match word {
-        Word::Class(class) => line.class == class,
-        Word::Policing(policing) => line.policing == Some(policing),
-        Word::Integrity(integrity) => line.integrity == Some(integrity),
-        Word::Redundancy(redundancy) => line.redundancy == Some(redundancy),
+        Word::Class(class) => verdict.class == class,
+        Word::Policing(policing) => verdict.policing == Some(policing),
+        Word::Integrity(integrity) => verdict.integrity == Some(integrity),
+        Word::Redundancy(redundancy) => verdict.redundancy == Some(redundancy),
     }
 }
 

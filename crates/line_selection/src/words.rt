@@ -61,24 +61,10 @@ fn text_of(word: Word) -> &'static str
     ensures { result.now ≡ word_text word }
 {
     match word {
-        Word::Class(Class::Cut) => "cut",
-        Word::Class(Class::Runt) => "runt",
-        Word::Class(Class::Oversize) => "oversize",
-        Word::Class(Class::Foreign) => "foreign",
-        Word::Class(Class::Unconfigured) => "unconfigured",
-        Word::Class(Class::TooLong) => "toolong",
-        Word::Class(Class::Regular) => "regular",
-        Word::Policing(Policing::Within) => "within",
-        Word::Policing(Policing::Excess) => "excess",
-        Word::Integrity(Integrity::First) => "first",
-        Word::Integrity(Integrity::Reset) => "reset",
-        Word::Integrity(Integrity::Next) => "next",
-        Word::Integrity(Integrity::Skip) => "skip",
-        Word::Integrity(Integrity::Off) => "off",
-        Word::Integrity(Integrity::Out) => "out",
-        Word::Redundancy(Redundancy::Deliver) => "deliver",
-        Word::Redundancy(Redundancy::Copy) => "copy",
-        Word::Redundancy(Redundancy::Both) => "both",
+        Word::Class(class) => class.word(),
+        Word::Policing(policing) => policing.word(),
+        Word::Integrity(integrity) => integrity.word(),
+        Word::Redundancy(redundancy) => redundancy.word(),
     }
 }
 

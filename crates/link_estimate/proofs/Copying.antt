@@ -7,7 +7,8 @@ use Rattle.std.specs.Prelude.{slice_index_or}
 use Rattle.std.specs.Option.{option_map_or}
 use Rattle.afdx_frame.specs.declared.key.Network.{Network}
 use Rattle.afdx_frame.specs.declared.key.Network.TheVariants.{A, B}
-use Rattle.link_estimate.specs.CopyPairs.{CountsCopies, SeenFrame, arrival_of, frames_on, is_same, one_of, open_of, other_than, seen_on, skew_after, skew_given, skews_of}
+use Rattle.afdx_frame.specs.Frame.{other_network}
+use Rattle.link_estimate.specs.CopyPairs.{CountsCopies, SeenFrame, arrival_of, frames_on, is_same, one_of, open_of, seen_on, skew_after, skew_given, skews_of}
 use Rattle.link_estimate.specs.declared.copies.Arrival.{Arrival}
 use Rattle.link_estimate.specs.declared.copies.Copies.{Copies}
 
@@ -74,7 +75,7 @@ after_pass network c = record {
 
 -- the other network has as many frames as before
 others_after : (c : Copies) (frames : List SeenFrame) (network : Network) → CountsCopies c frames →
-    seen_on (other_than network) (after_pass network c) ≡ frames_on (other_than network) frames
+    seen_on (other_network network) (after_pass network c) ≡ frames_on (other_network network) frames
 others_after c frames A h = zero_more c.seen_b ∙ h.seen_b
   where
     zero_more : (n : ℕ) → 0 + n ≡ n
@@ -86,7 +87,7 @@ others_after c frames B h = zero_more c.seen_a ∙ h.seen_a
 
 -- what was found of the frame
 pub skew_found : (c passed : Copies) (frames : List SeenFrame) (frame : SeenFrame) (place others : ℕ) (found : Option ℕ) → CountsCopies c frames →
-    frame.number < 256 → passed ≡ after_pass frame.network c → place ≡ frame.number → others ≡ seen_on (other_than frame.network) passed →
+    frame.number < 256 → passed ≡ after_pass frame.network c → place ≡ frame.number → others ≡ seen_on (other_network frame.network) passed →
     found ≡ skew_given passed.most_skew (slice_index_or passed.latest place None) frame.network others frame.stamp →
     skew_after c.most_skew (open_of c.most_skew frame.number frames) frames frame ≡ found
 skew_found c passed frames frame place others found h small is_passed is_place is_others is_found =

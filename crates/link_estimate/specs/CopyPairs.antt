@@ -2,6 +2,7 @@
 -- and that its copy comes within SkewMax, is ARINC 664 Part 7). The most skew is given: where SkewMax isn't known it is a second, as far as a table allows.
 use Rattle.std.specs.Prelude.{◌≡◌, ℕ, ◌-◌, ◌<◌, Bool, true, false, ◌&&◌, List, [], ◌∷◌, length, count_by, nat_le, Option, Some, None, is_some, ◌==◌, if◌then◌else◌, slice_index_or}
 use Rattle.std.specs.Option.{option_map_or}
+use Rattle.afdx_frame.specs.Frame.{other_network}
 use Rattle.afdx_frame.specs.declared.key.Network.{Network}
 use Rattle.afdx_frame.specs.declared.key.Network.TheVariants.{A, B}
 use Rattle.link_estimate.specs.Intervals.{greatest_of}
@@ -29,10 +30,6 @@ abbrev pub arrival_of : SeenFrame → List SeenFrame → Arrival
 arrival_of frame before =
     record { network = frame.network; stamp = record { 0 = frame.stamp }; index = frames_on frame.network before }
 
-abbrev pub other_than : Network → Network
-other_than A = B
-other_than B = A
-
 -- How much later than an arrival a frame of this network came, if that is its copy: the arrival was on the other network, earlier by at most the most skew, and is one
 -- of the last 128 of the so many that came there.
 abbrev pub skew_given : ℕ → Option Arrival → Network → ℕ → ℕ → Option ℕ
@@ -43,7 +40,7 @@ skew_given most (Some arrival) network others stamp =
 
 -- how much later than an arrival among these frames the next one came, if that is its copy
 abbrev pub skew_after : ℕ → Option Arrival → List SeenFrame → SeenFrame → Option ℕ
-skew_after most arrival frames frame = skew_given most arrival frame.network (frames_on (other_than frame.network) frames) frame.stamp
+skew_after most arrival frames frame = skew_given most arrival frame.network (frames_on (other_network frame.network) frames) frame.stamp
 
 -- the frame that came last with a number, unless it is a copy itself
 abbrev pub open_of : ℕ → ℕ → List SeenFrame → Option Arrival

@@ -2,7 +2,7 @@
 
 ghost use Rattle.std.specs.Prelude.{◌≡◌, ◌<◌, ◌+◌, ◌^◌, ℕ, List, [], ◌∷◌, length};
 ghost use Rattle.link_estimate.specs.declared.copies.TheConstants.{MAX_SKEW};
-ghost use Rattle.link_estimate.specs.CopyPairs.{CountsCopies, SeenFrame, one_of, other_than, seen_on, skew_given};
+ghost use Rattle.link_estimate.specs.CopyPairs.{CountsCopies, SeenFrame, one_of, seen_on, skew_given};
 
 use afdx_frame::{Network, Stamp};
 
@@ -70,7 +70,7 @@ impl Copies {
             } ∷ frames) }
     {
         let index = self.pass(network);
-        let others = self.seen(other(network));
+        let others = self.seen(network.other());
         let place = usize::from(number);
         let latest = self.latest[place];
         match skew_of(latest, network, others, stamp, self.most_skew) {
@@ -131,16 +131,6 @@ impl Copies {
         ensures { result ≡ self.now.greatest_skew }
     {
         self.greatest_skew
-    }
-}
-
-#[inline(always)]
-fn other(network: Network) -> Network
-    ensures { result ≡ other_than network }
-{
-    match network {
-        Network::A => Network::B,
-        Network::B => Network::A,
     }
 }
 

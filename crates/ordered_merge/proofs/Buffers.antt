@@ -1,30 +1,25 @@
 -- The queue and the map of one tap's pending frames.
-use Rattle.std.proofs.Common.{◌≡◌, ℕ, zero, suc, ◌+◌, ◌-◌, ◌^◌, ◌<◌, ◌≤◌, min, Bool, true, false, cond, List, [], ◌∷◌, ◌++◌, Option, Some, None, length, drop, take, get_or, count_by, slice_get, refl, sym, ap, ◌∙◌, subst, append_assoc, length-append, arith, Bor}
+use Rattle.std.proofs.Common.{◌≡◌, ℕ, zero, suc, ◌+◌, ◌-◌, ◌^◌, ◌<◌, ◌≤◌, min, Bool, true, false, cond, List, [], ◌∷◌, ◌++◌, Option, Some, None, length, drop, take, get_or, count_by, slice_get, refl, sym, ap, ◌∙◌, subst, append_assoc, length-append, arith}
+use Rattle.std.proofs.Math.ListN.{drop_of_length-le}
+use Rattle.std.proofs.Math.Seq.{drop-cons}
 use Rattle.std.proofs.lemmas.Bool.{cond_both, false≢true, ltb-false, le-ltb}
 use Rattle.std.proofs.lemmas.Cmp.{ranked}
-use Rattle.std.proofs.lemmas.List.{take_more}
+use Rattle.std.proofs.lemmas.List.{get_or_append_left, length-drop, take_more}
 use Rattle.std.proofs.lemmas.List.Sums.{sum_by-cons}
-use Rattle.std.proofs.lemmas.Option.{same_Some, slice_get-get_or, slice_get_past, slice_get_read}
+use Rattle.std.proofs.lemmas.Option.{get_or_from_slice_get, same_Some, slice_get-get_or, slice_get_within}
 use Rattle.std.specs.List.{AllByRecursion, prefix_len}
-use Rattle.std.specs.Slice.{IsItemAt}
-use Rattle.std.specs.Option.{option_copied, option_map_or, option_to_list}
-use Rattle.std.specs.Map.{values_of}
-use Rattle.std.specs.BTreeMap.{insert_entry}
-use Rattle.std.specs.Ordering.{MatchOrdering, match_ordering, nat_cmp, ordering_then, is_lt}
+use Rattle.std.specs.Option.{option_map_or}
+use Rattle.std.specs.Ordering.{MatchOrdering, nat_cmp, ordering_then}
 use Rattle.std.specs.declared.cmp.Ordering.{Ordering}
 use Rattle.std.specs.declared.cmp.Ordering.TheVariants.{Less, Equal, Greater}
 use Rattle.afdx_frame.specs.Frame.{Frame, key_of, key_cmp, network_cmp}
 use Rattle.afdx_frame.specs.declared.key.Key.{Key}
+use Rattle.frame_batch.specs.Batch.{BatchState}
+use Rattle.frame_batch.specs.Queue.{IsBlockOf}
 use Rattle.ordered_merge.specs.Order.{is_before, IsBefore, IsRising, insert_frame, insert_frames, leads}
 use Rattle.ordered_merge.specs.Merge.{highest}
 use Rattle.ordered_merge.specs.Buffer.{AreInOrder, AreNumbered, BufferState, IsBuffer, NoneLate, buffered, IsKept, is_below, is_late, pushed, pushed_all}
-use Rattle.ordered_merge.proofs.Rising.{each_append, each_weaker, Differs, same_number, before_trans, before_from_not, insert_last, insert_into_first, insert_into_second, rising_insert, each_insert, each_insert_frames, leading_rest, other_rest}
-
--- ---- what a reference lends
-
-pub item_get : {X : Type 0} (xs : List X) (i : ℕ) (r : Option (Bor X)) → IsItemAt xs i r → option_copied r ≡ slice_get xs i
-item_get xs i None h = sym (slice_get_past xs i h.3)
-item_get xs i (Some x) h = sym (slice_get_read xs (length xs) i x.now refl h.3.0 (h.3.1 x.now))
+use Rattle.ordered_merge.proofs.Rising.{each_append, each_weaker, before_from_test, by_test, insert_first, insert_no, test_from_before, Differs, same_number, before_trans, before_from_not, insert_last, insert_into_first, insert_into_second, rising_insert, each_insert, each_insert_frames, leading_rest, other_rest}
 
 -- ---- numbers that differ
 
@@ -39,59 +34,19 @@ numbers_more n l h = each_weaker (IsKept n) (IsKept (n + 1)) (λ g k. (omega ari
 
 -- ---- a frame that comes late
 
-abbrev Keyed : Key × Frame → Type 0
-Keyed e = e.0 ≡ key_of e.1
+pub late_frames : (queue late : List Frame) (f : Frame) → IsBuffer queue late f.number → buffered queue (insert_frame f late) ≡ insert_frame f (buffered queue late)
+late_frames queue late f b = insert_into_first f late queue (numbers_differ f late b.late_kept)
 
-values_chosen : (o : Ordering) (x y z : List (Key × Frame)) → (o ≡ Equal → ⊥) → values_of (match_ordering o x y z) ≡ cond (is_lt o) (values_of x) (values_of z)
-values_chosen Less x y z d = refl
-values_chosen Equal x y z d = absurd (d refl)
-values_chosen Greater x y z d = refl
-
-keyed_chosen : (o : Ordering) (x y z : List (Key × Frame)) → (o ≡ Equal → ⊥) → AllByRecursion Keyed x → AllByRecursion Keyed z → AllByRecursion Keyed (match_ordering o x y z)
-keyed_chosen Less x y z d h k = h
-keyed_chosen Equal x y z d h k = absurd (d refl)
-keyed_chosen Greater x y z d h k = k
-
-values_insert : (cmp : Key → Key → Ordering) (same : (k l : Key) → cmp k l ≡ key_cmp k l) (f : Frame) (es : List (Key × Frame)) → AllByRecursion Keyed es
-    → AllByRecursion (Differs f) (values_of es) → values_of (insert_entry cmp es (key_of f) f) ≡ insert_frame f (values_of es)
-values_insert cmp same f [] keyed d = refl
-values_insert cmp same f (e ∷ es) keyed d =
-    let is : cmp (key_of f) e.0 ≡ key_cmp (key_of f) (key_of e.1) = same (key_of f) e.0 ∙ ap (key_cmp (key_of f)) keyed.0 in
-    ap (λ (o : Ordering). values_of (match_ordering o ((key_of f, f) ∷ e ∷ es) ((e.0, f) ∷ es) (e ∷ insert_entry cmp es (key_of f) f))) is
-    ∙ values_chosen (key_cmp (key_of f) (key_of e.1)) ((key_of f, f) ∷ e ∷ es) ((e.0, f) ∷ es) (e ∷ insert_entry cmp es (key_of f) f) d.0
-    ∙ ap (λ (l : List Frame). cond (is_before f e.1) (f ∷ e.1 ∷ values_of es) (e.1 ∷ l)) (values_insert cmp same f es keyed.1 d.1)
-
-keyed_insert : (cmp : Key → Key → Ordering) (same : (k l : Key) → cmp k l ≡ key_cmp k l) (f : Frame) (es : List (Key × Frame)) → AllByRecursion Keyed es
-    → AllByRecursion (Differs f) (values_of es) → AllByRecursion Keyed (insert_entry cmp es (key_of f) f)
-keyed_insert cmp same f [] keyed d = (refl, tt)
-keyed_insert cmp same f (e ∷ es) keyed d =
-    let is : key_cmp (key_of f) (key_of e.1) ≡ cmp (key_of f) e.0 = sym (same (key_of f) e.0 ∙ ap (key_cmp (key_of f)) keyed.0) in
-    let P : Ordering → Type 0 = λ o. AllByRecursion Keyed (match_ordering o ((key_of f, f) ∷ e ∷ es) ((e.0, f) ∷ es) (e ∷ insert_entry cmp es (key_of f) f)) in
-    subst P is
-    (keyed_chosen (key_cmp (key_of f) (key_of e.1)) ((key_of f, f) ∷ e ∷ es) ((e.0, f) ∷ es) (e ∷ insert_entry cmp es (key_of f) f) d.0
-    (refl, keyed) (keyed.0, keyed_insert cmp same f es keyed.1 d.1))
-
-pub late_frames : (cmp : Key → Key → Ordering) (same : (k l : Key) → cmp k l ≡ key_cmp k l) (queue : List Frame) (late : List (Key × Frame)) (f : Frame)
-    → IsBuffer queue late f.number → buffered queue (insert_entry cmp late (key_of f) f) ≡ insert_frame f (buffered queue late)
-late_frames cmp same queue late f b =
-    let d = numbers_differ f (values_of late) b.late_kept in
-    ap (λ (l : List Frame). insert_frames l queue) (values_insert cmp same f late b.keyed d)
-    ∙ insert_into_first f (values_of late) queue d
-
-pub late_buffer : (cmp : Key → Key → Ordering) (same : (k l : Key) → cmp k l ≡ key_cmp k l) (queue : List Frame) (late : List (Key × Frame)) (f : Frame)
-    → f.stamp < 2 ^ 63 → IsBuffer queue late f.number → IsBuffer queue (insert_entry cmp late (key_of f) f) (f.number + 1)
-late_buffer cmp same queue late f fits b =
-    let d = numbers_differ f (values_of late) b.late_kept in
-    let all = each_insert_frames (Differs f) (values_of late) queue d (numbers_differ f queue b.queue_kept) in
-    let values = values_insert cmp same f late b.keyed d in
+pub late_buffer : (queue late : List Frame) (f : Frame) → f.stamp < 2 ^ 63 → IsBuffer queue late f.number → IsBuffer queue (insert_frame f late) (f.number + 1)
+late_buffer queue late f fits b =
+    let d = numbers_differ f late b.late_kept in
+    let all = each_insert_frames (Differs f) late queue d (numbers_differ f queue b.queue_kept) in
     record {
       queue_rises = b.queue_rises;
-      late_rises = subst IsRising (sym values) (rising_insert f (values_of late) b.late_rises d);
-      rises = subst IsRising (sym (late_frames cmp same queue late f b)) (rising_insert f (buffered queue late) b.rises all);
-      keyed = keyed_insert cmp same f late b.keyed d;
+      late_rises = rising_insert f late b.late_rises d;
+      rises = subst IsRising (sym (late_frames queue late f b)) (rising_insert f (buffered queue late) b.rises all);
       queue_kept = numbers_more f.number queue b.queue_kept;
-      late_kept = subst (AllByRecursion (IsKept (f.number + 1))) (sym values)
-          (each_insert (IsKept (f.number + 1)) f (values_of late) (omega arith, fits) (numbers_more f.number (values_of late) b.late_kept));
+      late_kept = each_insert (IsKept (f.number + 1)) f late (omega arith, fits) (numbers_more f.number late b.late_kept);
     }
 
 -- ---- a frame that comes in order
@@ -127,23 +82,22 @@ in_order (g ∷ l) f r numbers t =
     let later : is_before f last ≡ false = sym (ap (λ (o : Option Frame). option_map_or (is_before f) o false) read) ∙ t in
     below_last g l f last r e (before_from_not f last later (number_differs f last (number_of_last g l f last among e)))
 
-pub queued_frames : (queue : List Frame) (late : List (Key × Frame)) (f : Frame) → IsBuffer queue late f.number → AllByRecursion (λ g. IsBefore g f) queue
+pub queued_frames : (queue : List Frame) (late : List Frame) (f : Frame) → IsBuffer queue late f.number → AllByRecursion (λ g. IsBefore g f) queue
     → buffered (queue ++ f ∷ []) late ≡ insert_frame f (buffered queue late)
 queued_frames queue late f b h =
-    ap (insert_frames (values_of late)) (sym (insert_last f queue h))
-    ∙ insert_into_second f (values_of late) queue (numbers_differ f (values_of late) b.late_kept)
+    ap (insert_frames late) (sym (insert_last f queue h))
+    ∙ insert_into_second f late queue (numbers_differ f late b.late_kept)
 
-pub queued_buffer : (queue : List Frame) (late : List (Key × Frame)) (f : Frame) → f.stamp < 2 ^ 63 → IsBuffer queue late f.number → AllByRecursion (λ g. IsBefore g f) queue
+pub queued_buffer : (queue : List Frame) (late : List Frame) (f : Frame) → f.stamp < 2 ^ 63 → IsBuffer queue late f.number → AllByRecursion (λ g. IsBefore g f) queue
     → IsBuffer (queue ++ f ∷ []) late (f.number + 1)
 queued_buffer queue late f fits b h =
-    let all = each_insert_frames (Differs f) (values_of late) queue (numbers_differ f (values_of late) b.late_kept) (numbers_differ f queue b.queue_kept) in
+    let all = each_insert_frames (Differs f) late queue (numbers_differ f late b.late_kept) (numbers_differ f queue b.queue_kept) in
     record {
       queue_rises = rising_append queue f b.queue_rises h;
       late_rises = b.late_rises;
       rises = subst IsRising (sym (queued_frames queue late f b h)) (rising_insert f (buffered queue late) b.rises all);
-      keyed = b.keyed;
       queue_kept = each_append (IsKept (f.number + 1)) queue (f ∷ []) (numbers_more f.number queue b.queue_kept) ((omega arith, fits), tt);
-      late_kept = numbers_more f.number (values_of late) b.late_kept;
+      late_kept = numbers_more f.number late b.late_kept;
     }
 
 -- ---- timestamps
@@ -223,7 +177,7 @@ pushed_all_more s (g ∷ fs) f = pushed_all_more (pushed s g) fs f
 abbrev state_with : Bool → ℕ → Option ℕ → List Frame → BufferState
 state_with ended next high frames = record { tap = record { ended = ended; next = next; high = high }; frames = frames }
 
-queued_all : (ended : Bool) (high : Option ℕ) (queue : List Frame) (late : List (Key × Frame)) (f : Frame) (l : List Frame) → IsBuffer queue late f.number
+queued_all : (ended : Bool) (high : Option ℕ) (queue : List Frame) (late : List Frame) (f : Frame) (l : List Frame) → IsBuffer queue late f.number
     → AreNumbered f.number (f ∷ l) → AllByRecursion (λ g. g.stamp < 2 ^ 63) (f ∷ l) → is_late queue f ≡ false → AreInOrder (f ∷ l)
     → IsBuffer (queue ++ f ∷ l) late ((last_of f l).number + 1)
     × (state_with ended ((last_of f l).number + 1) (Some (highest high (last_of f l).stamp)) (buffered (queue ++ f ∷ l) late)
@@ -249,7 +203,7 @@ queued_all ended high queue late f (g ∷ l) b numbered fits t order =
           ∙ ap (λ (q : List Frame). pushed_all (state_with ended (f.number + 1) (Some (highest high f.stamp)) q) (g ∷ l)) (queued_frames queue late f b below),
     )
 
-pub queued_list : (ended : Bool) (next : ℕ) (high : Option ℕ) (queue : List Frame) (late : List (Key × Frame)) (fs : List Frame) (last : Frame) → IsBuffer queue late next
+pub queued_list : (ended : Bool) (next : ℕ) (high : Option ℕ) (queue : List Frame) (late : List Frame) (fs : List Frame) (last : Frame) → IsBuffer queue late next
     → AreNumbered next fs → AllByRecursion (λ g. g.stamp < 2 ^ 63) fs → NoneLate queue fs → 0 < length fs → last ≡ get_or fs (length fs - 1) last
     → IsBuffer (queue ++ fs) late (last.number + 1)
     × (record { tap = record { ended = ended; next = last.number + 1; high = Some (highest high last.stamp) }; frames = buffered (queue ++ fs) late }
@@ -334,71 +288,152 @@ count_both bound most queue late m n r s e f =
 
 -- ---- without the first frame
 
-first_is : {X : Type 0} (x : X) (xs : List X) (r : Option X) → x ∷ xs ≡ option_to_list r ++ xs → r ≡ Some x
-first_is x xs None e = (let sizes : length (x ∷ xs) ≡ length xs = ap length e in absurd (omega arith))
-first_is x xs (Some y) e = cc
-
--- after one that came late is taken out
-pub late_popped : (late : List (Key × Frame)) (queue : List Frame) (r : Option Frame) → leads (values_of late) queue ≡ true
-    → values_of late ≡ option_to_list r ++ values_of (drop 1 late) → r ≡ slice_get (values_of late) 0
-late_popped [] queue r t e = absurd (false≢true t)
-late_popped (x ∷ late) queue r t e = first_is x.1 (values_of late) r e
-
-values_drop : (late : List (Key × Frame)) → values_of (drop 1 late) ≡ drop 1 (values_of late)
-values_drop [] = refl
-values_drop (x ∷ late) = refl
-
-pub late_rest : (queue : List Frame) (late : List (Key × Frame)) (n : ℕ) → IsBuffer queue late n → leads (values_of late) queue ≡ true
-    → buffered queue (drop 1 late) ≡ drop 1 (buffered queue late)
-late_rest queue late n b t =
-    ap (λ (l : List Frame). insert_frames l queue) (values_drop late) ∙ leading_rest (values_of late) queue b.late_rises b.queue_rises t
+pub late_rest : (queue late : List Frame) (n : ℕ) → IsBuffer queue late n → leads late queue ≡ true → buffered queue (drop 1 late) ≡ drop 1 (buffered queue late)
+late_rest queue late n b t = leading_rest late queue b.late_rises b.queue_rises t
 
 each_drop : {X : Type 0} (P : X → Type 0) (xs : List X) → AllByRecursion P xs → AllByRecursion P (drop 1 xs)
 each_drop P [] h = tt
 each_drop P (x ∷ xs) h = h.1
 
-rising_drop : (l : List Frame) → IsRising l → IsRising (drop 1 l)
+pub rising_drop : (l : List Frame) → IsRising l → IsRising (drop 1 l)
 rising_drop [] r = tt
 rising_drop (f ∷ l) r = r.1
 
-pub late_buffer_popped : (queue : List Frame) (late : List (Key × Frame)) (n : ℕ) → IsBuffer queue late n → leads (values_of late) queue ≡ true
-    → IsBuffer queue (drop 1 late) n
+-- after one that came late is taken out
+pub late_buffer_popped : (queue late : List Frame) (n : ℕ) → IsBuffer queue late n → leads late queue ≡ true → IsBuffer queue (drop 1 late) n
 late_buffer_popped queue late n b t = record {
   queue_rises = b.queue_rises;
-  late_rises = subst IsRising (sym (values_drop late)) (rising_drop (values_of late) b.late_rises);
+  late_rises = rising_drop late b.late_rises;
   rises = subst IsRising (sym (late_rest queue late n b t)) (rising_drop (buffered queue late) b.rises);
-  keyed = each_drop (λ e. e.0 ≡ key_of e.1) late b.keyed;
   queue_kept = b.queue_kept;
-  late_kept = subst (AllByRecursion (IsKept n)) (sym (values_drop late)) (each_drop (IsKept n) (values_of late) b.late_kept);
+  late_kept = each_drop (IsKept n) late b.late_kept;
 }
 
 -- after the queue's first is taken out, if there is one
-pub queue_popped : (queue : List Frame) (r : Option Frame) → queue ≡ option_to_list r ++ drop 1 queue → r ≡ slice_get queue 0
-queue_popped [] None e = refl
-queue_popped [] (Some f) e = cc
-queue_popped (g ∷ queue) r e = first_is g queue r e
-
-pub queue_buffer_popped : (queue : List Frame) (late : List (Key × Frame)) (n : ℕ) → IsBuffer queue late n → leads (values_of late) queue ≡ false
-    → IsBuffer (drop 1 queue) late n
+pub queue_buffer_popped : (queue late : List Frame) (n : ℕ) → IsBuffer queue late n → leads late queue ≡ false → IsBuffer (drop 1 queue) late n
 queue_buffer_popped queue late n b t = record {
   queue_rises = rising_drop queue b.queue_rises;
   late_rises = b.late_rises;
-  rises = subst IsRising (sym (other_rest (values_of late) queue b.late_rises t)) (rising_drop (buffered queue late) b.rises);
-  keyed = b.keyed;
+  rises = subst IsRising (sym (other_rest late queue b.late_rises t)) (rising_drop (buffered queue late) b.rises);
   queue_kept = each_drop (IsKept n) queue b.queue_kept;
   late_kept = b.late_kept;
 }
 
 -- ---- what is kept of each
 
-pub buffered_fit : (queue : List Frame) (late : List (Key × Frame)) (n : ℕ) → IsBuffer queue late n → AllByRecursion (λ f. f.stamp < 2 ^ 63) (buffered queue late)
+pub buffered_fit : (queue : List Frame) (late : List Frame) (n : ℕ) → IsBuffer queue late n → AllByRecursion (λ f. f.stamp < 2 ^ 63) (buffered queue late)
 buffered_fit queue late n b =
-    each_insert_frames (λ f. f.stamp < 2 ^ 63) (values_of late) queue
-    (each_weaker (IsKept n) (λ f. f.stamp < 2 ^ 63) (λ f k. k.1) (values_of late) b.late_kept)
+    each_insert_frames (λ f. f.stamp < 2 ^ 63) late queue
+    (each_weaker (IsKept n) (λ f. f.stamp < 2 ^ 63) (λ f k. k.1) late b.late_kept)
     (each_weaker (IsKept n) (λ f. f.stamp < 2 ^ 63) (λ f k. k.1) queue b.queue_kept)
 
-pub buffered_numbers : (queue : List Frame) (late : List (Key × Frame)) (n : ℕ) → IsBuffer queue late n → AllByRecursion (λ f. f.number < n) (buffered queue late)
+pub buffered_numbers : (queue : List Frame) (late : List Frame) (n : ℕ) → IsBuffer queue late n → AllByRecursion (λ f. f.number < n) (buffered queue late)
 buffered_numbers queue late n b =
-    each_insert_frames (λ f. f.number < n) (values_of late) queue
-    (each_weaker (IsKept n) (λ f. f.number < n) (λ f k. k.0) (values_of late) b.late_kept)
+    each_insert_frames (λ f. f.number < n) late queue
+    (each_weaker (IsKept n) (λ f. f.number < n) (λ f k. k.0) late b.late_kept)
     (each_weaker (IsKept n) (λ f. f.number < n) (λ f k. k.0) queue b.queue_kept)
+
+-- ---- a place among frames in order
+
+-- a frame that isn't before a frame isn't before those before that one
+none_before : (f g : Frame) (l : List Frame) → is_before f g ≡ false → AllByRecursion (λ h. IsBefore h g) l → AllByRecursion (λ h. is_before f h ≡ false) l
+none_before f g l t h =
+    each_weaker (λ h. IsBefore h g) (λ h. is_before f h ≡ false)
+    (λ h e. by_test (is_before f h) (is_before f h ≡ false) (λ u. absurd (false≢true (sym t ∙ test_from_before f g (before_trans f h g (before_from_test f h u) e)))) (λ u. u)) l h
+
+-- those before an index stand before the frame, and those from it on after it
+pub placed_at : (f : Frame) (l : List Frame) (k : ℕ) → AllByRecursion (λ g. is_before f g ≡ false) (take k l) → AllByRecursion (IsBefore f) (drop k l)
+    → insert_frame f l ≡ take k l ++ f ∷ drop k l
+placed_at f l zero before after = insert_first f l after
+placed_at f [] (suc k) before after = refl
+placed_at f (g ∷ l) (suc k) before after =
+    insert_no f g l before.0 ∙ ap (λ (m : List Frame). g ∷ m) (placed_at f l k before.1 after)
+
+pub each_at : {X : Type 0} (P : X → Type 0) (l : List X) (k : ℕ) (x : X) → AllByRecursion P l → slice_get l k ≡ Some x → P x
+each_at P [] k x h e = cc
+each_at P (y ∷ l) zero x h e = let same : y ≡ x = cc in subst P same h.0
+each_at P (y ∷ l) (suc k) x h e = each_at P l k x h.1 e
+
+-- a frame that isn't before the one at an index isn't before those up to it
+pub stops_here : (l : List Frame) (k : ℕ) (h f : Frame) → IsRising l → slice_get l k ≡ Some h → is_before f h ≡ false
+    → AllByRecursion (λ g. is_before f g ≡ false) (take (k + 1) l)
+stops_here [] k h f r e t = cc
+stops_here (g ∷ l) zero h f r e t =
+    let same : h ≡ g = cc in
+    (subst (λ (x : Frame). is_before f x ≡ false) same t, tt)
+stops_here (g ∷ l) (suc k) h f r e t =
+    let at : suc (k + 1) ≡ suc k + 1 = omega arith in
+    let before = each_at (IsBefore g) l k h r.0 e in
+    let first : is_before f g ≡ false =
+    by_test (is_before f g) (is_before f g ≡ false) (λ u. absurd (false≢true (sym t ∙ test_from_before f h (before_trans f g h (before_from_test f g u) before)))) (λ u. u) in
+    subst (λ (n : ℕ). AllByRecursion (λ x. is_before f x ≡ false) (take n (g ∷ l))) at (first, stops_here l k h f r.1 e t)
+
+abbrev pub AreAbove : Key → List Frame → Type 0
+AreAbove key l = AllByRecursion (λ g. key_cmp key (key_of g) ≡ Less) l
+
+pub above_frame : (f : Frame) (key : Key) (l : List Frame) → key_of f ≡ key → AreAbove key l → AllByRecursion (IsBefore f) l
+above_frame f key l e h = subst (λ (k : Key). AreAbove k l) (sym e) h
+
+-- one more from the end is above
+pub one_more_above : (key : Key) (l : List Frame) (k : ℕ) (h : Frame) → 0 < k → slice_get l (k - 1) ≡ Some h → key_cmp key (key_of h) ≡ Less → AreAbove key (drop k l)
+    → AreAbove key (drop (k - 1) l)
+one_more_above key l k h some here less all =
+    let at : suc (k - 1) ≡ k = omega (arith, some) in
+    let within = slice_get_within l (k - 1) h here in
+    let first : get_or l (k - 1) h ≡ h = get_or_from_slice_get l (k - 1) h h here in
+    subst (AreAbove key) (sym (drop-cons l (k - 1) h within ∙ ap (λ (n : ℕ). get_or l (k - 1) h ∷ drop n l) at))
+    (subst (λ (x : Frame). key_cmp key (key_of x) ≡ Less) (sym first) less, all)
+
+pub numbered_first : (n : ℕ) (l : List Frame) (f : Frame) → AreNumbered n l → slice_get l 0 ≡ Some f → f.number ≡ n
+numbered_first n [] f h e = cc
+numbered_first n (g ∷ l) f h e = let same : f ≡ g = cc in ap (λ (x : Frame). x.number) same ∙ h.0
+
+pub each_first : {X : Type 0} (P : X → Type 0) (xs : List X) (x : X) → slice_get xs 0 ≡ Some x → P x → AllByRecursion P (take 1 xs)
+each_first P [] x e h = tt
+each_first P (y ∷ xs) x e h = let same : x ≡ y = cc in (subst P same h, tt)
+
+pub same_one : {X : Type 0} (xs ys : List X) → slice_get xs 0 ≡ slice_get ys 0 → take 1 xs ≡ take 1 ys
+same_one [] [] e = refl
+same_one [] (y ∷ ys) e = cc
+same_one (x ∷ xs) [] e = cc
+same_one (x ∷ xs) (y ∷ ys) e = let same : x ≡ y = cc in ap (λ z. z ∷ []) same
+
+pub only_one : {X : Type 0} (xs : List X) (x : X) → slice_get xs 0 ≡ Some x → take 1 xs ≡ x ∷ []
+only_one [] x e = cc
+only_one (y ∷ xs) x e = let same : y ≡ x = cc in ap (λ z. z ∷ []) same
+
+pub first_and_rest : {X : Type 0} (xs : List X) (x : X) → slice_get xs 0 ≡ Some x → xs ≡ x ∷ drop 1 xs
+first_and_rest [] x e = cc
+first_and_rest (y ∷ xs) x e = let same : y ≡ x = cc in ap (λ z. z ∷ xs) same
+
+-- ---- a block that is known in a draft is known in one with more blocks
+
+pub among_more : (blocks more : List (List ℕ)) (bs : List BatchState) (k : ℕ) (known : Option ℕ) → IsBlockOf blocks bs k known → IsBlockOf (blocks ++ more) bs k known
+among_more blocks more bs k None h = tt
+among_more blocks more bs k (Some j) h = λ b e. (
+    let here = h b e in
+    (omega (arith, here.0, length-append blocks more), get_or_append_left blocks more [] j here.0 ∙ here.1))
+
+-- ---- the first of those that came late
+
+leads_some : (l m : List Frame) → leads l m ≡ true → 0 < length l
+leads_some [] m t = absurd (false≢true t)
+leads_some (f ∷ l) m t = omega arith
+
+pub late_there : (late queue : List Frame) (k : ℕ) → leads (drop k late) queue ≡ true → k < length late
+late_there late queue k t =
+    let some = leads_some (drop k late) queue t in
+    omega (arith, some, length-drop k late)
+
+pub first_dropped : {X : Type 0} (xs : List X) (k : ℕ) (x : X) → k < length xs → x ≡ get_or xs k x → slice_get (drop k xs) 0 ≡ Some x
+first_dropped xs k x within e = ap (λ l. slice_get l 0) (drop-cons xs k x within) ∙ ap Some (sym e)
+
+pub only_first : {X : Type 0} (xs : List X) (x : X) → slice_get xs 0 ≡ Some x → length xs ≤ 1 → xs ≡ x ∷ []
+only_first xs x e few = first_and_rest xs x e ∙ ap (λ l. x ∷ l) (drop_of_length-le xs {i = 1} few)
+
+pub take_one_more : {X : Type 0} (xs : List X) (n : ℕ) → n < length xs → take n xs ++ take 1 (drop n xs) ≡ take (n + 1) xs
+take_one_more [] n less = absurd (omega (arith, less))
+take_one_more (x ∷ xs) zero less = refl
+take_one_more (x ∷ xs) (suc n) less =
+    let at : suc (n + 1) ≡ suc n + 1 = omega arith in
+    ap (λ l. x ∷ l) (take_one_more xs n (omega (arith, less))) ∙ ap (λ (k : ℕ). take k (x ∷ xs)) at

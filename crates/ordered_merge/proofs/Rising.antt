@@ -62,7 +62,7 @@ key_total =
     then_total (on_total (λ (k : Key). k.stamp.0) nat_cmp_total)
     (then_total (on_total (λ (k : Key). k.network) network_total) (on_total (λ (k : Key). k.number) nat_cmp_total))
 
-is_less : (o : Ordering) → is_lt o ≡ true → o ≡ Less
+pub is_less : (o : Ordering) → is_lt o ≡ true → o ≡ Less
 is_less Less e = refl
 is_less Equal e = absurd (false≢true e)
 is_less Greater e = absurd (false≢true e)
@@ -166,7 +166,7 @@ pub insert_last : (f : Frame) (l : List Frame) → AllByRecursion (λ g. IsBefor
 insert_last f [] h = refl
 insert_last f (g ∷ l) h = insert_no f g l (not_back g f h.0) ∙ ap (λ (xs : List Frame). g ∷ xs) (insert_last f l h.1)
 
-by_test : (b : Bool) (P : Type 0) → (b ≡ true → P) → (b ≡ false → P) → P
+pub by_test : (b : Bool) (P : Type 0) → (b ≡ true → P) → (b ≡ false → P) → P
 by_test true P f g = f refl
 by_test false P f g = g refl
 

@@ -1,10 +1,9 @@
--- The pending frames of one tap: a queue of those that came in order, and a map of those that came late.
-use Rattle.std.specs.Prelude.{◌≡◌, ℕ, ◌+◌, ◌^◌, ◌<◌, Bool, false, List, [], ◌∷◌, nat_lt, ◌-◌, length, slice_get, ⊤}
+-- The pending frames of one tap: a queue of those that came in order, and a list in order of those that came late.
+use Rattle.std.specs.Prelude.{◌≡◌, ℕ, ◌+◌, ◌^◌, ◌<◌, Bool, false, List, [], ◌∷◌, nat_lt, ◌-◌, length, slice_get, Result, Ok, Err, ⊤}
 use Rattle.std.specs.List.{AllByRecursion}
 use Rattle.std.specs.Option.{option_map_or}
-use Rattle.std.specs.Map.{values_of}
-use Rattle.afdx_frame.specs.Frame.{Frame, key_of}
-use Rattle.afdx_frame.specs.declared.key.Key.{Key}
+use Rattle.afdx_frame.specs.Frame.{Frame}
+use Rattle.frame_batch.specs.Batch.{BatchState, batch_frames}
 use Rattle.ordered_merge.specs.Order.{is_before, IsRising, insert_frame, insert_frames}
 use Rattle.ordered_merge.specs.Merge.{Tap, tap_after}
 
@@ -13,9 +12,9 @@ pub record BufferState : Type 0 where
   -- in order
   pub frames : List Frame
 
--- the frames of the queue and of the map, in order
-abbrev pub buffered : List Frame → List (Key × Frame) → List Frame
-buffered queue late = insert_frames (values_of late) queue
+-- the frames of both, in order
+abbrev pub buffered : List Frame → List Frame → List Frame
+buffered queue late = insert_frames late queue
 
 abbrev pub pushed : BufferState → Frame → BufferState
 pushed s f = record { tap = tap_after f.stamp s.tap; frames = insert_frame f s.frames }
@@ -34,14 +33,18 @@ AreNumbered next (f ∷ fs) = (f.number ≡ next) × AreNumbered (next + 1) fs
 abbrev pub IsKept : ℕ → Frame → Type 0
 IsKept next f = (f.number < next) × (f.stamp < 2 ^ 63)
 
--- The queue and the map are in order, and each frame is under its key.
-pub record IsBuffer (queue : List Frame) (late : List (Key × Frame)) (next : ℕ) : Type 0 where
+-- Each is in order, and so are both together.
+pub record IsBuffer (queue late : List Frame) (next : ℕ) : Type 0 where
   pub queue_rises : IsRising queue
-  pub late_rises : IsRising (values_of late)
+  pub late_rises : IsRising late
   pub rises : IsRising (buffered queue late)
-  pub keyed : AllByRecursion (λ e. e.0 ≡ key_of e.1) late
   pub queue_kept : AllByRecursion (IsKept next) queue
-  pub late_kept : AllByRecursion (IsKept next) (values_of late)
+  pub late_kept : AllByRecursion (IsKept next) late
+
+-- what is left of a batch, some first frames of which were taken
+abbrev pub left_after : Result (Unit {0}) BatchState → List Frame
+left_after (Ok done) = []
+left_after (Err batch) = batch_frames batch
 
 -- the frame's key is below that of the queue's last
 abbrev pub is_late : List Frame → Frame → Bool

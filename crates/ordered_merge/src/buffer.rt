@@ -1,32 +1,33 @@
 //! The pending frames of one tap.
-ghost use Rattle.std.specs.Prelude.{◌≡◌, ◌+◌, ◌++◌, ◌^◌, ◌<◌, IfErr, IsTrue, ◌↔◌, List, OnErr, OnOk, [], count_by, drop, length, min, nat_lt, slice_get, take, true, ℕ};
-ghost use Rattle.afdx_frame.specs.Frame.{Frame};
+ghost use Rattle.std.specs.Prelude.{◌≡◌, ◌+◌, ◌++◌, ◌∷◌, ◌^◌, ◌<◌, ◌≤◌, IfErr, IfOk, IsTrue, ◌↔◌, List, OnErr, OnOk, Some, [], count_by, drop, length, min, nat_lt, slice_get, take, true, ℕ};
+ghost use Rattle.afdx_frame.specs.Frame.{Frame, key_of};
 ghost use Rattle.std.specs.List.{AllByRecursion, prefix_len};
-ghost use Rattle.std.specs.Map.{values_of};
-ghost use Rattle.std.specs.Option.{option_copied, option_to_list};
-ghost use Rattle.ordered_merge.specs.Buffer.{AreInOrder, AreNumbered, IsBuffer, NoneLate, buffered, is_below, is_late, pushed, pushed_all};
+ghost use Rattle.frame_batch.specs.Batch.{batch_frames};
+ghost use Rattle.ordered_merge.specs.Buffer.{AreInOrder, AreNumbered, IsBuffer, NoneLate, buffered, is_below, is_late, left_after, pushed, pushed_all};
 ghost use Rattle.ordered_merge.specs.Merge.{IsNextOf, highest, new_tap, passes, reaches};
 ghost use Rattle.ordered_merge.specs.Order.{IsRising, insert_frame, leads};
 
+use crate::cursor::TapCursor;
 use crate::order::comes_before;
 use crate::recording::is_in_time;
-use afdx_frame::{Key, TapFrame, key_order};
+use afdx_frame::{Key, TapFrame};
+use frame_batch::{FrameBatch, FrameQueue};
 use std::alloc::{AllocError, Global};
-use std::collections::{BTreeMap, VecDeque};
+use std::collections::VecDeque;
 use std::marker::Model;
-use std::mem;
 
 /// The pending frames of one tap, in order, and what is known of the tap.
 ///
 /// Most frames come in rising order of their keys, and wait in a queue. A frame that comes late, with
-/// a key below that of the queue's last, waits in a map.
+/// a key below that of the queue's last, waits in a list of such frames, which is in order too.
 #[derive(Drop)]
 pub(crate) struct TapBuffer {
+    alloc: Global,
     ended: bool,
     next: u64,
     high: Option<u64>,
-    queue: VecDeque<TapFrame>,
-    late: BTreeMap<Key, TapFrame>,
+    queue: FrameQueue,
+    late: VecDeque<TapFrame>,
 }
 
 impl Model for TapBuffer {
@@ -36,23 +37,26 @@ impl Model for TapBuffer {
 
     ghost view = { λ b. record {
       tap = record { ended = b.ended; next = b.next; high = b.high };
-      frames = buffered b.queue.items b.late.entries;
+      frames = buffered b.queue b.late.items;
     } };
 
-    ghost invariant = { λ b. IsBuffer b.queue.items b.late.entries b.next };
+    ghost invariant = { λ b. IsBuffer b.queue b.late.items b.next };
 }
 
 impl TapBuffer {
+    ghost use Rattle.ordered_merge.specs.Cursor.{CanCopy, tap_left};
+
     /// No frame came yet. Allocates nothing.
     pub(crate) fn new(alloc: Global) -> TapBuffer
         ensures { result ≡ record { tap = new_tap; frames = [] } }
     {
         TapBuffer {
+            alloc,
             ended: false,
             next: 0,
             high: None,
-            queue: VecDeque::new(alloc),
-            late: BTreeMap::new(alloc),
+            queue: FrameQueue::new(alloc),
+            late: VecDeque::new(alloc),
         }
     }
 
@@ -97,7 +101,7 @@ impl TapBuffer {
     {
         let number = frame.number();
         let stamp = frame.stamp().0;
-        hold(&mut self.queue, &mut self.late, frame)?;
+        hold(self.alloc, &mut self.queue, &mut self.late, frame)?;
         self.next = number + 1;
         self.high = Some(highest(self.high, stamp));
         Ok(())
@@ -110,75 +114,93 @@ impl TapBuffer {
         let _next = self.next;
     }
 
-    /// Adds the tap's next frames, which it moves out of the list, one after another. An `Err`: there is no
-    /// memory for those that are left.
-    pub(crate) fn push_all(&mut self, frames: &mut VecDeque<TapFrame>) -> Result<(), AllocError>
-        requires { AreNumbered self.old.tap.next frames.old.items }
-        ensures moved { (moved : List Frame) × (frames.old.items ≡ moved ++ frames.new.items)
+    /// Adds the tap's next frames, one after another. An `Err` gives those back for which there is no memory.
+    pub(crate) fn push_all(&mut self, batch: FrameBatch) -> Result<(), FrameBatch>
+        requires { AreNumbered self.old.tap.next (batch_frames batch) }
+        ensures { (moved : List Frame) × (batch_frames batch ≡ moved ++ left_after result)
             × (self.new ≡ pushed_all self.old moved) }
-        ensures all { OnOk result (frames.new.items ≡ []) }
-        ensures memory { OnErr result (0 < length frames.new.items) }
     {
-        if !none_late(&self.queue, frames) {
-            return self.push_each(frames);
+        if !none_late(&self.queue, &batch) {
+            return self.push_each(batch);
         }
-        let Some(last) = frames.back() else {
-            return Ok(());
-        };
+        let last = batch.last();
         let (number, stamp) = (last.number(), last.stamp().0);
-        join(&mut self.queue, frames)?;
-        self.next = number + 1;
-        self.high = Some(highest(self.high, stamp));
-        Ok(())
+        match self.queue.push(batch) {
+            Ok(()) => {
+                self.next = number + 1;
+                self.high = Some(highest(self.high, stamp));
+                Ok(())
+            }
+            Err(batch) => Err(batch),
+        }
     }
 
     /// As [`push_all`](TapBuffer::push_all), frame by frame.
-    fn push_each(&mut self, frames: &mut VecDeque<TapFrame>) -> Result<(), AllocError>
-        requires { AreNumbered self.old.tap.next frames.old.items }
-        ensures moved { (moved : List Frame) × (frames.old.items ≡ moved ++ frames.new.items)
+    fn push_each(&mut self, batch: FrameBatch) -> Result<(), FrameBatch>
+        requires { AreNumbered self.old.tap.next (batch_frames batch) }
+        ensures { (moved : List Frame) × (batch_frames batch ≡ moved ++ left_after result)
             × (self.new ≡ pushed_all self.old moved) }
-        ensures all { OnOk result (frames.new.items ≡ []) }
-        ensures memory { OnErr result (0 < length frames.new.items) }
     {
-        while let Some(frame) = frames.pop_front() {
-            if let Err(frame) = self.push(frame) {
-                frames.push_front_reserved(frame);
-                return Err(AllocError);
+        let mut batch = batch;
+        while batch.count() > 1 {
+            match self.push_first(&batch) {
+                Ok(()) => batch.skip(1),
+                Err(AllocError) => return Err(batch),
             }
         }
-        Ok(())
-    }
-
-    /// The first frame of all.
-    #[inline(always)]
-    pub(crate) fn first(&self) -> Option<&TapFrame>
-        ensures first { option_copied result ≡ slice_get self.now.frames 0 }
-        ensures rising { IsRising self.now.frames }
-    {
-        if late_leads(&self.queue, &self.late) {
-            first_late(&self.late)
-        } else {
-            self.queue.front()
+        match self.push_first(&batch) {
+            Ok(()) => Ok(()),
+            Err(AllocError) => Err(batch),
         }
     }
 
-    /// Takes out the first frame of all.
-    #[inline(always)]
-    pub(crate) fn pop(&mut self) -> Option<TapFrame>
-        ensures first { result ≡ slice_get self.old.frames 0 }
-        ensures rest { self.new ≡ record self.old { frames = drop 1 self.old.frames } }
+    /// Adds the tap's next frame, the first of a batch, with a share of its block.
+    fn push_first(&mut self, batch: &FrameBatch) -> Result<(), AllocError>
+        requires { AreNumbered self.old.tap.next (batch_frames batch.now) }
+        ensures ok { OnOk result ((frame : Frame) × (slice_get (batch_frames batch.now) 0 ≡ Some frame)
+            × (self.new ≡ pushed self.old frame)) }
+        ensures unchanged { OnErr result (self.new ≡ self.old) }
+    {
+        let frame = batch.first_frame(self.alloc)?;
+        match self.push(frame) {
+            Ok(()) => Ok(()),
+            Err(_) => Err(AllocError),
+        }
+    }
+
+    /// A cursor at the first frame of all.
+    pub(crate) fn cursor(&self) -> TapCursor<'_>
+        ensures left { tap_left result ≡ self.now.frames }
+        ensures can { CanCopy result (record { blocks = []; places = [] }) }
+    {
+        TapCursor::new(self.queue.cursor(), &self.late)
+    }
+
+    /// Takes out so many first frames.
+    pub(crate) fn drop_first(&mut self, count: usize)
+        ensures { self.new ≡ record self.old { frames = drop count self.old.frames } }
+    {
+        for _ in 0..count {
+            self.drop_one();
+        }
+    }
+
+    /// Takes out the first frame of all, if there is one.
+    #[inline]
+    fn drop_one(&mut self)
+        ensures { self.new ≡ record self.old { frames = drop 1 self.old.frames } }
     {
         if late_leads(&self.queue, &self.late) {
-            pop_late(&mut self.late)
+            drop(self.late.pop_front());
         } else {
-            self.queue.pop_front()
+            self.queue.pop();
         }
     }
 
     /// How many frames there are. No clause says so.
     #[inline]
     pub(crate) fn count(&self) -> usize {
-        self.queue.len().saturating_add(self.late.len())
+        self.queue.count().saturating_add(self.late.len())
     }
 
     /// The bound of the timestamps for which none lower follows, in nanoseconds, where a timestamp may lie by
@@ -212,89 +234,113 @@ impl TapBuffer {
         ensures fit { AllByRecursion (λ f. f.stamp < 2 ^ 63) self.now.frames }
         ensures rising { IsRising self.now.frames }
     {
-        let queued = count_queued(&self.queue, bound, most);
+        let queued = self.queue.count_below(bound, most);
         queued + count_late(&self.late, bound, most - queued)
     }
 }
 
-/// Puts a frame into the queue, or into the map if its key is below that of the queue's last.
+/// Puts a frame into the queue, or among those that came late if its key is below that of the queue's last.
 fn hold(
-    queue: &mut VecDeque<TapFrame>,
-    late: &mut BTreeMap<Key, TapFrame>,
+    alloc: Global,
+    queue: &mut FrameQueue,
+    late: &mut VecDeque<TapFrame>,
     frame: TapFrame,
 ) -> Result<(), TapFrame>
-    requires buffer { IsBuffer queue.old.items late.old.entries frame.number }
+    requires buffer { IsBuffer queue.old late.old.items frame.number }
     requires fits { frame.stamp < 2 ^ 63 }
-    ensures buffer { OnOk result (IsBuffer queue.new.items late.new.entries (frame.number + 1)) }
-    ensures frames { OnOk result (buffered queue.new.items late.new.entries
-        ≡ insert_frame frame (buffered queue.old.items late.old.entries)) }
-    ensures queue { OnErr result (queue.new.items ≡ queue.old.items) }
-    ensures late { OnErr result (late.new.entries ≡ late.old.entries) }
+    ensures buffer { OnOk result (IsBuffer queue.new late.new.items (frame.number + 1)) }
+    ensures frames { OnOk result (buffered queue.new late.new.items
+        ≡ insert_frame frame (buffered queue.old late.old.items)) }
+    ensures queue { OnErr result (queue.new ≡ queue.old) }
+    ensures late { OnErr result (late.new.items ≡ late.old.items) }
     ensures given_back { IfErr result (λ f. f ≡ frame) }
 {
-    key_order();
-    if is_late(queue, &frame) {
-        match late.insert(frame.key(), frame) {
-            Ok(_) => Ok(()),
-            Err(refused) => Err(refused.value.1),
-        }
-    } else {
-        match queue.push_back(frame) {
-            Ok(()) => Ok(()),
-            Err(refused) => Err(refused.value),
-        }
+    if is_late(queue, frame.key()) {
+        hold_late(late, frame)?;
+        return Ok(());
+    }
+    enqueue(alloc, queue, frame)?;
+    Ok(())
+}
+
+/// Adds a frame at the end of the queue.
+fn enqueue(alloc: Global, queue: &mut FrameQueue, frame: TapFrame) -> Result<(), TapFrame>
+    ensures added { OnOk result (queue.new ≡ queue.old ++ frame ∷ []) }
+    ensures unchanged { OnErr result (queue.new ≡ queue.old) }
+    ensures given_back { IfErr result (λ f. f ≡ frame) }
+{
+    let batch = FrameBatch::of(alloc, frame)?;
+    match queue.push(batch) {
+        Ok(()) => Ok(()),
+        Err(batch) => Err(batch.into_first()),
     }
 }
 
-/// Moves the frames to the end of the queue. An `Err`: there is no memory, and nothing has changed.
-fn join(queue: &mut VecDeque<TapFrame>, frames: &mut VecDeque<TapFrame>) -> Result<(), AllocError>
-    ensures joined { OnOk result (queue.new.items ≡ queue.old.items ++ frames.old.items) }
-    ensures moved { OnOk result (frames.new.items ≡ []) }
-    ensures queue { OnErr result (queue.new.items ≡ queue.old.items) }
-    ensures frames { OnErr result (frames.new.items ≡ frames.old.items) }
+/// Puts a frame to its place among those that came late.
+fn hold_late(late: &mut VecDeque<TapFrame>, frame: TapFrame) -> Result<(), TapFrame>
+    requires { IsRising late.old.items }
+    ensures put { OnOk result (late.new.items ≡ insert_frame frame late.old.items) }
+    ensures unchanged { OnErr result (late.new.items ≡ late.old.items) }
+    ensures given_back { IfErr result (λ f. f ≡ frame) }
 {
-    if queue.is_empty() {
-        mem::swap(queue, frames);
-        return Ok(());
+    let place = place_of(late, frame.key());
+    match late.insert(place, frame) {
+        Ok(()) => Ok(()),
+        Err(refused) => Err(refused.value),
     }
-    queue.append(frames)
+}
+
+/// How many of the frames, which are in order, come before a frame of this key. It looks at the last of them
+/// first: those that come late are often in order among themselves.
+fn place_of(late: &VecDeque<TapFrame>, key: Key) -> usize
+    requires { IsRising late.now.items }
+    ensures within { result ≤ length late.now.items }
+    ensures place { (frame : Frame) → key_of frame ≡ key → insert_frame frame late.now.items
+        ≡ take result late.now.items ++ frame ∷ drop result late.now.items }
+{
+    let mut place = late.len();
+    while place > 0 {
+        if !comes_before(key, late[place - 1].key()) {
+            return place;
+        }
+        place -= 1;
+    }
+    0
 }
 
 /// Whether none of a tap's next frames comes late.
-fn none_late(queue: &VecDeque<TapFrame>, frames: &VecDeque<TapFrame>) -> bool
-    ensures late { IsTrue result → NoneLate queue.now.items frames.now.items }
-    ensures fit { IsTrue result → AllByRecursion (λ f. f.stamp < 2 ^ 63) frames.now.items }
+fn none_late(queue: &FrameQueue, batch: &FrameBatch) -> bool
+    ensures late { IsTrue result → NoneLate queue.now (batch_frames batch.now) }
+    ensures fit { IsTrue result → AllByRecursion (λ f. f.stamp < 2 ^ 63) (batch_frames batch.now) }
 {
-    match frames.front() {
-        Some(first) => !is_late(queue, first) && are_in_order(frames),
-        None => true,
-    }
+    !is_late(queue, batch.first().key()) && are_in_order(batch)
 }
 
 /// Whether no frame's key is below that of the one before it.
-fn are_in_order(frames: &VecDeque<TapFrame>) -> bool
-    requires { 0 < length frames.now.items }
-    ensures order { IsTrue result → AreInOrder frames.now.items }
-    ensures fit { IsTrue result → AllByRecursion (λ f. f.stamp < 2 ^ 63) frames.now.items }
+fn are_in_order(batch: &FrameBatch) -> bool
+    ensures order { IsTrue result → AreInOrder (batch_frames batch.now) }
+    ensures fit { IsTrue result → AllByRecursion (λ f. f.stamp < 2 ^ 63) (batch_frames batch.now) }
 {
-    let _fits = frames[0].stamp();
-    for index in 1..frames.len() {
-        let frame = &frames[index];
+    let mut last = batch.first();
+    let _fits = last.stamp();
+    for index in 1..batch.count() {
+        let frame = batch.frame(index);
         let _fits = frame.stamp();
-        if comes_before(frame, &frames[index - 1]) {
+        if comes_before(frame.key(), last.key()) {
             return false;
         }
+        last = frame;
     }
     true
 }
 
-/// Whether the frame's key is below that of the queue's last.
+/// Whether a frame of this key comes before the queue's last.
 #[inline(always)]
-fn is_late(queue: &VecDeque<TapFrame>, frame: &TapFrame) -> bool
-    ensures { result ≡ is_late queue.now.items frame.now }
+fn is_late(queue: &FrameQueue, key: Key) -> bool
+    ensures { (frame : Frame) → key_of frame ≡ key → result ≡ is_late queue.now frame }
 {
     match queue.back() {
-        Some(last) => comes_before(frame, last),
+        Some(last) => comes_before(key, last.key()),
         None => false,
     }
 }
@@ -310,45 +356,20 @@ pub(crate) fn highest(high: Option<u64>, stamp: u64) -> u64
 
 /// Whether the first frame of all is one that came late.
 #[inline(always)]
-fn late_leads(queue: &VecDeque<TapFrame>, late: &BTreeMap<Key, TapFrame>) -> bool
-    ensures { result ≡ leads (values_of late.now.entries) queue.now.items }
+fn late_leads(queue: &FrameQueue, late: &VecDeque<TapFrame>) -> bool
+    ensures { result ≡ leads late.now.items queue.now }
 {
-    match (queue.front(), first_late(late)) {
-        (_, None) => false,
-        (None, Some(_)) => true,
-        (Some(queued), Some(late)) => comes_before(late, queued),
+    match (late.front(), queue.front()) {
+        (None, _) => false,
+        (Some(_), None) => true,
+        (Some(late), Some(queued)) => comes_before(late.key(), queued.key()),
     }
 }
 
-#[inline(always)]
-fn first_late(late: &BTreeMap<Key, TapFrame>) -> Option<&TapFrame>
-    ensures { option_copied result ≡ slice_get (values_of late.now.entries) 0 }
+fn count_late(late: &VecDeque<TapFrame>, bound: u64, most: usize) -> usize
+    ensures { result ≡ prefix_len (is_below bound) (take most late.now.items) }
 {
-    late.first_key_value().map(|(_, frame)| frame)
-}
-
-#[inline(always)]
-fn pop_late(late: &mut BTreeMap<Key, TapFrame>) -> Option<TapFrame>
-    ensures frames { values_of late.old.entries ≡ option_to_list result ++ values_of late.new.entries }
-    ensures entries { late.new.entries ≡ drop 1 late.old.entries }
-{
-    late.pop_first().map(|(_, frame)| frame)
-}
-
-fn count_queued(queue: &VecDeque<TapFrame>, bound: u64, most: usize) -> usize
-    ensures { result ≡ prefix_len (is_below bound) (take most queue.now.items) }
-{
-    queue
-        .iter()
-        .take(most)
-        .take_while(|frame| frame.stamp().0 < bound)
-        .count()
-}
-
-fn count_late(late: &BTreeMap<Key, TapFrame>, bound: u64, most: usize) -> usize
-    ensures { result ≡ prefix_len (is_below bound) (take most (values_of late.now.entries)) }
-{
-    late.values()
+    late.iter()
         .take(most)
         .take_while(|frame| frame.stamp().0 < bound)
         .count()

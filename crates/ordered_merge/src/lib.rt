@@ -9,8 +9,9 @@
 //! let mut merger = Merger::new(alloc, late);
 //! merger.fetch(frame_of_a)?;
 //! merger.fetch(frame_of_b)?;
-//! for frame in merger.cut(256)? {
-//!     println!(rt; "{}", frame.stamp().0)?;
+//! let round = merger.cut(256)?;
+//! for index in 0..round.len() {
+//!     println!(rt; "{}", round.frame(index).stamp().0)?;
 //! }
 //! ```
 //!
@@ -22,6 +23,7 @@
 #![tactic(auto)]
 
 mod buffer;
+mod cursor;
 mod laws;
 mod merger;
 mod model;

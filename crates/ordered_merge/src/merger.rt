@@ -1,15 +1,18 @@
 //! The merger that programs run: frames in, rounds in order out.
-ghost use Rattle.std.specs.Prelude.{◌≡◌, ◌+◌, ◌++◌, ◌^◌, ◌<◌, if◌then◌else◌, IfErr, IfOk, IsTrue, ◌↔◌, List, OnErr, OnOk, [], length, nat_lt, slice_get, take, ℕ};
+ghost use Rattle.std.specs.Prelude.{◌≡◌, ◌+◌, ◌-◌, ◌++◌, ◌^◌, ◌<◌, ◌≤◌, if◌then◌else◌, IfErr, IfOk, IsTrue, ◌↔◌, List, OnErr, OnOk, drop, length, nat_lt, take, ℕ};
 ghost use Rattle.std.specs.List.{AllByRecursion};
 ghost use Rattle.afdx_frame.specs.Frame.{Frame};
-ghost use Rattle.ordered_merge.specs.Merge.{CanFetch, CanFetchAll, Wants, after_cut, cut_frames, ended, fetched, fetched_all, is_no_later, is_safe_of, new_state, without_first};
-ghost use Rattle.ordered_merge.specs.Order.{IsRising, leads};
+ghost use Rattle.frame_batch.specs.Batch.{batch_frames};
+ghost use Rattle.ordered_merge.specs.Buffer.{left_after};
+ghost use Rattle.ordered_merge.specs.Copying.{CanCopyBoth, Copies};
+ghost use Rattle.ordered_merge.specs.Merge.{CanFetch, CanFetchAll, Wants, after_cut, cut_frames, ended, fetched, fetched_all, is_no_later, is_safe_of, new_state};
+ghost use Rattle.ordered_merge.specs.Order.{insert_frames};
 
 use crate::buffer::TapBuffer;
-use crate::order::comes_before;
+use crate::cursor::TapCursor;
 use afdx_frame::{Network, TapFrame};
+use frame_batch::{FrameBatch, Round, RoundDraft};
 use std::alloc::{AllocError, Global};
-use std::collections::VecDeque;
 use std::marker::Model;
 
 /// Merges the frames of both networks into the one order of their keys.
@@ -85,24 +88,18 @@ impl Merger {
         }
     }
 
-    /// Adds the next frames of a network, which has not ended, one after another. It moves them out of the
-    /// list. An `Err`: there is no memory for those that are left in it.
-    pub fn fetch_all(
-        &mut self,
-        network: Network,
-        frames: &mut VecDeque<TapFrame>,
-    ) -> Result<(), AllocError>
-        requires { CanFetchAll network self.old frames.old.items }
-        ensures moved { (moved : List Frame) × (frames.old.items ≡ moved ++ frames.new.items)
+    /// Adds the next frames of a network, which has not ended, one after another. An `Err` gives those back for
+    /// which there is no memory.
+    pub fn fetch_all(&mut self, network: Network, batch: FrameBatch) -> Result<(), FrameBatch>
+        requires { CanFetchAll network self.old (batch_frames batch) }
+        ensures { (moved : List Frame) × (batch_frames batch ≡ moved ++ left_after result)
             × (self.new ≡ fetched_all self.old moved) }
-        ensures all { OnOk result (frames.new.items ≡ []) }
-        ensures memory { OnErr result (0 < length frames.new.items) }
     {
         match network {
-            Network::A => self.a.push_all(frames),
+            Network::A => self.a.push_all(batch),
             Network::B => {
                 self.b.note_numbers();
-                self.b.push_all(frames)
+                self.b.push_all(batch)
             }
         }
     }
@@ -145,7 +142,25 @@ impl Merger {
 
     /// Takes out the first safe frames in order, at most `most`. An `Err`: there is a safe frame and no
     /// memory, and nothing has changed.
-    pub fn cut(&mut self, most: usize) -> Result<Vec<TapFrame>, AllocError>
+    pub fn cut(&mut self, most: usize) -> Result<Round, AllocError>
+        ensures round { IfOk result (λ round. round ≡ cut_frames self.old most) }
+        ensures rest { OnOk result (self.new ≡ after_cut self.old most) }
+        ensures whole { IfOk result (λ round. self.old.pending ≡ round ++ self.new.pending) }
+        ensures unchanged { OnErr result (self.new ≡ self.old) }
+        ensures memory { OnErr result (0 < length (cut_frames self.old most)) }
+    {
+        let count = self.count_safe(most);
+        if count == 0 {
+            return Ok(Round::new(self.alloc));
+        }
+        let (round, of_a) = merge_first(self.alloc, &self.a, &self.b, count)?;
+        self.a.drop_first(of_a);
+        self.b.drop_first(count - of_a);
+        Ok(round)
+    }
+
+    /// As [`cut`](Merger::cut), for the model: each frame with a share of its block.
+    pub(crate) fn cut_owned(&mut self, most: usize) -> Result<Vec<TapFrame>, AllocError>
         ensures round { IfOk result (λ round. round.items ≡ cut_frames self.old most) }
         ensures rest { OnOk result (self.new ≡ after_cut self.old most) }
         ensures whole { IfOk result (λ round. self.old.pending ≡ round.items ++ self.new.pending) }
@@ -153,13 +168,14 @@ impl Merger {
         ensures memory { OnErr result (0 < length (cut_frames self.old most)) }
     {
         let count = self.count_safe(most);
-        let mut round = Vec::with_capacity(self.alloc, count)?;
-        'cutting: for _ in 0..count {
-            if let Some(frame) = self.pop() {
-                round.push_reserved(frame);
-            }
+        if count == 0 {
+            return Ok(Vec::new(self.alloc));
         }
-        Ok(round)
+        let (round, of_a) = merge_first(self.alloc, &self.a, &self.b, count)?;
+        let frames = round.to_frames(self.alloc)?;
+        self.a.drop_first(of_a);
+        self.b.drop_first(count - of_a);
+        Ok(frames)
     }
 
     /// The bound of the timestamps, in nanoseconds, below which the frames of a network are safe.
@@ -188,33 +204,47 @@ impl Merger {
         let of_a = self.a.count_below(self.safe_below(Network::A), most);
         of_a + self.b.count_below(self.safe_below(Network::B), most - of_a)
     }
-
-    /// Takes out the first frame.
-    #[inline(always)]
-    fn pop(&mut self) -> Option<TapFrame>
-        ensures first { result ≡ slice_get self.old.pending 0 }
-        ensures rest { self.new ≡ without_first 1 self.old }
-    {
-        if leads(&self.b, &self.a) {
-            self.b.pop()
-        } else {
-            self.a.pop()
-        }
-    }
 }
 
-/// Whether the first frame of both is the first of `buffer`.
-#[inline(always)]
-fn leads(buffer: &TapBuffer, other: &TapBuffer) -> bool
-    ensures value { result ≡ leads buffer.now.frames other.now.frames }
-    ensures rising { IsRising buffer.now.frames }
-    ensures other_rising { IsRising other.now.frames }
+/// The first `count` pending frames of both taps, and how many of them are the first's.
+fn merge_first(
+    alloc: Global,
+    a: &TapBuffer,
+    b: &TapBuffer,
+    count: usize,
+) -> Result<(Round, usize), AllocError>
+    requires { count ≤ length (insert_frames b.now.frames a.now.frames) }
+    ensures round { IfOk result (λ r. r.0 ≡ take count (insert_frames b.now.frames a.now.frames)) }
+    ensures few { IfOk result (λ r. r.1 ≤ count) }
+    ensures rest { IfOk result (λ r. insert_frames (drop (count - r.1) b.now.frames) (drop r.1 a.now.frames)
+        ≡ drop count (insert_frames b.now.frames a.now.frames)) }
 {
-    match (buffer.first(), other.first()) {
-        (None, _) => false,
-        (Some(_), None) => true,
-        (Some(first), Some(other_first)) => comes_before(first, other_first),
+    let (mut a, mut b) = (a.cursor(), b.cursor());
+    let mut draft = RoundDraft::with_capacity(alloc, count)?;
+    let mut of_a = 0;
+    for _ in 0..count {
+        of_a += copy_next(alloc, &mut a, &mut b, &mut draft)?;
     }
+    Ok((Round::of(draft), of_a))
+}
+
+/// Copies the first frame that is left of both taps. How many of the first tap's that are: one or none.
+#[inline(always)]
+fn copy_next(
+    alloc: Global,
+    a: &mut TapCursor<'_>,
+    b: &mut TapCursor<'_>,
+    draft: &mut RoundDraft,
+) -> Result<usize, AllocError>
+    requires { CanCopyBoth a.old b.old draft.old }
+    ensures { IfOk result (λ of_a. Copies of_a a.old b.old draft.old a.new b.new draft.new) }
+{
+    if b.leads(a) {
+        b.copy_first(alloc, draft)?;
+        return Ok(0);
+    }
+    a.copy_first(alloc, draft)?;
+    Ok(1)
 }
 
 /// The network whose greatest timestamp is less, of two alike A.

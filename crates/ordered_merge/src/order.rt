@@ -1,14 +1,15 @@
 //! The order of frames.
 ghost use Rattle.std.specs.Prelude.{◌≡◌};
-ghost use Rattle.ordered_merge.specs.Order.{is_before};
+ghost use Rattle.std.specs.Ordering.{is_lt};
+ghost use Rattle.afdx_frame.specs.Frame.{key_cmp};
 
-use afdx_frame::{TapFrame, key_order};
+use afdx_frame::{Key, key_order};
 
-/// Whether the first frame's key is below the second's.
+/// Whether the first key is below the second.
 #[inline(always)]
-pub(crate) fn comes_before(first: &TapFrame, second: &TapFrame) -> bool
-    ensures { result ≡ is_before first.now second.now }
+pub(crate) fn comes_before(first: Key, second: Key) -> bool
+    ensures { result ≡ is_lt (key_cmp first second) }
 {
     key_order();
-    first.key() < second.key()
+    first < second
 }

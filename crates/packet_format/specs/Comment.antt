@@ -7,8 +7,11 @@ use Rattle.integrity.specs.declared.verdict.Integrity.{Integrity}
 use Rattle.ledger_text.specs.declared.frame.FrameLine.{FrameLine}
 use Rattle.policing.specs.declared.verdict.Policing.{Policing}
 use Rattle.redundancy.specs.declared.verdict.Redundancy.{Redundancy}
-use Rattle.verdict_ledger.specs.Text.{class_word, integrity_word, policing_word, redundancy_word, word_field}
-use Rattle.vl_config.specs.Class.{link_with}
+use Rattle.redundancy.specs.Word.{redundancy_word}
+use Rattle.policing.specs.Word.{policing_word}
+use Rattle.integrity.specs.Word.{integrity_word}
+use Rattle.verdict_ledger.specs.Text.{word_field}
+use Rattle.vl_config.specs.Class.{link_with, class_word}
 use Rattle.vl_config.specs.Document.{VlTable}
 use Rattle.vl_config.specs.declared.class.Class.{Class}
 
@@ -29,8 +32,8 @@ class_text class = class_word class ++ codes " (class)"
 -- redundancy management's word; else integrity checking's, else policing's, else the class
 abbrev pub outcome_text : FrameLine → List ℕ
 outcome_text line =
-    option_map_or redundancy_text line.redundancy
-    (option_map_or integrity_text line.integrity (option_map_or policing_text line.policing (class_text line.class)))
+    option_map_or redundancy_text line.verdict.redundancy
+    (option_map_or integrity_text line.verdict.integrity (option_map_or policing_text line.verdict.policing (class_text line.verdict.class)))
 
 -- ---- the frame's link
 

@@ -5,7 +5,7 @@ ghost use Rattle.std.specs.Vec.{vec_capacity};
 ghost use Rattle.packet_format.specs.Comment.{address_text, comment_text, name_field, name_of, sequence_field};
 ghost use Rattle.packet_format.specs.declared.comment.TheConstants.{MAX_TEXT, NAME_FIELD, NUMBER};
 
-use crate::words::{OUTCOME, outcome_text};
+use crate::words::{OUTCOME, outcome_of};
 use afdx_frame::VlId;
 use itoa::Buffer;
 use ledger_text::FrameLine;
@@ -120,7 +120,8 @@ pub fn append_comment(
     let name = name_of(config, line.link);
     text.reserve(MAX_TEXT)?;
     push_address(text, line, name);
-    text.extend_from_slice(outcome_text(line).as_bytes())
-        .unwrap();
+    let (word, judge) = outcome_of(line);
+    text.extend_from_slice(word.as_bytes()).unwrap();
+    text.extend_from_slice(judge.as_bytes()).unwrap();
     Ok(())
 }

@@ -1,7 +1,6 @@
 //! The formats of captures.
 ghost use Rattle.std.specs.Prelude.{◌≡◌, ◌≤◌, ◌++◌, length, IfOk, OnErr, OnOk};
 ghost use Rattle.std.specs.Option.{option_map};
-ghost use Rattle.afdx_frame.specs.LentFrame.{frame_of_lent};
 ghost use Rattle.packet_format.specs.Comment.{comment_text};
 ghost use Rattle.packet_format.specs.Packets.{format_of, head_by, packet_by};
 ghost use Rattle.pcapng_writer.specs.Comment.{text_of};
@@ -61,9 +60,9 @@ impl PacketFormat<'_> {
         keep: u32,
         line: Option<&FrameLine>,
     ) -> Result<(), AllocError>
-        requires { keep ≤ length (frame_of_lent frame.now).bytes }
+        requires { keep ≤ length frame.now.bytes }
         ensures packet { OnOk result (bytes.new.items ≡ bytes.old.items
-            ++ packet_by (format_of self.entry) (frame_of_lent frame.now) keep
+            ++ packet_by (format_of self.entry) frame.now keep
             (option_map (λ l. l.now) line.entry)) }
         ensures memory { OnErr result (bytes.new.items ≡ bytes.old.items) }
     {

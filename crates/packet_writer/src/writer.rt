@@ -1,7 +1,6 @@
 //! The writer, and why a packet isn't written.
 ghost use Rattle.std.specs.Prelude.{◌≡◌, ◌≤◌, false, length, IfOk, OnErr, OnOk};
 ghost use Rattle.std.specs.Option.{option_map};
-ghost use Rattle.afdx_frame.specs.LentFrame.{frame_of_lent};
 ghost use Rattle.packet_format.specs.Packets.{format_of, head_by, packet_by};
 ghost use Rattle.packet_writer.specs.Writer.{HoldsHead, IsPcapng};
 ghost use Rattle.pcap_io.specs.Device.{Writes};
@@ -111,12 +110,12 @@ impl<'a, W: OutSink> PacketWriter<'a, W> {
         keep: u32,
         line: Option<&FrameLine>,
     ) -> Result<(), PacketFault>
-        requires within { keep ≤ length (frame_of_lent frame.now).bytes }
+        requires within { keep ≤ length frame.now.bytes }
         requires going { has_failed self.old ≡ false }
         ensures written { Puts (format_in self.old) result
             (W.contents (sink_of self.old)) (W.contents (sink_of self.new))
             (W.failures (sink_of self.old)) (W.failures (sink_of self.new))
-            (packet_by (format_in self.old) (frame_of_lent frame.now) keep
+            (packet_by (format_in self.old) frame.now keep
             (option_map (λ l. l.now) line.entry)) }
         ensures format { format_in self.new ≡ format_in self.old }
         ensures going { OnOk result (has_failed self.new ≡ false) }
@@ -143,12 +142,12 @@ impl<'a, W: OutSink> PacketWriter<'a, W> {
         keep: u32,
         line: Option<&FrameLine>,
     ) -> Result<(), PacketFault>
-        requires within { keep ≤ length (frame_of_lent frame.now).bytes }
+        requires within { keep ≤ length frame.now.bytes }
         requires going { has_failed self.old ≡ false }
         ensures written { Puts (format_in self.old) result
             (W.contents (sink_of self.old)) (W.contents (sink_of self.new))
             (W.failures (sink_of self.old)) (W.failures (sink_of self.new))
-            (packet_by (format_in self.old) (frame_of_lent frame.now) keep
+            (packet_by (format_in self.old) frame.now keep
             (option_map (λ l. l.now) line.entry)) }
         ensures format { format_in self.new ≡ format_in self.old }
         ensures going { OnOk result (has_failed self.new ≡ false) }

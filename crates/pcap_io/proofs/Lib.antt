@@ -2,6 +2,7 @@ pub mod Bytes
 pub mod Captures
 pub mod Draws
 pub mod FileHeader
+pub mod Held
 pub mod NextFiles
 pub mod Parse
 pub mod PacketBytes

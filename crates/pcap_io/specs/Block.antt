@@ -1,15 +1,29 @@
 -- What contracts see of a source that is read a block at a time.
-use Rattle.std.specs.Prelude.{◌≡◌, ℕ, ◌<◌, List, slice_range, Option}
+use Rattle.std.specs.Prelude.{◌≡◌, ◌⊎◌, ℕ, ◌<◌, List, [], slice_range, Option}
 use Rattle.std.specs.Io.KnownBytes.{prepend_known}
+use Rattle.afdx_frame.specs.FrameBytes.{block_bytes}
 use Rattle.pcap_io.specs.Device.{CountsFailure}
 use Rattle.pcap_io.specs.Items.{items_of}
 use Rattle.pcap_io.specs.declared.block.BlockSource.{BlockSource}
+use Rattle.pcap_io.specs.declared.block.DrawnPart.{DrawnPart}
 use Rattle.pcap_io.specs.declared.item.ReadFault.{ReadFault}
 use Rattle.pcap_io.specs.declared.item.ReadFault.TheVariants as faults
 
 -- what it reads from
 abbrev pub block_source : {S : Type 0} → BlockSource S → S
 block_source b = b.source
+
+-- the bytes of its block
+abbrev pub block_items : {S : Type 0} → BlockSource S → List ℕ
+block_items b = items_of b.block
+
+-- bytes that were drawn with a share of their block
+abbrev pub part_bytes : DrawnPart → List ℕ
+part_bytes part = slice_range (block_bytes part.block) part.from part.to
+
+-- a share of a block of these bytes, or a block of none
+abbrev pub IsShareOf : List ℕ → List ℕ → Type 0
+IsShareOf items bytes = (bytes ≡ []) ⊎ (bytes ≡ items)
 
 -- what was read ahead
 abbrev pub unread_bytes : {S : Type 0} → BlockSource S → List ℕ

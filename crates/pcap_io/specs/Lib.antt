@@ -1,3 +1,4 @@
+pub mod Batches
 pub mod Block
 pub mod Bytes
 pub mod Capture
@@ -12,4 +13,5 @@ pub mod Recording
 pub mod Script
 pub mod Std
 pub mod Supply
+pub mod Word
 pub mod Writer

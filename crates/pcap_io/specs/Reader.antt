@@ -1,7 +1,7 @@
 -- What contracts see of a reader.
 use Rattle.std.specs.Prelude.{ℕ, List, Option}
 use Rattle.afdx_frame.specs.Frame.{Frame, frame_with}
-use Rattle.pcap_io.specs.Block.{block_source, unread_bytes, drawn_bytes, block_remaining}
+use Rattle.pcap_io.specs.Block.{block_items, block_source, unread_bytes, drawn_bytes, block_remaining}
 use Rattle.pcap_io.specs.Position.{Reading}
 use Rattle.pcap_io.specs.declared.reader.TapReader.{TapReader}
 use Rattle.pcap_io.specs.declared.position.Position.{Position}
@@ -13,6 +13,10 @@ position_of reader = reader.position
 -- what it reads from
 abbrev pub source_of : {S : Type 0} → TapReader S → S
 source_of reader = block_source reader.input
+
+-- the bytes of its block
+abbrev pub block_of : {S : Type 0} → TapReader S → List ℕ
+block_of reader = block_items reader.input
 
 -- what it read ahead of its position, at most 262144 bytes
 abbrev pub unread_of : {S : Type 0} → TapReader S → List ℕ

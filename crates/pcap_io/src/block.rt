@@ -1,6 +1,7 @@
 //! A source that is read a block at a time, and lends what is drawn from it.
-ghost use Rattle.std.specs.Prelude.{◌≡◌, ◌+◌, ◌-◌, ◌<◌, ◌≤◌, ℕ, List, [], true, false, length, min, max, take, Ok, Err, None, IfOk, IfErr, IfSome, OnOk, OnErr};
+ghost use Rattle.std.specs.Prelude.{◌≡◌, ◌+◌, ◌-◌, ◌<◌, ◌≤◌, ℕ, List, [], true, false, length, min, max, slice_range, take, Ok, Err, None, IfOk, IfErr, IfSome, OnOk, OnErr};
 ghost use Rattle.std.specs.Io.KnownBytes.{Consumes, IsAtEnd, Keeps, prepend_known};
+ghost use Rattle.afdx_frame.specs.FrameBytes.{block_bytes};
 ghost use Rattle.afdx_frame.specs.declared.bounds.TheConstants.{MAX_SNAPLEN};
 ghost use Rattle.pcap_io.specs.Device.{CountsFailure, TakesAtMost, TakesFewer};
 ghost use Rattle.pcap_io.specs.declared.item.ReadFault.TheVariants.{Device};
@@ -10,7 +11,7 @@ use crate::device::{DeviceFault, TapSource};
 use crate::item::ReadFault;
 use crate::memory::{BlockMemory, Spares, copy_to_front};
 use crate::transfer::fill;
-use afdx_frame::{FrameBytes, MAX_SNAPLEN};
+use afdx_frame::{FrameBlock, MAX_SNAPLEN};
 use std::alloc::{AllocError, Global};
 use std::mem;
 
@@ -37,6 +38,17 @@ pub struct BlockSource<S> {
     ghost in_bounds: { end ≤ length (items_of block) },
     ghost bounded: { length (items_of block) ≤ MAX_SNAPLEN },
     ghost bounded_len: { block_len ≤ MAX_SNAPLEN },
+}
+
+/// Bytes that were drawn: a share of the block that they stand in, and from which index up to which.
+#[derive(Drop)]
+pub struct DrawnPart {
+    pub block: FrameBlock,
+    pub from: usize,
+    pub to: usize,
+    ghost ordered: { from ≤ to },
+    ghost within: { to ≤ length (block_bytes block) },
+    ghost bounded: { length (block_bytes block) ≤ MAX_SNAPLEN },
 }
 
 /// Reads into the bytes from the index `end` on, until at least `len` stand there or the source ends.
@@ -70,7 +82,7 @@ fn read_until<S: TapSource>(
 
 impl<S: TapSource> BlockSource<S> {
     ghost use Rattle.pcap_io.specs.Block.{IsDrawFault, block_remaining, block_source};
-    ghost use Rattle.pcap_io.specs.Block.{drawn_bytes, unread_bytes};
+    ghost use Rattle.pcap_io.specs.Block.{IsShareOf, block_items, drawn_bytes, part_bytes, unread_bytes};
 
     /// A source of which nothing was read ahead. Allocates nothing.
     pub fn new(source: S) -> BlockSource<S>
@@ -102,10 +114,36 @@ impl<S: TapSource> BlockSource<S> {
 
     /// The bytes of the block.
     #[inline(always)]
-    fn bytes(&self) -> &[u8]
-        ensures { result.now ≡ items_of self.now.block }
+    pub(crate) fn bytes(&self) -> &[u8]
+        ensures { result.now ≡ block_items self.now }
     {
         self.block.bytes()
+    }
+
+    /// Where the unread bytes start in the block, and where they end.
+    #[inline(always)]
+    pub(crate) fn unread_place(&self) -> (usize, usize)
+        ensures start { result.0 ≡ self.now.start }
+        ensures end { result.1 ≡ self.now.end }
+        ensures ordered { result.0 ≤ result.1 }
+        ensures within { result.1 ≤ length (block_items self.now) }
+        ensures bounded { length (block_items self.now) ≤ MAX_SNAPLEN }
+    {
+        (self.start, self.end)
+    }
+
+    /// Draws bytes that stand in the block.
+    #[inline(always)]
+    pub(crate) fn draw_held(&mut self, len: usize)
+        requires { self.old.start + len ≤ self.old.end }
+        ensures left { block_remaining S.remaining self.new
+            ≡ prepend_known (slice_range (block_items self.old) (self.old.start + len) self.old.end)
+            (S.remaining (block_source self.old)) }
+        ensures items { block_items self.new ≡ block_items self.old }
+        ensures source { block_source self.new ≡ block_source self.old }
+    {
+        self.from = self.start;
+        self.start += len;
     }
 
     /// Moves the next bytes into the buffer, and returns how many came: all, or fewer at the end.
@@ -334,18 +372,19 @@ impl<S: TapSource> BlockSource<S> {
         answer
     }
 
-    /// Draws the next `len` bytes for a frame that shares the block. None: fewer were left, and they are
-    /// gone.
+    /// Draws the next `len` bytes, with a share of the block for frames whose bytes stand there. None: fewer
+    /// were left, and they are gone. No bytes are given with a block of none.
     #[inline(always)]
-    pub fn draw_shared(
+    pub(crate) fn draw_shared(
         &mut self,
         alloc: Global,
         len: usize,
-    ) -> Result<Option<FrameBytes>, ReadFault>
+    ) -> Result<Option<DrawnPart>, ReadFault>
         requires { len ≤ MAX_SNAPLEN }
-        ensures complete { IfOk result (λ all. IfSome all (λ bytes. (length bytes ≡ len)
+        ensures complete { IfOk result (λ all. IfSome all (λ part. (length (part_bytes part) ≡ len)
             × Consumes (block_remaining S.remaining self.old)
-            (block_remaining S.remaining self.new) bytes)) }
+            (block_remaining S.remaining self.new) (part_bytes part)
+            × IsShareOf (block_items self.new) (block_bytes part.block))) }
         ensures short { result ≡ Ok None → ((gone : List ℕ) × (length gone < len)
             × Consumes (block_remaining S.remaining self.old) (block_remaining S.remaining self.new) gone)
             × IsAtEnd (block_remaining S.remaining self.new) }
@@ -361,11 +400,15 @@ impl<S: TapSource> BlockSource<S> {
             return Ok(None);
         }
         if len == 0 {
-            return Ok(Some(FrameBytes::own(Vec::new(alloc))));
+            return Ok(Some(DrawnPart {
+                block: FrameBlock::Own(Vec::new(alloc)),
+                from: 0,
+                to: 0,
+            }));
         }
-        let (from, start) = (self.from, self.start);
-        match self.block.share(alloc, from, start) {
-            Ok(bytes) => Ok(Some(bytes)),
+        let (from, to) = (self.from, self.start);
+        match self.block.share(alloc) {
+            Ok(block) => Ok(Some(DrawnPart { block, from, to })),
             Err(AllocError) => {
                 // Not drawn.
                 self.start = from;

@@ -3,7 +3,8 @@ ghost use Rattle.std.specs.Prelude.{◌≡◌};
 
 use crate::device::DeviceFault;
 use crate::recording::Ending;
-use afdx_frame::TapFrame;
+use afdx_frame::{FrameBlock, TapFrame};
+use frame_batch::{FrameBatch, FrameRecord};
 use std::alloc::AllocError;
 use thiserror::Error;
 
@@ -13,6 +14,22 @@ pub enum Item {
     /// The next frame.
     Frame(TapFrame),
     /// The recording's ending, again at each later call.
+    End(Ending),
+}
+
+/// The next frames of a recording, or what ends it.
+#[derive(Drop)]
+pub enum Batched {
+    /// The next frames, one after another, at least one.
+    Frames(FrameBatch),
+    /// The recording's ending, again at each later call.
+    End(Ending),
+}
+
+/// The next item of a recording, with a frame that stands in a block.
+#[derive(Drop)]
+pub enum Taken {
+    Frame(FrameBlock, FrameRecord),
     End(Ending),
 }
 

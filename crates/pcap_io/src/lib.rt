@@ -18,7 +18,7 @@
 //! }
 //! ```
 //!
-//! - [`TapReader`], with [`Found`], [`Item`], [`Ending`] and [`BadReason`], and its faults
+//! - [`TapReader`], with [`Found`], [`Item`], [`Batched`], [`Ending`] and [`BadReason`], and its faults
 //!   [`OpenFault`] and [`ReadFault`].
 //! - [`CaptureWriter`], with its [`WriteFault`].
 //! - [`TapSource`] and [`OutSink`], the devices: [`ReadSource`] and [`WriteSink`] over the readers and
@@ -50,7 +50,7 @@ mod writer;
 pub use block::BlockSource;
 pub use converted::CONVERTED_MAGIC;
 pub use device::{DeviceFault, OutSink, TapSource};
-pub use item::{Found, Item, ReadFault};
+pub use item::{Batched, Found, Item, ReadFault};
 pub use laws::{
     capture_is_read, every_recording_parses, file_header_is_told, one_parse,
     reading_gives_the_parse,

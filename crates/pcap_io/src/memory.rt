@@ -1,8 +1,9 @@
 //! The memory of a block of bytes, which frames may share.
-ghost use Rattle.std.specs.Prelude.{◌≡◌, ◌≤◌, length, slice_range, take, vec_len, IfOk, IsTrue};
+ghost use Rattle.std.specs.Prelude.{◌≡◌, ◌≤◌, length, take, vec_len, IfOk, IsTrue};
+ghost use Rattle.afdx_frame.specs.FrameBytes.{block_bytes};
 ghost use Rattle.pcap_io.specs.Items.{items_of, IsUnshared};
 
-use afdx_frame::FrameBytes;
+use afdx_frame::FrameBlock;
 use std::alloc::{AllocError, Global};
 use std::collections::VecDeque;
 use std::mem;
@@ -95,24 +96,19 @@ impl BlockMemory {
         }
     }
 
-    /// The bytes from one index up to another, for a frame that shares the block.
+    /// A share of the block, for frames whose bytes stand there.
     #[inline(always)]
-    pub fn share(&mut self, alloc: Global, from: usize, to: usize) -> Result<FrameBytes, AllocError>
-        requires ordered { from ≤ to }
-        requires within { to ≤ length (items_of self.old) }
+    pub fn share(&mut self, alloc: Global) -> Result<FrameBlock, AllocError>
         ensures same { items_of self.new ≡ items_of self.old }
-        ensures part { IfOk result (λ bytes. bytes ≡ slice_range (items_of self.old) from to) }
+        ensures block { IfOk result (λ block. block_bytes block ≡ items_of self.old) }
     {
         if let BlockMemory::Own(_) = self {
             self.open(alloc)?;
         }
         match self {
-            BlockMemory::Shared(block) => FrameBytes::part(block, from, to),
-            BlockMemory::Own(block) => Ok(FrameBytes::own(Vec::from_slice(
-                alloc,
-                &block[from..to],
-            )?)),
-            BlockMemory::Empty => Ok(FrameBytes::own(Vec::new(alloc))),
+            BlockMemory::Shared(block) => Ok(FrameBlock::Shared(Arc::try_clone(block)?)),
+            BlockMemory::Own(block) => Ok(FrameBlock::Own(Vec::from_slice(alloc, block)?)),
+            BlockMemory::Empty => Ok(FrameBlock::Own(Vec::new(alloc))),
         }
     }
 }

@@ -1,6 +1,6 @@
 //! The part of a reader that needs no source: its place, and what the bytes at that place begin.
-ghost use Rattle.std.specs.Prelude.{◌≡◌, ◌<◌, ◌≤◌, ◌^◌, length};
-ghost use Rattle.afdx_frame.specs.Frame.{IsFrame};
+ghost use Rattle.std.specs.Prelude.{◌≡◌, ◌<◌, ◌≤◌, ◌^◌, length, slice_range};
+ghost use Rattle.frame_batch.specs.Batch.{IsRecordOf, record_frame};
 ghost use Rattle.pcap_io.specs.Bytes.{IsBytes};
 ghost use Rattle.pcap_io.specs.Layout.{fractions_of};
 ghost use Rattle.pcap_io.specs.Position.{EndsShort, IsStartOf, frame_at, after_frame};
@@ -8,7 +8,8 @@ ghost use Rattle.pcap_io.specs.Position.{EndsShort, IsStartOf, frame_at, after_f
 use crate::layout::Layout;
 use crate::packet_header::{PACKET_HEADER_LEN, PacketHeader};
 use crate::recording::{BadReason, Ending, Stage};
-use afdx_frame::{FrameBytes, MAX_SNAPLEN, Network, Stamp, TapFrame};
+use afdx_frame::{MAX_SNAPLEN, Network, Stamp};
+use frame_batch::FrameRecord;
 
 /// Where a reader stands in its recording.
 #[derive(Clone, Copy)]
@@ -37,21 +38,34 @@ impl Position {
         self.high = self.high.max(stamp);
     }
 
-    /// The frame of a packet that stands here.
+    /// The frame of a packet that stands here, whose bytes stand in a block from one index up to another.
     #[inline(always)]
-    pub fn frame(&self, header: &PacketHeader, bytes: FrameBytes) -> TapFrame
+    pub fn record(&self, header: &PacketHeader, block: &[u8], from: usize, to: usize) -> FrameRecord
         requires bounded { self.now.count < 2 ^ 32 }
         requires within_second { header.now.fraction < fractions_of self.now.layout.precision }
-        requires few_bytes { length bytes ≤ MAX_SNAPLEN }
-        ensures { result ≡ frame_at self.now header.now bytes }
+        requires ordered { from ≤ to }
+        requires within { to ≤ length block.now }
+        requires few_bytes { length block.now ≤ MAX_SNAPLEN }
+        ensures frame { record_frame block.now result
+            ≡ frame_at self.now header.now (slice_range block.now from to) }
+        ensures fits { IsRecordOf block.now result }
     {
         let stamp = Stamp(header.stamp(self.layout));
-        let whole = header.original_len.max(bytes.as_slice().len() as u32);
-        TapFrame::sharing(self.network, self.count, stamp, whole, bytes).unwrap()
+        let whole = header.original_len.max((to - from) as u32);
+        FrameRecord::new(
+            self.network,
+            self.count,
+            stamp,
+            whole,
+            block,
+            from as u32,
+            to as u32,
+        )
     }
 }
 
 /// What stands at a reader's place.
+#[derive(Clone, Copy)]
 pub enum Start {
     /// The header of a packet that may stand there.
     Header(PacketHeader),

@@ -1,7 +1,7 @@
 //! Reads the frames of a recording.
-ghost use Rattle.std.specs.Prelude.{◌≡◌, ◌+◌, ◌<◌, ◌≤◌, ◌^◌, [], length, drop, Some, Ok, Err, IfOk, IfErr, OnOk, OnErr, IfSome, IsTrue, ◌↔◌};
+ghost use Rattle.std.specs.Prelude.{◌≡◌, ◌+◌, ◌<◌, ◌≤◌, ◌^◌, [], length, drop, Some, Ok, Err, IfOk, IfErr, OnOk, OnErr, IfSome, IsFalse, IsTrue, max, ◌↔◌};
 ghost use Rattle.afdx_frame.specs.Frame.{IsFrame};
-ghost use Rattle.afdx_frame.specs.LentFrame.{frame_of_lent};
+ghost use Rattle.pcap_io.specs.Batches.{AddsFrame, AddsFrames, GivesBatch, HasAtMost, IsHeld, taken_item};
 ghost use Rattle.pcap_io.specs.Device.{CountsFailure, TakesAtMost, TakesFewer};
 ghost use Rattle.pcap_io.specs.Layout.{header_of};
 ghost use Rattle.afdx_frame.specs.declared.bounds.TheConstants.{MAX_SNAPLEN};
@@ -11,13 +11,14 @@ ghost use Rattle.pcap_io.specs.Position.{Advances, HasRoom, HoldsPacket, IsNext,
 
 use crate::block::BlockSource;
 use crate::device::{DeviceFault, TapSource};
-use crate::item::{Found, Item, ReadFault};
+use crate::item::{Batched, Found, Item, ReadFault, Taken};
 use crate::layout::{FILE_HEADER_LEN, HeaderFault, Layout, layout_of};
 use crate::packet_header::{PACKET_HEADER_LEN, PacketHeader};
 use crate::position::{Position, Start, start_of};
 use crate::recording::{Ending, Stage};
 use crate::transfer::fill;
 use afdx_frame::{LentFrame, Network, Stamp};
+use frame_batch::FrameBatch;
 use std::alloc::Global;
 use thiserror::Error;
 
@@ -97,11 +98,13 @@ pub struct TapReader<S> {
 
 impl<S: TapSource> TapReader<S> {
     ghost use Rattle.pcap_io.specs.declared.recording.Stage.TheVariants.{Going, Ended, Failed};
+    ghost use Rattle.pcap_io.specs.declared.item.Batched.TheVariants as batches;
     ghost use Rattle.pcap_io.specs.declared.item.Item.TheVariants as items;
+    ghost use Rattle.pcap_io.specs.declared.item.Taken.TheVariants as takes;
     ghost use Rattle.pcap_io.specs.declared.item.Found.TheVariants as founds;
     ghost use Rattle.pcap_io.specs.declared.item.ReadFault.TheVariants as faults;
     ghost use Rattle.pcap_io.specs.declared.recording.Ending.{Ending};
-    ghost use Rattle.pcap_io.specs.Reader.{lent_of, position_of, reading_of, remaining_of};
+    ghost use Rattle.pcap_io.specs.Reader.{block_of, lent_of, position_of, reading_of, remaining_of};
     ghost use Rattle.pcap_io.specs.Reader.{source_of, unread_of};
 
     /// Reads the file header, and stands at the first packet. At most `most` packets are read, and
@@ -224,12 +227,14 @@ impl<S: TapSource> TapReader<S> {
         Ok(Found::Frame)
     }
 
-    /// Draws the next packet into a frame that shares the block, or finds the ending.
+    /// Draws the next packet, with a share of the block, or finds the ending.
     #[inline(always)]
-    fn take(&mut self, alloc: Global) -> Result<Item, ReadFault>
+    fn take(&mut self, alloc: Global) -> Result<Taken, ReadFault>
+        requires { (position_of self.old).stage ≡ Going }
         ensures item { IfOk result (λ a. IsNext (position_of self.old)
-            (remaining_of S.remaining self.old) (remaining_of S.remaining self.new) a) }
-        ensures room { IfOk result (λ a. HasRoom (position_of self.old) a) }
+            (remaining_of S.remaining self.old) (remaining_of S.remaining self.new) (taken_item a)) }
+        ensures room { IfOk result (λ a. HasRoom (position_of self.old) (taken_item a)) }
+        ensures held { IfOk result (IsHeld (position_of self.new) (block_of self.new)) }
         ensures position { position_of self.new ≡ position_of self.old }
         ensures no_failure { OnOk result
             (S.failures (source_of self.new) ≡ S.failures (source_of self.old)) }
@@ -239,18 +244,22 @@ impl<S: TapSource> TapReader<S> {
         ensures taken { TakesAPacket
             (remaining_of S.remaining self.old) (remaining_of S.remaining self.new) }
         ensures left { IfOk result (λ a. ItemLeaves (remaining_of S.remaining self.old)
-            (remaining_of S.remaining self.new) a) }
+            (remaining_of S.remaining self.new) (taken_item a)) }
         ensures unfinished { result ≡ Err faults.Device → LacksBytes (position_of self.old)
             (remaining_of S.remaining self.old) (remaining_of S.remaining self.new)
             (unread_of self.new) }
     {
         let header = match self.read_header()? {
             Start::Header(header) => header,
-            Start::End(ending) => return Ok(Item::End(ending)),
+            Start::End(ending) => return Ok(Taken::End(ending)),
         };
         match self.input.draw_shared(alloc, header.captured_len as usize)? {
-            Some(bytes) => Ok(Item::Frame(self.position.frame(&header, bytes))),
-            None => Ok(Item::End(Ending::Cut(self.position.count))),
+            Some(part) => {
+                let block = part.block.bytes();
+                let record = self.position.record(&header, block, part.from, part.to);
+                Ok(Taken::Frame(part.block, record))
+            }
+            None => Ok(Taken::End(Ending::Cut(self.position.count))),
         }
     }
 
@@ -300,7 +309,7 @@ impl<S: TapSource> TapReader<S> {
     #[inline(always)]
     pub fn frame(&self) -> LentFrame<'_>
         requires { IsFrame (lent_of self.now) }
-        ensures { frame_of_lent result ≡ lent_of self.now }
+        ensures { result ≡ lent_of self.now }
     {
         LentFrame::new(
             self.position.network,
@@ -310,6 +319,41 @@ impl<S: TapSource> TapReader<S> {
             self.input.drawn(),
         )
         .unwrap()
+    }
+
+    /// Goes on to the next frame, which it gives with a share of the block, or to the ending.
+    #[inline(always)]
+    fn advance_shared(&mut self, alloc: Global) -> Result<Taken, ReadFault>
+        ensures advances { Advances taken_item (reading_of S.remaining S.failures self.old)
+            (reading_of S.remaining S.failures self.new) result }
+        ensures held { IfOk result (IsHeld (position_of self.new) (block_of self.new)) }
+        ensures unfinished { (position_of self.old).stage ≡ Going → result ≡ Err faults.Device
+            → LacksBytes (position_of self.old) (remaining_of S.remaining self.old)
+            (remaining_of S.remaining self.new) (unread_of self.new) }
+        ensures ended { (e : Ending) → (position_of self.old).stage ≡ Ended e
+            → (result ≡ Ok (takes.End e)) × (self.new ≡ self.old) }
+        ensures failed { (position_of self.old).stage ≡ Failed
+            → (result ≡ Err faults.Failed) × (self.new ≡ self.old) }
+    {
+        match self.position.stage {
+            Stage::Failed => return Err(ReadFault::Failed),
+            Stage::Ended(ending) => return Ok(Taken::End(ending)),
+            Stage::Going => {}
+        }
+        match self.take(alloc) {
+            Ok(Taken::Frame(block, record)) => {
+                self.position.pass_frame(record.stamp().0);
+                Ok(Taken::Frame(block, record))
+            }
+            Ok(Taken::End(ending)) => {
+                self.position.stage = Stage::Ended(ending);
+                Ok(Taken::End(ending))
+            }
+            Err(fault) => {
+                self.position.stage = Stage::Failed;
+                Err(fault)
+            }
+        }
     }
 
     /// The next frame, whose bytes stand in the reader's block, or the ending, which is given again at
@@ -331,25 +375,100 @@ impl<S: TapSource> TapReader<S> {
         ensures failed { (position_of self.old).stage ≡ Failed
             → (result ≡ Err faults.Failed) × (self.new ≡ self.old) }
     {
-        match self.position.stage {
-            Stage::Failed => return Err(ReadFault::Failed),
-            Stage::Ended(ending) => return Ok(Item::End(ending)),
-            Stage::Going => {}
+        match self.advance_shared(alloc) {
+            Ok(Taken::Frame(block, record)) => Ok(Item::Frame(record.frame(block))),
+            Ok(Taken::End(ending)) => Ok(Item::End(ending)),
+            Err(fault) => Err(fault),
         }
-        match self.take(alloc) {
-            Ok(Item::Frame(frame)) => {
-                self.position.pass_frame(frame.stamp().0);
-                Ok(Item::Frame(frame))
-            }
-            Ok(Item::End(ending)) => {
-                self.position.stage = Stage::Ended(ending);
-                Ok(Item::End(ending))
-            }
-            Err(fault) => {
-                self.position.stage = Stage::Failed;
-                Err(fault)
-            }
+    }
+
+    /// The next frames, in one block: what [`next`](TapReader::next) would give, and then the good frames
+    /// that stand whole in the block already, at most `most` in all, or one where that is 0. The ending and a
+    /// fault come alone, as those of `next`.
+    ///
+    /// It gives fewer frames where there is no memory for a table of them, and one alone where the first has
+    /// no bytes.
+    pub fn next_batch(&mut self, alloc: Global, most: usize) -> Result<Batched, ReadFault>
+        ensures gives { GivesBatch (reading_of S.remaining S.failures self.old)
+            (reading_of S.remaining S.failures self.new) result }
+        ensures count { IfOk result (HasAtMost most) }
+        ensures unfinished { (position_of self.old).stage ≡ Going → result ≡ Err faults.Device
+            → LacksBytes (position_of self.old) (remaining_of S.remaining self.old)
+            (remaining_of S.remaining self.new) (unread_of self.new) }
+        ensures ended { (e : Ending) → (position_of self.old).stage ≡ Ended e
+            → (result ≡ Ok (batches.End e)) × (self.new ≡ self.old) }
+        ensures failed { (position_of self.old).stage ≡ Failed
+            → (result ≡ Err faults.Failed) × (self.new ≡ self.old) }
+    {
+        let (block, first) = match self.advance_shared(alloc) {
+            Ok(Taken::Frame(block, first)) => (block, first),
+            Ok(Taken::End(ending)) => return Ok(Batched::End(ending)),
+            Err(fault) => return Err(fault),
+        };
+        let headers = self.input.unread().len() / PACKET_HEADER_LEN;
+        let mut batch = FrameBatch::begin(alloc, block, first, headers.min(most.saturating_sub(1)));
+        if batch.bytes().is_empty() {
+            return Ok(Batched::Frames(batch));
         }
+        self.add_all_held(&mut batch, most);
+        Ok(Batched::Frames(batch))
+    }
+
+    /// Adds the good frames that follow and stand whole in the block to a batch of one frame, up to `most`
+    /// in all.
+    #[inline]
+    fn add_all_held(&mut self, batch: &mut FrameBatch, most: usize)
+        requires going { (position_of self.old).stage ≡ Going }
+        requires block { batch.old.block ≡ block_of self.old }
+        requires one { length batch.old.left ≡ 1 }
+        ensures adds { AddsFrames (reading_of S.remaining S.failures self.old)
+            (reading_of S.remaining S.failures self.new) batch.old batch.new }
+        ensures some { 0 < length batch.new.left }
+        ensures few { length batch.new.left ≤ max most 1 }
+    {
+        let mut count = 1;
+        while count < most {
+            if !self.add_held(batch) {
+                return;
+            }
+            count += 1;
+        }
+    }
+
+    /// Adds the next frame to a batch, where its packet is good and stands whole in the block. False: it
+    /// isn't, or the batch has no room, and nothing has changed.
+    #[inline(always)]
+    fn add_held(&mut self, batch: &mut FrameBatch) -> bool
+        requires going { (position_of self.old).stage ≡ Going }
+        requires block { batch.old.block ≡ block_of self.old }
+        ensures added { IsTrue result → AddsFrame (reading_of S.remaining S.failures self.old)
+            (reading_of S.remaining S.failures self.new) batch.old batch.new }
+        ensures going { (position_of self.new).stage ≡ Going }
+        ensures block { batch.new.block ≡ block_of self.new }
+        ensures unchanged { IsFalse result → (reading_of S.remaining S.failures self.new
+            ≡ reading_of S.remaining S.failures self.old) × (batch.new ≡ batch.old) }
+    {
+        let (start, end) = self.input.unread_place();
+        if end - start < PACKET_HEADER_LEN {
+            return false;
+        }
+        let bytes = self.input.bytes();
+        let from = start + PACKET_HEADER_LEN;
+        let Start::Header(header) = start_of(&self.position, &bytes[start..from], PACKET_HEADER_LEN)
+        else {
+            return false;
+        };
+        let captured = header.captured_len as usize;
+        if end - from < captured {
+            return false;
+        }
+        let record = self.position.record(&header, bytes, from, from + captured);
+        if !batch.push(record) {
+            return false;
+        }
+        self.input.draw_held(PACKET_HEADER_LEN + captured);
+        self.position.pass_frame(record.stamp().0);
+        true
     }
 
     /// Whether the next packet was read ahead whole: then the next call reads nothing of the source, and

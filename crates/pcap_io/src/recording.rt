@@ -1,5 +1,8 @@
 //! The endings, apart from the reader that finds them: ledgers and exit codes report them too.
 
+ghost use Rattle.std.specs.Prelude.{◌≡◌};
+ghost use Rattle.pcap_io.specs.Word.{ending_word, frames_before, reason_word};
+
 /// Why a recording can't be read on.
 #[derive(Clone, Copy, Debug, PartialEq, Eq)]
 pub enum BadReason {
@@ -39,6 +42,32 @@ pub enum BadReason {
     NextFile,
 }
 
+impl BadReason {
+    /// The word of the reason.
+    pub fn word(self) -> &'static str
+        ensures { result.now ≡ reason_word self }
+    {
+        match self {
+            BadReason::Length => "length",
+            BadReason::Fraction => "fraction",
+            BadReason::StampBack => "stampback",
+            BadReason::TooMany => "toomany",
+            BadReason::BlockLength => "blocklength",
+            BadReason::BlockLengthsDiffer => "blocklengthsdiffer",
+            BadReason::BlockBounds => "blockbounds",
+            BadReason::UnknownInterface => "unknowninterface",
+            BadReason::Section => "section",
+            BadReason::SimplePacket => "simplepacket",
+            BadReason::StampRange => "stamprange",
+            BadReason::SeveralInterfaces => "severalinterfaces",
+            BadReason::TooManyInterfaces => "toomanyinterfaces",
+            BadReason::NoSuchInterface => "nosuchinterface",
+            BadReason::FileHeader => "fileheader",
+            BadReason::NextFile => "nextfile",
+        }
+    }
+}
+
 /// How a recording ends. The number is that of the frames before the ending.
 #[derive(Clone, Copy, Debug, PartialEq, Eq)]
 pub enum Ending {
@@ -48,6 +77,28 @@ pub enum Ending {
     Cut(u64),
     /// At a packet that can't be read.
     Bad(u64, BadReason),
+}
+
+impl Ending {
+    /// How many frames stand before the ending.
+    pub fn frames(self) -> u64
+        ensures { result ≡ frames_before self }
+    {
+        match self {
+            Ending::Clean(count) | Ending::Cut(count) | Ending::Bad(count, _) => count,
+        }
+    }
+
+    /// The word of the ending.
+    pub fn word(self) -> &'static str
+        ensures { result.now ≡ ending_word self }
+    {
+        match self {
+            Ending::Clean(_) => "clean",
+            Ending::Cut(_) => "cut",
+            Ending::Bad(..) => "bad",
+        }
+    }
 }
 
 /// Whether a reader goes on.

@@ -1,6 +1,5 @@
 //! The other direction of a reader: what is written here, a reader reads back.
 ghost use Rattle.std.specs.Prelude.{◌≡◌, ◌+◌, ◌<◌, ◌≤◌, ◌^◌, ◌++◌, true, false, length, Err, IsOk, IfOk, IfErr, OnOk, OnErr};
-ghost use Rattle.afdx_frame.specs.LentFrame.{frame_of_lent};
 ghost use Rattle.pcap_io.specs.Device.{Writes};
 ghost use Rattle.pcap_io.specs.Capture.{capture_header, packet_header, packet_text};
 
@@ -33,7 +32,7 @@ const HEADER: [u8; FILE_HEADER_LEN] = [
 /// The header of a frame's packet.
 #[inline]
 fn packet_header(frame: &LentFrame<'_>, keep: u32) -> [u8; PACKET_HEADER_LEN]
-    ensures { result ≡ packet_header (frame_of_lent frame.now) keep }
+    ensures { result ≡ packet_header frame.now keep }
 {
     let stamp = frame.stamp().0;
     let mut header = [0u8; PACKET_HEADER_LEN];
@@ -69,9 +68,9 @@ pub fn append_packet(
     frame: &LentFrame<'_>,
     keep: u32,
 ) -> Result<(), AllocError>
-    requires { keep ≤ length (frame_of_lent frame.now).bytes }
+    requires { keep ≤ length frame.now.bytes }
     ensures packet { OnOk result (bytes.new.items
-        ≡ bytes.old.items ++ packet_text (frame_of_lent frame.now) keep) }
+        ≡ bytes.old.items ++ packet_text frame.now keep) }
     ensures memory { OnErr result (bytes.new.items ≡ bytes.old.items) }
 {
     let captured = frame.view().bytes();
@@ -102,10 +101,10 @@ fn write_packet<W: OutSink>(
     frame: &LentFrame<'_>,
     keep: u32,
 ) -> Result<(), DeviceFault>
-    requires { keep ≤ length (frame_of_lent frame.now).bytes }
+    requires { keep ≤ length frame.now.bytes }
     ensures { Writes result (W.contents sink.old) (W.contents sink.new)
         (W.failures sink.old) (W.failures sink.new)
-        (packet_text (frame_of_lent frame.now) keep) }
+        (packet_text frame.now keep) }
 {
     write_all(sink, &packet_header(frame, keep))?;
     let bytes = frame.view().bytes();
@@ -172,11 +171,11 @@ impl<W: OutSink> CaptureWriter<W> {
     /// As `put`, of a frame whose bytes are borrowed.
     #[inline]
     pub fn put_lent(&mut self, frame: &LentFrame<'_>, keep: u32) -> Result<(), WriteFault>
-        requires { keep ≤ length (frame_of_lent frame.now).bytes }
+        requires { keep ≤ length frame.now.bytes }
         ensures written { has_failed self.old ≡ false → Writes result
             (W.contents (sink_of self.old)) (W.contents (sink_of self.new))
             (W.failures (sink_of self.old)) (W.failures (sink_of self.new))
-            (packet_text (frame_of_lent frame.now) keep) }
+            (packet_text frame.now keep) }
         ensures fault { has_failed self.old ≡ false → IfErr result (λ f. f ≡ Device) }
         ensures failed { has_failed self.old ≡ true
             → (result ≡ Err Failed) × (self.new ≡ self.old) }

@@ -1,7 +1,6 @@
 //! The block of a packet.
 ghost use Rattle.std.specs.Prelude.{◌≡◌, ◌+◌, ◌^◌, ◌<◌, ◌≤◌, ◌++◌, length, take, OnOk, OnErr, IfSome, vec_len};
 ghost use Rattle.std.specs.Vec.{vec_capacity};
-ghost use Rattle.afdx_frame.specs.LentFrame.{frame_of_lent};
 ghost use Rattle.pcapng_writer.specs.Blocks.{interface_of, packet_block, packet_options};
 ghost use Rattle.pcapng_writer.specs.Comment.{text_of};
 ghost use Rattle.pcapng_writer.specs.Parts.{option_head, packet_head};
@@ -46,7 +45,7 @@ fn options_len(comment: Option<Comment<'_>>) -> usize
 /// What stands before the packet's bytes in a block of this total length.
 #[inline(always)]
 fn packet_head(interface: u32, frame: &LentFrame<'_>, keep: u32, total: u32) -> [u8; HEAD_LEN]
-    ensures { result ≡ packet_head interface (frame_of_lent frame.now) keep total }
+    ensures { result ≡ packet_head interface frame.now keep total }
 {
     let stamp = frame.stamp().0;
     let mut head = [0; HEAD_LEN];
@@ -101,9 +100,9 @@ pub fn append_packet(
     keep: u32,
     comment: Option<Comment<'_>>,
 ) -> Result<(), AllocError>
-    requires { keep ≤ length (frame_of_lent frame.now).bytes }
+    requires { keep ≤ length frame.now.bytes }
     ensures block { OnOk result (bytes.new.items ≡ bytes.old.items
-        ++ packet_block interfaces (frame_of_lent frame.now) keep (text_of comment.entry)) }
+        ++ packet_block interfaces frame.now keep (text_of comment.entry)) }
     ensures memory { OnErr result (bytes.new.items ≡ bytes.old.items) }
 {
     let kept = &frame.view().bytes()[..keep as usize];

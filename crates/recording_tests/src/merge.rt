@@ -2,6 +2,7 @@
 //! allocations.
 
 use afdx_frame::{Network, Stamp, TapFrame};
+use frame_batch::Round;
 use ordered_merge::Merger;
 use std::process::Abort;
 
@@ -44,10 +45,11 @@ fn fetch(
 }
 
 /// The frames of a round are these: timestamp, network and number.
-fn is_round(rt: &impl Abort, round: &[TapFrame], expected: &[(u64, Network, u64)]) {
+fn is_round(rt: &impl Abort, round: &Round, expected: &[(u64, Network, u64)]) {
     assert!(rt; round.len() == expected.len());
-    for (frame, (stamp, network, number)) in round.iter().zip(expected) {
-        let key = frame.key();
+    for index in 0..round.len().min(expected.len()) {
+        let key = round.frame(index).key();
+        let (stamp, network, number) = &expected[index];
         assert!(rt; key.stamp.0 == *stamp);
         assert!(rt; key.network == *network);
         assert!(rt; key.number == *number);

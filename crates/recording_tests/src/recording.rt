@@ -8,6 +8,7 @@ use std::process::Abort;
 
 // further: mod ahead;
 mod allocation;
+mod batches;
 // further: mod blocks;
 // further: mod copies;
 // further: mod cuts;

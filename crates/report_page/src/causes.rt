@@ -1,14 +1,14 @@
 //! What the numbers show of the inputs: another table, frames cut short, a mixed recording, drifting clocks.
 
-use crate::head::drift_parts;
 use crate::numbers::share;
-use crate::view::{View, letter_of, sum};
-use crate::writer::{Page, Part};
+use crate::view::View;
+use crate::writer::Page;
+use crate::writer::Part::{Letter, Number, Tenths, Text};
 use afdx_frame::Network;
 use ledger_report::Sign;
 
 /// What is wrong with the table or a recording, and not with a link.
-#[derive(Clone, Copy)]
+#[derive(Clone, Copy, PartialEq, Eq)]
 pub enum Cause {
     /// More than half of all frames are of links that the table lacks.
     OtherTable,
@@ -35,12 +35,13 @@ impl Cause {
     fn counts(self, view: &View<'_>) -> (u64, u64) {
         let frames = view.report.counts.all().frames;
         match self {
-            Cause::OtherTable => (sum(&view.total(Sign::Unconfigured)), frames),
-            Cause::CutFrames => (sum(&view.total(Sign::Cut)), frames),
+            Cause::OtherTable => (view.total(Sign::Unconfigured).sum(), frames),
+            Cause::CutFrames => (view.total(Sign::Cut).sum(), frames),
             Cause::Doubled(network) => {
-                let (excess, repeat) = (view.total(Sign::Excess), view.total(Sign::Repeat));
-                let count = excess.of(network).saturating_add(*repeat.of(network));
-                (count, view.report.networks.of(network).frames)
+                let side = view.report.networks.of(network);
+                let excess = side.signs.of(Sign::Excess).count;
+                let again = side.signs.of(Sign::Repeat).count;
+                (excess.saturating_add(again), side.frames)
             }
             Cause::Drift => (0, 0),
         }
@@ -56,51 +57,43 @@ impl Cause {
         }
     }
 
-    /// Appends what is seen.
-    pub fn push_seen(self, page: &mut Page, view: &View<'_>) {
-        let (count, frames) = self.counts(view);
-        let tenths = Part::Tenths(share(count, 1000, frames));
+    /// What is seen, between `b` and `e`; what it may come of, and what to do.
+    fn says(self) -> &'static str {
         match self {
             Cause::OtherTable => {
-                page.fill(
-                    "@ % of all frames are of links outside the table",
-                    &[tenths],
-                );
+                "$b$$tenths$ % of all frames are of links outside the table$e$: \
+                 is it the table of this aircraft?"
             }
             Cause::CutFrames => {
-                page.fill("@ % of all frames are cut short by the recorder", &[tenths]);
-            }
-            Cause::Doubled(network) => {
-                let letter = Part::Text(letter_of(network));
-                page.fill(
-                    "@ % of the frames of network @ are excess or have a number again",
-                    &[tenths, letter],
-                );
-            }
-            Cause::Drift => page.text("The clocks of the taps drift"),
-        }
-    }
-
-    /// Appends what it may come of and what to do, after that.
-    pub fn push_advice(self, page: &mut Page, view: &View<'_>) {
-        match self {
-            Cause::OtherTable => page.text(": is it the table of this aircraft?"),
-            Cause::CutFrames => {
-                page.text(": what became of them isn't known; record whole frames");
+                "$b$$tenths$ % of all frames are cut short by the recorder$e$: \
+                 what became of them isn't known; record whole frames"
             }
             Cause::Doubled(_) => {
-                page.text(": does its recording hold both networks, or each frame twice?");
+                "$b$$tenths$ % of the frames of network $n$ are excess or have a number again$e$: \
+                 does its recording hold both networks, or each frame twice?"
             }
             Cause::Drift => {
-                if let Some(drift) = view.drift {
-                    page.fill(DRIFT, &drift_parts(drift));
-                }
+                "$b$The clocks of the taps drift$e$: that of $n$ is about $tenths$ ppm faster, \
+                 say $links$ of $of$ links. Synchronise them (PTP), or judge short parts: \
+                 editcap -F nsecpcap -i 60 in.pcap out.pcap makes files of a minute"
             }
         }
     }
-}
 
-/// What is told of clocks that drift.
-const DRIFT: &str = "\
-: that of @ is about @ ppm faster, say @ of @ links. Synchronise them (PTP), or judge short parts: \
-editcap -F nsecpcap -i 60 in.pcap out.pcap makes files of a minute";
+    /// Appends what is said of it, with marks before and after what is seen.
+    pub fn push<'x>(self, page: &mut Page, view: &View<'_>, before: &'x str, after: &'x str) {
+        let (count, frames) = self.counts(view);
+        let (network, tenths, links, of) = match (self, view.drift) {
+            (Cause::Drift, Some(drift)) => (
+                drift.faster,
+                drift.parts / 100_000,
+                drift.links,
+                drift.of,
+            ),
+            (Cause::Doubled(network), _) => (network, share(count, 1000, frames), 0, 0),
+            _ => (Network::A, share(count, 1000, frames), 0, 0),
+        };
+        fill!(page; self.says(); b = Text(before), e = Text(after), n = Letter(network),
+            tenths = Tenths(tenths), links = Number(links), of = Number(of));
+    }
+}

@@ -56,29 +56,22 @@ fn greatest_in(copies: &Series, late: &Series, bin: u64) -> u64 {
 fn level_in(link: &LinkReport, bin: u64) -> Option<u64> {
     let a = greatest_in(&link.skews.a, &link.late_skews.a, bin);
     let b = greatest_in(&link.skews.b, &link.late_skews.b, bin);
-    if a == 0 && b == 0 {
-        None
-    } else if a < b {
-        Some(LEVEL.saturating_add(b))
-    } else {
-        Some(LEVEL.saturating_sub(a))
+    match a.max(b) {
+        0 => None,
+        _ if a < b => Some(LEVEL.saturating_add(b)),
+        _ => Some(LEVEL.saturating_sub(a)),
     }
 }
 
-/// Where a link's skews stand in the first bin that has some, and in the last.
-fn ends_of(link: &LinkReport, used: u64) -> Option<(Mark, Mark)> {
-    let mut ends: Option<(Mark, Mark)> = None;
+/// Where a link's skews stand, by bin.
+fn marks_of(alloc: Global, link: &LinkReport, used: u64) -> Result<Vec<Mark>, AllocError> {
+    let mut marks = Vec::new(alloc);
     for bin in 0..used {
-        let Some(level) = level_in(link, bin) else {
-            continue;
-        };
-        let mark = Mark { bin, level };
-        ends = match ends {
-            None => Some((mark, mark)),
-            Some((first, _)) => Some((first, mark)),
-        };
+        if let Some(level) = level_in(link, bin) {
+            marks.push(Mark { bin, level })?;
+        }
     }
-    ends
+    Ok(marks)
 }
 
 /// The level of a bin on the line from one mark to another.
@@ -96,21 +89,9 @@ fn line_at(first: Mark, last: Mark, bin: u64) -> u64 {
     }
 }
 
-/// Do the skews between two marks stand on the line between them, to a quarter of what they move?
-fn is_steady(link: &LinkReport, first: Mark, last: Mark) -> bool {
-    let most = first.level.abs_diff(last.level) / 4;
-    for bin in first.bin..last.bin {
-        if let Some(level) = level_in(link, bin) {
-            if level.abs_diff(line_at(first, last, bin)) > most {
-                return false;
-            }
-        }
-    }
-    true
-}
-
-/// The rate between two marks, if the skews move steadily there.
-fn rate_of(link: &LinkReport, first: Mark, last: Mark, time: u64) -> Option<Rate> {
+/// The rate of marks that are so far apart, if all stand on the line from the first to the last, to a quarter
+/// of what they move.
+fn rate_of(marks: &[Mark], first: Mark, last: Mark, time: u64) -> Option<Rate> {
     let faster = if first.level < last.level {
         Network::B
     } else {
@@ -118,29 +99,30 @@ fn rate_of(link: &LinkReport, first: Mark, last: Mark, time: u64) -> Option<Rate
     };
     let moved = first.level.abs_diff(last.level);
     let parts = share(moved, 1_000_000_000_000, time);
-    if parts < LEAST_DRIFT || parts > MOST_DRIFT || !is_steady(link, first, last) {
-        return None;
+    let is_on = |mark: &Mark| mark.level.abs_diff(line_at(first, last, mark.bin)) <= moved / 4;
+    if (LEAST_DRIFT..=MOST_DRIFT).contains(&parts) && marks.iter().all(is_on) {
+        Some(Rate { faster, parts })
+    } else {
+        None
     }
-    Some(Rate { faster, parts })
 }
 
 /// The rates of links whose skews move steadily, and how many links could have one.
 fn rates_of(alloc: Global, report: &Report, used: u64) -> Result<(Vec<Rate>, u64), AllocError> {
     let (mut rates, mut of) = (Vec::new(alloc), 0u64);
     for link in report.links.iter().filter(|link| link.redundancy) {
-        let Some((first, last)) = ends_of(link, used) else {
-            continue;
-        };
-        let time = last
-            .bin
-            .saturating_sub(first.bin)
-            .saturating_mul(report.width);
-        if time < SECOND {
-            continue;
-        }
-        of = of.saturating_add(1);
-        if let Some(rate) = rate_of(link, first, last, time) {
-            rates.push(rate)?;
+        let marks = marks_of(alloc, link, used)?;
+        if let (Some(first), Some(last)) = (marks.first(), marks.last()) {
+            let time = last
+                .bin
+                .saturating_sub(first.bin)
+                .saturating_mul(report.width);
+            if time >= SECOND {
+                of = of.saturating_add(1);
+                if let Some(rate) = rate_of(&marks, *first, *last, time) {
+                    rates.push(rate)?;
+                }
+            }
         }
     }
     Ok((rates, of))
@@ -165,11 +147,7 @@ pub fn drift_of(alloc: Global, report: &Report) -> Result<Option<Drift>, AllocEr
     let mut found: Option<Drift> = None;
     for rate in &rates {
         let links = rates.iter().filter(|other| are_alike(rate, other)).count() as u64;
-        let most = match found {
-            Some(drift) => drift.links,
-            None => 0,
-        };
-        if links > most {
+        if links > found.map_or(0, |drift| drift.links) {
             let Rate { faster, parts } = *rate;
             found = Some(Drift {
                 faster,
@@ -179,8 +157,7 @@ pub fn drift_of(alloc: Global, report: &Report) -> Result<Option<Drift>, AllocEr
             });
         }
     }
-    let enough = |drift: &Drift| {
+    Ok(found.filter(|drift| {
         drift.links >= LEAST_LINKS && drift.of.saturating_sub(drift.links) <= drift.of / 10
-    };
-    Ok(found.filter(enough))
+    }))
 }

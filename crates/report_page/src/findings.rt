@@ -1,18 +1,45 @@
 //! What to look at first: sentences of fixed forms in a fixed order.
 
 use crate::causes::CAUSES;
-use crate::comparison::push_change;
 use crate::gaps::{
-    end_of, gap_of, is_lower_bound, is_told, missing_between, silent_on_both, stop_of,
+    end_of, gap_of, is_lower_bound, is_told, missing_between, silence_of, silent_on_both, stop_of,
 };
-use crate::head::{first_of, has_strip, links_word, pair, push_name, push_place};
-use crate::ranks::{Level, Rank, is_never_on, level_mark, open_on_both};
-use crate::tiles::{is_clean, push_ending};
-use crate::view::{NETWORKS, SENTENCES, View, counts_of, letter_of, other, sum};
-use crate::writer::{Page, Part, seconds};
-use afdx_frame::{Network, VlId};
-use ledger_report::{Interval, LinkReport, Place, Report, STOPPED_LINES, Sign, Silence};
-use report_comparison::{Count, Worse, is_new_outside};
+use crate::page::{is_clean, push_ending};
+use crate::ranks::Level::{self, Notice, Trouble};
+use crate::ranks::{Rank, is_never_on, open_on_both};
+use crate::tables::worse_word;
+use crate::view::{NETWORKS, View, counts_of, first_of, first_parts, has_strip, links_word};
+use crate::writer::Part::{Both, Duration, Grouped, Letter, Number, Text, Thousandths, Utc};
+use crate::writer::{Named, Page, flag};
+use afdx_frame::Network::{self, A, B};
+use afdx_frame::VlId;
+use ledger_report::Sign::{
+    Cut, Excess, Foreign, Late, Lost, Oversize, Repeat, Reset, Runt, TooLong,
+};
+use ledger_report::{Interval, LinkReport, Report, STOPPED_LINES, Sign};
+use report_comparison::{Count, LinkComparison, WORSE, Worse, is_new_outside};
+
+/// The most sentences.
+const SENTENCES: usize = 20;
+
+/// How many links or silences a sentence names.
+const NAMED: usize = 3;
+
+/// A template and its parts.
+type Said = (&'static str, [Named<'static>; 5]);
+
+/// What is said, as `fill!` takes it.
+macro_rules! said {
+    ($template:expr; $($name:ident $(= $part:expr)?),*) => {
+        Some(($template, five(&[$(part!($name $(= $part)?)),*])))
+    };
+}
+
+/// The first five of these parts.
+fn five(parts: &[Named<'static>]) -> [Named<'static>; 5] {
+    let at = |index: usize| parts.get(index).map_or(("", Text("")), |part| *part);
+    [at(0), at(1), at(2), at(3), at(4)]
+}
 
 /// The sentences so far.
 #[derive(Drop)]
@@ -22,8 +49,36 @@ struct Findings<'a> {
     count: usize,
 }
 
-/// How many links a sentence names.
-const NAMED: usize = 3;
+const ENDS: &str = "<b>Recording $n$ ends: ";
+
+const NO_FRAME: &str = "<b>Recording $n$ has no frame</b>; redundancy can't be judged";
+
+const SILENT: &str = "\
+<b>Network $n$ silent</b> for $time$, from $from$ s ($utc$), while $lines$ frames came on $other$";
+
+const BOTH_SILENT: &str = "\
+<b>Neither network has a frame</b> for $time$, from $from$ s ($utc$): \
+the recorders stopped, or files are missing";
+
+const MISSING: &str = "\
+$?missing$; about $missing$ numbers of the links are missing in it$/$\
+$?unknown$; of $unknown$ $links$ the rate isn't known$/$";
+
+const END: &str = "\
+<b>Network $n$ has no frame after</b> $from$ s, $time$ before the last one on $other$";
+
+/// What is said of a time on a network.
+fn time_parts(
+    view: &View<'_>,
+    network: Network,
+    time: Interval,
+    lines: u64,
+) -> [Named<'static>; 9] {
+    let (missing, unknown) = missing_between(view.report, network, time);
+    parts! { n = Letter(network), other = Letter(network.other()), time = Duration(time.time()),
+        from = view.since(time.from), utc = Utc(time.from), lines = Grouped(lines),
+        missing = Grouped(missing), unknown = Number(unknown), links = links_word(unknown) }
+}
 
 impl Findings<'_> {
     /// Begins a sentence, if there is room for one.
@@ -31,8 +86,7 @@ impl Findings<'_> {
         self.count = self.count.saturating_add(1);
         let shown = self.count <= SENTENCES;
         if shown {
-            self.page
-                .fill("<li>@<span>", &[Part::Text(level_mark(level))]);
+            fill!(self.page; "<li><svg class=\"mk $mark$</svg><span>"; mark = Text(level.mark()));
         }
         shown
     }
@@ -41,23 +95,27 @@ impl Findings<'_> {
         self.page.text("</span></li>");
     }
 
+    /// A sentence on a time in which something is wrong.
+    fn say(&mut self, template: &str, parts: &[Named<'_>]) {
+        if self.begin(Trouble) {
+            self.page.fill(template, parts);
+            self.end();
+        }
+    }
+
     /// How recordings end.
     fn endings(&mut self, view: &View<'_>) {
         for network in NETWORKS {
-            let letter = Part::Text(letter_of(network));
             let ending = view.report.endings.of(network);
-            if !is_clean(ending) && self.begin(Level::Trouble) {
-                self.page.fill("<b>Recording @ ends: ", &[letter]);
+            let parts = parts! { n = Letter(network) };
+            if !is_clean(ending) && self.begin(Trouble) {
+                self.page.fill(ENDS, &parts);
                 push_ending(self.page, ending);
                 self.page.text("</b>");
                 self.end();
             }
-            if view.report.networks.of(network).frames == 0 && self.begin(Level::Trouble) {
-                self.page.fill(
-                    "<b>Recording @ has no frame</b>; redundancy can't be judged",
-                    &[letter],
-                );
-                self.end();
+            if view.report.networks.of(network).frames == 0 {
+                self.say(NO_FRAME, &parts);
             }
         }
     }
@@ -65,506 +123,294 @@ impl Findings<'_> {
     /// What is wrong with the table or a recording.
     fn causes(&mut self, view: &View<'_>) {
         for cause in CAUSES {
-            if cause.is_shown(view) && self.begin(Level::Trouble) {
-                self.page.text("<b>");
-                cause.push_seen(self.page, view);
-                self.page.text("</b>");
-                cause.push_advice(self.page, view);
+            if cause.is_shown(view) && self.begin(Trouble) {
+                cause.push(self.page, view, "<b>", "</b>");
                 self.end();
             }
         }
     }
 
-    /// About how many numbers are missing in a time on a network.
-    fn missing(&mut self, view: &View<'_>, network: Network, interval: Interval) {
-        let (missing, unknown) = missing_between(view.report, network, interval);
-        if missing > 0 {
-            self.page.fill(
-                "; about @ numbers of the links are missing in it",
-                &[Part::Grouped(missing)],
-            );
-        }
-        if unknown > 0 {
-            let links = Part::Number(unknown);
-            self.page.fill(
-                "; of @ @ the rate isn't known",
-                &[links, links_word(unknown)],
-            );
-        }
-    }
-
-    fn silence(&mut self, view: &View<'_>, network: Network, silence: &Silence) {
-        self.page.fill(
-            "<b>Network @ silent</b> for @, from @ s (@), while @ frames came on @",
-            &[
-                Part::Text(letter_of(network)),
-                Part::Duration(silence.to.saturating_sub(silence.from)),
-                seconds(view.since(silence.from)),
-                Part::Utc(silence.from),
-                Part::Grouped(silence.lines),
-                Part::Text(letter_of(other(network))),
-            ],
-        );
-        let (from, to) = (silence.from, silence.to);
-        self.missing(view, network, Interval { from, to });
-    }
-
-    /// A time in which neither network has a frame.
-    fn silence_of_both(&mut self, view: &View<'_>, both: Interval) {
-        if !self.begin(Level::Trouble) {
-            return;
-        }
-        self.page.fill(
-            "<b>Neither network has a frame</b> for @, from @ s (@): \
-             the recorders stopped, or files are missing",
-            &[
-                Part::Duration(both.time()),
-                seconds(view.since(both.from)),
-                Part::Utc(both.from),
-            ],
-        );
-        self.missing(view, Network::A, both);
-        self.end();
-    }
-
-    /// The first silences of each network.
-    fn silences(&mut self, view: &View<'_>) {
-        for network in NETWORKS {
-            let side = view.report.networks.of(network);
-            let told = side
-                .silences
-                .iter()
-                .filter(|silence| is_told(side, silence));
-            for silence in told.take(NAMED) {
-                match silent_on_both(view.report, network, silence) {
-                    Some(both) => {
-                        if network == Network::A {
-                            self.silence_of_both(view, both);
-                        }
-                    }
-                    None => {
-                        if self.begin(Level::Trouble) {
-                            self.silence(view, network, silence);
-                            self.end();
-                        }
-                    }
-                }
-            }
-        }
-    }
-
-    /// Networks that end before the ledger.
-    fn ends(&mut self, view: &View<'_>) {
-        for network in NETWORKS {
-            let Some(end) = end_of(view.report, network) else {
-                continue;
-            };
-            if self.begin(Level::Trouble) {
-                let (letter, others) = (letter_of(network), letter_of(other(network)));
-                self.page.fill(
-                    "<b>Network @ has no frame after</b> @ s, @ before the last one on @",
-                    &[
-                        Part::Text(letter),
-                        seconds(view.since(end.from)),
-                        Part::Duration(end.time()),
-                        Part::Text(others),
-                    ],
-                );
+    /// The first silences of a network.
+    fn silences(&mut self, view: &View<'_>, network: Network) {
+        let side = view.report.networks.of(network);
+        let told = side.silences.iter().filter(|one| is_told(side, one));
+        for silence in told.take(NAMED) {
+            let both = silent_on_both(view.report, network, silence);
+            let template = if both.is_some() { BOTH_SILENT } else { SILENT };
+            let time = both.unwrap_or(silence_of(silence));
+            if (both.is_none() || network == A) && self.begin(Trouble) {
+                let parts = time_parts(view, network, time, silence.lines);
+                self.page.fill(template, &parts);
+                self.page.fill(MISSING, &parts);
                 self.end();
             }
+        }
+    }
+
+    /// A network that ends before the ledger.
+    fn end_of(&mut self, view: &View<'_>, network: Network) {
+        if let Some(end) = end_of(view.report, network) {
+            self.say(END, &time_parts(view, network, end, 0));
         }
     }
 
     /// A sentence that names the first links for which a test holds, worst first.
-    fn links(&mut self, view: &View<'_>, level: Level, about: &str, which: Which) {
+    fn links(&mut self, view: &View<'_>, which: Which, title: &str, word: &str) {
         let mut named = 0usize;
         for (at, rank) in view.ranks.iter().enumerate() {
             let Some((report, link)) = view.link(rank.index) else {
                 continue;
             };
-            if !which.holds(view, report, rank) {
+            let Some(said) = which.said(view, report, rank) else {
                 continue;
-            }
-            if named == 0 && !self.begin(level) {
+            };
+            if named == 0 && !self.begin(which.level()) {
                 return;
             }
             if named < NAMED {
-                self.before_name(about, named);
-                push_name(self.page, link, has_strip(view, rank, at));
-                which.push_about(self.page, view, report, rank);
-            }
-            named = named.saturating_add(1);
-        }
-        if named > NAMED {
-            let more = Part::Number(named.saturating_sub(NAMED) as u64);
-            self.page.fill("; and @ more", &[more]);
-        }
-        if named > 0 {
-            self.end();
-        }
-    }
-
-    /// What stands before the name of a sentence's first link, and of the others.
-    fn before_name(&mut self, about: &str, named: usize) {
-        if named == 0 {
-            self.page.fill("<b>@:</b> ", &[Part::Text(about)]);
-        } else {
-            self.page.text("; ");
-        }
-    }
-
-    /// What got worse since the baseline, if there is one.
-    fn worse(&mut self, view: &View<'_>) {
-        if let Some(baseline) = view.baseline {
-            for (level, about, which) in SENTENCES_ON_WORSE {
-                self.links(view, level, about, which);
-            }
-            self.new_outside(view, baseline);
-        }
-    }
-
-    /// Links outside the table that the baseline doesn't have.
-    fn new_outside(&mut self, view: &View<'_>, baseline: &Report) {
-        let mut named = 0usize;
-        for id in 0..=u16::MAX {
-            if !is_new_outside(view.report, baseline, VlId(id)) {
-                continue;
-            }
-            if named == 0 {
-                if !self.begin(Level::Notice) {
-                    return;
-                }
-                self.page
-                    .text("<b>New since the baseline, outside the table:</b> ");
-            }
-            if named < NAMED {
-                self.page.fill("link @; ", &[Part::Number(u64::from(id))]);
+                let strip = has_strip(rank, at);
+                fill!(self.page; if named == 0 { title } else { "; " }; word = Text(word));
+                fill!(self.page; NAME; strip = flag(strip), plain = flag(!strip), name = Text(&link.name),
+                    id = Number(u64::from(link.id.0)));
+                let parts = said.1;
+                self.page.fill(said.0, &parts);
             }
             named = named.saturating_add(1);
         }
         if named > 0 {
-            self.page.fill("@ in all", &[Part::Number(named as u64)]);
+            let more = named.saturating_sub(NAMED) as u64;
+            fill!(self.page; "$?more$; and $more$ more$/$"; more = Number(more));
             self.end();
         }
     }
 
-    /// Links outside the table.
-    fn outside(&mut self, view: &View<'_>) {
+    /// Links outside the table, where there is a baseline those that it doesn't have.
+    fn outside(&mut self, view: &View<'_>, baseline: Option<&Report>, template: &str) {
         let mut named = 0usize;
         for id in 0..=u16::MAX {
-            let Some(link) = view.report.outside_link(VlId(id)) else {
-                continue;
+            let is_outside = match baseline {
+                Some(baseline) => is_new_outside(view.report, baseline, VlId(id)),
+                None => view.report.outside_link(VlId(id)).is_some(),
             };
-            if named == 0 {
-                if !self.begin(Level::Notice) {
+            if is_outside {
+                if named == 0 && !self.begin(Notice) {
                     return;
                 }
-                self.page.text("<b>Outside the table (unconfigured):</b> ");
+                self.outside_link(view, VlId(id), named, template);
+                named = named.saturating_add(1);
             }
-            if named < NAMED {
-                let (id, frames) = (Part::Number(u64::from(id)), Part::Grouped(link.frames));
-                self.page
-                    .fill("<b>link @</b>, @ frames from ", &[id, frames]);
-                push_place(self.page, view, link.network, link.first);
-                self.page.text("; ");
-            }
-            named = named.saturating_add(1);
         }
         if named > 0 {
-            self.page.fill("@ in all", &[Part::Number(named as u64)]);
+            fill!(self.page; "$all$ in all"; all = Number(named as u64));
             self.end();
+        }
+    }
+
+    /// A link outside the table, if it is among the first.
+    fn outside_link(&mut self, view: &View<'_>, id: VlId, before: usize, template: &str) {
+        if let Some(link) = view.report.outside_link(id) {
+            let [n, at, number] = first_parts(view, Some((link.network, link.first)));
+            fill!(self.page; if before < NAMED { template } else { "" }; first = flag(before == 0),
+                id = Number(u64::from(id.0)), frames = Grouped(link.frames), n, at, number);
         }
     }
 
     /// A class that has no link.
     fn class(&mut self, view: &View<'_>, sign: Sign, about: &str) {
         let counts = view.total(sign);
-        if sum(&counts) == 0 || !self.begin(Level::Notice) {
+        if counts.sum() == 0 || !self.begin(Notice) {
             return;
         }
-        self.page
-            .fill("<b>@:</b> @", &[Part::Text(about), pair(&counts)]);
-        let a = view.report.networks.a.signs.of(sign).first;
-        let b = view.report.networks.b.signs.of(sign).first;
-        let first = match (a, b) {
-            (Some(a), _) => Some((Network::A, a)),
-            (None, Some(b)) => Some((Network::B, b)),
-            (None, None) => None,
+        let (a, b) = (&view.report.networks.a.signs, &view.report.networks.b.signs);
+        let first = match (a.of(sign).first, b.of(sign).first) {
+            (Some(place), _) => Some((A, place)),
+            (None, place) => place.map(|place| (B, place)),
         };
-        push_at(self.page, view, ", first at ", first);
+        let [n, at, number] = first_parts(view, first);
+        fill!(self.page; "<b>$about$:</b> $counts$$?n$, first at $at$ s ($n$ #$number$)$/$";
+            about = Text(about), counts = Both(counts), n, at, number);
         self.end();
     }
 }
 
-/// Appends where something was first seen, after these words, if it was seen.
-fn push_at(page: &mut Page, view: &View<'_>, words: &str, first: Option<(Network, Place)>) {
-    if let Some((network, place)) = first {
-        page.text(words);
-        push_place(page, view, network, place);
-    }
-}
+/// A link's name, which leads to its strip where it has one.
+const NAME: &str = "$?strip$<a href=\"#v$id$\">$name$</a>$/$$?plain$<b>$name$</b>$/$";
+
+const NEW_OUTSIDE: &str = "\
+$?first$<b>New since the baseline, outside the table:</b> $/$link $id$; ";
+
+const OUTSIDE: &str = "\
+$?first$<b>Outside the table (unconfigured):</b> $/$\
+<b>link $id$</b>, $frames$ frames from $at$ s ($n$ #$number$); ";
 
 /// Which links a sentence names.
 #[derive(Clone, Copy)]
 enum Which {
     NeverOn(Network),
     StoppedOn(Network),
-    Has(Sign),
-    LostOnBoth,
-    Silent,
-    Gap,
     Ends,
+    Gap,
+    LostOnBoth,
+    Has(Sign),
+    Silent,
     Worse(Worse),
 }
 
-/// Appends a time of a link without a delivery, beside what is usual.
-fn push_gap(page: &mut Page, view: &View<'_>, report: &LinkReport, gap: Interval) {
-    page.fill(
-        " for @ from @ s (usual @, BAG @)",
-        &[
-            Part::Duration(gap.time()),
-            seconds(view.since(gap.from)),
-            Part::Duration(report.gaps.usual),
-            Part::Duration(report.bag),
-        ],
-    );
-}
-
-/// Appends counts of a link's sign, and that they are a lower bound where they are.
-fn push_signs(page: &mut Page, report: &LinkReport, sign: Sign) {
-    let bound = matches!(sign, Sign::Lost)
-        && (is_lower_bound(report, Network::A) || is_lower_bound(report, Network::B));
-    if bound {
-        page.text(" at least");
-    }
-    page.fill(" @", &[pair(&counts_of(report, sign))]);
-}
-
-/// Appends how many of a link's lost numbers may be frames cut short, if some may.
-fn push_open(page: &mut Page, open: u64) {
-    if open > 0 {
-        let open = Part::Grouped(open);
-        page.fill(" (up to @ may be frames cut short)", &[open]);
-    }
-}
-
-impl Which {
-    fn holds(self, view: &View<'_>, report: &LinkReport, rank: &Rank) -> bool {
-        match self {
-            Which::NeverOn(network) => is_never_on(view.report, report, network),
-            Which::StoppedOn(network) => match report.stopped {
-                Some((from, absence)) => {
-                    from == network
-                        && absence.lines >= STOPPED_LINES
-                        && report.lanes.of(network).frames > 0
-                }
-                None => false,
-            },
-            Which::Has(sign) => sum(&counts_of(report, sign)) > 0,
-            Which::LostOnBoth => report.lost_both > 0,
-            Which::Silent => rank.level == Level::Silent,
-            Which::Gap => gap_of(report).is_some(),
-            Which::Ends => stop_of(view.report, report).is_some(),
-            Which::Worse(how) => match view.compared(rank.index) {
-                Some(link) => link.is_worse(how),
-                None => false,
-            },
-        }
-    }
-
-    /// Appends what is said of a link beside its name.
-    fn push_about(self, page: &mut Page, view: &View<'_>, report: &LinkReport, rank: &Rank) {
-        match self {
-            Which::NeverOn(network) => {
-                let frames = Part::Grouped(report.lanes.of(other(network)).frames);
-                let letter = Part::Text(letter_of(other(network)));
-                page.fill(" (@ frames on @)", &[frames, letter]);
-            }
-            Which::StoppedOn(network) => {
-                let last = seconds(view.since(report.lanes.of(network).last));
-                page.fill(" at @ s", &[last]);
-            }
-            Which::Has(sign) => {
-                push_signs(page, report, sign);
-                push_at(page, view, " from ", first_of(report, sign));
-            }
-            Which::LostOnBoth => {
-                page.fill(" @", &[Part::Grouped(report.lost_both)]);
-                push_open(page, open_on_both(view.report, report));
-                push_at(page, view, " from ", report.first_lost_both);
-            }
-            Which::Silent => {}
-            Which::Gap => {
-                if let Some(gap) = gap_of(report) {
-                    push_gap(page, view, report, gap);
-                }
-            }
-            Which::Ends => {
-                if let Some(stop) = stop_of(view.report, report) {
-                    push_gap(page, view, report, stop);
-                }
-            }
-            Which::Worse(how) => {
-                if let Some(link) = view.compared(rank.index) {
-                    push_change(page, &link, how);
-                }
-            }
-        }
-    }
-}
-
 /// The sentences on links, in their order.
-const SENTENCES_ON_LINKS: [(Level, &str, Which); 14] = [
+const ON_LINKS: [(Which, &str); 14] = [
+    (Which::NeverOn(A), "<b>Never seen on A:</b> "),
+    (Which::NeverOn(B), "<b>Never seen on B:</b> "),
+    (Which::StoppedOn(A), "<b>Stops on A, goes on on B:</b> "),
+    (Which::StoppedOn(B), "<b>Stops on B, goes on on A:</b> "),
+    (Which::Ends, "<b>Not delivered to the end (gap):</b> "),
+    (Which::Gap, "<b>Not delivered (gap):</b> "),
     (
-        Level::Trouble,
-        "Never seen on A",
-        Which::NeverOn(Network::A),
-    ),
-    (
-        Level::Trouble,
-        "Never seen on B",
-        Which::NeverOn(Network::B),
-    ),
-    (
-        Level::Trouble,
-        "Stops on A, goes on on B",
-        Which::StoppedOn(Network::A),
-    ),
-    (
-        Level::Trouble,
-        "Stops on B, goes on on A",
-        Which::StoppedOn(Network::B),
-    ),
-    (
-        Level::Trouble,
-        "Not delivered to the end (gap)",
-        Which::Ends,
-    ),
-    (Level::Trouble, "Not delivered (gap)", Which::Gap),
-    (
-        Level::Trouble,
-        "Missing on both networks (lost)",
         Which::LostOnBoth,
+        "<b>Missing on both networks (lost):</b> ",
     ),
-    (
-        Level::Trouble,
-        "Above its allocation (excess)",
-        Which::Has(Sign::Excess),
-    ),
-    (
-        Level::Trouble,
-        "Longer than Smax (toolong)",
-        Which::Has(Sign::TooLong),
-    ),
-    (
-        Level::Trouble,
-        "Second copy beyond SkewMax, delivered twice (late)",
-        Which::Has(Sign::Late),
-    ),
-    (
-        Level::Trouble,
-        "Numbers missing (lost)",
-        Which::Has(Sign::Lost),
-    ),
-    (
-        Level::Trouble,
-        "Same number again on one network (repeat)",
-        Which::Has(Sign::Repeat),
-    ),
-    (
-        Level::Notice,
-        "Sender reset to 0 (reset)",
-        Which::Has(Sign::Reset),
-    ),
-    (Level::Silent, "In the table, never seen", Which::Silent),
+    (Which::Has(Excess), "<b>Above its allocation (excess):</b> "),
+    (Which::Has(TooLong), "<b>Longer than Smax (toolong):</b> "),
+    (Which::Has(Late), BEYOND_SKEW_MAX),
+    (Which::Has(Lost), "<b>Numbers missing (lost):</b> "),
+    (Which::Has(Repeat), AGAIN),
+    (Which::Has(Reset), "<b>Sender reset to 0 (reset):</b> "),
+    (Which::Silent, "<b>In the table, never seen:</b> "),
 ];
 
-/// The sentences on links that got worse since the baseline, in their order.
-const SENTENCES_ON_WORSE: [(Level, &str, Which); 12] = [
-    (
-        Level::Trouble,
-        "Lost its copies since the baseline",
-        Which::Worse(Worse::LostCopies),
-    ),
-    (
-        Level::Notice,
-        "New since the baseline",
-        Which::Worse(Worse::New),
-    ),
-    (
-        Level::Trouble,
-        "Silent since the baseline",
-        Which::Worse(Worse::Silent),
-    ),
-    (
-        Level::Trouble,
-        "More missing on both networks (lost) than in the baseline",
-        Which::Worse(Worse::Grew(Count::LostBoth)),
-    ),
-    (
-        Level::Trouble,
-        "More excess than in the baseline",
-        Which::Worse(Worse::Grew(Count::Excess)),
-    ),
-    (
-        Level::Trouble,
-        "More toolong than in the baseline",
-        Which::Worse(Worse::Grew(Count::TooLong)),
-    ),
-    (
-        Level::Trouble,
-        "More late than in the baseline",
-        Which::Worse(Worse::Grew(Count::Late)),
-    ),
-    (
-        Level::Trouble,
-        "More lost than in the baseline",
-        Which::Worse(Worse::Grew(Count::Lost)),
-    ),
-    (
-        Level::Trouble,
-        "More out than in the baseline",
-        Which::Worse(Worse::Grew(Count::Out)),
-    ),
-    (
-        Level::Trouble,
-        "More alone than in the baseline",
-        Which::Worse(Worse::Grew(Count::Alone)),
-    ),
-    (
-        Level::Trouble,
-        "More repeat than in the baseline",
-        Which::Worse(Worse::Grew(Count::Repeat)),
-    ),
-    (
-        Level::Notice,
-        "More reset than in the baseline",
-        Which::Worse(Worse::Grew(Count::Reset)),
-    ),
-];
+const BEYOND_SKEW_MAX: &str = "<b>Second copy beyond SkewMax, delivered twice (late):</b> ";
+
+const AGAIN: &str = "<b>Same number again on one network (repeat):</b> ";
+
+/// What begins the sentence on links that got worse so.
+fn title_of(how: Worse) -> &'static str {
+    match how {
+        Worse::LostCopies => "<b>Lost its copies since the baseline:</b> ",
+        Worse::New => "<b>New since the baseline:</b> ",
+        Worse::Silent => "<b>Silent since the baseline:</b> ",
+        Worse::Grew(Count::LostBoth) =>
+            "<b>More missing on both networks (lost) than in the baseline:</b> ",
+        Worse::Grew(_) => "<b>More $word$ than in the baseline:</b> ",
+    }
+}
 
 /// The sentences on classes that have no link, in their order.
-const SENTENCES_ON_CLASSES: [(Sign, &str); 4] = [
-    (Sign::Foreign, "Foreign (another constant field)"),
-    (Sign::Oversize, "Oversize (above 1514 bytes)"),
-    (Sign::Runt, "Runt (below 60 bytes)"),
-    (Sign::Cut, "Cut (short by the recorder)"),
+const ON_CLASSES: [(Sign, &str); 4] = [
+    (Foreign, "Foreign (another constant field)"),
+    (Oversize, "Oversize (above 1514 bytes)"),
+    (Runt, "Runt (below 60 bytes)"),
+    (Cut, "Cut (short by the recorder)"),
 ];
 
-/// Appends the sentences, and says how many there are.
-pub fn push_findings(page: &mut Page, view: &View<'_>) -> usize {
+const LOST_ON_BOTH: &str = " \
+$lost$$?open$ (up to $open$ may be frames cut short)$/$$?n$ from $at$ s ($n$ #$number$)$/$";
+
+const SIGNS: &str = "$?bound$ at least$/$ $counts$$?n$ from $at$ s ($n$ #$number$)$/$";
+
+const GREW: &str = " $now$ ($share$ in 1000 frames; in the baseline $then$, $past$ in 1000)";
+
+impl Which {
+    fn level(self) -> Level {
+        match self {
+            Which::Silent => Level::Silent,
+            Which::Has(Reset) | Which::Worse(Worse::New | Worse::Grew(Count::Reset)) => Notice,
+            _ => Trouble,
+        }
+    }
+
+    /// What is said of a link beside its name; nothing where it isn't so.
+    fn said(self, view: &View<'_>, link: &LinkReport, rank: &Rank) -> Option<Said> {
+        match self {
+            Which::NeverOn(network) if is_never_on(view.report, link, network) => {
+                let twin = network.other();
+                said!(" ($frames$ frames on $n$)"; frames = Grouped(link.lanes.of(twin).frames),
+                    n = Letter(twin))
+            }
+            Which::StoppedOn(network) if has_stopped(link, network) => {
+                said!(" at $last$ s"; last = view.since(link.lanes.of(network).last))
+            }
+            Which::Ends => said_gap(view, link, stop_of(view.report, link)?),
+            Which::Gap => said_gap(view, link, gap_of(link)?),
+            Which::LostOnBoth if link.lost_both > 0 => {
+                let open = open_on_both(view.report, link);
+                let [n, at, number] = first_parts(view, link.first_lost_both);
+                said!(LOST_ON_BOTH; lost = Grouped(link.lost_both), open = Grouped(open), n, at, number)
+            }
+            Which::Has(sign) if counts_of(link, sign).sum() > 0 => {
+                let bound = sign == Lost && (is_lower_bound(link, A) || is_lower_bound(link, B));
+                let [n, at, number] = first_parts(view, first_of(link, sign));
+                said!(SIGNS; bound = flag(bound), counts = Both(counts_of(link, sign)), n, at, number)
+            }
+            Which::Silent if rank.level == Level::Silent => said!("";),
+            Which::Worse(how) => said_worse(&view.compared(rank.index)?, how),
+            _ => None,
+        }
+    }
+}
+
+/// Did it stop on a network while it went on on the other?
+fn has_stopped(link: &LinkReport, network: Network) -> bool {
+    let stopped = match link.stopped {
+        Some((from, absence)) => from == network && absence.lines >= STOPPED_LINES,
+        None => false,
+    };
+    stopped && link.lanes.of(network).frames > 0
+}
+
+/// A time of a link without a delivery, beside what is usual.
+fn said_gap(view: &View<'_>, link: &LinkReport, gap: Interval) -> Option<Said> {
+    said!(" for $time$ from $from$ s (usual $usual$, BAG $bag$)"; time = Duration(gap.time()),
+        from = view.since(gap.from), usual = Duration(link.gaps.usual), bag = Duration(link.bag))
+}
+
+/// How a link got worse, if it did so.
+fn said_worse(link: &LinkComparison, how: Worse) -> Option<Said> {
+    match (how, link.today, link.baseline) {
+        _ if !link.is_worse(how) => None,
+        (Worse::LostCopies, _, Some(before)) => {
+            said!(" ($copies$ copies in the baseline)"; copies = Grouped(before.copies))
+        }
+        (Worse::New, Some(today), _) => said!(" ($frames$ frames)"; frames = Grouped(today.frames)),
+        (Worse::Silent, _, Some(before)) => {
+            said!(" ($frames$ frames in the baseline)"; frames = Grouped(before.frames))
+        }
+        (Worse::Grew(count), Some(today), Some(before)) => {
+            let (share, past) = (
+                today.share(count).unwrap_or(0),
+                before.share(count).unwrap_or(0),
+            );
+            said!(GREW; now = Grouped(today.count(count)), share = Thousandths(share),
+                then = Grouped(before.count(count)), past = Thousandths(past))
+        }
+        _ => said!("";),
+    }
+}
+
+/// Appends the sentences.
+pub fn push_findings(page: &mut Page, view: &View<'_>) {
     let mut found = Findings { page, count: 0 };
-    found.worse(view);
+    if view.baseline.is_some() {
+        for how in WORSE {
+            found.links(view, Which::Worse(how), title_of(how), worse_word(how));
+        }
+        found.outside(view, view.baseline, NEW_OUTSIDE);
+    }
     found.endings(view);
     found.causes(view);
-    found.silences(view);
-    found.ends(view);
-    for (level, about, which) in SENTENCES_ON_LINKS {
-        found.links(view, level, about, which);
+    found.silences(view, A);
+    found.silences(view, B);
+    found.end_of(view, A);
+    found.end_of(view, B);
+    for (which, title) in ON_LINKS {
+        found.links(view, which, title, "");
     }
-    found.outside(view);
-    for (sign, about) in SENTENCES_ON_CLASSES {
+    found.outside(view, None, OUTSIDE);
+    for (sign, about) in ON_CLASSES {
         found.class(view, sign, about);
     }
-    found.count
+    let (none, more) = (
+        found.count == 0,
+        found.count.saturating_sub(SENTENCES) as u64,
+    );
+    fill!(page; "</ol>$?none$<p class=\"none\">nothing</p>$/$$?more$<p class=\"none\">$more$ more</p>$/$";
+        none = flag(none), more = Number(more));
 }

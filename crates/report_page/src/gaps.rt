@@ -1,7 +1,7 @@
 //! Links that aren't delivered for long, networks that are silent, and what falls into silences.
 
 use crate::numbers::rounded;
-use crate::view::{NETWORKS, other};
+use crate::view::NETWORKS;
 use afdx_frame::Network;
 use ledger_report::{
     Interval, LONG_TIME, LONG_TIMES, Lane, LinkReport, NetworkReport, Report, SILENT_LINES,
@@ -23,42 +23,45 @@ const REGULAR: u64 = 2;
 /// A network pauses as a habit where it is silent for long more often.
 const MOST_PAUSES: usize = 8;
 
+/// A time.
+pub fn between(from: u64, to: u64) -> Interval {
+    Interval { from, to }
+}
+
+/// The times in which a network is silent.
+pub fn silence_of(silence: &Silence) -> Interval {
+    between(silence.from, silence.to)
+}
+
 /// The longest time between deliveries of a link that may be usual, where that is known.
 fn most_usual(link: &LinkReport) -> Option<u64> {
     let gaps = &link.gaps;
     if gaps.count < KNOWN_TIMES || gaps.fourth >= NOT_APART {
         return None;
     }
-    let times = if gaps.fourth > gaps.usual.saturating_mul(HABIT) {
-        LONGER_BY_HABIT
-    } else {
-        LONGER
-    };
+    let habit = gaps.fourth > gaps.usual.saturating_mul(HABIT);
+    let times = if habit { LONGER_BY_HABIT } else { LONGER };
     Some(gaps.fourth.max(link.bag).saturating_mul(times))
 }
 
 /// The interval, if it is longer than what may be usual of the link.
 fn unusual(link: &LinkReport, interval: Interval) -> Option<Interval> {
-    match most_usual(link) {
-        Some(most) if interval.time() > most => Some(interval),
-        _ => None,
+    if interval.time() > most_usual(link)? {
+        Some(interval)
+    } else {
+        None
     }
 }
 
 /// The longest time between two deliveries of a link, where it is longer than what may be usual.
 pub fn gap_of(link: &LinkReport) -> Option<Interval> {
-    match link.gaps.longest {
-        Some(interval) => unusual(link, interval),
-        None => None,
-    }
+    unusual(link, link.gaps.longest?)
 }
 
 /// The time from a link's last delivery to the last line of the networks that it was on, where it is longer
 /// than what may be usual.
 pub fn stop_of(report: &Report, link: &LinkReport) -> Option<Interval> {
-    let Some(from) = link.gaps.last else {
-        return None;
-    };
+    let from = link.gaps.last?;
     let mut to = 0u64;
     for network in NETWORKS {
         if link.lanes.of(network).frames > 0 {
@@ -71,10 +74,7 @@ pub fn stop_of(report: &Report, link: &LinkReport) -> Option<Interval> {
 /// The time from a network's last line to the ledger's, where it is as long as a silence by its length.
 pub fn end_of(report: &Report, network: Network) -> Option<Interval> {
     let side = report.networks.of(network);
-    let interval = Interval {
-        from: side.last,
-        to: report.end,
-    };
+    let interval = between(side.last, report.end);
     let time = interval.time();
     let long = time >= LONG_TIME && time >= side.usual.saturating_mul(LONG_TIMES);
     if side.frames >= SILENT_LINES && long {
@@ -90,12 +90,9 @@ fn is_pause(silence: &Silence) -> bool {
 }
 
 /// Is it silent by its length so often that this is a habit of it?
-pub fn pauses_often(side: &NetworkReport) -> bool {
-    side.silences
-        .iter()
-        .filter(|silence| is_pause(silence))
-        .count()
-        > MOST_PAUSES
+fn pauses_often(side: &NetworkReport) -> bool {
+    let pauses = side.silences.iter().filter(|one| is_pause(one));
+    pauses.count() > MOST_PAUSES
 }
 
 /// Is this silence told?
@@ -105,11 +102,8 @@ pub fn is_told(side: &NetworkReport, silence: &Silence) -> bool {
 
 /// The part of a network's silence in which the other network is silent too, where that is a second or more.
 pub fn silent_on_both(report: &Report, network: Network, silence: &Silence) -> Option<Interval> {
-    for held in report.networks.of(other(network)).silences.iter() {
-        let both = Interval {
-            from: held.from.max(silence.from),
-            to: held.to.min(silence.to),
-        };
+    for held in report.networks.of(network.other()).silences.iter() {
+        let both = between(held.from.max(silence.from), held.to.min(silence.to));
         if both.time() >= LONG_TIME {
             return Some(both);
         }
@@ -118,18 +112,14 @@ pub fn silent_on_both(report: &Report, network: Network, silence: &Silence) -> O
 }
 
 /// Is the link's rate known, so that a time tells how many of its frames fall into it?
-pub fn has_rate(link: &LinkReport) -> bool {
+fn has_rate(link: &LinkReport) -> bool {
     let gaps = &link.gaps;
     gaps.count >= KNOWN_TIMES && gaps.fourth <= gaps.usual.saturating_mul(REGULAR)
 }
 
 /// How long a lane was recorded in this time, from its first line to its last.
 fn within(lane: &Lane, interval: Interval) -> u64 {
-    let within = Interval {
-        from: interval.from.max(lane.first),
-        to: interval.to.min(lane.last),
-    };
-    within.time()
+    between(interval.from.max(lane.first), interval.to.min(lane.last)).time()
 }
 
 /// About how many frames of a lane fall into a time, by the mean of its intervals.
@@ -166,11 +156,7 @@ pub fn missing_in_silences(report: &Report, link: &LinkReport, network: Network)
     let lane = link.lanes.of(network);
     let mut time = 0u64;
     for silence in report.networks.of(network).silences.iter() {
-        let interval = Interval {
-            from: silence.from,
-            to: silence.to,
-        };
-        time = time.saturating_add(within(lane, interval));
+        time = time.saturating_add(within(lane, silence_of(silence)));
     }
     if time == 0 || lane.frames == 0 || !link.integrity {
         Some(0)

@@ -1,560 +1,374 @@
 //! The report as JSON.
 
-mod baseline;
-
-use self::baseline::{JsonBaseline, baseline_if};
-use crate::drift::drift_of;
+use self::Value::{Flag, Known, Null, Number, Quoted, Stamp, Stamped};
 use crate::gaps::{gap_of, missing_in_silences, stop_of};
-use crate::ranks::{level_of, level_word, open_signs, signs_of};
-use crate::view::{letter_of, text, word_of};
+use crate::page::end_word;
+use crate::ranks::{level_of, open_signs, signs_of};
+use crate::tables::{count_word, worse_word};
+use crate::view::{NETWORKS, SIGNS, View};
+use crate::writer::{Page, Part};
 use afdx_frame::{Network, VlId};
 use ledger_report::{
-    Absence, Counts, Gaps, Interval, LinkReport, NetworkReport, Place, Report, Series, Sign, Signs,
-    Silence, TapEnd, TapEnding,
+    Interval, LinkCounts, LinkReport, NetworkReport, Place, Report, Series, Signs, Totals,
 };
+use report_comparison::{COUNTS, LinkComparison, LinkNumbers, WORSE, is_new_outside};
 use run_manifest::Manifest;
-use serde::Serialize;
 use serde_json::Error;
-use std::alloc::{AllocError, Global};
-use std::fmt::Write;
+use std::alloc::Global;
 use vl_config::{Config, Link};
-
-/// A timestamp as a decimal string: it may need more than 53 bits.
-#[derive(Drop, Serialize)]
-struct JsonPlace {
-    stamp: String,
-    number: u32,
-}
-
-#[derive(Drop, Serialize)]
-struct JsonSign {
-    sign: &'static str,
-    count: u64,
-    first: Option<JsonPlace>,
-    last: Option<JsonPlace>,
-}
-
-#[derive(Drop, Serialize)]
-struct JsonAbsence {
-    lines: u64,
-    from: String,
-    to: String,
-}
-
-#[derive(Drop, Serialize)]
-struct JsonInterval {
-    from: String,
-    to: String,
-}
-
-/// The times between deliveries of a link.
-#[derive(Drop, Serialize)]
-struct JsonGaps {
-    last: Option<String>,
-    count: u64,
-    longest: Option<JsonInterval>,
-    usual: u64,
-    fourth: u64,
-}
-
-#[derive(Drop, Serialize)]
-struct JsonLane {
-    frames: u64,
-    bytes: Option<u64>,
-    least: Option<u64>,
-    greatest: Option<u64>,
-    interval_sum: u64,
-    intervals: u64,
-    excess_lead: u64,
-    lost_after_silence: u64,
-    missing_in_silences: Option<u64>,
-    out_after_silence: u64,
-    uncovered: u64,
-    absence: Option<JsonAbsence>,
-    signs: Vec<JsonSign>,
-}
-
-#[derive(Drop, Serialize)]
-struct JsonFates {
-    paired: u64,
-    late: u64,
-    first: u64,
-    met: u64,
-    uncovered: u64,
-    alone: u64,
-}
-
-#[derive(Drop, Serialize)]
-struct JsonCounts {
-    frames: u64,
-    accepted: u64,
-    cut: u64,
-    runt: u64,
-    oversize: u64,
-    foreign: u64,
-    unconfigured: u64,
-    toolong: u64,
-    excess: u64,
-    out: u64,
-    copy: u64,
-    delivered: u64,
-}
-
-#[derive(Drop, Serialize)]
-struct JsonLink<'a> {
-    id: u16,
-    name: &'a str,
-    level: &'static str,
-    signs: u64,
-    open: u64,
-    counts: JsonCounts,
-    deliveries: u64,
-    fates: JsonFates,
-    copies: u64,
-    skew_sum: u64,
-    skew_greatest: u64,
-    skew_median: u64,
-    late_greatest: u64,
-    lost_both: u64,
-    gaps: JsonGaps,
-    gap: Option<JsonInterval>,
-    stop: Option<JsonInterval>,
-    a: JsonLane,
-    b: JsonLane,
-}
-
-#[derive(Drop, Serialize)]
-struct JsonSilence {
-    after: u64,
-    from: String,
-    to: String,
-    lines: u64,
-}
-
-/// A row of a network's timeline: a number for each bin.
-#[derive(Drop, Serialize)]
-struct JsonRow {
-    row: &'static str,
-    bins: Vec<u64>,
-}
-
-#[derive(Drop, Serialize)]
-struct JsonEnding<'a> {
-    end: &'static str,
-    frames: u64,
-    reason: &'a str,
-}
-
-#[derive(Drop, Serialize)]
-struct JsonNetwork<'a> {
-    frames: u64,
-    first: Option<String>,
-    last: Option<String>,
-    bytes: Option<u64>,
-    counts: JsonCounts,
-    silences: Vec<JsonSilence>,
-    more_silences: u64,
-    usual: u64,
-    ending: Option<JsonEnding<'a>>,
-    signs: Vec<JsonSign>,
-    timeline: Vec<JsonRow>,
-}
-
-#[derive(Drop, Serialize)]
-struct JsonOutside {
-    id: u16,
-    frames: u64,
-    network: &'static str,
-    first: JsonPlace,
-}
-
-#[derive(Drop, Serialize)]
-struct JsonStopped {
-    lines: u64,
-    within_line: bool,
-}
-
-fn stopped_of(report: &Report) -> Option<JsonStopped> {
-    let stop = report.stop?;
-    Some(JsonStopped {
-        lines: stop.lines,
-        within_line: stop.within_line,
-    })
-}
-
-/// How fast the clock of one tap moves away from the other's, in parts in 10^9, and how many links say so.
-#[derive(Drop, Serialize)]
-struct JsonDrift {
-    faster: &'static str,
-    ppb: u64,
-    links: u64,
-    of: u64,
-}
-
-fn drifted_of(alloc: Global, report: &Report) -> Result<Option<JsonDrift>, AllocError> {
-    let Some(drift) = drift_of(alloc, report)? else {
-        return Ok(None);
-    };
-    Ok(Some(JsonDrift {
-        faster: letter_of(drift.faster),
-        ppb: drift.parts / 1000,
-        links: drift.links,
-        of: drift.of,
-    }))
-}
-
-#[derive(Drop, Serialize)]
-struct JsonReport<'a> {
-    version: u8,
-    whole: bool,
-    stopped: Option<JsonStopped>,
-    drift: Option<JsonDrift>,
-    sizes: bool,
-    start: Option<String>,
-    end: Option<String>,
-    width: u64,
-    counts: JsonCounts,
-    filters: Vec<u64>,
-    a: JsonNetwork<'a>,
-    b: JsonNetwork<'a>,
-    links: Vec<JsonLink<'a>>,
-    outside: Vec<JsonOutside>,
-    manifest: Option<&'a Manifest>,
-    #[serde(skip_serializing_if = "Option::is_none")]
-    baseline: Option<JsonBaseline<'a>>,
-}
-
-fn stamp_of(alloc: Global, stamp: u64) -> Result<String, AllocError> {
-    let mut out = text(alloc)?;
-    write!(out, "{stamp}")?;
-    Ok(out)
-}
-
-fn place_of(alloc: Global, place: Place) -> Result<JsonPlace, AllocError> {
-    Ok(JsonPlace {
-        stamp: stamp_of(alloc, place.stamp)?,
-        number: place.number,
-    })
-}
-
-fn place_if(alloc: Global, place: Option<Place>) -> Result<Option<JsonPlace>, AllocError> {
-    match place {
-        Some(place) => Ok(Some(place_of(alloc, place)?)),
-        None => Ok(None),
-    }
-}
 
 /// What a network counts of each frame beside what a lane does: preamble, start of frame and least gap.
 const BESIDE: u64 = 20;
 
-/// All signs, in the order in which they are told.
-const SIGNS: [Sign; 14] = [
-    Sign::Cut,
-    Sign::Runt,
-    Sign::Oversize,
-    Sign::Foreign,
-    Sign::Unconfigured,
-    Sign::TooLong,
-    Sign::Excess,
-    Sign::Out,
-    Sign::Lost,
-    Sign::Repeat,
-    Sign::Reset,
-    Sign::Alone,
-    Sign::Late,
-    Sign::Early,
-];
-
-/// The signs that occur.
-fn signs_in(alloc: Global, signs: &Signs) -> Result<Vec<JsonSign>, AllocError> {
-    let mut list = Vec::new(alloc);
-    for sign in SIGNS {
-        let mark = signs.of(sign);
-        if mark.count > 0 {
-            list.push(JsonSign {
-                sign: word_of(sign),
-                count: mark.count,
-                first: place_if(alloc, mark.first)?,
-                last: place_if(alloc, mark.last)?,
-            })?;
-        }
-    }
-    Ok(list)
+/// A value without members.
+#[derive(Clone, Copy)]
+enum Value<'a> {
+    Null,
+    Flag(bool),
+    Number(u64),
+    /// A number, if it is known.
+    Known(Option<u64>),
+    /// A timestamp: a decimal string, since it may need more than 53 bits.
+    Stamp(u64),
+    Stamped(Option<u64>),
+    /// A word or a name, without a character to be escaped.
+    Quoted(&'a str),
 }
 
-fn absence_of(alloc: Global, absence: &Option<Absence>) -> Result<Option<JsonAbsence>, AllocError> {
-    match absence {
-        Some(absence) => Ok(Some(JsonAbsence {
-            lines: absence.lines,
-            from: stamp_of(alloc, absence.from)?,
-            to: stamp_of(alloc, absence.to)?,
-        })),
-        None => Ok(None),
-    }
+/// A JSON text as it is written.
+#[derive(Drop)]
+struct Json {
+    page: Page,
+    /// Does a comma stand before the next value?
+    follows: bool,
 }
 
-fn interval_of(
-    alloc: Global,
-    interval: Option<Interval>,
-) -> Result<Option<JsonInterval>, AllocError> {
-    match interval {
-        Some(interval) => Ok(Some(JsonInterval {
-            from: stamp_of(alloc, interval.from)?,
-            to: stamp_of(alloc, interval.to)?,
-        })),
-        None => Ok(None),
-    }
-}
-
-fn gaps_of(alloc: Global, gaps: &Gaps) -> Result<JsonGaps, AllocError> {
-    let last = match gaps.last {
-        Some(last) => Some(stamp_of(alloc, last)?),
-        None => None,
+/// Appends members: `members!(json; name = value, ..)`, or numbers by the names of their fields:
+/// `members!(json; lane: frames, bytes)`.
+macro_rules! members {
+    ($json:expr; $($name:ident = $value:expr),*) => { $($json.value(stringify!($name), $value);)* };
+    ($json:expr; $from:ident: $($name:ident),*) => {
+        $($json.value(stringify!($name), Number($from.$name));)*
     };
-    Ok(JsonGaps {
-        last,
-        count: gaps.count,
-        longest: interval_of(alloc, gaps.longest)?,
-        usual: gaps.usual,
-        fourth: gaps.fourth,
-    })
 }
 
-/// The number, where it is known.
-fn known(is: bool, number: u64) -> Option<u64> {
-    if is { Some(number) } else { None }
+/// Appends an object of such members.
+macro_rules! object {
+    ($json:expr; $name:expr; $($members:tt)*) => {{
+        $json.open($name, "{");
+        members!($json; $($members)*);
+        $json.close("}");
+    }};
 }
 
-fn lane_of(
-    alloc: Global,
-    report: &Report,
-    link: &LinkReport,
-    network: Network,
-    sizes: bool,
-) -> Result<JsonLane, AllocError> {
-    let (lane, absence) = (link.lanes.of(network), link.absences.of(network));
-    let some = lane.intervals > 0;
-    Ok(JsonLane {
-        frames: lane.frames,
-        bytes: known(sizes, lane.bytes),
-        least: known(some, lane.least),
-        greatest: known(some, lane.greatest),
-        interval_sum: lane.interval_sum,
-        intervals: lane.intervals,
-        excess_lead: lane.excess_lead,
-        lost_after_silence: lane.lost_after_silence,
-        missing_in_silences: missing_in_silences(report, link, network),
-        out_after_silence: lane.out_after_silence,
-        uncovered: lane.uncovered,
-        absence: absence_of(alloc, absence)?,
-        signs: signs_in(alloc, &lane.signs)?,
-    })
+/// Appends an object of what there is, or `null`.
+macro_rules! object_if {
+    ($json:expr; $name:expr; $some:expr => $held:ident; $($members:tt)*) => {
+        match $some {
+            Some($held) => object!($json; $name; $($members)*),
+            None => $json.value($name, Null),
+        }
+    };
 }
 
-fn counts_of(counts: Counts) -> JsonCounts {
-    JsonCounts {
-        frames: counts.frames,
-        accepted: counts.accepted,
-        cut: counts.cut,
-        runt: counts.runt,
-        oversize: counts.oversize,
-        foreign: counts.foreign,
-        unconfigured: counts.unconfigured,
-        toolong: counts.toolong,
-        excess: counts.excess,
-        out: counts.out,
-        copy: counts.copy,
-        delivered: counts.delivered,
+impl Json {
+    /// Begins a value, a member's with its name.
+    fn name(&mut self, name: &str) {
+        self.page.text(if self.follows { "," } else { "" });
+        self.follows = true;
+        fill!(self.page; "$?name$\"$name$\":$/$"; name = Part::Text(name));
     }
-}
 
-fn link_of<'a>(
-    alloc: Global,
-    report: &Report,
-    link: &LinkReport,
-    configured: &'a Link,
-    sizes: bool,
-) -> Result<JsonLink<'a>, AllocError> {
-    Ok(JsonLink {
-        id: configured.id.0,
-        name: configured.name.as_str(),
-        level: level_word(level_of(report, link)),
-        signs: signs_of(link),
-        open: open_signs(report, link),
-        counts: counts_of(report.counts.link(configured.id)),
-        deliveries: link.deliveries,
-        fates: JsonFates {
-            paired: link.fates.paired,
-            late: link.fates.late,
-            first: link.fates.first,
-            met: link.fates.met,
-            uncovered: link.fates.uncovered,
-            alone: link.fates.alone,
-        },
-        copies: link.copies,
-        skew_sum: link.skew_sum,
-        skew_greatest: link.skew_greatest,
-        skew_median: link.skew_median,
-        late_greatest: link.late_greatest,
-        lost_both: link.lost_both,
-        gaps: gaps_of(alloc, &link.gaps)?,
-        gap: interval_of(alloc, gap_of(link))?,
-        stop: interval_of(alloc, stop_of(report, link))?,
-        a: lane_of(alloc, report, link, Network::A, sizes)?,
-        b: lane_of(alloc, report, link, Network::B, sizes)?,
-    })
-}
-
-fn silences_of(alloc: Global, silences: &[Silence]) -> Result<Vec<JsonSilence>, AllocError> {
-    let mut list = Vec::new(alloc);
-    for silence in silences {
-        list.push(JsonSilence {
-            after: silence.after,
-            from: stamp_of(alloc, silence.from)?,
-            to: stamp_of(alloc, silence.to)?,
-            lines: silence.lines,
-        })?;
+    fn open(&mut self, name: &str, bracket: &str) {
+        self.name(name);
+        self.page.text(bracket);
+        self.follows = false;
     }
-    Ok(list)
-}
 
-fn ending_of(ending: &Option<TapEnding>) -> Option<JsonEnding<'_>> {
-    match ending {
-        Some(ending) => Some(JsonEnding {
-            end: match ending.end {
-                TapEnd::Clean => "clean",
-                TapEnd::Cut => "cut",
-                TapEnd::Bad => "bad",
-            },
-            frames: ending.frames,
-            reason: ending.reason.as_str(),
-        }),
-        None => None,
+    fn close(&mut self, bracket: &str) {
+        self.page.text(bracket);
+        self.follows = true;
     }
-}
 
-/// Adds a row, unless nothing came in it.
-fn add_row(
-    alloc: Global,
-    rows: &mut Vec<JsonRow>,
-    row: &'static str,
-    series: &Series,
-) -> Result<(), AllocError> {
-    if series.bins().is_empty() {
-        return Ok(());
-    }
-    rows.push(JsonRow {
-        row,
-        bins: Vec::from_slice(alloc, series.bins())?,
-    })?;
-    Ok(())
-}
-
-/// What a network's numbers are by time.
-fn timeline_of(alloc: Global, side: &NetworkReport) -> Result<Vec<JsonRow>, AllocError> {
-    let mut rows = Vec::new(alloc);
-    add_row(alloc, &mut rows, "frames", &side.lines)?;
-    add_row(alloc, &mut rows, "load", &side.loads)?;
-    add_row(alloc, &mut rows, "skew", &side.skews)?;
-    for sign in SIGNS {
-        add_row(alloc, &mut rows, word_of(sign), &side.signs.of(sign).bins)?;
-    }
-    Ok(rows)
-}
-
-fn network_of<'a>(
-    alloc: Global,
-    report: &'a Report,
-    network: Network,
-    side: &NetworkReport,
-    sizes: bool,
-) -> Result<JsonNetwork<'a>, AllocError> {
-    let some = side.frames > 0;
-    let counts = report.counts.network(network);
-    let beside = counts.accepted.saturating_mul(BESIDE);
-    Ok(JsonNetwork {
-        frames: side.frames,
-        first: stamp_if(alloc, some, side.first)?,
-        last: stamp_if(alloc, some, side.last)?,
-        bytes: known(sizes, side.bytes.saturating_sub(beside)),
-        counts: counts_of(counts),
-        silences: silences_of(alloc, side.silences.as_slice())?,
-        more_silences: side.more_silences,
-        usual: side.usual,
-        ending: ending_of(report.endings.of(network)),
-        signs: signs_in(alloc, &side.signs)?,
-        timeline: timeline_of(alloc, side)?,
-    })
-}
-
-fn stamp_if(alloc: Global, some: bool, stamp: u64) -> Result<Option<String>, AllocError> {
-    if some {
-        Ok(Some(stamp_of(alloc, stamp)?))
-    } else {
-        Ok(None)
-    }
-}
-
-fn outside_of(alloc: Global, report: &Report) -> Result<Vec<JsonOutside>, AllocError> {
-    let mut list = Vec::new(alloc);
-    for id in 0..=u16::MAX {
-        if let Some(link) = report.outside_link(VlId(id)) {
-            list.push(JsonOutside {
-                id,
-                frames: link.frames,
-                network: letter_of(link.network),
-                first: place_of(alloc, link.first)?,
-            })?;
+    fn value(&mut self, name: &str, value: Value<'_>) {
+        self.name(name);
+        match value {
+            Null | Known(None) | Stamped(None) => self.page.text("null"),
+            Flag(holds) => self.page.text(if holds { "true" } else { "false" }),
+            Number(number) | Known(Some(number)) => self.page.path(&[("", number)]),
+            Stamp(stamp) | Stamped(Some(stamp)) => {
+                self.page.path(&[("\"", stamp)]);
+                self.page.text("\"");
+            }
+            Quoted(text) => fill!(self.page; "\"$text$\""; text = Part::Text(text)),
         }
     }
-    Ok(list)
+
+    fn interval(&mut self, name: &str, interval: Option<Interval>) {
+        object_if!(self; name; interval => held; from = Stamp(held.from), to = Stamp(held.to));
+    }
+
+    fn place(&mut self, name: &str, place: Option<Place>) {
+        object_if!(self; name; place => held; stamp = Stamp(held.stamp),
+            number = Number(u64::from(held.number)));
+    }
+
+    fn counts(&mut self, counts: &Totals) {
+        object!(self; "counts"; counts: frames, accepted, cut, runt, oversize, foreign, unconfigured, toolong,
+            excess, out, copy, delivered);
+    }
+
+    /// The counts of a link, which has no frame of the classes that no judgement sees.
+    fn link_counts(&mut self, counts: &LinkCounts) {
+        self.counts(&Totals {
+            frames: counts.frames,
+            accepted: counts.accepted,
+            toolong: counts.toolong,
+            excess: counts.excess,
+            out: counts.out,
+            copy: counts.copy,
+            delivered: counts.delivered,
+            ..Totals::new()
+        });
+    }
+
+    /// The signs that occur.
+    fn signs(&mut self, signs: &Signs) {
+        self.open("signs", "[");
+        for sign in SIGNS {
+            let mark = signs.of(sign);
+            if mark.count > 0 {
+                self.open("", "{");
+                members!(self; sign = Quoted(sign.word()), count = Number(mark.count));
+                self.place("first", mark.first);
+                self.place("last", mark.last);
+                self.close("}");
+            }
+        }
+        self.close("]");
+    }
+
+    fn lane(&mut self, report: &Report, link: &LinkReport, network: Network, sizes: bool) {
+        let lane = link.lanes.of(network);
+        let some = lane.intervals > 0;
+        self.open(member_of(network), "{");
+        members!(self; frames = Number(lane.frames), bytes = known(sizes, lane.bytes),
+            least = known(some, lane.least), greatest = known(some, lane.greatest));
+        members!(self; lane: interval_sum, intervals, excess_lead, lost_after_silence);
+        members!(self; missing_in_silences = Known(missing_in_silences(report, link, network)));
+        members!(self; lane: out_after_silence, uncovered);
+        object_if!(self; "absence"; link.absences.of(network) => held; lines = Number(held.lines),
+            from = Stamp(held.from), to = Stamp(held.to));
+        self.signs(&lane.signs);
+        self.close("}");
+    }
+
+    fn link(&mut self, report: &Report, link: &LinkReport, configured: &Link, sizes: bool) {
+        let (fates, gaps) = (&link.fates, &link.gaps);
+        self.open("", "{");
+        members!(self; id = Number(u64::from(link.id.0)), name = Quoted(&configured.name),
+            level = Quoted(level_of(report, link).word()), signs = Number(signs_of(link)),
+            open = Number(open_signs(report, link)));
+        self.link_counts(report.counts.link(link.id));
+        members!(self; deliveries = Number(link.deliveries));
+        object!(self; "fates"; fates: paired, late, first, met, uncovered, alone);
+        members!(self; link: copies, skew_sum, skew_greatest, skew_median, late_greatest, lost_both);
+        self.open("gaps", "{");
+        members!(self; last = Stamped(gaps.last), count = Number(gaps.count));
+        self.interval("longest", gaps.longest);
+        members!(self; gaps: usual, fourth);
+        self.close("}");
+        self.interval("gap", gap_of(link));
+        self.interval("stop", stop_of(report, link));
+        for network in NETWORKS {
+            self.lane(report, link, network, sizes);
+        }
+        self.close("}");
+    }
+
+    fn silences(&mut self, side: &NetworkReport) {
+        self.open("silences", "[");
+        for silence in side.silences.iter() {
+            object!(self; ""; after = Number(silence.after), from = Stamp(silence.from),
+                to = Stamp(silence.to), lines = Number(silence.lines));
+        }
+        self.close("]");
+        members!(self; side: more_silences, usual);
+    }
+
+    /// A row of a timeline, unless nothing came in it: a number for each bin.
+    fn row(&mut self, row: &str, series: &Series) {
+        if !series.bins().is_empty() {
+            self.open("", "{");
+            members!(self; row = Quoted(row));
+            self.open("bins", "[");
+            for number in series.bins() {
+                self.value("", Number(*number));
+            }
+            self.close("]}");
+        }
+    }
+
+    fn network(&mut self, report: &Report, network: Network, sizes: bool) {
+        let (side, counts) = (report.networks.of(network), report.counts.network(network));
+        let some = side.frames > 0;
+        let bytes = side
+            .bytes
+            .saturating_sub(counts.accepted.saturating_mul(BESIDE));
+        self.open(member_of(network), "{");
+        members!(self; frames = Number(side.frames), first = stamped(some, side.first),
+            last = stamped(some, side.last), bytes = known(sizes, bytes));
+        self.counts(counts);
+        self.silences(side);
+        object_if!(self; "ending"; report.endings.of(network) => held; end = Quoted(end_word(held.end)),
+            frames = Number(held.frames), reason = Quoted(&held.reason));
+        self.signs(&side.signs);
+        self.open("timeline", "[");
+        for (row, series) in [
+            ("frames", &side.lines),
+            ("load", &side.loads),
+            ("skew", &side.skews),
+        ] {
+            self.row(row, series);
+        }
+        for sign in SIGNS {
+            self.row(sign.word(), &side.signs.of(sign).bins);
+        }
+        self.close("]}");
+    }
+
+    fn outside(&mut self, report: &Report) {
+        self.open("outside", "[");
+        for id in 0..=u16::MAX {
+            if let Some(link) = report.outside_link(VlId(id)) {
+                self.open("", "{");
+                members!(self; id = Number(u64::from(id)), frames = Number(link.frames),
+                    network = Quoted(link.network.letter()));
+                self.place("first", Some(link.first));
+                self.close("}");
+            }
+        }
+        self.close("]");
+    }
+
+    /// When a flight begins and ends.
+    fn flight(&mut self, report: &Report) {
+        let some = report.counts.all().frames > 0;
+        members!(self; start = stamped(some, report.start), end = stamped(some, report.end));
+    }
+
+    /// What stands before the networks.
+    fn head(&mut self, view: &View<'_>) {
+        let report = view.report;
+        members!(self; version = Number(1), whole = Flag(report.whole));
+        object_if!(self; "stopped"; report.stop => stop; lines = Number(stop.lines),
+            within_line = Flag(stop.within_line));
+        // The rate in parts in 10^9.
+        object_if!(self; "drift"; view.drift => drift; faster = Quoted(drift.faster.letter()),
+            ppb = Number(drift.parts / 1000), links = Number(drift.links), of = Number(drift.of));
+        members!(self; sizes = Flag(view.sizes));
+        self.flight(report);
+        members!(self; report: width);
+        self.counts(report.counts.all());
+        self.open("filters", "[");
+        let filters = view.config.filters().len().saturating_add(1);
+        for accepted in report.counts.filters().iter().take(filters) {
+            self.value("", Number(*accepted));
+        }
+        self.close("]");
+    }
+
+    fn report(&mut self, view: &View<'_>, manifest: &str) {
+        let report = view.report;
+        self.open("", "{");
+        self.head(view);
+        for network in NETWORKS {
+            self.network(report, network, view.sizes);
+        }
+        self.open("links", "[");
+        for (link, configured) in report.links.iter().zip(view.config.links().iter()) {
+            self.link(report, link, configured, view.sizes);
+        }
+        self.close("]");
+        self.outside(report);
+        self.name("manifest");
+        self.page.text(manifest);
+        if let Some(baseline) = view.baseline {
+            self.baseline(view, baseline);
+        }
+        self.close("}");
+    }
+
+    /// A link in a flight, and how often what is counted comes in a thousand frames, in thousandths.
+    fn numbers(&mut self, name: &str, numbers: Option<LinkNumbers>) {
+        let Some(numbers) = numbers else {
+            return self.value(name, Null);
+        };
+        self.open(name, "{");
+        members!(self; frames = Number(numbers.frames), rate = Known(numbers.rate()),
+            copies = Number(numbers.copies), least = Known(numbers.least), skew = Known(numbers.skew));
+        self.open("counts", "{");
+        for count in COUNTS {
+            self.value(count_word(count), Number(numbers.count(count)));
+        }
+        self.close("}");
+        self.open("shares", "{");
+        for count in COUNTS {
+            self.value(count_word(count), Number(numbers.share(count).unwrap_or(0)));
+        }
+        self.close("}}");
+    }
+
+    /// A link in both flights.
+    fn compared(&mut self, link: &LinkComparison, configured: &Link) {
+        self.open("", "{");
+        members!(self; id = Number(u64::from(configured.id.0)), name = Quoted(&configured.name));
+        self.open("worse", "[");
+        for how in WORSE.iter().filter(|how| link.is_worse(**how)) {
+            self.value("", Quoted(worse_word(*how)));
+        }
+        self.close("]");
+        self.numbers("today", link.today);
+        self.numbers("baseline", link.baseline);
+        self.close("}");
+    }
+
+    /// The flight that the report is compared with.
+    fn baseline(&mut self, view: &View<'_>, baseline: &Report) {
+        self.open("baseline", "{");
+        members!(self; whole = Flag(baseline.whole));
+        self.flight(baseline);
+        self.counts(baseline.counts.all());
+        self.open("links", "[");
+        for (index, configured) in view.config.links().iter().enumerate() {
+            if let Some(link) = view.compared(index) {
+                self.compared(&link, configured);
+            }
+        }
+        self.close("]");
+        self.open("new_outside", "[");
+        for id in 0..=u16::MAX {
+            if is_new_outside(view.report, baseline, VlId(id)) {
+                self.value("", Number(u64::from(id)));
+            }
+        }
+        self.close("]}");
+    }
 }
 
-fn links_of<'a>(
-    alloc: Global,
-    report: &Report,
-    config: &'a Config,
-    sizes: bool,
-) -> Result<Vec<JsonLink<'a>>, AllocError> {
-    let mut list = Vec::with_capacity(alloc, config.links().len())?;
-    for (link, configured) in report.links.iter().zip(config.links().iter()) {
-        list.push(link_of(alloc, report, link, configured, sizes)?)?;
+fn member_of(network: Network) -> &'static str {
+    match network {
+        Network::A => "a",
+        Network::B => "b",
     }
-    Ok(list)
 }
 
-fn report_of<'a>(
-    alloc: Global,
-    report: &'a Report,
-    config: &'a Config,
-    sizes: bool,
-    manifest: Option<&'a Manifest>,
-    baseline: Option<&Report>,
-) -> Result<JsonReport<'a>, AllocError> {
-    let some = report.counts.all().frames > 0;
-    let filters = config.filters().len().saturating_add(1);
-    let mut accepted = Vec::new(alloc);
-    for count in report.counts.filters().iter().take(filters) {
-        accepted.push(*count)?;
-    }
-    Ok(JsonReport {
-        version: 1,
-        whole: report.whole,
-        stopped: stopped_of(report),
-        drift: drifted_of(alloc, report)?,
-        sizes,
-        start: stamp_if(alloc, some, report.start)?,
-        end: stamp_if(alloc, some, report.end)?,
-        width: report.width,
-        counts: counts_of(report.counts.all()),
-        filters: accepted,
-        a: network_of(alloc, report, Network::A, &report.networks.a, sizes)?,
-        b: network_of(alloc, report, Network::B, &report.networks.b, sizes)?,
-        links: links_of(alloc, report, config, sizes)?,
-        outside: outside_of(alloc, report)?,
-        manifest,
-        baseline: baseline_if(alloc, report, config, baseline)?,
-    })
+fn known(is: bool, number: u64) -> Value<'static> {
+    if is { Number(number) } else { Null }
+}
+
+fn stamped(is: bool, stamp: u64) -> Value<'static> {
+    if is { Stamp(stamp) } else { Null }
 }
 
 /// The report's numbers as one JSON object, with the manifest of the ledger's run, if it is known, and beside
@@ -572,6 +386,11 @@ pub fn json_of(
     manifest: Option<&Manifest>,
     baseline: Option<&Report>,
 ) -> Result<String, Error> {
-    let json = report_of(alloc, report, config, sizes, manifest, baseline)?;
-    serde_json::to_string(alloc, &json)
+    let view = View::new(alloc, report, config, sizes, baseline)?;
+    let mut json = Json {
+        page: Page::new(alloc),
+        follows: false,
+    };
+    json.report(&view, &serde_json::to_string(alloc, &manifest)?);
+    Ok(json.page.into_text()?)
 }

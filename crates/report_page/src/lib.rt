@@ -6,28 +6,43 @@
 //! - [`json_of`]: the same numbers as one JSON object; docs/REPORT.md has its members.
 //!
 //! Each takes the report of an earlier flight, a baseline, and then tells what got worse.
+//!
+//! Texts are templates with named holes, which `fill!` fills as `write!` does. So they stand whole beside the
+//! numbers, and a part costs a proof next to nothing.
 #![tactic(auto)]
+
+/// A part with its name: `name = part`, or `name` of a local that has it.
+macro_rules! part {
+    ($name:ident) => { (stringify!($name), $name) };
+    ($name:ident = $part:expr) => { (stringify!($name), $part) };
+}
+
+/// Parts with their names.
+macro_rules! parts {
+    ($($name:ident $(= $part:expr)?),*) => { [$(part!($name $(= $part)?)),*] };
+}
+
+/// Appends a template with its parts to a page: `fill!(page; "$name$ of $all$"; name = part, all)`.
+macro_rules! fill {
+    ($page:expr; $template:expr; $($name:ident $(= $part:expr)?),*) => {
+        $page.fill($template, &[$(part!($name $(= $part)?)),*])
+    };
+}
 
 mod causes;
 mod charts;
-mod comparison;
 mod drift;
 mod findings;
 mod gaps;
-mod head;
 mod json;
-mod legend;
 mod numbers;
 mod page;
-mod provenance;
 mod ranks;
+mod rows;
 mod sizes;
-mod strips;
-mod style;
 mod summary;
-mod table;
-mod tiles;
-mod timeline;
+mod tables;
+mod text;
 mod view;
 mod writer;
 

@@ -1,84 +1,253 @@
 //! The page.
 
-use crate::comparison::push_comparison;
 use crate::findings::push_findings;
-use crate::head::{level_counts, push_head, push_stop, start_of};
-use crate::legend::push_legend;
-use crate::provenance::tie_of;
-use crate::ranks::ranks_of;
-use crate::strips::push_strips;
-use crate::style::STYLE;
-use crate::table::push_table;
-use crate::tiles::push_tiles;
-use crate::timeline::push_timeline;
-use crate::view::{SENTENCES, View};
-use crate::writer::{Page, Part};
-use ledger_report::Report;
-use run_manifest::Manifest;
+use crate::gaps::{is_lower_bound, missing_in_silences, silence_of};
+use crate::numbers::{quotient, share};
+use crate::rows::{push_strips, push_timeline};
+use crate::tables::{push_comparison, push_links};
+use crate::text;
+use crate::view::{DISCARDS, NETWORKS, SIGNS, View};
+use crate::writer::Part::{self, Both, Duration, Given, Grouped, Number, Tenths, Text, Utc};
+use crate::writer::{Named, Page, Pair, flag};
+use afdx_frame::Network::{self, A, B};
+use ledger_report::Sign::{Alone, Cut, Late, Lost};
+use ledger_report::{Report, TapEnd, TapEnding};
+use ledger_text::LedgerStop;
+use run_manifest::{FileRecord, Manifest, RecordingRecord};
 use std::alloc::{AllocError, Global};
 use vl_config::Config;
 
-/// The head of the document, up to its style. The policy makes a browser refuse scripts and links out.
-const BEGIN: &str = r#"<!doctype html><html lang="en"><head><meta charset="utf-8"/>
-<meta http-equiv="Content-Security-Policy" content="default-src 'none';style-src 'unsafe-inline'"/>
-<meta name="viewport" content="width=device-width,initial-scale=1"/>
-<title>AFDX recording, @</title><style>"#;
-
-/// The title of the links' table.
-const LINKS: &str = "\
-<section><h2>Links, worst first <small>@ in trouble \
-(3 signs or more and one in each thousand frames, a gap, or never seen on one network), \
-@ notice, @ never seen, @ clean</small></h2>";
-
-/// What the page says where the ledger doesn't tell sizes, and where it does.
-const NO_SIZES: &str = "\
-No filter of the table takes every frame whole, so the ledger doesn't tell sizes: loads are left out. ";
-
-const SIZES: &str = "Sizes are those kept by a filter of the table that takes every frame whole. ";
-
-/// What the page says of a ledger that is whole.
-const WHOLE: &str = "The lines of counts agree with the lines of frames. ";
-
-/// The foot of every page, from the facts of its ledger on.
-const FOOT: &str = "<footer><p>@";
-
-/// The end of every page.
-const END: &str = "\
-@Numbers count to 255 and go on with 1: in a gap of more than 127 numbers lost is a lower bound. \
-This page has no script and fetches nothing.</p></footer></body></html>\n";
-
-fn push_first_things(page: &mut Page, view: &View<'_>) {
-    page.text("<section><h2>What to look at first</h2><ol class=\"find\">");
-    let count = push_findings(page, view);
-    page.text("</ol>");
-    if count == 0 {
-        page.text("<p class=\"none\">nothing</p>");
+/// A text that may be absent.
+fn given_if(text: &Option<String>) -> Part<'_> {
+    match text {
+        Some(text) => Given(text),
+        None => Text(""),
     }
-    if count > SENTENCES {
-        let more = Part::Number(count.saturating_sub(SENTENCES) as u64);
-        page.fill("<p class=\"none\">@ more</p>", &[more]);
-    }
-    page.text("</section>");
 }
 
-fn push_links(page: &mut Page, view: &View<'_>) -> Result<(), AllocError> {
-    let [trouble, notice, silent, clean] = level_counts(view);
-    page.fill(LINKS, &[trouble, notice, silent, clean]);
-    push_table(page, view)?;
-    page.text("</section><section class=\"dets\"><h2>Links in trouble</h2>");
-    push_strips(page, view)?;
-    page.text("</section>");
-    Ok(())
+fn push_file<'x>(page: &mut Page, word: &'x str, file: &'x FileRecord) {
+    fill!(page; text::FILE; word = Text(word), path = Given(&file.path), bytes = Grouped(file.bytes),
+        sha256 = given_if(&file.sha256));
 }
 
-fn push_foot(page: &mut Page, view: &View<'_>, manifest: Option<&Manifest>) {
-    page.fill(FOOT, &[Part::Text(tie_of(manifest))]);
-    match view.report.stop {
-        None => page.text(WHOLE),
-        Some(stop) => push_stop(page, stop),
+fn push_recording<'x>(page: &mut Page, word: &'x str, file: &'x RecordingRecord) {
+    let (first, last) = match (&file.first_utc, &file.last_utc) {
+        (Some(first), Some(last)) => (Given(first), Given(last)),
+        _ => (Text(""), Text("")),
+    };
+    fill!(page; text::FILE; word = Text(word), path = Given(&file.path), first, last,
+        bytes = Grouped(file.bytes.unwrap_or(0)), frames = Grouped(file.frames.unwrap_or(0)),
+        counted = flag(file.frames.is_some()), end = given_if(&file.end), reason = given_if(&file.reason),
+        sha256 = given_if(&file.sha256));
+}
+
+/// Appends the program that ran, its command line, and its files, if they are known.
+fn push_run(page: &mut Page, manifest: Option<&Manifest>) {
+    let Some(manifest) = manifest else {
+        return;
+    };
+    let (program, inputs, outputs) = (&manifest.program, &manifest.inputs, &manifest.outputs);
+    fill!(page; text::RUN; name = Given(&program.name), version = Given(&program.version),
+        commit = Given(&program.commit));
+    for argument in &manifest.command {
+        fill!(page; "$argument$ "; argument = Given(argument));
     }
-    let sizes = if view.sizes { SIZES } else { NO_SIZES };
-    page.fill(END, &[Part::Text(sizes)]);
+    fill!(page; "</code>$?fault$<br/>it met a fault: $fault$$/$"; fault = given_if(&manifest.fault));
+    push_file(page, "table", &inputs.config);
+    if let Some(filter) = &inputs.filter {
+        push_file(page, "filter", filter);
+    }
+    for (word, recording) in [("A", &inputs.a), ("B", &inputs.b)] {
+        if let Some(recording) = recording {
+            push_recording(page, word, recording);
+        }
+    }
+    if let Some(capture) = &outputs.capture {
+        push_file(page, "capture", capture);
+    }
+    push_file(page, "ledger", &outputs.ledger);
+    page.text("</p>");
+}
+
+/// Appends how many frames each filter of the table accepted.
+fn push_filters(page: &mut Page, view: &View<'_>) {
+    let filters = view.config.filters().len().saturating_add(1);
+    for (filter, accepted) in view
+        .report
+        .counts
+        .filters()
+        .iter()
+        .take(filters)
+        .enumerate()
+    {
+        fill!(page; " &#183; filter $filter$ accepted $accepted$"; filter = Number(filter as u64),
+            accepted = Grouped(*accepted));
+    }
+}
+
+/// How many frames were discarded.
+fn discards_of(view: &View<'_>) -> u64 {
+    let mut discards = 0u64;
+    for sign in SIGNS.iter().take(DISCARDS) {
+        discards = discards.saturating_add(view.total(*sign).sum());
+    }
+    discards
+}
+
+/// Appends the counts of the reasons for which frames were discarded.
+fn push_reasons(page: &mut Page, view: &View<'_>) {
+    let mut shown = false;
+    for sign in SIGNS.iter().take(DISCARDS) {
+        let count = view.total(*sign).sum();
+        if count > 0 {
+            page.text(if shown { " &#183; " } else { "" });
+            fill!(page; "$word$ $count$"; word = Text(sign.word()), count = Grouped(count));
+            shown = true;
+        }
+    }
+    page.text(if shown { "" } else { "none" });
+}
+
+/// What is missing in the silences of a network: about so many where a link's rate is known, and at least so
+/// many where it isn't.
+fn missing_of(view: &View<'_>, network: Network) -> (u64, u64) {
+    let (mut about, mut least) = (0u64, 0u64);
+    for link in view.report.links.iter() {
+        match missing_in_silences(view.report, link, network) {
+            Some(missing) => about = about.saturating_add(missing),
+            None => least = least.saturating_add(link.lanes.of(network).lost_after_silence),
+        }
+    }
+    (about, least)
+}
+
+/// Is there a lane on this network whose losses are a lower bound?
+fn has_lower_bound(view: &View<'_>, network: Network) -> bool {
+    view.report.links.iter().any(|link| {
+        link.lanes.of(network).signs.of(Lost).count > 0 && is_lower_bound(link, network)
+    })
+}
+
+/// How long a network is silent.
+fn silent_on(view: &View<'_>, network: Network) -> Part<'static> {
+    let mut silent = 0u64;
+    for silence in view.report.networks.of(network).silences.iter() {
+        silent = silent.saturating_add(silence_of(silence).time());
+    }
+    Duration(silent)
+}
+
+/// Appends the greatest skew in ratio to SkewMax, and the link that has it.
+fn push_skew(page: &mut Page, view: &View<'_>) {
+    let mut worst: Option<(usize, u64)> = None;
+    let mut most = 0u64;
+    for (index, link) in view.report.links.iter().enumerate() {
+        let skew = link.skew_greatest.max(link.late_greatest);
+        let ratio = quotient(skew.saturating_mul(1000), link.skew_max.max(1));
+        if link.copies > 0 && (worst.is_none() || ratio > most) {
+            worst = Some((index, skew));
+            most = ratio;
+        }
+    }
+    let link = worst.and_then(|(index, _)| view.link(index));
+    match (worst, link) {
+        (Some((_, skew)), Some((report, link))) => fill!(page;
+            "$skew$</p><p class=\"sub\">$name$, SkewMax $most$ &#183; $late$ late"; skew = Duration(skew),
+            name = Text(&link.name), most = Duration(report.skew_max),
+            late = Grouped(view.total(Late).sum())),
+        _ => page.text("&#8211;</p><p class=\"sub\">no pair of copies"),
+    }
+}
+
+/// Is the recording read to its end, and whole?
+pub fn is_clean(ending: &Option<TapEnding>) -> bool {
+    match ending {
+        Some(ending) => ending.end == TapEnd::Clean,
+        None => false,
+    }
+}
+
+/// How a recording ends, in a word.
+pub fn end_word(end: TapEnd) -> &'static str {
+    match end {
+        TapEnd::Clean => "clean",
+        TapEnd::Cut => "cut",
+        TapEnd::Bad => "bad",
+    }
+}
+
+/// Appends how a recording ends.
+pub fn push_ending(page: &mut Page, ending: &Option<TapEnding>) {
+    match ending {
+        Some(ending) =>
+            fill!(page; "$end$ $frames$$?reason$ $reason$$/$"; end = Text(end_word(ending.end)),
+                frames = Grouped(ending.frames), reason = Text(&ending.reason)),
+        None => page.text("not told"),
+    }
+}
+
+/// Appends where a ledger ends that isn't whole.
+pub fn push_stop(page: &mut Page, stop: LedgerStop) {
+    fill!(page; text::STOP; within = flag(stop.within_line), without = flag(!stop.within_line),
+        next = Number(stop.lines.saturating_add(1)), lines = Number(stop.lines));
+}
+
+/// Appends what a hole `@name@` of the skeleton stands for.
+fn push_section(page: &mut Page, view: &View<'_>, manifest: Option<&Manifest>, name: &str) {
+    match name {
+        "filters" => push_filters(page, view),
+        "run" => push_run(page, manifest),
+        "reasons" => push_reasons(page, view),
+        "skew" => push_skew(page, view),
+        "ending a" => push_ending(page, &view.report.endings.a),
+        "ending b" => push_ending(page, &view.report.endings.b),
+        "findings" => push_findings(page, view),
+        "timeline" => push_timeline(page, view),
+        "links" => push_links(page, view),
+        "strips" => push_strips(page, view),
+        "comparison" => push_comparison(page, view),
+        _ => match view.report.stop {
+            None => page.text(text::WHOLE),
+            Some(stop) => push_stop(page, stop),
+        },
+    }
+}
+
+/// What ties the table to the ledger.
+fn tie_of(manifest: Option<&Manifest>) -> &'static str {
+    match manifest {
+        None => text::NOT_TIED,
+        Some(manifest) if manifest.outputs.ledger.sha256.is_some() => text::TIED_BY_DIGESTS,
+        Some(_) => text::TIED,
+    }
+}
+
+/// The parts of the skeleton.
+fn parts_of(view: &View<'_>, manifest: Option<&Manifest>) -> [Named<'static>; 30] {
+    let (report, networks, all) = (view.report, &view.report.networks, view.report.counts.all());
+    let (lost, alone, cut) = (view.total(Lost), view.total(Alone), view.total(Cut));
+    let (a, b) = (missing_of(view, A), missing_of(view, B));
+    let (about, least) = (Pair(a.0, b.0), Pair(a.1, b.1));
+    let ends = NETWORKS
+        .iter()
+        .any(|network| !is_clean(report.endings.of(*network)));
+    let bound = NETWORKS
+        .iter()
+        .any(|network| has_lower_bound(view, *network));
+    let (discards, none) = (discards_of(view), all.frames == 0);
+    let [links, trouble, notice, silent, clean] = view.levels();
+    parts! { style = Text(text::STYLE), start = if none { Text("no frames") } else { Utc(report.start) },
+        length = Duration(report.end.saturating_sub(report.start)), rows = Grouped(report.links.len() as u64),
+        links, trouble, notice, silent, clean, frames = Grouped(all.frames),
+        pair = Both(Pair(networks.a.frames, networks.b.frames)), delivered = Grouped(all.delivered),
+        copies = Grouped(all.copy), discards = Grouped(discards),
+        tenths = Tenths(share(discards, 1000, all.frames.max(1))), bound = flag(bound), lost = Both(lost),
+        missing = flag(lost.sum() > 0 || about.sum() > 0 || least.sum() > 0), about = Both(about),
+        least = Both(least), lost_cut = Both(lost.min(cut)), alone = Both(alone),
+        alone_cut = Both(alone.min(Pair(cut.1, cut.0))), late = Grouped(view.total(Late).sum()),
+        ends = flag(ends), silent_a = silent_on(view, A), silent_b = silent_on(view, B),
+        column = Duration(report.width), tie = Text(tie_of(manifest)),
+        sizes = Text(if view.sizes { text::SIZES } else { text::NO_SIZES }) }
 }
 
 /// The page of a report against its table. `sizes` says whether a filter of the table takes every frame
@@ -92,19 +261,15 @@ pub fn page_of(
     manifest: Option<&Manifest>,
     baseline: Option<&Report>,
 ) -> Result<String, AllocError> {
-    let ranks = ranks_of(alloc, report)?;
-    let view = View::new(alloc, report, config, sizes, ranks, baseline)?;
+    let view = View::new(alloc, report, config, sizes, baseline)?;
     let mut page = Page::new(alloc);
-    page.fill(BEGIN, &[start_of(report)]);
-    page.text(STYLE);
-    page.text("</style></head><body>");
-    push_head(&mut page, &view, manifest);
-    push_tiles(&mut page, &view);
-    push_first_things(&mut page, &view);
-    push_timeline(&mut page, &view)?;
-    push_links(&mut page, &view)?;
-    push_comparison(&mut page, &view);
-    push_legend(&mut page);
-    push_foot(&mut page, &view, manifest);
+    let parts = parts_of(&view, manifest);
+    for (at, piece) in text::PAGE.split('@').enumerate() {
+        if at % 2 == 0 {
+            page.fill(piece, &parts);
+        } else {
+            push_section(&mut page, &view, manifest, piece);
+        }
+    }
     page.into_text()
 }

@@ -1,15 +1,15 @@
 //! How bad each link is.
 
 use crate::gaps::{gap_of, stop_of};
-use crate::view::{NETWORKS, counts_of, other, sum};
+use crate::view::{NETWORKS, TROUBLES, counts_of};
 use afdx_frame::Network;
 use ledger_report::{LinkReport, Report, Sign};
 use std::alloc::{AllocError, Global};
 
 /// A link is in trouble with so many signs,
-pub const TROUBLE_SIGNS: u64 = 3;
+const TROUBLE_SIGNS: u64 = 3;
 /// and one in so many of its frames.
-pub const TROUBLE_SHARE: u64 = 1000;
+const TROUBLE_SHARE: u64 = 1000;
 
 /// How bad a link is, the worst first.
 #[derive(Clone, Copy, PartialEq, Eq)]
@@ -31,21 +31,11 @@ pub struct Rank {
     pub signs: u64,
 }
 
-/// The signs that count against a link.
-pub const TROUBLES: [Sign; 6] = [
-    Sign::TooLong,
-    Sign::Excess,
-    Sign::Out,
-    Sign::Lost,
-    Sign::Late,
-    Sign::Alone,
-];
-
-/// How many signs a link has.
+/// How many signs count against a link.
 pub fn signs_of(link: &LinkReport) -> u64 {
     let mut signs = 0u64;
     for sign in TROUBLES {
-        signs = signs.saturating_add(sum(&counts_of(link, sign)));
+        signs = signs.saturating_add(counts_of(link, sign).sum());
     }
     signs
 }
@@ -67,9 +57,9 @@ pub fn open_signs(report: &Report, link: &LinkReport) -> u64 {
     for network in NETWORKS {
         let cut = cut_on(report, network);
         let lane = &link.lanes.of(network).signs;
-        let alone = link.lanes.of(other(network)).signs.of(Sign::Alone).count;
-        for count in [lane.of(Sign::Lost).count, lane.of(Sign::Out).count, alone] {
-            open = open.saturating_add(count.min(cut));
+        let alone = &link.lanes.of(network.other()).signs.of(Sign::Alone);
+        for mark in [lane.of(Sign::Lost), lane.of(Sign::Out), alone] {
+            open = open.saturating_add(mark.count.min(cut));
         }
     }
     open
@@ -91,9 +81,10 @@ pub fn is_never_on(report: &Report, link: &LinkReport, network: Network) -> bool
 
 /// How bad a link is.
 pub fn level_of(report: &Report, link: &LinkReport) -> Level {
-    let frames = frames_of(link);
-    let signs = signs_of(link);
-    let never = is_never_on(report, link, Network::A) || is_never_on(report, link, Network::B);
+    let (frames, signs) = (frames_of(link), signs_of(link));
+    let never = NETWORKS
+        .iter()
+        .any(|network| is_never_on(report, link, *network));
     let sure = signs.saturating_sub(open_signs(report, link));
     let many = sure >= TROUBLE_SIGNS && sure.saturating_mul(TROUBLE_SHARE) >= frames;
     let gap = gap_of(link).is_some() || stop_of(report, link).is_some();
@@ -101,35 +92,31 @@ pub fn level_of(report: &Report, link: &LinkReport) -> Level {
         Level::Silent
     } else if never || many || gap {
         Level::Trouble
-    } else if signs > 0 || sum(&counts_of(link, Sign::Reset)) > 0 {
+    } else if signs > 0 || counts_of(link, Sign::Reset).sum() > 0 {
         Level::Notice
     } else {
         Level::Clean
     }
 }
 
-/// The word of a level.
-pub fn level_word(level: Level) -> &'static str {
-    match level {
-        Level::Trouble => "trouble",
-        Level::Notice => "notice",
-        Level::Silent => "silent",
-        Level::Clean => "clean",
+impl Level {
+    /// Its word.
+    pub fn word(self) -> &'static str {
+        match self {
+            Level::Trouble => "trouble",
+            Level::Notice => "notice",
+            Level::Silent => "silent",
+            Level::Clean => "clean",
+        }
     }
-}
 
-/// The mark of a level: they differ in shape.
-pub fn level_mark(level: Level) -> &'static str {
-    match level {
-        Level::Trouble => {
-            r#"<svg class="mk t" viewBox="0 0 10 10"><path d="M5 0 10 9.4H0z"/></svg>"#
-        }
-        Level::Notice => {
-            r#"<svg class="mk n" viewBox="0 0 10 10"><path d="M5 0 10 5 5 10 0 5z"/></svg>"#
-        }
-        Level::Silent => r#"<svg class="mk s" viewBox="0 0 10 10"><path d="M1 1h8v8h-8z"/></svg>"#,
-        Level::Clean => {
-            r#"<svg class="mk c" viewBox="0 0 10 10"><circle cx="5" cy="5" r="3.4"/></svg>"#
+    /// The outline of its mark: they differ in shape.
+    pub fn mark(self) -> &'static str {
+        match self {
+            Level::Trouble => r#"t" viewBox="0 0 10 10"><path d="M5 0 10 9.4H0z"/>"#,
+            Level::Notice => r#"n" viewBox="0 0 10 10"><path d="M5 0 10 5 5 10 0 5z"/>"#,
+            Level::Silent => r#"s" viewBox="0 0 10 10"><path d="M1 1h8v8h-8z"/>"#,
+            Level::Clean => r#"c" viewBox="0 0 10 10"><circle cx="5" cy="5" r="3.4"/>"#,
         }
     }
 }
@@ -143,17 +130,13 @@ fn key_of(rank: &Rank) -> (u8, u64, usize) {
 pub fn ranks_of(alloc: Global, report: &Report) -> Result<Vec<Rank>, AllocError> {
     let mut ranks = Vec::with_capacity(alloc, report.links.len())?;
     for (index, link) in report.links.iter().enumerate() {
+        let (level, signs) = (level_of(report, link), signs_of(link));
         ranks.push(Rank {
             index,
-            level: level_of(report, link),
-            signs: signs_of(link),
+            level,
+            signs,
         })?;
     }
     ranks.sort_by_key(key_of)?;
     Ok(ranks)
-}
-
-/// How many links have a level.
-pub fn count_of(ranks: &[Rank], level: Level) -> u64 {
-    ranks.iter().filter(|rank| rank.level == level).count() as u64
 }

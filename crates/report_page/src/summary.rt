@@ -1,17 +1,18 @@
 //! The first part of the report as lines for a terminal.
 
 use crate::causes::CAUSES;
-use crate::comparison::{count_word, worse_word};
 use crate::gaps::{end_of, gap_of, is_told, silent_on_both, stop_of};
-use crate::head::{level_counts, links_word, push_stop};
-use crate::ranks::{Level, Rank, frames_of, level_word, open_signs, ranks_of};
-use crate::view::{NETWORKS, View, counts_of, letter_of, sum};
-use crate::writer::{Page, Part, seconds};
+use crate::page::push_stop;
+use crate::ranks::{Level, Rank, frames_of, open_signs};
+use crate::tables::{count_word, worse_word};
+use crate::view::{NETWORKS, TROUBLES, View, counts_of, links_word};
+use crate::writer::Page;
+use crate::writer::Part::{Letter, Number, Seconds, Text, Thousandths};
 use afdx_frame::Network;
 use ledger_report::{Interval, LinkReport, Report, Sign};
 use report_comparison::{LinkComparison, WORSE, Worse};
 use std::alloc::{AllocError, Global};
-use vl_config::{Config, Link};
+use vl_config::Config;
 
 /// The most lines, without those on what got worse since a baseline.
 pub const SUMMARY_LINES: usize = 28;
@@ -24,26 +25,12 @@ const SILENCES: usize = 2;
 
 fn push_head(page: &mut Page, view: &View<'_>) {
     let all = view.report.counts.all();
-    page.fill(
-        "length @ s, frames @, delivered @, copies @\n",
-        &[
-            seconds(view.since(view.report.end)),
-            Part::Number(all.frames),
-            Part::Number(all.delivered),
-            Part::Number(all.copy),
-        ],
-    );
-    let [trouble, notice, silent, clean] = level_counts(view);
-    page.fill(
-        "links @: @ in trouble, @ notice, @ never seen, @ clean\n",
-        &[
-            Part::Number(view.ranks.len() as u64),
-            trouble,
-            notice,
-            silent,
-            clean,
-        ],
-    );
+    fill!(page; "length $length$ s, frames $frames$, delivered $delivered$, copies $copies$\n";
+        length = view.since(view.report.end), frames = Number(all.frames), delivered = Number(all.delivered),
+        copies = Number(all.copy));
+    let [links, trouble, notice, silent, clean] = view.levels();
+    fill!(page; "links $links$: $trouble$ in trouble, $notice$ notice, $silent$ never seen, $clean$ clean\n";
+        links, trouble, notice, silent, clean);
     if let Some(stop) = view.report.stop {
         push_stop(page, stop);
         page.text("\n");
@@ -52,140 +39,77 @@ fn push_head(page: &mut Page, view: &View<'_>) {
 
 /// Appends what is wrong with the table or a recording, a line each.
 fn push_causes(page: &mut Page, view: &View<'_>) {
-    for cause in CAUSES {
-        if cause.is_shown(view) {
-            cause.push_seen(page, view);
-            cause.push_advice(page, view);
-            page.text("\n");
-        }
+    for cause in CAUSES.iter().filter(|cause| cause.is_shown(view)) {
+        cause.push(page, view, "", "");
+        page.text("\n");
     }
 }
 
-fn push_silences(page: &mut Page, view: &View<'_>) {
-    for network in NETWORKS {
-        let side = view.report.networks.of(network);
-        let told = side
-            .silences
-            .iter()
-            .filter(|silence| is_told(side, silence));
-        for silence in told.take(SILENCES) {
-            let both = silent_on_both(view.report, network, silence).is_some();
-            if both && network == Network::B {
-                continue;
-            }
-            page.fill(
-                "@ silent from @ s to @ s\n",
-                &[
-                    Part::Text(silent_word(network, both)),
-                    seconds(view.since(silence.from)),
-                    seconds(view.since(silence.to)),
-                ],
-            );
-        }
-        if let Some(end) = end_of(view.report, network) {
-            let from = seconds(view.since(end.from));
-            let letter = Part::Text(letter_of(network));
-            page.fill("network @ has no frame after @ s\n", &[letter, from]);
-        }
+fn push_silences(page: &mut Page, view: &View<'_>, network: Network) {
+    let side = view.report.networks.of(network);
+    let told = side.silences.iter().filter(|one| is_told(side, one));
+    for silence in told.take(SILENCES) {
+        let both = silent_on_both(view.report, network, silence).is_some();
+        let template = match (both, network) {
+            (true, Network::B) => "",
+            (true, Network::A) => "networks A and B silent from $from$ s to $to$ s\n",
+            (false, _) => "network $n$ silent from $from$ s to $to$ s\n",
+        };
+        fill!(page; template; n = Letter(network), from = view.since(silence.from),
+            to = view.since(silence.to));
     }
-}
-
-/// What is silent.
-fn silent_word(network: Network, both: bool) -> &'static str {
-    match network {
-        _ if both => "networks A and B",
-        Network::A => "network A",
-        Network::B => "network B",
+    if let Some(end) = end_of(view.report, network) {
+        fill!(page; "network $n$ has no frame after $from$ s\n"; n = Letter(network),
+            from = view.since(end.from));
     }
 }
 
 /// Appends a time of a link without a delivery.
 fn push_gap(page: &mut Page, view: &View<'_>, gap: Option<Interval>) {
     if let Some(gap) = gap {
-        let from = seconds(view.since(gap.from));
-        page.fill(" gap @ s from @ s", &[seconds(gap.time()), from]);
+        fill!(page; " gap $time$ s from $from$ s"; time = Seconds(gap.time()), from = view.since(gap.from));
     }
 }
 
-/// The signs of a link's line.
-const SIGNS: [(Sign, &str); 7] = [
-    (Sign::TooLong, "toolong"),
-    (Sign::Excess, "excess"),
-    (Sign::Out, "out"),
-    (Sign::Lost, "lost"),
-    (Sign::Late, "late"),
-    (Sign::Alone, "alone"),
-    (Sign::Reset, "reset"),
-];
-
-fn push_link(page: &mut Page, view: &View<'_>, rank: &Rank, report: &LinkReport, link: &Link) {
-    page.columns(level_word(rank.level), u64::from(link.id.0));
-    page.fill(
-        " @ frames @",
-        &[
-            Part::Text(link.name.as_str()),
-            Part::Number(frames_of(report)),
-        ],
-    );
-    for (sign, word) in SIGNS {
-        let counts = counts_of(report, sign);
-        if sum(&counts) > 0 {
-            let (a, b) = (Part::Number(counts.a), Part::Number(counts.b));
-            page.fill(" @ @/@", &[Part::Text(word), a, b]);
+fn push_link(page: &mut Page, view: &View<'_>, rank: &Rank) {
+    let Some((report, link)) = view.link(rank.index) else {
+        return;
+    };
+    page.columns(rank.level.word(), u64::from(link.id.0));
+    fill!(page; " $name$ frames $frames$"; name = Text(&link.name), frames = Number(frames_of(report)));
+    for sign in TROUBLES.iter().chain(&[Sign::Reset]) {
+        let counts = counts_of(report, *sign);
+        if counts.sum() > 0 {
+            fill!(page; " $word$ $a$/$b$"; word = Text(sign.word()), a = Number(counts.0),
+                b = Number(counts.1));
         }
     }
+    push_losses(page, view, report);
+}
+
+fn push_losses(page: &mut Page, view: &View<'_>, report: &LinkReport) {
     push_gap(page, view, gap_of(report));
     push_gap(page, view, stop_of(view.report, report));
-    if report.lost_both > 0 {
-        page.fill(" lost_both @", &[Part::Number(report.lost_both)]);
-    }
-    let open = open_signs(view.report, report);
-    if open > 0 {
-        page.fill(" open @", &[Part::Number(open)]);
-    }
-    page.text("\n");
+    fill!(page; "$?lost$ lost_both $lost$$/$$?open$ open $open$$/$\n"; lost = Number(report.lost_both),
+        open = Number(open_signs(view.report, report)));
 }
 
-/// Appends frames by second today and in the baseline.
-fn push_rates(page: &mut Page, link: &LinkComparison) {
-    for (word, numbers) in [("frames/s", link.today), ("baseline", link.baseline)] {
-        let rate = match numbers {
-            Some(numbers) => numbers.rate(),
-            None => Some(0),
-        };
-        match rate {
-            Some(rate) => page.fill(" @ @", &[Part::Text(word), Part::Thousandths(rate)]),
-            None => page.fill(" @ -", &[Part::Text(word)]),
-        }
-    }
-}
-
-/// Appends a way in which a link got worse, with the count that grew today and in the baseline.
-fn push_worse(page: &mut Page, link: &LinkComparison, how: Worse) {
-    match (how, link.today, link.baseline) {
-        (Worse::Grew(count), Some(today), Some(before)) => {
-            let (now, then) = (today.count(count), before.count(count));
-            page.fill(
-                " @ @ baseline @",
-                &[
-                    Part::Text(count_word(count)),
-                    Part::Number(now),
-                    Part::Number(then),
-                ],
-            );
-        }
-        _ => page.fill(" @", &[Part::Text(worse_word(how))]),
-    }
-}
-
-/// Appends the line of a link that got worse.
-fn push_worse_link(page: &mut Page, link: &LinkComparison, configured: &Link) {
+/// Appends the line of a link that got worse: frames by second today and in the baseline, and in which ways.
+fn push_worse(page: &mut Page, view: &View<'_>, link: &LinkComparison, name: &str) {
     page.columns("worse", u64::from(link.link.0));
-    page.fill(" @", &[Part::Text(configured.name.as_str())]);
-    push_rates(page, link);
-    for how in WORSE {
-        if link.is_worse(how) {
-            push_worse(page, link, how);
+    fill!(page; " $name$"; name = Text(name));
+    for (word, numbers) in [("frames/s", link.today), ("baseline", link.baseline)] {
+        let rate = numbers.map_or(Some(0), |numbers| numbers.rate());
+        let rate = rate.map_or(Text("-"), |rate| Thousandths(rate));
+        fill!(page; " $word$ $rate$"; word = Text(word), rate);
+    }
+    for how in WORSE.iter().filter(|how| link.is_worse(**how)) {
+        match (how, link.today, link.baseline) {
+            (Worse::Grew(count), Some(today), Some(before)) => {
+                fill!(page; " $word$ $now$ baseline $then$"; word = Text(count_word(*count)),
+                    now = Number(today.count(*count)), then = Number(before.count(*count)));
+            }
+            _ => fill!(page; " $word$"; word = Text(worse_word(*how))),
         }
     }
     page.text("\n");
@@ -193,32 +117,20 @@ fn push_worse_link(page: &mut Page, link: &LinkComparison, configured: &Link) {
 
 /// Appends a line for each of the first links that got worse since the baseline.
 fn push_comparison(page: &mut Page, view: &View<'_>) {
-    if view.baseline.is_none() {
-        return;
-    }
     let worse = view.worse_links();
-    let number = Part::Number(worse as u64);
-    page.fill("links worse than in the baseline: @\n", &[number]);
-    let mut left = worse.min(WORSE_LINKS);
-    for rank in view.ranks.iter() {
-        if left == 0 || !view.is_worse(rank.index) {
-            continue;
-        }
+    fill!(page; "links worse than in the baseline: $worse$\n"; worse = Number(worse as u64));
+    let ranks = view.ranks.iter().filter(|rank| view.is_worse(rank.index));
+    for rank in ranks.take(WORSE_LINKS) {
         if let (Some(link), Some((_, configured))) = (
             view.compared(rank.index),
             view.link(rank.index),
         ) {
-            push_worse_link(page, &link, configured);
+            push_worse(page, view, &link, &configured.name);
         }
-        left = left.saturating_sub(1);
     }
-    if worse > WORSE_LINKS {
-        let more = worse.saturating_sub(WORSE_LINKS) as u64;
-        page.fill(
-            "and @ more @ got worse\n",
-            &[Part::Number(more), links_word(more)],
-        );
-    }
+    let more = worse.saturating_sub(WORSE_LINKS) as u64;
+    fill!(page; "$?more$and $more$ more $links$ got worse\n$/$"; more = Number(more),
+        links = links_word(more));
 }
 
 /// The first part of a report as text: at most [`SUMMARY_LINES`] lines. Where there is a baseline,
@@ -230,24 +142,22 @@ pub fn summary_of(
     config: &Config,
     baseline: Option<&Report>,
 ) -> Result<String, AllocError> {
-    let ranks = ranks_of(alloc, report)?;
-    let view = View::new(alloc, report, config, false, ranks, baseline)?;
+    let view = View::new(alloc, report, config, false, baseline)?;
     let mut page = Page::new(alloc);
     push_head(&mut page, &view);
-    push_comparison(&mut page, &view);
+    if baseline.is_some() {
+        push_comparison(&mut page, &view);
+    }
     push_causes(&mut page, &view);
-    push_silences(&mut page, &view);
+    for network in NETWORKS {
+        push_silences(&mut page, &view, network);
+    }
     let bad = view.ranks.iter().filter(|rank| rank.level != Level::Clean);
-    let mut more = bad.count();
-    for rank in view.ranks.iter().take(more.min(LINKS)) {
-        if let Some((report, link)) = view.link(rank.index) {
-            push_link(&mut page, &view, rank, report, link);
-            more = more.saturating_sub(1);
-        }
+    let bad = bad.count();
+    for rank in view.ranks.iter().take(bad.min(LINKS)) {
+        push_link(&mut page, &view, rank);
     }
-    if more > 0 {
-        let more = more as u64;
-        page.fill("and @ more @\n", &[Part::Number(more), links_word(more)]);
-    }
+    let more = bad.saturating_sub(LINKS) as u64;
+    fill!(page; "$?more$and $more$ more $links$\n$/$"; more = Number(more), links = links_word(more));
     page.into_text()
 }

@@ -1,10 +1,12 @@
 //! What the page's parts share.
 
 use crate::drift::{Drift, bins_used, drift_of};
-use crate::numbers::{quotient, share};
-use crate::ranks::Rank;
+use crate::numbers::quotient;
+use crate::ranks::{LEVELS, Level, Rank, ranks_of};
+use crate::writer::{Pair, Part};
 use afdx_frame::Network;
-use ledger_report::{LinkReport, Report, Sides, Sign};
+use ledger_report::Sign::{self, Alone, Excess, Late, Lost, Out, TooLong};
+use ledger_report::{LinkReport, Place, Report};
 use report_comparison::{LinkComparison, WORSE, comparison_at};
 use std::alloc::{AllocError, Global};
 use vl_config::{Config, Link};
@@ -13,19 +15,45 @@ use vl_config::{Config, Link};
 pub const ROWS: usize = 64;
 
 pub const STRIPS: usize = 12;
-/// The most sentences of what to look at first.
-pub const SENTENCES: usize = 20;
+
+/// All signs, the reasons to discard a frame first.
+pub const SIGNS: [Sign; 14] = [
+    Sign::Cut,
+    Sign::Runt,
+    Sign::Oversize,
+    Sign::Foreign,
+    Sign::Unconfigured,
+    TooLong,
+    Excess,
+    Out,
+    Lost,
+    Sign::Repeat,
+    Sign::Reset,
+    Alone,
+    Late,
+    Sign::Early,
+];
+
+/// So many of them are reasons to discard a frame, in the order of judgement,
+pub const DISCARDS: usize = 8;
+/// and so many after those tell of loss and redundancy.
+pub const LOSSES: usize = 5;
+
+/// The signs that count against a link.
+pub const TROUBLES: [Sign; 6] = [TooLong, Excess, Out, Lost, Late, Alone];
+
+/// Both networks.
+pub const NETWORKS: [Network; 2] = [Network::A, Network::B];
 
 /// The report with what is reckoned once for all parts.
 #[derive(Drop)]
 pub struct View<'a> {
-    pub alloc: Global,
     pub report: &'a Report,
     pub config: &'a Config,
     /// How many bins the page shows, and how long they are together.
     pub used: usize,
     pub span: u64,
-    /// Does a filter of the table take every frame whole?
+    /// Does a filter of the table take every frame whole, so that the bytes kept are those of the frames?
     pub sizes: bool,
     /// The links, worst first.
     pub ranks: Vec<Rank>,
@@ -35,95 +63,36 @@ pub struct View<'a> {
     pub drift: Option<Drift>,
 }
 
-/// The eight reasons to discard a frame, in the order of judgement.
-pub const DISCARDS: [Sign; 8] = [
-    Sign::Cut,
-    Sign::Runt,
-    Sign::Oversize,
-    Sign::Foreign,
-    Sign::Unconfigured,
-    Sign::TooLong,
-    Sign::Excess,
-    Sign::Out,
-];
-
-/// The word of a sign.
-pub fn word_of(sign: Sign) -> &'static str {
-    match sign {
-        Sign::Cut => "cut",
-        Sign::Runt => "runt",
-        Sign::Oversize => "oversize",
-        Sign::Foreign => "foreign",
-        Sign::Unconfigured => "unconfigured",
-        Sign::TooLong => "toolong",
-        Sign::Excess => "excess",
-        Sign::Out => "out",
-        Sign::Lost => "lost",
-        Sign::Repeat => "repeat",
-        Sign::Reset => "reset",
-        Sign::Alone => "alone",
-        Sign::Late => "late",
-        Sign::Early => "early",
-    }
-}
-
-/// The letter of a network.
-pub fn letter_of(network: Network) -> &'static str {
-    match network {
-        Network::A => "A",
-        Network::B => "B",
-    }
-}
-
-/// The other network.
-pub fn other(network: Network) -> Network {
-    match network {
-        Network::A => Network::B,
-        Network::B => Network::A,
-    }
-}
-
-/// Both networks.
-pub const NETWORKS: [Network; 2] = [Network::A, Network::B];
-
 impl<'a> View<'a> {
-    /// What the parts of a page are made of: a report, its table, the links in the order of the
-    /// page, and the report of an earlier flight. `sizes` says whether the bytes kept are those of
-    /// the frames.
     pub fn new(
         alloc: Global,
         report: &'a Report,
         config: &'a Config,
         sizes: bool,
-        ranks: Vec<Rank>,
         baseline: Option<&'a Report>,
     ) -> Result<View<'a>, AllocError> {
         let used = bins_used(report);
-        let drift = drift_of(alloc, report)?;
         Ok(View {
-            alloc,
             report,
             config,
             used: used as usize,
             span: used.saturating_mul(report.width),
             sizes,
-            ranks,
+            ranks: ranks_of(alloc, report)?,
             baseline,
-            drift,
+            drift: drift_of(alloc, report)?,
         })
     }
 
     /// The counts of a sign on both networks.
-    pub fn total(&self, sign: Sign) -> Sides<u64> {
-        Sides {
-            a: self.report.networks.a.signs.of(sign).count,
-            b: self.report.networks.b.signs.of(sign).count,
-        }
+    pub fn total(&self, sign: Sign) -> Pair {
+        let (a, b) = (&self.report.networks.a, &self.report.networks.b);
+        Pair(a.signs.of(sign).count, b.signs.of(sign).count)
     }
 
-    /// Nanoseconds since the first line.
-    pub fn since(&self, stamp: u64) -> u64 {
-        stamp.saturating_sub(self.report.start)
+    /// The time from the first line to a timestamp.
+    pub fn since(&self, stamp: u64) -> Part<'static> {
+        Part::Seconds(stamp.saturating_sub(self.report.start))
     }
 
     /// A link's report and its configuration.
@@ -132,6 +101,24 @@ impl<'a> View<'a> {
             (Some(report), Some(link)) => Some((report, link)),
             _ => None,
         }
+    }
+
+    /// How many links have a level.
+    pub fn count_of(&self, level: Level) -> u64 {
+        let ranks = self.ranks.iter().filter(|rank| rank.level == level);
+        ranks.count() as u64
+    }
+
+    /// How many links there are, and how many are in trouble, of notice, silent and clean.
+    pub fn levels(&self) -> [Part<'static>; 5] {
+        let [trouble, notice, silent, clean] = LEVELS;
+        [
+            Part::Number(self.ranks.len() as u64),
+            Part::Number(self.count_of(trouble)),
+            Part::Number(self.count_of(notice)),
+            Part::Number(self.count_of(silent)),
+            Part::Number(self.count_of(clean)),
+        ]
     }
 
     /// A link's numbers beside those of the baseline, if there is one.
@@ -153,18 +140,6 @@ impl<'a> View<'a> {
         worse.count()
     }
 
-    /// How much of its allocation a link uses on a network, in tenths of a percent.
-    pub fn used_tenths(&self, link: &LinkReport, network: Network) -> u64 {
-        let side = self.report.networks.of(network);
-        let lane = link.lanes.of(network);
-        let length = side.last.saturating_sub(side.first);
-        share(
-            share(lane.bytes, 1000, u64::from(link.smax)),
-            link.bag,
-            length,
-        )
-    }
-
     /// How long a column of so many bins is.
     pub fn long(&self, per: usize) -> u64 {
         self.report.width.saturating_mul(per as u64)
@@ -174,9 +149,8 @@ impl<'a> View<'a> {
     pub fn column(&self, link: &LinkReport) -> usize {
         let mut column = 1usize;
         for _ in 0..8 {
-            let long = (column as u64).saturating_mul(self.report.width)
-                >= link.bag.saturating_mul(4);
-            if long || quotient(self.used as u64, (column as u64).saturating_mul(2)) < 30 {
+            let few = quotient(self.used as u64, column.saturating_mul(2) as u64) < 30;
+            if few || self.long(column) >= link.bag.saturating_mul(4) {
                 break;
             }
             column = column.saturating_mul(2);
@@ -186,19 +160,37 @@ impl<'a> View<'a> {
 }
 
 /// The counts of a link's sign on both networks.
-pub fn counts_of(link: &LinkReport, sign: Sign) -> Sides<u64> {
-    Sides {
-        a: link.lanes.a.signs.of(sign).count,
-        b: link.lanes.b.signs.of(sign).count,
+pub fn counts_of(link: &LinkReport, sign: Sign) -> Pair {
+    let (a, b) = (&link.lanes.a.signs, &link.lanes.b.signs);
+    Pair(a.of(sign).count, b.of(sign).count)
+}
+
+/// The word for so many links.
+pub fn links_word(count: u64) -> Part<'static> {
+    Part::Text(if count == 1 { "link" } else { "links" })
+}
+
+/// Does the link at this place of the order have a strip?
+pub fn has_strip(rank: &Rank, at: usize) -> bool {
+    rank.level == Level::Trouble && at < STRIPS
+}
+
+/// The network and the place of a link's first frame of a sign.
+pub fn first_of(link: &LinkReport, sign: Sign) -> Option<(Network, Place)> {
+    let (a, b) = (&link.lanes.a.signs, &link.lanes.b.signs);
+    match (a.of(sign).first, b.of(sign).first) {
+        (Some(a), Some(b)) if b.stamp < a.stamp => Some((Network::B, b)),
+        (Some(a), _) => Some((Network::A, a)),
+        (None, Some(b)) => Some((Network::B, b)),
+        (None, None) => None,
     }
 }
 
-/// The sum of both.
-pub fn sum(counts: &Sides<u64>) -> u64 {
-    counts.a.saturating_add(counts.b)
-}
-
-/// An empty text.
-pub fn text(alloc: Global) -> Result<String, AllocError> {
-    String::from_str(alloc, "")
+/// The network, the time and the number of a frame, if there is one; else the first is blank.
+pub fn first_parts(view: &View<'_>, first: Option<(Network, Place)>) -> [Part<'static>; 3] {
+    let Some((network, place)) = first else {
+        return [Part::Text(""); 3];
+    };
+    let number = Part::Grouped(u64::from(place.number));
+    [Part::Letter(network), view.since(place.stamp), number]
 }

@@ -1,8 +1,25 @@
 //! What a page is written with.
 
-use crate::numbers::{SECOND, date_of, quotient, rounded};
+use crate::numbers::{SECOND, quotient, rounded};
+use afdx_frame::Network;
+use jiff::Timestamp;
 use std::alloc::{AllocError, Global};
 use std::fmt::Write;
+
+/// Numbers of A and B.
+#[derive(Clone, Copy)]
+pub struct Pair(pub u64, pub u64);
+
+impl Pair {
+    pub fn sum(self) -> u64 {
+        self.0.saturating_add(self.1)
+    }
+
+    /// Both, each at most that of the other pair.
+    pub fn min(self, other: Pair) -> Pair {
+        Pair(self.0.min(other.0), self.1.min(other.1))
+    }
+}
 
 /// What stands in a hole of a template.
 #[derive(Clone, Copy)]
@@ -10,6 +27,7 @@ pub enum Part<'a> {
     Text(&'a str),
     /// A text that was given to the program, of whatever characters.
     Given(&'a str),
+    Letter(Network),
     Number(u64),
     /// A number, its groups of three digits apart.
     Grouped(u64),
@@ -19,35 +37,46 @@ pub enum Part<'a> {
     Hundredths(u64),
     /// So many thousandths, with three decimals.
     Thousandths(u64),
+    /// Nanoseconds as milliseconds, or bits a second as megabits, with two decimals.
+    Millionths(u64),
     /// Nanoseconds in the unit that fits, rounded to three digits.
     Duration(u64),
     /// Nanoseconds in milliseconds, rounded to three digits.
     Milliseconds(u64),
+    /// Nanoseconds as seconds, rounded to three decimals.
+    Seconds(u64),
+    /// Nanoseconds as seconds, with as many decimals as they need, at most three.
+    Tick(u64),
     /// A timestamp in UTC, as `cut --from` takes it.
     Utc(u64),
-    /// Counts of A and B.
-    Pair(u64, u64),
+    Both(Pair),
 }
 
-/// Nanoseconds as milliseconds, or bits a second as megabits, with two decimals.
-pub fn millionths(value: u64) -> Part<'static> {
-    Part::Hundredths(value / 10_000)
+/// A part with the name of the holes where it stands.
+pub type Named<'a> = (&'a str, Part<'a>);
+
+impl Part<'_> {
+    /// Is it a text without characters, or a count of 0?
+    fn is_blank(self) -> bool {
+        match self {
+            Part::Text(text) => text.is_empty(),
+            Part::Number(value) | Part::Grouped(value) | Part::Duration(value) => value == 0,
+            Part::Both(pair) => pair.sum() == 0,
+            _ => false,
+        }
+    }
 }
 
-/// Nanoseconds as seconds, rounded to three decimals.
-pub fn seconds(value: u64) -> Part<'static> {
-    Part::Thousandths(rounded(value, 1, 1_000_000))
+/// What is blank where this doesn't hold.
+pub fn flag(holds: bool) -> Part<'static> {
+    Part::Text(if holds { "yes" } else { "" })
 }
 
-/// The places of a number's groups of three digits above the last.
-const GROUPS: [u64; 6] = [
-    1_000_000_000_000_000_000,
-    1_000_000_000_000_000,
-    1_000_000_000_000,
-    1_000_000_000,
-    1_000_000,
-    1_000,
-];
+/// The part of this name, blank where there is none.
+fn part_of<'a>(parts: &[Named<'a>], name: &str) -> Part<'a> {
+    let named = parts.iter().find(|part| part.0 == name);
+    named.map_or(Part::Text(""), |part| part.1)
+}
 
 /// A page as it is written. It keeps the failure of an append, so that nothing that appends has a result.
 #[derive(Drop)]
@@ -96,23 +125,26 @@ impl Page {
                 let failed = self.written.push(character).is_err();
                 self.note(failed);
             } else {
-                self.text("&#");
-                self.number(u64::from(u32::from(character)), 1);
+                self.path(&[("&#", u64::from(u32::from(character)))]);
                 self.text(";");
             }
         }
     }
 
-    /// Appends a template with a part in the place of each `@`.
-    pub fn fill(&mut self, template: &str, parts: &[Part<'_>]) {
-        let mut left = parts.iter();
-        for (at, text) in template.split('@').enumerate() {
-            if at > 0 {
-                if let Some(part) = left.next() {
-                    self.part(*part);
-                }
+    /// Appends a template. `$name$` is the part of that name, and what stands between `$?name$` and `$/$` is
+    /// left out where that part is blank.
+    pub fn fill(&mut self, template: &str, parts: &[Named<'_>]) {
+        let mut shown = true;
+        for (at, piece) in template.split('$').enumerate() {
+            if at % 2 == 0 {
+                self.text(if shown { piece } else { "" });
+            } else if piece == "/" {
+                shown = true;
+            } else if let Some(name) = piece.strip_prefix("?") {
+                shown = !part_of(parts, name).is_blank();
+            } else if shown {
+                self.part(part_of(parts, piece));
             }
-            self.text(text);
         }
     }
 
@@ -120,19 +152,31 @@ impl Page {
         match part {
             Part::Text(text) => self.text(text),
             Part::Given(text) => self.given(text),
+            Part::Letter(network) => self.text(network.letter()),
             Part::Number(value) => self.number(value, 1),
             Part::Grouped(value) => self.grouped(value),
             Part::Tenths(value) => self.decimal(value, 10, 1),
             Part::Hundredths(value) => self.decimal(value, 100, 2),
             Part::Thousandths(value) => self.decimal(value, 1000, 3),
+            Part::Millionths(value) => self.decimal(value / 10_000, 100, 2),
             Part::Duration(value) => self.duration(value),
             Part::Milliseconds(value) => self.three_digits(value, 1_000_000),
+            Part::Seconds(value) => self.decimal(rounded(value, 1, 1_000_000), 1000, 3),
+            Part::Tick(value) => self.tick(value),
             Part::Utc(stamp) => self.utc(stamp),
-            Part::Pair(a, b) => {
+            Part::Both(Pair(a, b)) => {
                 self.side("a", a);
                 self.text("<i>/</i>");
                 self.side("b", b);
             }
+        }
+    }
+
+    /// Appends steps of a path: texts, each before a number.
+    pub fn path(&mut self, steps: &[(&str, u64)]) {
+        for (text, number) in steps {
+            self.text(text);
+            self.number(*number, 1);
         }
     }
 
@@ -143,19 +187,14 @@ impl Page {
         self.note(failed);
     }
 
-    /// Appends a number with so many digits at least: 1, 2, 3 or 9.
-    fn number(&mut self, value: u64, digits: u8) {
-        let appended = match digits {
-            1 => write!(self.written, "{value}"),
-            2 => write!(self.written, "{value:02}"),
-            3 => write!(self.written, "{value:03}"),
-            _ => write!(self.written, "{value:09}"),
-        };
-        self.note(appended.is_err());
+    /// Appends a number with so many digits at least.
+    fn number(&mut self, value: u64, digits: usize) {
+        let failed = write!(self.written, "{value:0digits$}").is_err();
+        self.note(failed);
     }
 
     /// Appends a number of parts, of which `of` make one.
-    fn decimal(&mut self, value: u64, of: u64, digits: u8) {
+    fn decimal(&mut self, value: u64, of: u64, digits: usize) {
         let whole = quotient(value, of);
         self.number(whole, 1);
         self.text(".");
@@ -163,21 +202,23 @@ impl Page {
     }
 
     fn grouped(&mut self, value: u64) {
-        let mut digits = 1;
-        for place in GROUPS {
+        let (mut digits, mut place) = (1, 1_000_000_000_000_000_000u64);
+        for _ in 0..6 {
             if value >= place {
                 self.number(quotient(value, place) % 1000, digits);
                 self.text("&#8239;");
                 digits = 3;
             }
+            place /= 1000;
         }
         self.number(value % 1000, digits);
     }
 
     fn side(&mut self, class: &str, count: u64) {
-        self.text("<span class=\"");
-        self.text(class);
-        self.text(if count == 0 { " z\">" } else { "\">" });
+        let zero = if count == 0 { " z" } else { "" };
+        for text in ["<span class=\"", class, zero, "\">"] {
+            self.text(text);
+        }
         self.grouped(count);
         self.text("</span>");
     }
@@ -207,22 +248,17 @@ impl Page {
 
     fn duration(&mut self, value: u64) {
         // A unit begins where the one before would be rounded up to it.
-        let (unit, name) = if value >= 999_500_000 || value == 0 {
-            (SECOND, "s")
-        } else if value >= 999_500 {
-            (1_000_000, "ms")
-        } else if value >= 1_000 {
-            (1_000, "&#181;s")
-        } else {
-            (1, "ns")
+        let (unit, name) = match value {
+            0 | 999_500_000.. => (SECOND, "&#8239;s"),
+            999_500.. => (1_000_000, "&#8239;ms"),
+            1_000.. => (1_000, "&#8239;&#181;s"),
+            _ => (1, "&#8239;ns"),
         };
         self.three_digits(value, unit);
-        self.text("&#8239;");
         self.text(name);
     }
 
-    /// Appends seconds of so many nanoseconds with as many decimals as they need, at most three.
-    pub fn tick(&mut self, at: u64) {
+    fn tick(&mut self, at: u64) {
         let thousandths = at / 1_000_000;
         if thousandths % 10 > 0 {
             self.decimal(thousandths, 1000, 3);
@@ -232,21 +268,9 @@ impl Page {
     }
 
     fn utc(&mut self, stamp: u64) {
-        let seconds = stamp / SECOND;
-        let (year, month, day) = date_of(seconds / 86_400);
-        self.number(year, 1);
-        for (mark, value) in [
-            ("-", month),
-            ("-", day),
-            ("T", seconds / 3_600 % 24),
-            (":", seconds / 60 % 60),
-            (":", seconds % 60),
-        ] {
-            self.text(mark);
-            self.number(value, 2);
+        if let Ok(moment) = Timestamp::from_nanosecond(i128::from(stamp)) {
+            let failed = write!(self.written, "{moment:.9}").is_err();
+            self.note(failed);
         }
-        self.text(".");
-        self.number(stamp % SECOND, 9);
-        self.text("Z");
     }
 }

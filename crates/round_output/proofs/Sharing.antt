@@ -84,19 +84,19 @@ module _ {W L T : Type 0} (w : SinkMembers W) (l : SinkMembers L) (ps : Making) 
   -- the parts of a round that workers are at
   pub record IsAt (frames : List Frame) (before after : LanesState) (c : CaptureWriter W) (g : Ledger L) (p : Posted T JudgedRound) : Type 0 where
     pub first : List Frame
-    pub all : frames ≡ first ++ p.round.frames.items
-    pub lanes : StandsAfter after vl_table (first ++ p.round.frames.items)
+    pub all : frames ≡ first ++ p.round.frames
+    pub lanes : StandsAfter after vl_table (first ++ p.round.frames)
     pub written : HasWritten w l ps vl_table capture ledger first (outputs_of before c g)
-    pub judged : AreVerdicts vl_table first p.round.frames.items p.round.verdicts.items
+    pub judged : AreVerdicts vl_table first p.round.frames p.round.verdicts.items
 
   pub is_at : (frames : List Frame) (after : LanesState) (c : CaptureWriter W) (g : Ledger L) (flight : Option (Posted T JudgedRound)) (p : Posted T JudgedRound)
       (h : HasShared w l ps vl_table capture ledger frames (outputs_of after c g) flight) → flight ≡ Some p → IsAt frames h.before after c g p
   is_at frames after c g flight p h some =
-      let all : frames ≡ h.first ++ p.round.frames.items = h.all ∙ ap (λ (f : Option (Posted T JudgedRound)). h.first ++ frames_at f) some in
+      let all : frames ≡ h.first ++ p.round.frames = h.all ∙ ap (λ (f : Option (Posted T JudgedRound)). h.first ++ frames_at f) some in
       record {
         first = h.first;
         all = all;
         lanes = subst (StandsAfter after vl_table) all h.lanes;
         written = h.written;
-        judged = subst (λ (f : Option (Posted T JudgedRound)). IfSome f (λ q. AreVerdicts vl_table h.first q.round.frames.items q.round.verdicts.items)) some h.judged;
+        judged = subst (λ (f : Option (Posted T JudgedRound)). IfSome f (λ q. AreVerdicts vl_table h.first q.round.frames q.round.verdicts.items)) some h.judged;
       }

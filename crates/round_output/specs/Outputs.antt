@@ -52,7 +52,7 @@ pub record HasWritten {W L : Type 0} (w : SinkMembers W) (l : SinkMembers L)
 
 -- the frames of a round that workers are at, none where they are at none
 abbrev pub frames_at : {T : Type 0} → Option (Posted T JudgedRound) → List Frame
-frames_at flight = option_map_or (λ p. p.round.frames.items) flight []
+frames_at flight = option_map_or (λ p. p.round.frames) flight []
 
 -- The lanes know these frames; all were written but for the last, a round that workers are at.
 pub record HasShared {W L T : Type 0} (w : SinkMembers W) (l : SinkMembers L)
@@ -63,7 +63,7 @@ pub record HasShared {W L T : Type 0} (w : SinkMembers W) (l : SinkMembers L)
   pub all : frames ≡ first ++ frames_at flight
   pub lanes : StandsAfter outputs.lanes vl_table frames
   pub written : HasWritten w l ps vl_table capture ledger first (outputs_of before outputs.capture outputs.ledger)
-  pub judged : IfSome flight (λ p. AreVerdicts vl_table first p.round.frames.items p.round.verdicts.items)
+  pub judged : IfSome flight (λ p. AreVerdicts vl_table first p.round.frames p.round.verdicts.items)
 
 -- a fault that writing finds, and this
 abbrev pub OfWriting : WatchFault → Type 0 → Type 0

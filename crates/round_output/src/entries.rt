@@ -8,8 +8,9 @@ ghost use Rattle.round_output.specs.Filters.{entry_packet, keep_by, keep_of, mak
 ghost use Rattle.verdict_ledger.specs.Entry.{entries_of, entry_with};
 
 use crate::plan::Plan;
-use afdx_frame::TapFrame;
+use afdx_frame::LentFrame;
 use filter_workers::filter_frame;
+use frame_batch::RoundPart;
 use ledger_text::FrameLine;
 use std::alloc::{AllocError, Global};
 use verdict_ledger::append_lines;
@@ -32,7 +33,7 @@ pub struct Entries {
 
 /// How many bytes are kept of a frame, by the greatest return value. None: it is rejected.
 #[inline]
-fn keep_of(answer: u32, frame: &TapFrame) -> Option<u32>
+fn keep_of(answer: u32, frame: &LentFrame<'_>) -> Option<u32>
     ensures { result ≡ keep_of answer frame.now }
 {
     if answer == 0 {
@@ -70,7 +71,7 @@ impl Entries {
     fn add_frame(
         &mut self,
         plan: &Plan<'_>,
-        frame: &TapFrame,
+        frame: &LentFrame<'_>,
         verdict: &Verdict,
     ) -> Result<(), AllocError>
         requires { length plan.now.programs.now ≤ MAX_FILTERS }
@@ -90,22 +91,21 @@ impl Entries {
         let Some(kept) = keep else {
             return Ok(());
         };
-        let frame = frame.lent();
-        let line = FrameLine::of(&frame, verdict, keep, decision.mask);
+        let line = FrameLine::of(frame, verdict, keep, decision.mask);
         let Entries {
             packets,
             comment,
             ..
         } = self;
         plan.format
-            .append_packet(packets, comment, &frame, kept, Some(&line))
+            .append_packet(packets, comment, frame, kept, Some(&line))
     }
 
     /// Runs the filters on frames, and adds what they say of them and their packets.
     fn add_frames(
         &mut self,
         plan: &Plan<'_>,
-        frames: &[TapFrame],
+        frames: &RoundPart<'_>,
         verdicts: &[Verdict],
     ) -> Result<(), AllocError>
         requires few { length plan.now.programs.now ≤ MAX_FILTERS }
@@ -118,7 +118,7 @@ impl Entries {
         ensures lines { self.new.lines ≡ self.old.lines }
     {
         for index in 0..frames.len() {
-            self.add_frame(plan, &frames[index], &verdicts[index])?;
+            self.add_frame(plan, &frames.frame(index), &verdicts[index])?;
         }
         Ok(())
     }
@@ -131,7 +131,7 @@ impl Entries {
     pub fn fill(
         &mut self,
         plan: &Plan<'_>,
-        frames: &[TapFrame],
+        frames: &RoundPart<'_>,
         verdicts: &[Verdict],
     ) -> Result<(), AllocError>
         requires few { length plan.now.programs.now ≤ MAX_FILTERS }

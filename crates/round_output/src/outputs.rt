@@ -18,8 +18,8 @@ ghost use Rattle.vl_judge.specs.Lanes.{FollowsOn, LanesState, StandsAfter};
 use crate::entries::Entries;
 use crate::plan::Plan;
 use crate::shared::{Formatting, JudgedRound};
-use afdx_frame::TapFrame;
 use filter_workers::RunGate;
+use frame_batch::Round;
 use packet_format::PacketFormat;
 use pcap_io::{CaptureWriter, Ending, OutSink};
 use run_outcome::{CAPTURE_FAILED, Output, WatchFault};
@@ -50,7 +50,7 @@ fn write_packets<W: OutSink>(
 fn write_entries<W: OutSink, L: OutSink>(
     capture: &mut CaptureWriter<W>,
     ledger: &mut Ledger<L>,
-    round: &[TapFrame],
+    round: &Round,
     verdicts: &[Verdict],
     entries: &Entries,
 ) -> Result<(), WatchFault>
@@ -143,7 +143,7 @@ fn gather<'a, R: Wait, G: RunGate + Sync>(
     ensures pool { pool.new ≡ pool.old }
     ensures round { IfOk result (λ back. back ≡ flight.entry.round) }
     ensures entries { OnOk result (AreEntries (making_of flight.entry.task.plan)
-        flight.entry.round.frames.items flight.entry.round.verdicts.items entries.new) }
+        flight.entry.round.frames flight.entry.round.verdicts.items entries.new) }
     ensures fault { IfErr result (λ fault. (fault ≡ WatchFault.Memory) ⊎ (fault ≡ WatchFault.RingLost)) }
 {
     let Done {
@@ -168,7 +168,7 @@ fn write_flight<'a, R: Wait, W: OutSink, L: OutSink, G: RunGate + Sync>(
     ledger: &mut Ledger<L>,
     entries: &mut Entries,
 ) -> Result<(), WatchFault>
-    requires room { (totals_in ledger.old).frames + length flight.round.frames.items ≤ MAX_LINES }
+    requires room { (totals_in ledger.old).frames + length flight.round.frames ≤ MAX_LINES }
     requires capture_going { has_failed capture.old ≡ false }
     requires ledger_going { ledger_has_failed ledger.old ≡ false }
     ensures pool { pool.new ≡ pool.old }
@@ -177,11 +177,11 @@ fn write_flight<'a, R: Wait, W: OutSink, L: OutSink, G: RunGate + Sync>(
         → HasWritten W.OutSink L.OutSink
         (making_of flight.entry.task.plan) vl_table capture_view ledger_view frames
         (outputs_of before capture.old ledger.old)
-        → AreVerdicts vl_table frames flight.entry.round.frames.items flight.entry.round.verdicts.items
-        → StandsAfter after vl_table (frames ++ flight.entry.round.frames.items)
+        → AreVerdicts vl_table frames flight.entry.round.frames flight.entry.round.verdicts.items
+        → StandsAfter after vl_table (frames ++ flight.entry.round.frames)
         → HasWritten W.OutSink L.OutSink
         (making_of flight.entry.task.plan) vl_table capture_view ledger_view
-        (frames ++ flight.entry.round.frames.items)
+        (frames ++ flight.entry.round.frames)
         (outputs_of after capture.new ledger.new)) }
     ensures capture_going { OnOk result (has_failed capture.new ≡ false) }
     ensures ledger_going { OnOk result (ledger_has_failed ledger.new ≡ false) }
@@ -190,10 +190,10 @@ fn write_flight<'a, R: Wait, W: OutSink, L: OutSink, G: RunGate + Sync>(
         → HasWritten W.OutSink L.OutSink
         (making_of flight.entry.task.plan) vl_table capture_view ledger_view frames
         (outputs_of before capture.old ledger.old)
-        → AreVerdicts vl_table frames flight.entry.round.frames.items flight.entry.round.verdicts.items
+        → AreVerdicts vl_table frames flight.entry.round.frames flight.entry.round.verdicts.items
         → StopsWriting (effect_of fault) (making_of flight.entry.task.plan) vl_table capture_view ledger_view
         (sink_at W.OutSink (sink_of capture.new))
-        (sink_at L.OutSink (ledger_sink ledger.new)) (frames ++ flight.entry.round.frames.items)) }
+        (sink_at L.OutSink (ledger_sink ledger.new)) (frames ++ flight.entry.round.frames)) }
 {
     let done = match gather(rt, pool, flight, entries) {
         Ok(round) => round,
@@ -354,7 +354,7 @@ impl<W: OutSink, L: OutSink> Outputs<W, L> {
     pub fn write_round(
         &mut self,
         plan: &Plan<'_>,
-        round: &[TapFrame],
+        round: &Round,
         entries: &mut Entries,
     ) -> Result<(), WatchFault>
         requires few { length plan.now.programs.now ≤ MAX_FILTERS }
@@ -380,7 +380,7 @@ impl<W: OutSink, L: OutSink> Outputs<W, L> {
             (frames ++ round.now)) }
     {
         let verdicts = self.lanes.judge_frames(round)?;
-        entries.fill(plan, round, &verdicts)?;
+        entries.fill(plan, &round.all(), &verdicts)?;
         write_entries(
             &mut self.capture,
             &mut self.ledger,
@@ -401,10 +401,10 @@ impl<W: OutSink, L: OutSink> Outputs<W, L> {
         rt: &R,
         pool: &mut Pool<Formatting<'a, G>>,
         flight: &mut Option<InFlight<Formatting<'a, G>>>,
-        round: Vec<TapFrame>,
+        round: Round,
         entries: &mut Entries,
     ) -> Result<(), WatchFault>
-        requires follows { FollowsOn self.old.lanes.last round.items }
+        requires follows { FollowsOn self.old.lanes.last round }
         requires room { (totals_in self.old.ledger).frames + length (frames_at flight.old) ≤ MAX_LINES }
         requires task { IfSome flight.old (λ p. p.task ≡ pool.old.task) }
         requires capture_going { has_failed self.old.capture ≡ false }
@@ -416,7 +416,7 @@ impl<W: OutSink, L: OutSink> Outputs<W, L> {
             → HasShared W.OutSink L.OutSink
             (making_of pool.old.task.plan) vl_table capture ledger frames self.old flight.old
             → HasShared W.OutSink L.OutSink
-            (making_of pool.old.task.plan) vl_table capture ledger (frames ++ round.items) self.new flight.new) }
+            (making_of pool.old.task.plan) vl_table capture ledger (frames ++ round) self.new flight.new) }
         ensures capture_going { OnOk result (has_failed self.new.capture ≡ false) }
         ensures ledger_going { OnOk result (ledger_has_failed self.new.ledger ≡ false) }
         ensures stopped { IfErr result (λ fault. (vl_table : VlTable) (capture ledger : SinkView)
@@ -426,7 +426,7 @@ impl<W: OutSink, L: OutSink> Outputs<W, L> {
             → StopsWriting (effect_of fault) (making_of pool.old.task.plan) vl_table capture ledger
             (sink_at W.OutSink (sink_of self.new.capture))
             (sink_at L.OutSink (ledger_sink self.new.ledger))
-            (frames ++ round.items)) }
+            (frames ++ round)) }
     {
         let verdicts = self.lanes.judge_frames(&round)?;
         let judged = JudgedRound {

@@ -9,8 +9,8 @@ ghost use Rattle.vl_judge.specs.Judgement.{Judgement};
 
 use crate::entries::Entries;
 use crate::plan::Plan;
-use afdx_frame::TapFrame;
 use filter_workers::RunGate;
+use frame_batch::Round;
 use std::alloc::{AllocError, Global};
 use vl_judge::Verdict;
 use worker_pool::Task;
@@ -18,9 +18,9 @@ use worker_pool::Task;
 /// A round of frames with their verdicts.
 #[derive(Drop)]
 pub struct JudgedRound {
-    pub frames: Vec<TapFrame>,
+    pub frames: Round,
     pub verdicts: Vec<Verdict>,
-    ghost judged: { length verdicts.items ≡ length frames.items },
+    ghost judged: { length verdicts.items ≡ length frames },
 }
 
 /// What is written of a chunk of a round.
@@ -49,10 +49,10 @@ impl<'a, G: RunGate + Sync> Task for Formatting<'a, G> {
 
     type Batch = ChunkEntries;
 
-    ghost len = { λ task round. length round.frames.items };
+    ghost len = { λ task round. length round.frames };
 
     ghost is_batch = { λ task round from to batch.
-        IsChunk (making_of task.plan) round.frames.items round.verdicts.items from to batch };
+        IsChunk (making_of task.plan) round.frames round.verdicts.items from to batch };
 
     fn len(&self, round: &JudgedRound) -> usize {
         round.frames.len()
@@ -78,7 +78,7 @@ impl<'a, G: RunGate + Sync> Task for Formatting<'a, G> {
         let mut entries = spare.entries;
         let filled = entries.fill(
             &self.plan,
-            &round.frames[from..to],
+            &round.frames.part(from, to),
             &round.verdicts[from..to],
         );
         ChunkEntries {

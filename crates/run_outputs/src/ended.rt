@@ -2,7 +2,6 @@
 use crate::worst::WorstLinks;
 use afdx_frame::Network;
 use command_line::{Exit, Fault, Summary, hint_of};
-use pcap_io::Ending;
 use std::io;
 use tap_inputs::{Skipped, TapEnd, Taps};
 
@@ -52,13 +51,6 @@ const FEW_COPIES: &str =
 const ONE_RECORDING: &str =
     "afdxmon: hint: each frame has its copy: are --a and --b two names of one recording?";
 
-/// How many frames stand before a recording's ending.
-fn frames_before(ending: Ending) -> u64 {
-    match ending {
-        Ending::Clean(count) | Ending::Cut(count) | Ending::Bad(count, _) => count,
-    }
-}
-
 /// What is likely wrong with both recordings, where the counts alone give no hint: fewer frames than one in
 /// sixteen of the shorter recording are copies, or each that is delivered has one, and both begin alike.
 fn hint_at_both(rt: &HostRuntime, summary: &Summary, taps: &Taps) -> Option<&'static str> {
@@ -66,7 +58,7 @@ fn hint_at_both(rt: &HostRuntime, summary: &Summary, taps: &Taps) -> Option<&'st
     if hint_of(summary.a, summary.b, totals).is_some() {
         return None;
     }
-    let shorter = frames_before(summary.a).min(frames_before(summary.b));
+    let shorter = summary.a.frames().min(summary.b.frames());
     if totals.copy < shorter / 16 {
         Some(FEW_COPIES)
     } else if totals.copy > 0 && totals.copy == totals.delivered && taps.may_be_one(rt) {

@@ -3,7 +3,7 @@ use crate::ended::Ended;
 use crate::spans::Spans;
 use afdx_frame::Network;
 use command_line::{Exit, Fault, WatchArguments, fault_line, version};
-use pcap_io::{BadReason, Ending};
+use pcap_io::Ending;
 use run_manifest::{
     FileRecord, Inputs, MANIFEST_VERSION, Manifest, Outputs, Program, RecordingRecord, Span, Sum,
     manifest_text,
@@ -43,28 +43,6 @@ impl RunSums {
                 None => [None, None],
             },
         }
-    }
-}
-
-/// Why a recording ends bad, in the ledger's word.
-fn reason_word(reason: BadReason) -> &'static str {
-    match reason {
-        BadReason::Length => "length",
-        BadReason::Fraction => "fraction",
-        BadReason::StampBack => "stampback",
-        BadReason::TooMany => "toomany",
-        BadReason::BlockLength => "blocklength",
-        BadReason::BlockLengthsDiffer => "blocklengthsdiffer",
-        BadReason::BlockBounds => "blockbounds",
-        BadReason::UnknownInterface => "unknowninterface",
-        BadReason::Section => "section",
-        BadReason::SimplePacket => "simplepacket",
-        BadReason::StampRange => "stamprange",
-        BadReason::SeveralInterfaces => "severalinterfaces",
-        BadReason::TooManyInterfaces => "toomanyinterfaces",
-        BadReason::NoSuchInterface => "nosuchinterface",
-        BadReason::FileHeader => "fileheader",
-        BadReason::NextFile => "nextfile",
     }
 }
 
@@ -109,14 +87,14 @@ fn recording_if(
         return Ok(None);
     };
     let mut record = record_of(alloc, path, tap, sums)?;
-    match ending {
-        Some(Ending::Clean(frames)) => record.end(alloc, frames, "clean", None)?,
-        Some(Ending::Cut(frames)) => record.end(alloc, frames, "cut", None)?,
-        Some(Ending::Bad(frames, reason)) => {
-            record.end(alloc, frames, "bad", Some(reason_word(reason)))?
-        }
-        None => return Ok(Some(record)),
-    }
+    let Some(ending) = ending else {
+        return Ok(Some(record));
+    };
+    let reason = match ending {
+        Ending::Bad(_, reason) => Some(reason.word()),
+        Ending::Clean(_) | Ending::Cut(_) => None,
+    };
+    record.end(alloc, ending.frames(), ending.word(), reason)?;
     if let Some(span) = span {
         record.span(alloc, span)?;
     }

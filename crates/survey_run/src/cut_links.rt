@@ -1,7 +1,7 @@
 //! The links of frames that weren't recorded whole.
 
 use crate::survey::GROUP_BITS;
-use afdx_frame::{TapFrame, VL_ID_COUNT, VlId};
+use afdx_frame::{LentFrame, VL_ID_COUNT, VlId};
 use std::alloc::{AllocError, Global};
 
 /// The links that have a frame that wasn't recorded whole. It is for the eye alone: no clause says what
@@ -23,12 +23,11 @@ impl CutLinks {
 
     /// Notes a frame, if it wasn't recorded whole and its first bytes have a link.
     #[cold]
-    pub(crate) fn note(&mut self, alloc: Global, frame: &TapFrame) -> Result<(), AllocError> {
-        let view = frame.view();
-        let (Some(constant), Some(id)) = (view.constant(), view.vl()) else {
+    pub(crate) fn note(&mut self, alloc: Global, frame: &LentFrame<'_>) -> Result<(), AllocError> {
+        let (Some(constant), Some(id)) = (frame.constant(), frame.link()) else {
             return Ok(());
         };
-        let is_whole = view.bytes().len() >= frame.whole() as usize;
+        let is_whole = frame.captured() >= frame.whole() as usize;
         if is_whole || constant & GROUP_BITS != GROUP_BITS {
             return Ok(());
         }

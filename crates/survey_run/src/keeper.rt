@@ -162,10 +162,10 @@ impl Keeper for KeepsShort {
 
     #[inline]
     fn keep(&mut self, alloc: Global, frame: TapFrame) -> Result<TapFrame, AllocError> {
-        let kept = if is_ethernet(&frame) {
+        let kept = if is_ethernet(&frame.lent()) {
             self.short(alloc, frame.view().bytes())?
         } else {
-            self.cut.note(alloc, &frame)?;
+            self.cut.note(alloc, &frame.lent())?;
             FrameBytes::own(Vec::new(alloc))
         };
         let (network, number) = (frame.network(), frame.number());

@@ -6,7 +6,7 @@ ghost use Rattle.survey_run.specs.Short.{kept_by, short_bytes};
 ghost use Rattle.survey_run.specs.NetworkFrames.{Surveys};
 
 use crate::survey::Survey;
-use afdx_frame::TapFrame;
+use afdx_frame::LentFrame;
 use std::alloc::{AllocError, Global};
 
 /// What is shown the frames of both recordings, in the order of timestamp, network and number.
@@ -22,7 +22,7 @@ pub trait Observer {
     /// # Errors
     ///
     /// `AllocError` if the system is out of memory.
-    fn see(&mut self, alloc: Global, frame: &TapFrame) -> Result<(), AllocError>
+    fn see(&mut self, alloc: Global, frame: &LentFrame<'_>) -> Result<(), AllocError>
         ensures seen { IfOk result (λ _. (first : Self) (frames : List Frame)
             → has_seen first frames self.old → has_seen first (frame.now ∷ frames) self.new) }
         ensures given_up { OnErr result (gives_up frame.now self.old self.new) };
@@ -34,7 +34,7 @@ impl Observer for Survey {
         → length frames ≤ 2 ^ 32 → Surveys wanted last frames };
 
     #[inline]
-    fn see(&mut self, alloc: Global, frame: &TapFrame) -> Result<(), AllocError> {
+    fn see(&mut self, alloc: Global, frame: &LentFrame<'_>) -> Result<(), AllocError> {
         self.count(alloc, frame)
     }
 }
@@ -51,7 +51,7 @@ impl Observer for ShortSurvey {
         → length whole ≤ 2 ^ 32 → Surveys wanted last.survey whole };
 
     #[inline]
-    fn see(&mut self, alloc: Global, frame: &TapFrame) -> Result<(), AllocError> {
+    fn see(&mut self, alloc: Global, frame: &LentFrame<'_>) -> Result<(), AllocError> {
         self.survey.count_parts(alloc, frame)
     }
 }

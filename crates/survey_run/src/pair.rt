@@ -12,7 +12,8 @@ ghost use Rattle.survey_run.specs.declared.recorded.Extent.{Extent};
 use crate::keeper::Keeper;
 use crate::recorded::{Extent, Times};
 use crate::tap::Tap;
-use afdx_frame::{Network, TapFrame};
+use afdx_frame::Network;
+use frame_batch::Round;
 use ordered_merge::Merger;
 use pcap_io::{OpenRefused, TapReader, TapSource};
 use run_outcome::{MAX_FRAMES, WatchFault, fault_of_open};
@@ -148,16 +149,16 @@ impl<S: TapSource, T: TapSource, K: Keeper> Pair<S, T, K> {
     }
 
     /// Takes out the first safe frames in order, at most `most`.
-    fn cut_round(&mut self, most: NonZeroUsize) -> Result<Vec<TapFrame>, WatchFault>
+    fn cut_round(&mut self, most: NonZeroUsize) -> Result<Round, WatchFault>
         requires { AgreeTo self.old }
         ensures agree { OnOk result (AgreeTo self.new) }
         ensures merged { IfOk result (λ round. (extent : Extent) (a b : SourceView)
             (frames_a frames_b cut : List Frame)
             → IsPair K.kept_bytes S.TapSource T.TapSource extent a b frames_a frames_b cut self.old
             → IsPair K.kept_bytes S.TapSource T.TapSource extent a b frames_a frames_b
-            (cut ++ round.items) self.new) }
-        ensures work { IfOk result (λ round. length round.items + work_to self.new ≡ work_to self.old) }
-        ensures ended { IfOk result (λ round. AreOver self.old → round.items ≡ []
+            (cut ++ round) self.new) }
+        ensures work { IfOk result (λ round. length round + work_to self.new ≡ work_to self.old) }
+        ensures ended { IfOk result (λ round. AreOver self.old → round ≡ []
             → AreOver self.new × (self.new.merger.pending ≡ [])) }
         ensures stopped { IfErr result (λ fault. (extent : Extent) (a b : SourceView)
             (frames_a frames_b cut : List Frame)
@@ -178,7 +179,7 @@ impl<S: TapSource, T: TapSource, K: Keeper> Pair<S, T, K> {
         &mut self,
         alloc: Global,
         most: NonZeroUsize,
-    ) -> Result<Option<Vec<TapFrame>>, WatchFault>
+    ) -> Result<Option<Round>, WatchFault>
         requires { AgreeTo self.old }
         ensures agree { OnOk result (AgreeTo self.new) }
         ensures merged { IfOk result (λ round. (extent : Extent) (a b : SourceView)
@@ -186,7 +187,7 @@ impl<S: TapSource, T: TapSource, K: Keeper> Pair<S, T, K> {
             → IsPair K.kept_bytes S.TapSource T.TapSource extent a b frames_a frames_b cut self.old
             → (more_a : List Frame) × (more_b : List Frame)
             × IsPair K.kept_bytes S.TapSource T.TapSource extent a b more_a more_b
-            (cut ++ option_map_or (λ frames. frames.items) round []) self.new) }
+            (cut ++ option_map_or (λ frames. frames) round []) self.new) }
         ensures goes_on { IfOk result (λ round. is_some round ≡ true
             → work_to self.new < work_to self.old) }
         ensures ended { result ≡ Ok None

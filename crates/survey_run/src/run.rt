@@ -15,7 +15,7 @@ use crate::observer::{Observer, ShortSurvey};
 use crate::pair::Pair;
 use crate::recorded::{Extent, Recorded};
 use crate::survey::Survey;
-use afdx_frame::TapFrame;
+use frame_batch::Round;
 use pcap_io::TapSource;
 use run_outcome::WatchFault;
 use std::alloc::{AllocError, Global};
@@ -48,18 +48,14 @@ pub struct SurveyRun<S, T> {
 
 /// Shows the frames of a round.
 #[inline]
-fn show_round<O: Observer>(
-    alloc: Global,
-    round: &[TapFrame],
-    observer: &mut O,
-) -> Result<(), AllocError>
+fn show_round<O: Observer>(alloc: Global, round: &Round, observer: &mut O) -> Result<(), AllocError>
     ensures shown { OnOk result (IsShown O.Observer round.now observer.old observer.new) }
     ensures given_up { OnErr result ((shown : List Frame) × (next : Frame) × (others : List Frame)
         × (round.now ≡ shown ++ next ∷ others) × (middle : O)
         × IsShown O.Observer shown observer.old middle × O.gives_up next middle observer.new) }
 {
-    for frame in round {
-        observer.see(alloc, frame)?;
+    for index in 0..round.len() {
+        observer.see(alloc, &round.frame(index))?;
     }
     Ok(())
 }

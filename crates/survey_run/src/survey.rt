@@ -6,7 +6,7 @@ ghost use Rattle.afdx_frame.specs.View.{constant_of, link_of, sequence_of};
 ghost use Rattle.survey_run.specs.NetworkFrames.{IsMainField, IsPlaceOf, Surveys, entry_of, entry_with, is_ethernet, is_wanted};
 
 use crate::links::Links;
-use afdx_frame::{Network, TapFrame, VlId};
+use afdx_frame::{LentFrame, Network, VlId};
 use std::alloc::{AllocError, Global};
 
 /// How many constant fields are kept.
@@ -21,7 +21,7 @@ const GREATEST_LENGTH: u32 = 1514;
 
 /// Was a frame recorded whole, and has it an Ethernet frame's length?
 #[inline(always)]
-pub(crate) fn is_ethernet(frame: &TapFrame) -> bool
+pub(crate) fn is_ethernet(frame: &LentFrame<'_>) -> bool
     ensures { result ≡ is_ethernet frame.now }
 {
     let whole = frame.whole();
@@ -68,7 +68,7 @@ impl Survey {
     ///
     /// `AllocError` if there is no memory for a new constant field or a new link.
     #[inline]
-    pub fn count(&mut self, alloc: Global, frame: &TapFrame) -> Result<(), AllocError>
+    pub fn count(&mut self, alloc: Global, frame: &LentFrame<'_>) -> Result<(), AllocError>
         ensures { IfOk result (λ _. (wanted : Option ℕ) (frames : List Frame)
             → length frames < 2 ^ 32 → Surveys wanted self.old frames
             → Surveys wanted self.new (frame.now ∷ frames)) }
@@ -82,7 +82,11 @@ impl Survey {
 
     /// Counts a frame by its first six bytes and its last, whatever its length.
     #[inline]
-    pub(crate) fn count_parts(&mut self, alloc: Global, frame: &TapFrame) -> Result<(), AllocError>
+    pub(crate) fn count_parts(
+        &mut self,
+        alloc: Global,
+        frame: &LentFrame<'_>,
+    ) -> Result<(), AllocError>
         ensures { IfOk result (λ _. (wanted : Option ℕ) (frames : List Frame) (whole : Frame)
             → entry_of whole ≡ entry_with frame.now (constant_of frame.now.bytes)
             (link_of frame.now.bytes) (sequence_of frame.now.bytes)

@@ -173,7 +173,7 @@ impl TapEnd {
 
     /// The number of the file in which the recording ended so.
     pub fn file_of(&self, ending: Ending) -> usize {
-        let (Ending::Clean(count) | Ending::Cut(count) | Ending::Bad(count, _)) = ending;
+        let count = ending.frames();
         self.frames
             .iter()
             .filter(|frames| **frames <= count)

@@ -25,10 +25,7 @@ fn gap_after(rt: &HostRuntime, tap: &Tap, end: &TapEnd, number: usize) -> Option
 
 /// Notes where nothing was recorded for more than a second between two files that were read.
 pub fn tell_gaps(rt: &HostRuntime, network: Network, tap: &Tap, end: &TapEnd) -> io::Result<()> {
-    let letter = match network {
-        Network::A => 'A',
-        Network::B => 'B',
-    };
+    let letter = network.letter();
     let mut told: u32 = 0;
     for number in 0..end.greatest.len() {
         let Some(gap) = gap_after(rt, tap, end, number).filter(|gap| *gap > LONGEST) else {

@@ -7,36 +7,18 @@ ghost use Rattle.tap_queue.specs.Ring.{taken_items};
 ghost use Rattle.std.specs.NonZero.{non_zero_usize_get};
 ghost use Rattle.tap_merge.specs.Rings.{AgreesWith, IsLost, IsNotFailed, MergesFrames, MergesItem, StopsTogether, TakesFailure, TakesOn, TapFault, WhereFailed};
 
-use afdx_frame::{Network, TapFrame};
+use afdx_frame::Network;
+use frame_batch::Round;
 use ordered_merge::Merger;
 use pcap_io::{Ending, ReadFault};
 use run_outcome::WatchFault;
 use std::alloc::AllocError;
 use std::num::NonZeroUsize;
 use std::sync::Wait;
-use tap_queue::{RingLost, TapEnd, TapItem};
+use tap_queue::{TapBatch, TapEnd};
 
-/// Takes the frames that came together with what was taken before, and merges them.
-fn merge_together(network: Network, end: &mut TapEnd, merger: &mut Merger) -> Result<(), WatchFault>
-    requires agrees { AgreesWith network end.old merger.old }
-    requires going { is_over (taken_items end.old) ≡ false }
-    ensures takes { TakesOn end.old end.new }
-    ensures merged { OnOk result (MergesFrames network end.old end.new merger.old merger.new) }
-    ensures few { OnOk result (length (frames_in (taken_items end.new)) ≤ 2 ^ 32) }
-    ensures stopped { IfErr result (λ fault. StopsTogether fault end.new) }
-{
-    let mut frames = match end.take_together() {
-        Ok(frames) => frames,
-        Err(RingLost) => return Err(WatchFault::RingLost),
-    };
-    match merger.fetch_all(network, &mut frames) {
-        Ok(()) => Ok(()),
-        Err(AllocError) => Err(WatchFault::Memory),
-    }
-}
-
-/// Takes the next item of a network's ring and merges it: a frame, with those that came together with it, or
-/// the recording's ending, which it returns.
+/// Takes what comes next of a network's ring and merges it: frames that came together, or the recording's
+/// ending, which it returns.
 fn merge_item<R: Wait>(
     rt: &R,
     network: Network,
@@ -53,24 +35,21 @@ fn merge_item<R: Wait>(
     ensures not_failed { result ≡ Err WatchFault.Memory → IsNotFailed (taken_items end.new) }
     ensures lost { result ≡ Err WatchFault.RingLost → IsLost end.old end.new }
 {
-    match end.take(rt)? {
-        TapItem::Frame(frame) => {
-            if merger.fetch(frame).is_err() {
+    match end.take_batch(rt)? {
+        TapBatch::Frames(frames) => {
+            if merger.fetch_all(network, frames).is_err() {
                 return Err(WatchFault::Memory);
             }
-            match merge_together(network, end, merger) {
-                Ok(()) => Ok(None),
-                Err(fault) => Err(fault),
-            }
+            Ok(None)
         }
-        TapItem::End(ending) => {
+        TapBatch::End(ending) => {
             merger.end(network);
             Ok(Some(ending))
         }
-        TapItem::Failed(ReadFault::Device) => Err(WatchFault::Read { network }),
-        TapItem::Failed(ReadFault::Memory) => Err(WatchFault::Memory),
+        TapBatch::Failed(ReadFault::Device) => Err(WatchFault::Read { network }),
+        TapBatch::Failed(ReadFault::Memory) => Err(WatchFault::Memory),
         // No thread puts it: a reader fails once, by one of the others.
-        TapItem::Failed(ReadFault::Failed) => Err(WatchFault::RingLost),
+        TapBatch::Failed(ReadFault::Failed) => Err(WatchFault::RingLost),
     }
 }
 
@@ -239,15 +218,15 @@ impl Rings {
         &mut self,
         rt: &R,
         most: NonZeroUsize,
-    ) -> Result<Option<Vec<TapFrame>>, WatchFault>
+    ) -> Result<Option<Round>, WatchFault>
         requires { (late : ℕ) × (cut : List Frame) × HasTaken late cut self.old }
         ensures a { SameEnd self.old.a self.new.a }
         ensures b { SameEnd self.old.b self.new.b }
         ensures merged { IfOk result (λ round. (late : ℕ) (cut : List Frame)
             → HasTaken late cut self.old
-            → HasTaken late (cut ++ option_map_or (λ frames. frames.items) round []) self.new) }
+            → HasTaken late (cut ++ option_map_or (λ frames. frames) round []) self.new) }
         ensures size { IfOk result (λ round.
-            option_map_or (λ frames. length frames.items) round 0 ≤ non_zero_usize_get most) }
+            option_map_or (λ frames. length frames) round 0 ≤ non_zero_usize_get most) }
         ensures ended { result ≡ Ok None → (is_some self.new.end_a ≡ true)
             × (is_some self.new.end_b ≡ true) × (self.new.merger.pending ≡ []) }
         ensures stopped { OnErr result ((late : ℕ) (cut : List Frame)

@@ -7,7 +7,8 @@ ghost use Rattle.pcap_io.specs.declared.recording.Stage.TheVariants.{Going};
 ghost use Rattle.run_outcome.specs.Device.{SourceView};
 ghost use Rattle.tap_merge.specs.Taps.{Agrees, Fits, Merges, MergesNot};
 
-use afdx_frame::{Network, TapFrame};
+use afdx_frame::Network;
+use frame_batch::Round;
 use ordered_merge::Merger;
 use pcap_io::{Ending, Item, OpenRefused, ReadFault, TapReader, TapSource};
 use run_outcome::{MAX_FRAMES, WatchFault, fault_of_open};
@@ -219,7 +220,7 @@ impl<S: TapSource, T: TapSource> Taps<S, T> {
     }
 
     /// Takes out the first safe frames in order, at most `most`.
-    fn cut_round(&mut self, most: NonZeroUsize) -> Result<Vec<TapFrame>, WatchFault>
+    fn cut_round(&mut self, most: NonZeroUsize) -> Result<Round, WatchFault>
         requires { Agree self.old }
         ensures agree { OnOk result (Agree self.new) }
         ensures merged { IfOk result (λ round. (late : ℕ) (a b : SourceView)
@@ -227,10 +228,10 @@ impl<S: TapSource, T: TapSource> Taps<S, T> {
             → HasMerged S.TapSource T.TapSource
             late a b frames_a frames_b cut self.old
             → HasMerged S.TapSource T.TapSource
-            late a b frames_a frames_b (cut ++ round.items) self.new) }
+            late a b frames_a frames_b (cut ++ round) self.new) }
         ensures work { IfOk result (λ round.
-            length round.items + work_left self.new ≡ work_left self.old) }
-        ensures ended { IfOk result (λ round. HasEnded self.old → round.items ≡ []
+            length round + work_left self.new ≡ work_left self.old) }
+        ensures ended { IfOk result (λ round. HasEnded self.old → round ≡ []
             → HasEnded self.new × (self.new.merger.pending ≡ [])) }
         ensures stopped { IfErr result (λ fault. (late : ℕ) (a b : SourceView)
             (frames_a frames_b cut : List Frame)
@@ -252,7 +253,7 @@ impl<S: TapSource, T: TapSource> Taps<S, T> {
         &mut self,
         alloc: Global,
         most: NonZeroUsize,
-    ) -> Result<Option<Vec<TapFrame>>, WatchFault>
+    ) -> Result<Option<Round>, WatchFault>
         requires { Agree self.old }
         ensures agree { OnOk result (Agree self.new) }
         ensures merged { IfOk result (λ round. (late : ℕ) (a b : SourceView)
@@ -261,7 +262,7 @@ impl<S: TapSource, T: TapSource> Taps<S, T> {
             late a b frames_a frames_b cut self.old
             → (more_a : List Frame) × (more_b : List Frame)
             × HasMerged S.TapSource T.TapSource
-            late a b more_a more_b (cut ++ option_map_or (λ frames. frames.items) round []) self.new) }
+            late a b more_a more_b (cut ++ option_map_or (λ frames. frames) round []) self.new) }
         ensures goes_on { IfOk result (λ round. is_some round ≡ true
             → work_left self.new < work_left self.old) }
         ensures ended { result ≡ Ok None

@@ -1,24 +1,18 @@
 -- Items that a reader gives one after another.
-use Rattle.std.proofs.Common.{rules, ◌≡◌, ◌<◌, length, arith, true, false, List, [], ◌∷◌, ◌++◌, refl, sym, ap, ◌∙◌, subst, append_assoc}
-use Rattle.std.proofs.lemmas.List.{append-nil}
-use Rattle.std.proofs.lemmas.Bool.{false≢true}
+use Rattle.std.proofs.Common.{rules, ◌≡◌, ◌<◌, ℕ, suc, length, arith, IfOk, Ok, Err, Result, true, false, List, [], ◌∷◌, ◌++◌, refl, sym, ap, ◌∙◌, subst, append_assoc}
+use Rattle.std.proofs.lemmas.List.{append-nil, length-map}
 use Rattle.afdx_frame.specs.Frame.{Frame}
 use Rattle.pcap_io.specs.Position.{Reading}
-use Rattle.tap_queue.specs.Items.{Gives, GivesOne, IsFed, frame_items, is_last, is_over}
+use Rattle.frame_batch.specs.Batch.{BatchState, batch_frames, record_frame}
+use Rattle.pcap_io.specs.Batches.{GivesBatch, GivesFrames, HasAtMost}
+use Rattle.pcap_io.specs.declared.item.Batched.{Batched}
+use Rattle.pcap_io.specs.declared.item.Batched.TheVariants as read
+use Rattle.pcap_io.specs.declared.item.ReadFault.{ReadFault}
+use Rattle.tap_queue.specs.Items.{Gives, IsFed, batch_from, frame_items, is_last, is_over, items_of}
 use Rattle.tap_queue.specs.Ring.{PutsMore, PutsSome, SamePut, put_items}
 use Rattle.tap_queue.specs.declared.item.TapItem.{TapItem}
 use Rattle.tap_queue.specs.declared.ring.TapPut.{TapPut}
 use Rattle.tap_queue.specs.declared.item.TapItem.TheVariants.{Frame as frame, End, Failed}
-
--- one more item after those that a reader gave, none of which is the last
-pub gives_more : (before mid after : Reading) (items : List TapItem) (item : TapItem) → Gives before items mid → is_over items ≡ false
-    → GivesOne mid item after → Gives before (items ++ item ∷ []) after
-gives_more before mid after [] item given going one =
-    (after, subst (λ (r : Reading). GivesOne r item after) (sym given) one, (λ _. refl), refl)
-gives_more before mid after (frame f ∷ items) item given going one =
-    (given.0, given.1, (λ last. cc), gives_more given.0 mid after items item given.3 going one)
-gives_more before mid after (End e ∷ items) item given going one = cc
-gives_more before mid after (Failed fault ∷ items) item given going one = cc
 
 -- with one more item, items have come to their end where they had, or where it is the last
 pub over_more : (items : List TapItem) (item : TapItem) → is_over items ≡ false → is_over (items ++ item ∷ []) ≡ is_last item
@@ -51,44 +45,27 @@ pub going_frames : (fs : List Frame) → is_over (frame_items fs) ≡ false
 going_frames [] = refl
 going_frames (f ∷ fs) = going_frames fs
 
-pub frame_items_append : (fs gs : List Frame) → frame_items (fs ++ gs) ≡ frame_items fs ++ frame_items gs
-frame_items_append [] gs = refl
-frame_items_append (f ∷ fs) gs = ap (λ (l : List TapItem). frame f ∷ l) (frame_items_append fs gs)
+-- frames that a reader gave together, one after another
+gives_frames : (before after : Reading) (fs : List Frame) → GivesFrames before fs after → Gives before (frame_items fs) after
+gives_frames before after [] given = given
+gives_frames before after (f ∷ fs) (mid, first, given) = (mid, first, (λ last. cc), gives_frames mid after fs given)
 
-pub last_item : (item : TapItem) → ((f : Frame) → item ≡ frame f → ⊥) → is_last item ≡ true
-last_item (frame f) other = absurd (other f refl)
-last_item (End e) other = refl
-last_item (Failed fault) other = refl
+pub gives_taken : (before after : Reading) (r : Result Batched ReadFault) → GivesBatch before after r → Gives before (items_of (batch_from r)) after
+gives_taken before after (Ok (read.Frames batch)) given = gives_frames before after (batch_frames batch) given
+gives_taken before after (Ok (read.End e)) given = (after, given, (λ _. refl), refl)
+gives_taken before after (Err fault) given = (after, given, (λ _. refl), refl)
 
-pub some_items : (fs : List Frame) (more : List TapItem) → 0 < length fs → 0 < length (frame_items fs ++ more)
-some_items [] more some = absurd (omega (arith, some))
-some_items (f ∷ fs) more some = omega arith
+pub length-frame_items : (fs : List Frame) → length (frame_items fs) ≡ length fs
+length-frame_items [] = refl
+length-frame_items (f ∷ fs) = ap suc (length-frame_items fs)
 
--- after one more frame
-pub gives_frame : (before mid after : Reading) (fs gs : List Frame) (f : Frame) → Gives before (frame_items fs) mid → GivesOne mid (frame f) after → gs ≡ fs ++ f ∷ []
-    → Gives before (frame_items gs) after
-gives_frame before mid after fs gs f given one all =
-    subst (λ (l : List TapItem). Gives before l after) (sym (ap frame_items all ∙ frame_items_append fs (f ∷ [])))
-    (gives_more before mid after (frame_items fs) (frame f) given (going_frames fs) one)
+pub count-frame_items : (b : BatchState) → length (frame_items (batch_frames b)) ≡ length b.left
+count-frame_items b = length-frame_items (batch_frames b) ∙ length-map b.left (record_frame b.block)
 
--- an item, and those after it
-pub gives_both : (before mid after : Reading) (item : TapItem) (items : List TapItem) → GivesOne before item mid → is_last item ≡ false → Gives mid items after
-    → Gives before (item ∷ items) after
-gives_both before mid after item items one going given = (mid, one, (λ last. absurd (false≢true (sym going ∙ last))), given)
-
-pub over_both : (item : TapItem) (items : List TapItem) → is_last item ≡ false → is_over (item ∷ items) ≡ is_over items
-over_both (frame f) items going = refl
-over_both (End e) items going = cc
-over_both (Failed fault) items going = cc
-
--- the first item alone
-pub gives_first : (before after : Reading) (item : TapItem) → GivesOne before item after → Gives before (item ∷ []) after
-gives_first before after item one = (after, one, (λ _. refl), refl)
-
-pub over_first : (item : TapItem) → is_over (item ∷ []) ≡ is_last item
-over_first (frame f) = refl
-over_first (End e) = refl
-over_first (Failed fault) = refl
+pub some_taken : (most : ℕ) (r : Result Batched ReadFault) → IfOk r (HasAtMost most) → 0 < length (items_of (batch_from r))
+some_taken most (Ok (read.Frames batch)) some = omega (arith, some.0, count-frame_items batch)
+some_taken most (Ok (read.End e)) some = omega arith
+some_taken most (Err fault) some = omega arith
 
 -- the last items were put
 pub fed_to_the_end : (before after : Reading) (items put more : List TapItem) → Gives before (items ++ more) after → is_over items ≡ false
@@ -100,12 +77,12 @@ fed_to_the_end before after items put more given going same over = (
 )
 
 -- there was no taker for the items
-pub fed_but_some : (before after : Reading) (items put more : List TapItem) (item : TapItem) → Gives before (items ++ item ∷ more) after → put ≡ items
+pub fed_but_some : (before after : Reading) (items put more : List TapItem) → Gives before (items ++ more) after → put ≡ items → 0 < length more
     → IsFed before put after
-fed_but_some before after items put more item given same = (
-  item ∷ more,
-  subst (λ (all : List TapItem). Gives before (all ++ item ∷ more) after) (sym same) given,
-  (λ none. cc),
+fed_but_some before after items put more given same some = (
+  more,
+  subst (λ (all : List TapItem). Gives before (all ++ more) after) (sym same) given,
+  (λ none. absurd (omega (arith, some, ap length none))),
 )
 
 -- more items were put after those that a reader gave before
@@ -122,12 +99,11 @@ puts_on first mid after items old now new fresh going before ring put gives =
       gives = gives_append first mid after more items before.gives going_more gives;
     }
 
--- an item was put after those that were put before
-pub puts_some : (old now new : TapPut) (more items : List TapItem) (item : TapItem) → put_items now ≡ put_items old ++ more
-    → put_items new ≡ put_items now ++ item ∷ items → PutsSome old new
-puts_some old now new [] items item before put = (item, items, put ∙ ap (λ (l : List TapItem). l ++ item ∷ items) (before ∙ append-nil (put_items old)))
-puts_some old now new (first ∷ more) items item before put = (
-  first,
-  more ++ item ∷ items,
-  put ∙ ap (λ (l : List TapItem). l ++ item ∷ items) before ∙ append_assoc (put_items old) (first ∷ more) (item ∷ items),
-)
+-- items were put after those that were put before
+pub puts_some : (old now new : TapPut) (more items : List TapItem) → put_items now ≡ put_items old ++ more → put_items new ≡ put_items now ++ items
+    → 0 < length items → PutsSome old new
+puts_some old now new [] [] before put some = absurd (omega (arith, some))
+puts_some old now new [] (item ∷ items) before put some =
+    (item, items, put ∙ ap (λ (l : List TapItem). l ++ item ∷ items) (before ∙ append-nil (put_items old)))
+puts_some old now new (first ∷ more) items before put some =
+    (first, more ++ items, put ∙ ap (λ (l : List TapItem). l ++ items) before ∙ append_assoc (put_items old) (first ∷ more) items)

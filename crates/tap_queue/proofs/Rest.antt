@@ -1,12 +1,14 @@
 -- The items of batches, of which the last ones are left.
-use Rattle.std.proofs.Common.{◌≡◌, ◌≢◌, ◌+◌, ◌-◌, ◌<◌, ◌≤◌, List, [], ◌∷◌, ◌++◌, length, refl, sym, ap, ◌∙◌, append_assoc, arith}
+use Rattle.std.proofs.Common.{◌≡◌, ◌≢◌, ◌+◌, ◌-◌, ◌<◌, ◌≤◌, List, [], ◌∷◌, ◌++◌, length, refl, sym, ap, ◌∙◌, append_assoc, arith, Option, None}
 use Rattle.std.proofs.lemmas.List.{append-nil, length-append, take_at}
 use Rattle.std.proofs.lemmas.Grind.{flat_map-append}
 use Rattle.afdx_frame.specs.Frame.{Frame}
 use Rattle.tap_queue.specs.Items.{frame_items}
+use Rattle.frame_batch.specs.Batch.{BatchState}
 use Rattle.tap_queue.specs.Batches.{IsRest, batch_items, items_in, rest_items, taken_of}
 use Rattle.tap_queue.specs.declared.item.Batch.{Batch}
 use Rattle.tap_queue.specs.declared.item.TapItem.{TapItem}
+use Rattle.tap_queue.specs.declared.item.TapItem.TheVariants.{Frame as frame}
 
 -- what comes before the rest
 pub taken_is : (batches : List Batch) (taken rest : List TapItem) → items_in batches ≡ taken ++ rest → taken_of batches rest ≡ taken
@@ -17,32 +19,37 @@ taken_is batches taken rest all =
 pub rest_is : (batches : List Batch) (taken rest : List TapItem) → items_in batches ≡ taken ++ rest → IsRest batches rest
 rest_is batches taken rest all = all ∙ ap (λ (l : List TapItem). l ++ rest) (sym (taken_is batches taken rest all))
 
--- the first item of the rest is taken
-pub all_but_one : (batches : List Batch) (old new : List TapItem) (item : TapItem) → old ≡ item ∷ new → IsRest batches old
-    → items_in batches ≡ (taken_of batches old ++ item ∷ []) ++ new
-all_but_one batches old new item same kept =
-    kept ∙ ap (λ (l : List TapItem). taken_of batches old ++ l) same ∙ sym (append_assoc (taken_of batches old) (item ∷ []) new)
+-- all was taken where nothing is left
+pub taken_all : (batches : List Batch) → taken_of batches [] ≡ items_in batches
+taken_all batches = taken_is batches (items_in batches) [] (sym (append-nil (items_in batches)))
 
--- the frames of the rest are taken
-pub all_frames : (batches : List Batch) (old new : List TapItem) (fs : List Frame) (last : List TapItem) → old ≡ frame_items fs ++ last → new ≡ last
-    → IsRest batches old → items_in batches ≡ (taken_of batches old ++ frame_items fs) ++ new
-all_frames batches old new fs last was is kept =
-    kept ∙ ap (λ (l : List TapItem). taken_of batches old ++ l) (was ∙ ap (λ (l : List TapItem). frame_items fs ++ l) (sym is))
-    ∙ sym (append_assoc (taken_of batches old) (frame_items fs) new)
+pub none_left : (batches : List Batch) → IsRest batches []
+none_left batches = rest_is batches (items_in batches) [] (sym (append-nil (items_in batches)))
 
--- the first item of a further batch is taken, where nothing was left
-pub one_of_more : (batches after : List Batch) (old : List TapItem) (batch : Batch) → old ≡ [] → after ≡ batches ++ batch ∷ [] → IsRest batches old
-    → items_in after ≡ (taken_of batches old ++ batch.first ∷ []) ++ rest_items batch.rest
-one_of_more batches after old batch none more kept =
+-- a further batch came, where nothing was left
+pub one_more : (batches after : List Batch) (old : List TapItem) (batch : Batch) → old ≡ [] → after ≡ batches ++ batch ∷ [] → IsRest batches old
+    → items_in after ≡ taken_of batches old ++ batch_items batch
+one_more batches after old batch none more kept =
     ap items_in more ∙ flat_map-append batch_items batches (batch ∷ [])
     ∙ ap (λ (l : List TapItem). l ++ items_in (batch ∷ [])) (kept ∙ ap (λ (l : List TapItem). taken_of batches old ++ l) none ∙ append-nil (taken_of batches old))
     ∙ ap (λ (l : List TapItem). taken_of batches old ++ l) (append-nil (batch_items batch))
-    ∙ sym (append_assoc (taken_of batches old) (batch.first ∷ []) (rest_items batch.rest))
+
+-- no frame of a batch is taken
+pub all_back : (batches : List Batch) (before : List TapItem) (rest : Option BatchState) (fs : List Frame) → rest ≡ None
+    → taken_of batches (rest_items rest) ≡ before ++ frame_items fs → items_in batches ≡ before ++ frame_items fs
+all_back batches before rest fs none all =
+    sym (taken_all batches) ∙ ap (λ (r : Option BatchState). taken_of batches (rest_items r)) (sym none) ∙ all
+
+-- the first frame of a batch is taken, where nothing else is left
+pub all_but_first : (batches : List Batch) (before : List TapItem) (rest : Option BatchState) (fs gs : List Frame) (f : Frame) → rest ≡ None → fs ≡ f ∷ gs
+    → taken_of batches (rest_items rest) ≡ before ++ frame_items fs → items_in batches ≡ (before ++ frame f ∷ []) ++ frame_items gs
+all_but_first batches before rest fs gs f none is all =
+    all_back batches before rest fs none all ∙ ap (λ (l : List Frame). before ++ frame_items l) is ∙ sym (append_assoc before (frame f ∷ []) (frame_items gs))
 
 -- each batch has an item
 at_least : (batches : List Batch) → length batches ≤ length (items_in batches)
 at_least [] = omega arith
-at_least (batch ∷ batches) = let rest = at_least batches in omega (arith, length-append (batch_items batch) (items_in batches))
+at_least (batch ∷ batches) = let rest = at_least batches in omega (arith, batch.some, length-append (batch_items batch) (items_in batches))
 
 -- not all items were taken where some are left
 pub some_left : (batches before known sent after : List Batch) (rest : List TapItem) → before ≡ batches → before ++ known ≡ after → after ≡ sent

@@ -6,10 +6,14 @@ use Rattle.afdx_frame.specs.Frame.{Frame}
 use Rattle.afdx_frame.specs.declared.key.Network.{Network}
 use Rattle.pcap_io.specs.declared.recording.Ending.{Ending}
 use Rattle.pcap_io.specs.declared.item.ReadFault.{ReadFault}
-use Rattle.tap_queue.specs.Items.{AreNextFrames, Follows, IsNextFrame, frame_items, IsNextItem, frames_in, high_of, is_last, is_over}
+use Rattle.tap_queue.specs.Items.{AreNextFrames, Follows, IsNextFrame, frame_items, IsNextItem, frames_in, high_of, is_last, is_over, items_of}
 use Rattle.tap_queue.specs.Passing.{PassesAll}
 use Rattle.tap_queue.specs.declared.next_frame.NextFrame.{NextFrame}
 use Rattle.tap_queue.specs.declared.item.TapItem.{TapItem}
+use Rattle.tap_queue.specs.declared.item.TapBatch.{TapBatch}
+use Rattle.tap_queue.specs.declared.item.TapBatch.TheVariants as batches
+use Rattle.frame_batch.specs.Batch.{BatchState, batch_frames}
+use Rattle.tap_queue.specs.Batches.{AreNextItems}
 use Rattle.tap_queue.specs.declared.item.TapItem.TheVariants.{Frame as frame, End, Failed}
 
 -- ---- the greatest stamp
@@ -127,9 +131,51 @@ passes_more before xs ys f old mid new more passes follows is =
       late_is = ap (λ (n : NextFrame). n.late) is ∙ passes.late_is;
     }
 
+-- of frames that follow those before one another, each is the next
+next_of_all : (network : Network) (late : ℕ) (before xs ys : List Frame) (f : Frame) → AreNextFrames network late before (xs ++ f ∷ ys)
+    → IsNextFrame network late (before ++ xs) f
+next_of_all network late before [] ys f are = subst (λ (l : List Frame). IsNextFrame network late l f) (sym (append-nil before)) are.0
+next_of_all network late before (g ∷ xs) ys f are =
+    subst (λ (l : List Frame). IsNextFrame network late l f) (append_assoc before (g ∷ []) xs) (next_of_all network late (before ++ g ∷ []) xs ys f are.1)
+
+pub refuses_all : (before all xs ys : List Frame) (f : Frame) (old mid : NextFrame) → all ≡ xs ++ f ∷ ys → PassesAll before xs old mid
+    → ¬ Follows mid.network mid.late mid.number mid.high f → ¬ AreNextFrames old.network old.late before all
+refuses_all before all xs ys f old mid split passes refused are =
+    let next = next_of_all old.network old.late before xs ys f (subst (AreNextFrames old.network old.late before) split are) in
+    let same : IsNextFrame mid.network mid.late (before ++ xs) f =
+    subst (λ (n : Network). IsNextFrame n mid.late (before ++ xs) f) (sym passes.network_is)
+    (subst (λ (late : ℕ). IsNextFrame old.network late (before ++ xs) f) (sym passes.late_is) next) in
+    refused (follows_from_next mid.network mid.late mid.number mid.high (before ++ xs) f passes.number passes.high same)
+
 pub frames_all : (items : List TapItem) (fs : List Frame) → frames_in (items ++ frame_items fs) ≡ frames_in items ++ fs
 frames_all [] [] = refl
 frames_all [] (f ∷ fs) = ap (λ (l : List Frame). f ∷ l) (frames_all [] fs)
 frames_all (frame g ∷ items) fs = ap (λ (l : List Frame). g ∷ l) (frames_all items fs)
 frames_all (End e ∷ items) fs = frames_all items fs
 frames_all (Failed fault ∷ items) fs = frames_all items fs
+
+-- ---- what was given together
+
+pub frames_follow : (network : Network) (late : ℕ) (before : List TapItem) (taken : TapBatch) (batch : BatchState) → taken ≡ batches.Frames batch → is_over before ≡ false
+    → AreNextFrames network late (frames_in before) (batch_frames batch) → AreNextItems network late before taken
+frames_follow network late before taken batch is going next = subst (AreNextItems network late before) (sym is) (going, next)
+
+pub frames_refused : (network : Network) (late : ℕ) (before : List TapItem) (taken : TapBatch) (batch : BatchState) → taken ≡ batches.Frames batch
+    → ¬ AreNextFrames network late (frames_in before) (batch_frames batch) → ¬ AreNextItems network late before taken
+frames_refused network late before taken batch is refused next = refused (subst (AreNextItems network late before) is next).1
+
+-- an ending or a fault
+abbrev pub IsLastOf : TapBatch → Type 0
+IsLastOf taken = ((e : Ending) × taken ≡ batches.End e) ⊎ ((fault : ReadFault) × taken ≡ batches.Failed fault)
+
+pub last_items : (taken : TapBatch) → IsLastOf taken → (item : TapItem) × (items_of taken ≡ item ∷ []) × (is_last item ≡ true)
+last_items taken is = elim is [
+  | inl e ↦ (End e.0, ap items_of e.1, refl)
+  | inr fault ↦ (Failed fault.0, ap items_of fault.1, refl)
+]
+
+pub last_of_follows : (network : Network) (late : ℕ) (before : List TapItem) (taken : TapBatch) → IsLastOf taken → is_over before ≡ false → AreNextItems network late before taken
+last_of_follows network late before taken is going = elim is [
+  | inl e ↦ subst (AreNextItems network late before) (sym e.1) going
+  | inr fault ↦ subst (AreNextItems network late before) (sym fault.1) going
+]

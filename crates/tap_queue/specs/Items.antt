@@ -1,11 +1,17 @@
 -- The items of a recording: what a reader gives, call by call, up to its ending or a fault (this project's profile).
-use Rattle.std.specs.Prelude.{◌≡◌, ◌⊎◌, ℕ, ◌+◌, ◌≤◌, max, Bool, true, false, List, [], ◌∷◌, ◌++◌, length, Ok, Err, if◌then◌else◌, ⊤}
+use Rattle.std.specs.Prelude.{◌≡◌, ◌⊎◌, ℕ, ◌+◌, ◌≤◌, max, Bool, true, false, List, [], ◌∷◌, ◌++◌, length, Result, Ok, Err, if◌then◌else◌, ⊤}
 use Rattle.std.specs.List.{AllByRecursion}
 use Rattle.afdx_frame.specs.Frame.{Frame}
 use Rattle.afdx_frame.specs.declared.key.Network.{Network}
+use Rattle.frame_batch.specs.Batch.{batch_frames}
 use Rattle.pcap_io.specs.Position.{Advances, Reading}
+use Rattle.pcap_io.specs.declared.item.Batched.{Batched}
+use Rattle.pcap_io.specs.declared.item.Batched.TheVariants as given
 use Rattle.pcap_io.specs.declared.item.Item.TheVariants as read
+use Rattle.pcap_io.specs.declared.item.ReadFault.{ReadFault}
 use Rattle.tap_queue.specs.declared.item.RingLost.{RingLost}
+use Rattle.tap_queue.specs.declared.item.TapBatch.{TapBatch}
+use Rattle.tap_queue.specs.declared.item.TapBatch.TheVariants as batches
 use Rattle.tap_queue.specs.declared.item.TapItem.{TapItem}
 use Rattle.tap_queue.specs.declared.item.TapItem.TheVariants.{Frame as frame, End, Failed}
 
@@ -78,6 +84,20 @@ IsLoss network late before after =
 
 abbrev pub ring_lost : RingLost
 ring_lost = record {}
+
+-- ---- what a reader gives together
+
+-- what a call of a reader gave
+abbrev pub batch_from : Result Batched ReadFault → TapBatch
+batch_from (Ok (given.Frames batch)) = batches.Frames batch
+batch_from (Ok (given.End e)) = batches.End e
+batch_from (Err fault) = batches.Failed fault
+
+-- what was given together, item by item
+abbrev pub items_of : TapBatch → List TapItem
+items_of (batches.Frames batch) = frame_items (batch_frames batch)
+items_of (batches.End e) = End e ∷ []
+items_of (batches.Failed fault) = Failed fault ∷ []
 
 -- ---- a frame, by a count and a greatest stamp
 

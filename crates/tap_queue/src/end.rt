@@ -1,21 +1,20 @@
 //! The end of a ring that items are taken from.
-ghost use Rattle.std.specs.Prelude.{◌≡◌, ◌++◌, ◌∷◌, ◌^◌, ◌≤◌, [], length, false, MatchOption};
+ghost use Rattle.std.specs.Prelude.{◌≡◌, ◌++◌, ◌∷◌, ◌^◌, ◌≤◌, [], length, false, None, MatchOption};
 ghost use Rattle.rtrb.specs.Ring.{SameConsumer, received};
-ghost use Rattle.tap_queue.specs.Items.{frames_in, high_of, is_over};
+ghost use Rattle.tap_queue.specs.Items.{frames_in, high_of, is_over, items_of};
 ghost use Rattle.tap_queue.specs.Batches.{IsRest, rest_items, taken_of};
 
 use crate::bell::{Bell, Bells};
 use crate::feeding::Fed;
-use crate::item::{Batch, Rest, RingLost, TapItem};
+use crate::item::{Batch, RingLost, TapBatch, TapItem};
 use crate::next_frame::NextFrame;
 use crate::ring::TapPut;
-use afdx_frame::{Network, TapFrame};
+use afdx_frame::Network;
+use frame_batch::FrameBatch;
 use pcap_io::TapSource;
 use rtrb::Consumer;
 use std::alloc::Global;
-use std::collections::VecDeque;
 use std::hint::spin_loop;
-use std::mem;
 use std::sync::{Arc, Wait};
 
 /// How often a thread that takes looks again before it sleeps: some microseconds, in which a frame is
@@ -28,7 +27,7 @@ pub struct TapEnd {
     next: NextFrame,
     consumer: Consumer<Batch>,
     /// What is left of the batch that came last.
-    rest: Rest,
+    rest: Option<FrameBatch>,
     alloc: Global,
     bells: Arc<Bells, Global>,
     /// An ending or a fault was taken.
@@ -82,11 +81,38 @@ fn pop<R: Wait>(rt: &R, consumer: &mut Consumer<Batch>, bells: &Bells) -> Option
     unreachable!()
 }
 
-/// The next item: of what is left of a batch, or else of the ring. None: the ring is empty, and was left.
+/// What is left of a batch, or else the oldest batch of the ring. None: the ring is empty, and was left.
+#[inline]
+fn next_batch<R: Wait>(
+    rt: &R,
+    rest: &mut Option<FrameBatch>,
+    consumer: &mut Consumer<Batch>,
+    bells: &Bells,
+) -> Option<TapBatch>
+    requires { IsRest (received consumer.old) (rest_items rest.old) }
+    ensures ring { SameConsumer consumer.old consumer.new }
+    ensures none { rest.new ≡ None }
+    ensures kept { IsRest (received consumer.new) (rest_items rest.new) }
+    ensures taken { MatchOption result
+        (taken_of (received consumer.new) (rest_items rest.new)
+        ≡ taken_of (received consumer.old) (rest_items rest.old))
+        (λ taken. taken_of (received consumer.new) (rest_items rest.new)
+        ≡ taken_of (received consumer.old) (rest_items rest.old) ++ items_of taken) }
+{
+    if let Some(batch) = rest.take() {
+        return Some(TapBatch::Frames(batch));
+    }
+    let batch = pop(rt, consumer, bells)?;
+    Some(batch.content)
+}
+
+/// The next item: of what is left of a batch, or else of the ring. None: the ring is empty, and was left; or
+/// there is no further share of the batch's block.
 #[inline]
 fn next_item<R: Wait>(
     rt: &R,
-    rest: &mut Rest,
+    alloc: Global,
+    rest: &mut Option<FrameBatch>,
     consumer: &mut Consumer<Batch>,
     bells: &Bells,
 ) -> Option<TapItem>
@@ -99,19 +125,38 @@ fn next_item<R: Wait>(
         (λ item. taken_of (received consumer.new) (rest_items rest.new)
         ≡ taken_of (received consumer.old) (rest_items rest.old) ++ item ∷ []) }
 {
-    if let Some(item) = rest.pop() {
-        return Some(item);
+    match next_batch(rt, rest, consumer, bells)? {
+        TapBatch::Frames(batch) => match batch.split_first(alloc) {
+            Ok((frame, others)) => {
+                *rest = others;
+                Some(TapItem::Frame(frame))
+            }
+            Err(batch) => {
+                *rest = Some(batch);
+                None
+            }
+        },
+        TapBatch::End(ending) => Some(TapItem::End(ending)),
+        TapBatch::Failed(fault) => Some(TapItem::Failed(fault)),
     }
-    let Batch { first, rest: more } = pop(rt, consumer, bells)?;
-    *rest = more;
-    Some(first)
+}
+
+/// How many frames of a batch are left.
+fn count_of(rest: &Option<FrameBatch>) -> usize
+    ensures { result ≡ length (rest_items rest.now) }
+{
+    match rest {
+        Some(batch) => batch.count(),
+        None => 0,
+    }
 }
 
 impl TapEnd {
     ghost use Rattle.std.specs.Prelude.{◌≢◌, ◌⊎◌, ◌↔◌, true, Err, IfOk, IsTrue, List, OnErr};
     ghost use Rattle.afdx_frame.specs.declared.bounds.TheConstants.{MAX_SNAPLEN};
     ghost use Rattle.pcap_io.specs.Reader.{source_of, unread_of};
-    ghost use Rattle.tap_queue.specs.Items.{AreNextFrames, IsLoss, IsNextItem, frame_items, ring_lost};
+    ghost use Rattle.tap_queue.specs.Items.{IsLoss, IsNextItem, ring_lost};
+    ghost use Rattle.tap_queue.specs.Batches.{AreNextItems, IsBatchLoss};
     ghost use Rattle.tap_queue.specs.Ring.{IsRing, SameEnd, has_lost, late_of, network_of};
     ghost use Rattle.tap_queue.specs.Ring.{Looks, put_items, put_of, reader_of, taken_items};
     ghost use Rattle.tap_queue.specs.declared.item.TapItem.{TapItem};
@@ -133,7 +178,7 @@ impl TapEnd {
         TapEnd {
             next: NextFrame::first(network, late),
             consumer,
-            rest: Rest::none(alloc),
+            rest: None,
             alloc,
             bells,
             over: false,
@@ -155,7 +200,7 @@ impl TapEnd {
         ensures { Looks self.old self.new }
     {
         !self.is_going()
-            || !self.rest.is_empty()
+            || self.rest.is_some()
             || !self.consumer.is_empty()
             || self.consumer.is_abandoned()
     }
@@ -206,12 +251,18 @@ impl TapEnd {
         if !self.is_going() {
             return Err(RingLost);
         }
-        let Some(item) = next_item(rt, &mut self.rest, &mut self.consumer, &self.bells) else {
+        let Some(item) = next_item(
+            rt,
+            self.alloc,
+            &mut self.rest,
+            &mut self.consumer,
+            &self.bells,
+        ) else {
             self.lost = true;
             return Err(RingLost);
         };
         match &item {
-            TapItem::Frame(frame) => self.lost = !self.next.pass(frame),
+            TapItem::Frame(frame) => self.lost = !self.next.pass(&frame.lent()),
             TapItem::End(_) | TapItem::Failed(_) => self.over = true,
         }
         if self.lost {
@@ -220,38 +271,46 @@ impl TapEnd {
         Ok(item)
     }
 
-    /// Takes the frames that came together with what was taken before, and waits for none. Each is the
-    /// network's next, as a frame that [`take`](TapEnd::take) gives.
+    /// Takes what came together: what is left of the frames of which [`take`](TapEnd::take) gave the
+    /// first, or else the next ones, or the ending or a fault, and waits where there is none. Each frame
+    /// is the network's next, as one that `take` gives.
     ///
     /// # Errors
     ///
-    /// Those of [`take`](TapEnd::take). Nothing is taken.
-    pub fn take_together(&mut self) -> Result<VecDeque<TapFrame>, RingLost>
+    /// Those of [`take`](TapEnd::take).
+    pub fn take_batch<R: Wait>(&mut self, rt: &R) -> Result<TapBatch, RingLost>
         ensures ring { SameEnd self.old self.new }
-        ensures taken { IfOk result (λ frames.
-            taken_items self.new ≡ taken_items self.old ++ frame_items frames.items) }
-        ensures next { IfOk result (λ frames. AreNextFrames (network_of self.old) (late_of self.old)
-            (frames_in (taken_items self.old)) frames.items) }
+        ensures taken { IfOk result (λ taken.
+            taken_items self.new ≡ taken_items self.old ++ items_of taken) }
+        ensures next { IfOk result (AreNextItems (network_of self.old) (late_of self.old)
+            (taken_items self.old)) }
         ensures bounded { IfOk result (λ _. length (frames_in (taken_items self.new)) ≤ 2 ^ 32) }
         ensures going { IfOk result (λ _. has_lost self.old ≡ false × has_lost self.new ≡ false) }
-        ensures unended { IfOk result (λ _. is_over (taken_items self.old) ≡ false) }
-        ensures stays { OnErr result (taken_items self.new ≡ taken_items self.old) }
         ensures over { is_over (taken_items self.old) ≡ true
             → (result ≡ Err ring_lost) × (self.new ≡ self.old) }
         ensures stays_lost { has_lost self.old ≡ true
             → (result ≡ Err ring_lost) × (self.new ≡ self.old) }
         ensures lost { is_over (taken_items self.old) ≡ false
             → OnErr result (has_lost self.new ≡ true) }
+        ensures loss { has_lost self.old ≡ false → is_over (taken_items self.old) ≡ false
+            → OnErr result (IsBatchLoss (network_of self.old) (late_of self.old)
+            (taken_items self.old) (taken_items self.new)) }
     {
         if !self.is_going() {
             return Err(RingLost);
         }
-        if !self.next.pass_all(&self.rest.frames) {
+        let Some(taken) = next_batch(rt, &mut self.rest, &mut self.consumer, &self.bells) else {
             self.lost = true;
             return Err(RingLost);
+        };
+        match &taken {
+            TapBatch::Frames(frames) => self.lost = !self.next.pass_all(frames),
+            TapBatch::End(_) | TapBatch::Failed(_) => self.over = true,
         }
-        let none = VecDeque::new(self.alloc);
-        Ok(mem::replace(&mut self.rest.frames, none))
+        if self.lost {
+            return Err(RingLost);
+        }
+        Ok(taken)
     }
 
     /// Shows that all was taken that was put, up to the recording's ending or a fault, and gives
@@ -289,7 +348,7 @@ impl TapEnd {
             bells: _,
         } = put;
         let left = consumer.slots_beside(&mut producer);
-        if lost || !over || left > 0 || !rest.is_empty() {
+        if lost || !over || left > 0 || count_of(&rest) > 0 {
             return Err(RingLost);
         }
         Ok(reader.into_source())

@@ -1,16 +1,15 @@
 //! The thread that reads a recording into a ring.
-ghost use Rattle.std.specs.Prelude.{◌≡◌, [], false, is_some};
+ghost use Rattle.std.specs.Prelude.{◌≡◌, [], false};
 ghost use Rattle.pcap_io.specs.Reader.{reading_of};
-ghost use Rattle.tap_queue.specs.Items.{Gives, GivesOne, IsFed, is_over};
-ghost use Rattle.tap_queue.specs.Batches.{batch_items, rest_items};
+ghost use Rattle.tap_queue.specs.Items.{Gives, IsFed, is_over};
+ghost use Rattle.tap_queue.specs.Batches.{batch_items};
 ghost use Rattle.tap_queue.specs.Ring.{Fills, PutsMore, SamePut, put_items, put_of, reader_of};
 
 use crate::gate::TapGate;
-use crate::item::{Batch, Rest, TapItem};
+use crate::item::{Batch, TapBatch};
 use crate::ring::TapPut;
-use pcap_io::{Item, TapReader, TapSource};
+use pcap_io::{TapReader, TapSource};
 use std::alloc::Global;
-use std::collections::VecDeque;
 use std::sync::Wait;
 
 /// A reader that is read into a ring, and the end of that ring that its items are put into.
@@ -78,55 +77,13 @@ pub fn feed<R: Wait, S: TapSource, G: TapGate>(
     unreachable!()
 }
 
-/// The items that the reader gives next: one, and those after it that were read ahead already, at most so
-/// many in all. Whether the last of them is an ending or a fault.
+/// What the reader gives next: frames, at most so many, or the ending or a fault. Whether nothing follows it.
 fn next_batch<S: TapSource>(alloc: Global, reader: &mut TapReader<S>, most: usize) -> (Batch, bool)
     ensures given { Gives (reading_of S.remaining S.failures reader.old) (batch_items result.0)
         (reading_of S.remaining S.failures reader.new) }
     ensures last { result.1 ≡ is_over (batch_items result.0) }
 {
-    let first = next_item(alloc, reader);
-    if first.is_last() {
-        let rest = Rest::none(alloc);
-        return (Batch { first, rest }, true);
-    }
-    let rest = read_on(alloc, reader, most.saturating_sub(1));
-    let over = rest.last.is_some();
-    (Batch { first, rest }, over)
-}
-
-/// The items that were read ahead already, at most so many, and none where there is no memory for them.
-fn read_on<S: TapSource>(alloc: Global, reader: &mut TapReader<S>, most: usize) -> Rest
-    ensures given { Gives (reading_of S.remaining S.failures reader.old) (rest_items result)
-        (reading_of S.remaining S.failures reader.new) }
-    ensures last { is_some result.last ≡ is_over (rest_items result) }
-{
-    let mut frames = VecDeque::with_capacity(alloc, most).unwrap_or(VecDeque::new(alloc));
-    for _ in 0..most {
-        if frames.len() == frames.capacity() || !reader.holds_packet() {
-            break;
-        }
-        match next_item(alloc, reader) {
-            TapItem::Frame(frame) => frames.push_back_reserved(frame),
-            last => {
-                return Rest {
-                    frames,
-                    last: Some(last),
-                };
-            }
-        }
-    }
-    Rest { frames, last: None }
-}
-
-/// What the reader gives next.
-fn next_item<S: TapSource>(alloc: Global, reader: &mut TapReader<S>) -> TapItem
-    ensures { GivesOne (reading_of S.remaining S.failures reader.old) result
-        (reading_of S.remaining S.failures reader.new) }
-{
-    match reader.next(alloc) {
-        Ok(Item::Frame(frame)) => TapItem::Frame(frame),
-        Ok(Item::End(ending)) => TapItem::End(ending),
-        Err(fault) => TapItem::Failed(fault),
-    }
+    let content = TapBatch::of(reader.next_batch(alloc, most));
+    let last = content.is_last();
+    (Batch { content }, last)
 }

@@ -1,11 +1,10 @@
-//! What goes through a ring.
-ghost use Rattle.std.specs.Prelude.{◌≡◌, ◌∷◌, [], IsTrue, IsFalse, ◌<◌, length, MatchOption};
-ghost use Rattle.tap_queue.specs.Items.{is_last};
+//! What goes through a ring, and what is taken of it.
+ghost use Rattle.std.specs.Prelude.{◌≡◌, ◌<◌, length};
+ghost use Rattle.tap_queue.specs.Items.{is_over, items_of};
 
 use afdx_frame::TapFrame;
-use pcap_io::{Ending, ReadFault};
-use std::alloc::Global;
-use std::collections::VecDeque;
+use frame_batch::FrameBatch;
+use pcap_io::{Batched, Ending, ReadFault};
 use thiserror::Error;
 
 /// What a reader gave.
@@ -19,64 +18,47 @@ pub enum TapItem {
     Failed(ReadFault),
 }
 
-impl TapItem {
+/// What a reader gave together.
+#[derive(Drop)]
+pub enum TapBatch {
+    /// The next frames, one after another.
+    Frames(FrameBatch),
+    /// The recording's ending. Nothing follows it.
+    End(Ending),
+    /// The reader failed. Nothing follows it.
+    Failed(ReadFault),
+}
+
+impl TapBatch {
+    ghost use Rattle.tap_queue.specs.Items.{batch_from};
+
+    /// What a call of a reader gave.
+    pub(crate) fn of(read: Result<Batched, ReadFault>) -> TapBatch
+        ensures { result ≡ batch_from read }
+    {
+        match read {
+            Ok(Batched::Frames(frames)) => TapBatch::Frames(frames),
+            Ok(Batched::End(ending)) => TapBatch::End(ending),
+            Err(fault) => TapBatch::Failed(fault),
+        }
+    }
+
     /// Whether nothing follows it.
     pub fn is_last(&self) -> bool
-        ensures { result ≡ is_last self.now }
+        ensures { result ≡ is_over (items_of self.now) }
     {
         match self {
-            TapItem::Frame(_) => false,
-            TapItem::End(_) | TapItem::Failed(_) => true,
+            TapBatch::Frames(_) => false,
+            TapBatch::End(_) | TapBatch::Failed(_) => true,
         }
     }
 }
 
-/// Items that follow one another: frames, and then an ending or a fault, where there is one.
-#[derive(Drop)]
-pub(crate) struct Rest {
-    pub(crate) frames: VecDeque<TapFrame>,
-    pub(crate) last: Option<TapItem>,
-}
-
-impl Rest {
-    ghost use Rattle.tap_queue.specs.Batches.{rest_items};
-
-    /// No items. Allocates nothing.
-    pub(crate) fn none(alloc: Global) -> Rest
-        ensures { rest_items result ≡ [] }
-    {
-        Rest {
-            frames: VecDeque::new(alloc),
-            last: None,
-        }
-    }
-
-    /// Whether there is no item.
-    pub(crate) fn is_empty(&self) -> bool
-        ensures none { IsTrue result → rest_items self.now ≡ [] }
-        ensures some { IsFalse result → 0 < length (rest_items self.now) }
-    {
-        self.frames.is_empty() && self.last.is_none()
-    }
-
-    /// Takes the first item out.
-    #[inline]
-    pub(crate) fn pop(&mut self) -> Option<TapItem>
-        ensures { MatchOption result (rest_items self.old ≡ [] × rest_items self.new ≡ [])
-            (λ item. rest_items self.old ≡ item ∷ rest_items self.new) }
-    {
-        match self.frames.pop_front() {
-            Some(frame) => Some(TapItem::Frame(frame)),
-            None => self.last.take(),
-        }
-    }
-}
-
-/// Items that go through a ring together, at least one.
+/// What goes through a ring at once, at least one item.
 #[derive(Drop)]
 pub(crate) struct Batch {
-    pub(crate) first: TapItem,
-    pub(crate) rest: Rest,
+    pub(crate) content: TapBatch,
+    ghost some: { 0 < length (items_of content) },
 }
 
 /// What was taken of a ring can't be shown to be what a reader put into it: the ring was left without an

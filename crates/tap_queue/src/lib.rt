@@ -2,10 +2,10 @@
 //!
 //! [`tap_ring`] makes a ring of 4 batches of items with its two ends. [`feed`] runs on a thread of its
 //! own: it puts what a [`TapReader`](pcap_io::TapReader) gives, up to the recording's ending or a
-//! fault, and waits where the ring is full. [`TapEnd::take`] gives the items in order, and waits where
-//! the ring is empty. Once the thread has come to its end, [`TapEnd::settle`] shows that all was
-//! taken that was put, and gives the recording's source back. Frames share the reader's blocks, which
-//! it fills again once they are gone.
+//! fault, and waits where the ring is full. [`TapEnd::take`] gives the items in order, and
+//! [`TapEnd::take_batch`] those that came together; both wait where the ring is empty. Once the thread has
+//! come to its end, [`TapEnd::settle`] shows that all was taken that was put, and gives the recording's
+//! source back. Frames stand in the reader's blocks, which it fills again once they are gone.
 //!
 //! ```
 //! let (put, mut end) = tap_ring(alloc, Network::A, late)?;
@@ -31,5 +31,5 @@ mod ring;
 pub use end::TapEnd;
 pub use feeding::{Fed, feed, fill};
 pub use gate::TapGate;
-pub use item::{RingLost, TapItem};
+pub use item::{RingLost, TapBatch, TapItem};
 pub use ring::{BATCH_LEN, RING_LEN, RingSizes, TapPut, sized_tap_ring, tap_ring};

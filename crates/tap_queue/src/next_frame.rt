@@ -1,9 +1,10 @@
 //! The check of each frame that is taken off a ring, so that no frame is lost, repeated or out of place.
 ghost use Rattle.std.specs.Prelude.{◌≡◌, ◌+◌, ◌^◌, ◌≤◌, max, ◌↔◌, IsTrue, IsFalse};
-ghost use Rattle.tap_queue.specs.Items.{Follows};
+ghost use Rattle.frame_batch.specs.Batch.{batch_frames};
+ghost use Rattle.tap_queue.specs.Items.{AreNextFrames, Follows};
 
-use afdx_frame::{Network, TapFrame};
-use std::collections::VecDeque;
+use afdx_frame::{LentFrame, Network};
+use frame_batch::FrameBatch;
 
 /// What is required of a network's next frame.
 #[derive(Clone, Copy)]
@@ -37,9 +38,9 @@ impl NextFrame {
 
     /// Is the frame the next one? If it is, the frame after it is required from now on.
     #[inline]
-    pub(crate) fn pass(&mut self, frame: &TapFrame) -> bool
-        ensures next { IsTrue result ↔
-            Follows self.old.network self.old.late self.old.number self.old.high frame.now }
+    pub(crate) fn pass(&mut self, frame: &LentFrame<'_>) -> bool
+        ensures next { IsTrue result ↔ Follows self.old.network self.old.late
+            self.old.number self.old.high frame.now }
         ensures passed { IsTrue result → self.new ≡ record self.old {
           number = self.old.number + 1;
           high = max self.old.high frame.now.stamp;
@@ -60,15 +61,19 @@ impl NextFrame {
 
     /// Are the frames the next ones, one after another? If they are, the frame after them is required from
     /// now on.
-    pub(crate) fn pass_all(&mut self, frames: &VecDeque<TapFrame>) -> bool
+    pub(crate) fn pass_all(&mut self, frames: &FrameBatch) -> bool
         ensures next { IsTrue result → (before : List Frame) → self.old.number ≡ length before
-            → self.old.high ≡ high_of before → PassesAll before frames.now.items self.old self.new }
+            → self.old.high ≡ high_of before
+            → PassesAll before (batch_frames frames.now) self.old self.new }
+        ensures refused { IsFalse result → (before : List Frame) → self.old.number ≡ length before
+            → self.old.high ≡ high_of before
+            → ¬ AreNextFrames self.old.network self.old.late before (batch_frames frames.now) }
         ensures bounded { IsTrue result → self.old.number ≤ 2 ^ 32 → self.new.number ≤ 2 ^ 32 }
         ensures kept { IsFalse result → self.new ≡ self.old }
     {
         let mut next = *self;
-        for index in 0..frames.len() {
-            if !next.pass(&frames[index]) {
+        for index in 0..frames.count() {
+            if !next.pass(&frames.frame(index)) {
                 return false;
             }
         }

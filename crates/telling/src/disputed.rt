@@ -41,7 +41,7 @@ impl<'c, 't> Disputed<'c, 't> {
         let line = line_again(rt, ledger, number)?;
         let id = line.link?;
         let link = config.link(id);
-        let how = match (link, line.class) {
+        let how = match (link, line.verdict.class) {
             (None, _) => How::Lacks,
             (Some(_), Class::Unconfigured) => How::Has,
             (Some(_), _) => How::Checks,

@@ -14,10 +14,11 @@ use Rattle.integrity.specs.Sequence.{is_valid}
 use Rattle.redundancy.specs.declared.verdict.Redundancy.{Redundancy}
 use Rattle.redundancy.specs.declared.verdict.Redundancy.TheVariants.{Deliver, Copy, Both}
 use Rattle.redundancy.specs.Deliveries as redundancy
-use Rattle.vl_judge.specs.Judgement.{IsReached, Judgement, is_regular, is_within}
+use Rattle.vl_judge.specs.Judgement.{IsReached, Judgement, is_regular, is_within, is_copy, is_copy_redundancy, is_delivered, is_excess, is_excess_policing, is_out, is_out_integrity}
 use Rattle.verdict_ledger.specs.Entry.{Entry}
 use Rattle.verdict_ledger.specs.Laws.{AreVerdicts, IsSumOfAll, IsSumOfLink}
-use Rattle.verdict_ledger.specs.Tally.{counts_of, class_count, is_class, is_copy, is_copy_redundancy, is_delivered, is_entry_of, is_excess, is_excess_policing, is_on_a_link, is_out, is_out_integrity, link_counts, totals_of}
+use Rattle.vl_config.specs.Class.{is_on_a_link}
+use Rattle.verdict_ledger.specs.Tally.{counts_of, class_count, is_class, is_entry_of, link_counts, totals_of}
 
 -- 1 where it holds
 abbrev one : Bool → ℕ

@@ -4,7 +4,8 @@ use Rattle.std.specs.List.{count_by}
 use Rattle.std.proofs.lemmas.List.Sums.{count_by-le-length, sum_by-append}
 use Rattle.verdict_ledger.specs.Entry.{Entry}
 use Rattle.vl_config.specs.declared.class.Class.TheVariants.{Cut, Runt, Oversize, Foreign, Unconfigured, TooLong}
-use Rattle.verdict_ledger.specs.Tally.{totals_of, has_bit, class_count, filter_count, is_excess, is_out, is_copy, is_delivered}
+use Rattle.vl_judge.specs.Judgement.{is_excess, is_out, is_copy, is_delivered}
+use Rattle.verdict_ledger.specs.Tally.{totals_of, has_bit, class_count, filter_count}
 use Rattle.verdict_ledger.specs.declared.totals.Totals.{Totals}
 
 pub count_by-append_one : {X : Type 0} (p : X → Bool) (xs : List X) (x : X) → count_by p (xs ++ x ∷ []) ≡ count_by p xs + cond (p x) 1 0

@@ -6,8 +6,10 @@ use Rattle.std.proofs.lemmas.List.Elements.{filter-append}
 use Rattle.std.proofs.lemmas.List.Sums.{count_by-le-length, length-filter}
 use Rattle.afdx_frame.specs.View.{link_of}
 use Rattle.afdx_frame.specs.declared.key.VlId.{VlId}
+use Rattle.vl_judge.specs.Judgement.{Judgement}
 use Rattle.verdict_ledger.specs.Entry.{Entry}
-use Rattle.verdict_ledger.specs.Tally.{counts_of, link_counts, is_entry_of, is_on_a_link}
+use Rattle.vl_config.specs.Class.{is_on_a_link}
+use Rattle.verdict_ledger.specs.Tally.{counts_of, link_counts, is_entry_of}
 use Rattle.verdict_ledger.specs.declared.link_counts.LinkCounts.{LinkCounts}
 
 by_test : (b : Bool) (P : Bool → Type 0) → (b ≡ true → P true) → (b ≡ false → P false) → P b
@@ -17,6 +19,13 @@ by_test false P f g = g refl
 -- the entry's configured link, where it is of one
 abbrev pub counted_link : Entry → Option VlId
 counted_link e = if is_on_a_link e.verdict.class then link_of e.frame.bytes else None
+
+-- by the frame's link and its verdict
+pub counted_by : (e : Entry) (j : Judgement) (link : Option VlId) → link ≡ link_of e.frame.bytes → j ≡ e.verdict →
+    (if is_on_a_link j.class then link else None) ≡ counted_link e
+counted_by e j link linked judged =
+    ap (λ (l : Option VlId). if is_on_a_link j.class then l else None) linked
+    ∙ ap (λ (k : Judgement). if is_on_a_link k.class then link_of e.frame.bytes else None) judged
 
 test_none : (b : Bool) (o : Option VlId) (id : VlId) → None ≡ (if b then o else None) →
     (b && option_map_or (λ l. l.0 == id.0) o false) ≡ false

@@ -1,17 +1,10 @@
 -- The counts of a ledger: each counts the entries of one word.
 use Rattle.std.specs.Prelude.{ℕ, ◌/◌, ◌%◌, ◌^◌, ◌==◌, Bool, true, false, ◌&&◌, List, [], ◌∷◌, length, filter, map, count_by, is_some}
-use Rattle.std.specs.Option.{option_map_or}
 use Rattle.afdx_frame.specs.declared.key.VlId.{VlId}
+use Rattle.vl_config.specs.Class.{is_on_a_link}
 use Rattle.vl_config.specs.declared.class.Class.{Class}
 use Rattle.vl_config.specs.declared.class.Class.TheVariants.{Cut, Runt, Oversize, Foreign, Unconfigured, TooLong, Regular}
-use Rattle.policing.specs.declared.verdict.Policing.{Policing}
-use Rattle.policing.specs.declared.verdict.Policing.TheVariants.{Excess}
-use Rattle.integrity.specs.declared.verdict.Integrity.{Integrity}
-use Rattle.integrity.specs.declared.verdict.Integrity.TheVariants.{Out}
-use Rattle.redundancy.specs.Deliveries as redundancy
-use Rattle.redundancy.specs.declared.verdict.Redundancy.{Redundancy}
-use Rattle.redundancy.specs.declared.verdict.Redundancy.TheVariants.{Copy}
-use Rattle.vl_judge.specs.Judgement.{Judgement}
+use Rattle.vl_judge.specs.Judgement.{is_copy, is_delivered, is_excess, is_out}
 use Rattle.vl_judge.specs.Verdicts.{is_of}
 use Rattle.verdict_ledger.specs.Entry.{Entry}
 use Rattle.verdict_ledger.specs.declared.totals.Totals.{Totals}
@@ -28,36 +21,6 @@ is_class Unconfigured Unconfigured = true
 is_class TooLong TooLong = true
 is_class Regular Regular = true
 is_class _ _ = false
-
-abbrev pub is_excess_policing : Policing → Bool
-is_excess_policing Excess = true
-is_excess_policing _ = false
-
-abbrev pub is_out_integrity : Integrity → Bool
-is_out_integrity Out = true
-is_out_integrity _ = false
-
-abbrev pub is_copy_redundancy : Redundancy → Bool
-is_copy_redundancy Copy = true
-is_copy_redundancy _ = false
-
-abbrev pub is_excess : Judgement → Bool
-is_excess j = option_map_or is_excess_policing j.policing false
-
-abbrev pub is_out : Judgement → Bool
-is_out j = option_map_or is_out_integrity j.integrity false
-
-abbrev pub is_copy : Judgement → Bool
-is_copy j = option_map_or is_copy_redundancy j.redundancy false
-
-abbrev pub is_delivered : Judgement → Bool
-is_delivered j = option_map_or redundancy.is_delivered j.redundancy false
-
--- the frame's link is configured
-abbrev pub is_on_a_link : Class → Bool
-is_on_a_link TooLong = true
-is_on_a_link Regular = true
-is_on_a_link _ = false
 
 -- filter i accepts the frame
 abbrev pub has_bit : ℕ → ℕ → Bool
@@ -93,6 +56,7 @@ totals_of entries = record {
 unfoldable pub counts_of : List Entry → LinkCounts
 counts_of entries = record {
   frames = length entries;
+  accepted = count_by (λ e. is_some e.keep) entries;
   toolong = class_count TooLong entries;
   excess = count_by (λ e. is_excess e.verdict) entries;
   out = count_by (λ e. is_out e.verdict) entries;

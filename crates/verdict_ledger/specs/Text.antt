@@ -1,23 +1,19 @@
 -- The text of a ledger, version 2 (this project's format): ASCII, single spaces, each line ended by a newline. Numbers are decimal.
-use Rattle.std.specs.Prelude.{ℕ, ◌+◌, ◌/◌, ◌%◌, Bool, true, false, List, [], ◌∷◌, ◌++◌, flat_map, take, slice_index, Option, Some, None, codes, decimal, if◌then◌else◌}
+use Rattle.std.specs.Prelude.{ℕ, ◌+◌, ◌/◌, ◌%◌, List, [], ◌∷◌, ◌++◌, flat_map, take, slice_index, Option, Some, None, codes, decimal, if◌then◌else◌}
 use Rattle.std.specs.Option.{option_map_or}
-use Rattle.afdx_frame.specs.Frame.{Frame}
+use Rattle.afdx_frame.specs.Frame.{Frame, network_letter}
 use Rattle.afdx_frame.specs.View.{link_of, sequence_of}
 use Rattle.afdx_frame.specs.declared.key.VlId.{VlId}
 use Rattle.afdx_frame.specs.declared.key.Network.{Network}
 use Rattle.afdx_frame.specs.declared.key.Network.TheVariants.{A, B}
+use Rattle.vl_config.specs.Class.{class_word, is_addressed}
 use Rattle.vl_config.specs.Link.{VirtualLink}
 use Rattle.vl_config.specs.Document.{VlTable}
 use Rattle.vl_config.specs.declared.class.Class.{Class}
-use Rattle.vl_config.specs.declared.class.Class.TheVariants as class
-use Rattle.policing.specs.declared.verdict.Policing.{Policing}
-use Rattle.policing.specs.declared.verdict.Policing.TheVariants as policing
-use Rattle.integrity.specs.declared.verdict.Integrity.{Integrity}
-use Rattle.integrity.specs.declared.verdict.Integrity.TheVariants as integrity
-use Rattle.redundancy.specs.declared.verdict.Redundancy.{Redundancy}
-use Rattle.redundancy.specs.declared.verdict.Redundancy.TheVariants as redundancy
-use Rattle.pcap_io.specs.declared.recording.BadReason.{BadReason}
-use Rattle.pcap_io.specs.declared.recording.BadReason.TheVariants as reason
+use Rattle.policing.specs.Word.{policing_word}
+use Rattle.integrity.specs.Word.{integrity_word}
+use Rattle.redundancy.specs.Word.{redundancy_word}
+use Rattle.pcap_io.specs.Word.{reason_word}
 use Rattle.pcap_io.specs.declared.recording.Ending.{Ending}
 use Rattle.pcap_io.specs.declared.recording.Ending.TheVariants as ending
 use Rattle.vl_judge.specs.Judgement.{Judgement}
@@ -25,56 +21,6 @@ use Rattle.verdict_ledger.specs.Entry.{Entry}
 use Rattle.verdict_ledger.specs.Tally.{totals_of, link_counts}
 use Rattle.verdict_ledger.specs.declared.totals.Totals.{Totals}
 use Rattle.verdict_ledger.specs.declared.link_counts.LinkCounts.{LinkCounts}
-
--- ---- words
-
-abbrev pub network_word : Network → List ℕ
-network_word A = codes "A"
-network_word B = codes "B"
-
-abbrev pub class_word : Class → List ℕ
-class_word class.Cut = codes "cut"
-class_word class.Runt = codes "runt"
-class_word class.Oversize = codes "oversize"
-class_word class.Foreign = codes "foreign"
-class_word class.Unconfigured = codes "unconfigured"
-class_word class.TooLong = codes "toolong"
-class_word class.Regular = codes "regular"
-
-abbrev pub policing_word : Policing → List ℕ
-policing_word policing.Within = codes "within"
-policing_word policing.Excess = codes "excess"
-
-abbrev pub integrity_word : Integrity → List ℕ
-integrity_word integrity.First = codes "first"
-integrity_word integrity.Reset = codes "reset"
-integrity_word integrity.Next = codes "next"
-integrity_word integrity.Skip = codes "skip"
-integrity_word integrity.Off = codes "off"
-integrity_word integrity.Out = codes "out"
-
-abbrev pub redundancy_word : Redundancy → List ℕ
-redundancy_word redundancy.Deliver = codes "deliver"
-redundancy_word redundancy.Copy = codes "copy"
-redundancy_word redundancy.Both = codes "both"
-
-abbrev pub reason_word : BadReason → List ℕ
-reason_word reason.Length = codes "length"
-reason_word reason.Fraction = codes "fraction"
-reason_word reason.StampBack = codes "stampback"
-reason_word reason.TooMany = codes "toomany"
-reason_word reason.BlockLength = codes "blocklength"
-reason_word reason.BlockLengthsDiffer = codes "blocklengthsdiffer"
-reason_word reason.BlockBounds = codes "blockbounds"
-reason_word reason.UnknownInterface = codes "unknowninterface"
-reason_word reason.Section = codes "section"
-reason_word reason.SimplePacket = codes "simplepacket"
-reason_word reason.StampRange = codes "stamprange"
-reason_word reason.SeveralInterfaces = codes "severalinterfaces"
-reason_word reason.TooManyInterfaces = codes "toomanyinterfaces"
-reason_word reason.NoSuchInterface = codes "nosuchinterface"
-reason_word reason.FileHeader = codes "fileheader"
-reason_word reason.NextFile = codes "nextfile"
 
 -- ---- fields: a space, and a word or a number; `-` where there is none
 
@@ -88,13 +34,6 @@ abbrev pub optional_field : Option ℕ → List ℕ
 optional_field number = option_map_or number_field number (codes " -")
 
 -- ---- the line of a frame
-
--- the classes of frames whose link and sequence number are written: the bytes of the others may not hold them
-abbrev pub is_addressed : Class → Bool
-is_addressed class.Unconfigured = true
-is_addressed class.TooLong = true
-is_addressed class.Regular = true
-is_addressed _ = false
 
 abbrev pub link_number : Frame → Option ℕ
 link_number frame = option_map_or (λ id. Some id.0) (link_of frame.bytes) None
@@ -121,7 +60,7 @@ mask_text mask = hex_digit (mask / 16) ∷ hex_digit (mask % 16) ∷ []
 unfoldable pub line_text : Entry → List ℕ
 line_text e =
     decimal e.frame.stamp
-    ++ (word_field (network_word e.frame.network)
+    ++ (word_field (network_letter e.frame.network)
     ++ (number_field e.frame.number
     ++ (address_text e.verdict.class e.frame
     ++ (verdict_text e.verdict
@@ -162,7 +101,7 @@ ending_text (ending.Cut n) = count_field (codes " cut") n
 ending_text (ending.Bad n reason) = count_field (codes " bad") n ++ word_field (reason_word reason)
 
 unfoldable pub tap_line : Network → Ending → List ℕ
-tap_line network ending = codes "tap" ++ (word_field (network_word network) ++ (ending_text ending ++ codes "\n"))
+tap_line network ending = codes "tap" ++ (word_field (network_letter network) ++ (ending_text ending ++ codes "\n"))
 
 -- the counts of the frames that no judgement sees
 unfoldable pub classes_text : Totals → List ℕ

@@ -12,7 +12,8 @@ use crate::kept::kept_of;
 use crate::spool::Spool;
 use crate::tally::Tally;
 use crate::totals::Totals;
-use afdx_frame::TapFrame;
+use afdx_frame::LentFrame;
+use frame_batch::Round;
 use pcap_io::{DeviceFault, Ending, OutSink, write_all};
 use std::alloc::{AllocError, Global};
 use vl_config::{Config, Link};
@@ -100,7 +101,7 @@ impl<W: OutSink> Ledger<W> {
     /// and writes nothing.
     pub fn line(
         &mut self,
-        frame: &TapFrame,
+        frame: &LentFrame<'_>,
         verdict: &Verdict,
         keep: Option<u32>,
         mask: u8,
@@ -151,7 +152,7 @@ impl<W: OutSink> Ledger<W> {
     /// `Memory` comes only of a round with frames.
     pub fn round(
         &mut self,
-        frames: &[TapFrame],
+        frames: &Round,
         verdicts: &[Verdict],
         keeps: &[Option<u32>],
         masks: &[u8],
@@ -199,7 +200,7 @@ impl<W: OutSink> Ledger<W> {
     pub fn round_text(
         &mut self,
         text: &[u8],
-        frames: &[TapFrame],
+        frames: &Round,
         verdicts: &[Verdict],
         keeps: &[Option<u32>],
         masks: &[u8],
@@ -242,7 +243,7 @@ impl<W: OutSink> Ledger<W> {
     fn settle(
         &mut self,
         written: Result<(), LedgerFault>,
-        frames: &[TapFrame],
+        frames: &Round,
         verdicts: &[Verdict],
         keeps: &[Option<u32>],
         masks: &[u8],

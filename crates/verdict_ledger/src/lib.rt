@@ -26,7 +26,9 @@
 //! - [`Ledger`], with its faults [`LedgerFault`] and [`LedgerRefused`].
 //! - [`append_lines`], the lines of a round as text, for callers that format on other threads and then
 //!   hand the text to [`Ledger::round_text`].
-//! - [`Totals`], the counts of all frames. Each frame counts in one column of its line ([`counts_add_up`]).
+//! - [`Totals`], the counts of all frames, and [`LinkCounts`], those of a link. Each frame counts in one
+//!   column of its line ([`counts_add_up`]). A [`Tally`] counts both; [`push_link`], [`push_filter`] and
+//!   [`push_total`] write their lines.
 #![tactic(auto)]
 
 mod bounds;
@@ -48,4 +50,7 @@ pub use fault::{LedgerFault, LedgerRefused};
 pub use laws::counts_add_up;
 pub use ledger::Ledger;
 pub use lines::append_lines;
+pub use link_counts::LinkCounts;
+pub use summary::{push_filter, push_link, push_total};
+pub use tally::Tally;
 pub use totals::Totals;

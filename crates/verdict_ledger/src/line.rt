@@ -3,12 +3,13 @@ ghost use Rattle.std.specs.Prelude.{◌≡◌, ◌+◌, ◌*◌, ◌^◌, ◌<�
 ghost use Rattle.afdx_frame.specs.View.{sequence_of};
 ghost use Rattle.verdict_ledger.specs.Entry.{entry_with};
 ghost use Rattle.verdict_ledger.specs.Room.{IsStart};
-ghost use Rattle.verdict_ledger.specs.Text.{word_field, number_field, optional_field, network_word, address_text, verdict_text, mask_text, is_addressed, link_number, line_text};
+ghost use Rattle.afdx_frame.specs.Frame.{network_letter};
+ghost use Rattle.verdict_ledger.specs.Text.{word_field, number_field, optional_field, address_text, verdict_text, mask_text, link_number, line_text};
 ghost use Rattle.verdict_ledger.specs.declared.line.TheConstants.{KEY, MASK, MAX_LINE, NUMBER_FIELD};
 ghost use Rattle.verdict_ledger.specs.declared.words.TheConstants.{VERDICT};
 
 use crate::words::{VERDICT, network_field, verdict_field};
-use afdx_frame::TapFrame;
+use afdx_frame::LentFrame;
 use itoa::write_digits;
 use std::alloc::AllocError;
 use vl_config::Class;
@@ -73,23 +74,12 @@ fn write_optional_field(number: Option<u32>, line: &mut [u8], end: usize) -> usi
     }
 }
 
-/// Do the bytes of a frame of this class say its link and its sequence number?
-#[inline]
-fn is_addressed(class: Class) -> bool
-    ensures { result ≡ is_addressed class }
-{
-    match class {
-        Class::Unconfigured | Class::TooLong | Class::Regular => true,
-        Class::Cut | Class::Runt | Class::Oversize | Class::Foreign => false,
-    }
-}
-
 /// The identifier of the frame's link, where the frame has the bytes.
 #[inline]
-fn link_number(frame: &TapFrame) -> Option<u32>
+fn link_number(frame: &LentFrame<'_>) -> Option<u32>
     ensures { result ≡ link_number frame.now }
 {
-    match frame.view().vl() {
+    match frame.link() {
         Some(id) => Some(u32::from(id.0)),
         None => None,
     }
@@ -97,10 +87,10 @@ fn link_number(frame: &TapFrame) -> Option<u32>
 
 /// The sequence number, where the frame has a byte.
 #[inline]
-fn sequence_number(frame: &TapFrame) -> Option<u32>
+fn sequence_number(frame: &LentFrame<'_>) -> Option<u32>
     ensures { result ≡ sequence_of frame.now.bytes }
 {
-    match frame.view().sequence() {
+    match frame.sequence() {
         Some(number) => Some(u32::from(number)),
         None => None,
     }
@@ -108,13 +98,13 @@ fn sequence_number(frame: &TapFrame) -> Option<u32>
 
 /// Writes the link and the sequence number, or dashes.
 #[inline(always)]
-fn write_address(class: Class, frame: &TapFrame, line: &mut [u8], end: usize) -> usize
+fn write_address(class: Class, frame: &LentFrame<'_>, line: &mut [u8], end: usize) -> usize
     requires room { 2 * NUMBER_FIELD ≤ end }
     requires within { end ≤ length line.old }
     ensures start { IsStart (2 * NUMBER_FIELD) end result }
     ensures written { drop result line.new ≡ address_text class frame.now ++ drop end line.old }
 {
-    if !is_addressed(class) {
+    if !class.is_addressed() {
         return write_bytes(b" - -", line, end);
     }
     let start = write_optional_field(sequence_number(frame), line, end);
@@ -149,12 +139,12 @@ fn write_mask(mask: u8, line: &mut [u8], end: usize) -> usize
 /// Writes the timestamp, the network and the number of a frame.
 #[inline(always)]
 #[tactic(auto, using(crate::proofs::Lengths::stamp_short))]
-fn write_key(frame: &TapFrame, line: &mut [u8], end: usize) -> usize
+fn write_key(frame: &LentFrame<'_>, line: &mut [u8], end: usize) -> usize
     requires room { KEY ≤ end }
     requires within { end ≤ length line.old }
     ensures start { result ≤ end }
     ensures written { drop result line.new ≡ decimal frame.now.stamp
-        ++ (word_field (network_word frame.now.network)
+        ++ (word_field (network_letter frame.now.network)
         ++ (number_field frame.now.number ++ drop end line.old)) }
 {
     let number = write_number_field(frame.number(), line, end);
@@ -167,7 +157,7 @@ fn write_key(frame: &TapFrame, line: &mut [u8], end: usize) -> usize
 #[tactic(auto, unfolding(crate::specs::Text::line_text))]
 fn write_line(
     line: &mut [u8; MAX_LINE],
-    frame: &TapFrame,
+    frame: &LentFrame<'_>,
     verdict: &Verdict,
     keep: Option<u32>,
     mask: u8,
@@ -187,7 +177,7 @@ fn write_line(
 #[inline]
 pub fn push_line(
     text: &mut Vec<u8>,
-    frame: &TapFrame,
+    frame: &LentFrame<'_>,
     verdict: &Verdict,
     keep: Option<u32>,
     mask: u8,

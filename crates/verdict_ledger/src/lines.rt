@@ -4,7 +4,7 @@ ghost use Rattle.verdict_ledger.specs.Entry.{entries_of};
 ghost use Rattle.verdict_ledger.specs.Text.{lines_text};
 
 use crate::line::push_line;
-use afdx_frame::TapFrame;
+use frame_batch::RoundPart;
 use std::alloc::AllocError;
 use vl_judge::Verdict;
 
@@ -16,7 +16,7 @@ use vl_judge::Verdict;
 /// There is no memory for a line. The text is as it was.
 pub fn append_lines(
     text: &mut Vec<u8>,
-    frames: &[TapFrame],
+    frames: &RoundPart<'_>,
     verdicts: &[Verdict],
     keeps: &[Option<u32>],
     masks: &[u8],
@@ -33,7 +33,7 @@ pub fn append_lines(
     for index in 0..frames.len() {
         match push_line(
             text,
-            &frames[index],
+            &frames.frame(index),
             &verdicts[index],
             keeps[index],
             masks[index],

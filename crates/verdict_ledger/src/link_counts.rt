@@ -1,23 +1,30 @@
 //! The counts of a line `link`, and which verdicts count in which column.
 ghost use Rattle.std.specs.Prelude.{◌≡◌, ◌+◌, ◌<◌, List, [], ◌∷◌, ◌++◌, length, cond};
 ghost use Rattle.verdict_ledger.specs.Entry.{Entry};
-ghost use Rattle.verdict_ledger.specs.Tally.{counts_of, is_class, is_excess, is_out, is_copy, is_delivered};
+ghost use Rattle.vl_judge.specs.Judgement.{is_excess, is_out, is_copy, is_delivered};
+ghost use Rattle.verdict_ledger.specs.Tally.{counts_of, is_class};
 ghost use Rattle.verdict_ledger.specs.declared.bounds.TheConstants.{MAX_LINES};
 
-use integrity::Integrity;
-use policing::Policing;
-use redundancy::Redundancy;
 use vl_config::Class;
 use vl_judge::Verdict;
 
-/// The counts of the frames of a link that are too long or regular. `frames` is the sum of the others.
+/// The counts of the frames of a link that are too long or regular. `frames` is the sum of all from
+/// `toolong` to `delivered`.
 #[derive(Clone, Copy, Debug, PartialEq, Eq)]
 pub struct LinkCounts {
+    /// All frames.
     pub frames: u64,
+    /// Those that a filter accepts. The line doesn't say them.
+    pub accepted: u64,
+    /// Those of the class `TooLong`.
     pub toolong: u64,
+    /// Those that policing drops.
     pub excess: u64,
+    /// Those that integrity checking drops.
     pub out: u64,
+    /// The second ones of pairs, which redundancy management drops.
     pub copy: u64,
+    /// Those that are delivered.
     pub delivered: u64,
 }
 
@@ -29,6 +36,7 @@ impl LinkCounts {
     {
         LinkCounts {
             frames: 0,
+            accepted: 0,
             toolong: 0,
             excess: 0,
             out: 0,
@@ -37,19 +45,20 @@ impl LinkCounts {
         }
     }
 
-    /// Counts one more frame, which has this verdict.
+    /// Counts one more frame, which has this verdict, and of which a filter keeps so many bytes.
     #[inline]
-    pub fn count(&mut self, verdict: &Verdict)
+    pub fn count(&mut self, verdict: &Verdict, keep: Option<u32>)
         ensures { (entries : List Entry) (e : Entry) → length entries < MAX_LINES
-            → verdict.now ≡ e.verdict → self.old ≡ counts_of entries
+            → verdict.now ≡ e.verdict → keep ≡ e.keep → self.old ≡ counts_of entries
             → self.new ≡ counts_of (entries ++ e ∷ []) }
     {
         count_where(&mut self.frames, true);
+        count_where(&mut self.accepted, keep.is_some());
         count_where(&mut self.toolong, is_class(Class::TooLong, verdict.class));
-        count_where(&mut self.excess, is_excess(verdict));
-        count_where(&mut self.out, is_out(verdict));
-        count_where(&mut self.copy, is_copy(verdict));
-        count_where(&mut self.delivered, is_delivered(verdict));
+        count_where(&mut self.excess, verdict.is_excess());
+        count_where(&mut self.out, verdict.is_out());
+        count_where(&mut self.copy, verdict.is_copy());
+        count_where(&mut self.delivered, verdict.is_delivered());
     }
 }
 
@@ -78,39 +87,4 @@ pub fn is_class(class: Class, other: Class) -> bool
     ensures { result ≡ is_class class other }
 {
     class == other
-}
-
-/// Does policing drop the frame?
-#[inline(always)]
-pub fn is_excess(verdict: &Verdict) -> bool
-    ensures { result ≡ is_excess verdict.now }
-{
-    matches!(verdict.policing, Some(Policing::Excess))
-}
-
-/// Does integrity checking drop the frame?
-#[inline(always)]
-pub fn is_out(verdict: &Verdict) -> bool
-    ensures { result ≡ is_out verdict.now }
-{
-    matches!(verdict.integrity, Some(Integrity::Out))
-}
-
-/// Is the frame the second of a pair?
-#[inline(always)]
-pub fn is_copy(verdict: &Verdict) -> bool
-    ensures { result ≡ is_copy verdict.now }
-{
-    matches!(verdict.redundancy, Some(Redundancy::Copy))
-}
-
-/// Is the frame delivered?
-#[inline(always)]
-pub fn is_delivered(verdict: &Verdict) -> bool
-    ensures { result ≡ is_delivered verdict.now }
-{
-    match verdict.redundancy {
-        Some(redundancy) => redundancy.is_delivered(),
-        None => false,
-    }
 }

@@ -14,7 +14,8 @@ use crate::lines::append_lines;
 use crate::link_counts::LinkCounts;
 use crate::summary::{push_end, push_link};
 use crate::tally::Tally;
-use afdx_frame::TapFrame;
+use afdx_frame::LentFrame;
+use frame_batch::Round;
 use pcap_io::{Ending, OutSink, write_all};
 use vl_config::Link;
 use vl_judge::Verdict;
@@ -101,7 +102,7 @@ impl<W: OutSink> Spool<W> {
     #[inline]
     pub fn write_line(
         &mut self,
-        frame: &TapFrame,
+        frame: &LentFrame<'_>,
         verdict: &Verdict,
         keep: Option<u32>,
         mask: u8,
@@ -120,7 +121,7 @@ impl<W: OutSink> Spool<W> {
     /// Writes the lines of a round's frames. A round of no frames needs no memory.
     pub fn write_lines(
         &mut self,
-        frames: &[TapFrame],
+        frames: &Round,
         verdicts: &[Verdict],
         keeps: &[Option<u32>],
         masks: &[u8],
@@ -136,7 +137,7 @@ impl<W: OutSink> Spool<W> {
         ensures memory { result ≡ Err Memory → self.new.sink ≡ self.old.sink }
     {
         self.text.clear();
-        append_lines(&mut self.text, frames, verdicts, keeps, masks)?;
+        append_lines(&mut self.text, &frames.all(), verdicts, keeps, masks)?;
         self.flush()
     }
 

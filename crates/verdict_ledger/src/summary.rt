@@ -5,7 +5,7 @@ ghost use Rattle.verdict_ledger.specs.declared.bounds.TheConstants.{MAX_FILTERS}
 
 use crate::link_counts::LinkCounts;
 use crate::totals::Totals;
-use crate::words::{network_field, reason_field};
+use crate::words::network_field;
 use afdx_frame::Network;
 use itoa::Buffer;
 use pcap_io::Ending;
@@ -86,7 +86,7 @@ pub fn push_link(text: &mut Vec<u8>, link: &Link, counts: &LinkCounts) -> Result
 
 /// Appends the line of a filter.
 #[tactic(auto, unfolding(crate::specs::Text::filter_line))]
-fn push_filter(text: &mut Vec<u8>, filter: usize, accepted: u64) -> Result<(), AllocError>
+pub fn push_filter(text: &mut Vec<u8>, filter: usize, accepted: u64) -> Result<(), AllocError>
     ensures { OnOk result (text.new.items ≡ text.old.items ++ filter_line filter accepted) }
 {
     push_count(text, "filter", filter as u64)?;
@@ -113,7 +113,8 @@ fn push_ending(text: &mut Vec<u8>, ending: Ending) -> Result<(), AllocError>
         Ending::Cut(frames) => push_count(text, " cut", frames),
         Ending::Bad(frames, reason) => {
             push_count(text, " bad", frames)?;
-            push_word(text, reason_field(reason))
+            push_word(text, " ")?;
+            push_word(text, reason.word())
         }
     }
 }

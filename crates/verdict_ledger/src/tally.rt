@@ -1,15 +1,16 @@
 //! The counts that a ledger keeps.
 ghost use Rattle.std.specs.Prelude.{◌≡◌, ◌<◌, ◌≤◌, ◌+◌, List, [], ◌∷◌, ◌++◌, length, None, IfOk, vec_len, if◌then◌else◌};
 ghost use Rattle.afdx_frame.specs.View.{link_of};
-ghost use Rattle.verdict_ledger.specs.Tally.{is_on_a_link, link_counts};
+ghost use Rattle.vl_config.specs.Class.{is_on_a_link};
+ghost use Rattle.verdict_ledger.specs.Tally.{link_counts};
 ghost use Rattle.afdx_frame.specs.declared.key.TheConstants.{VL_ID_COUNT};
 ghost use Rattle.verdict_ledger.specs.declared.bounds.TheConstants.{MAX_LINES};
 
 use crate::link_counts::LinkCounts;
 use crate::totals::Totals;
-use afdx_frame::{TapFrame, VL_ID_COUNT, VlId};
+use afdx_frame::{LentFrame, VL_ID_COUNT, VlId};
+use frame_batch::Round;
 use std::alloc::{AllocError, Global};
-use vl_config::Class;
 use vl_judge::Verdict;
 
 /// The counts of all frames, and those of each identifier, so that a frame costs the same whatever the
@@ -53,20 +54,31 @@ impl Tally {
 
     /// Counts a frame.
     #[inline]
-    pub fn count(&mut self, frame: &TapFrame, verdict: &Verdict, keep: Option<u32>, mask: u8)
+    pub fn count(&mut self, frame: &LentFrame<'_>, verdict: &Verdict, keep: Option<u32>, mask: u8)
         ensures { (entries : List Entry) → length entries < MAX_LINES → IsTallyOf entries self.old
             → IsTallyOf (entries ++ entry_with frame.now verdict.now keep mask ∷ []) self.new }
     {
+        self.count_by(frame.link(), verdict, keep, mask);
+    }
+
+    /// Counts a frame by what its line says: its link, its verdict, how many bytes of it are kept, and the mask
+    /// of the filters that accept it.
+    #[inline]
+    pub fn count_by(&mut self, link: Option<VlId>, verdict: &Verdict, keep: Option<u32>, mask: u8)
+        ensures { (entries : List Entry) (e : Entry) → length entries < MAX_LINES
+            → link ≡ link_of e.frame.bytes → verdict.now ≡ e.verdict → keep ≡ e.keep → mask ≡ e.mask
+            → IsTallyOf entries self.old → IsTallyOf (entries ++ e ∷ []) self.new }
+    {
         self.totals.count(verdict, keep, mask);
-        if let Some(id) = counted_link(frame, verdict) {
-            self.counts[usize::from(id.0)].count(verdict);
+        if let Some(id) = counted_link(link, verdict) {
+            self.counts[usize::from(id.0)].count(verdict, keep);
         }
     }
 
     /// Counts the frames of a round.
     pub fn count_round(
         &mut self,
-        frames: &[TapFrame],
+        frames: &Round,
         verdicts: &[Verdict],
         keeps: &[Option<u32>],
         masks: &[u8],
@@ -79,18 +91,24 @@ impl Tally {
             (entries ++ entries_of frames.now verdicts.now keeps.now masks.now) self.new }
     {
         for index in 0..frames.len() {
-            self.count(&frames[index], &verdicts[index], keeps[index], masks[index]);
+            self.count(
+                &frames.frame(index),
+                &verdicts[index],
+                keeps[index],
+                masks[index],
+            );
         }
     }
 }
 
-/// The identifier of a frame of a configured link.
+/// The link of a frame, where it is configured.
 #[inline]
-fn counted_link(frame: &TapFrame, verdict: &Verdict) -> Option<VlId>
-    ensures { result ≡ (if is_on_a_link verdict.now.class then link_of frame.now.bytes else None) }
+fn counted_link(link: Option<VlId>, verdict: &Verdict) -> Option<VlId>
+    ensures { result ≡ (if is_on_a_link verdict.now.class then link else None) }
 {
-    match verdict.class {
-        Class::TooLong | Class::Regular => frame.view().vl(),
-        _ => None,
+    if verdict.class.is_on_a_link() {
+        link
+    } else {
+        None
     }
 }

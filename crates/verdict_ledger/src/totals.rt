@@ -5,7 +5,7 @@ ghost use Rattle.verdict_ledger.specs.Tally.{totals_of, has_bit, filter_count};
 ghost use Rattle.verdict_ledger.specs.declared.bounds.TheConstants.{MAX_LINES};
 
 use crate::bounds::MAX_FILTERS;
-use crate::link_counts::{count_where, is_class, is_copy, is_delivered, is_excess, is_out, plus};
+use crate::link_counts::{count_where, is_class, plus};
 use vl_config::Class;
 use vl_judge::Verdict;
 
@@ -43,7 +43,7 @@ pub struct Totals {
 impl Totals {
     /// The counts of no frame.
     #[tactic(auto, unfolding(crate::specs::Tally::totals_of))]
-    pub(crate) fn new() -> Totals
+    pub fn new() -> Totals
         ensures { result ≡ totals_of [] }
     {
         Totals {
@@ -63,9 +63,10 @@ impl Totals {
         }
     }
 
-    /// Counts one more frame.
+    /// Counts one more frame: its verdict, how many bytes of it a filter keeps, and the mask of the filters
+    /// that accept it.
     #[inline]
-    pub(crate) fn count(&mut self, verdict: &Verdict, keep: Option<u32>, mask: u8)
+    pub fn count(&mut self, verdict: &Verdict, keep: Option<u32>, mask: u8)
         ensures { (entries : List Entry) (e : Entry) → length entries < MAX_LINES
             → verdict.now ≡ e.verdict → keep ≡ e.keep → mask ≡ e.mask
             → self.old ≡ totals_of entries
@@ -80,10 +81,10 @@ impl Totals {
         count_where(&mut self.foreign, is_class(Class::Foreign, class));
         count_where(&mut self.unconfigured, is_class(Class::Unconfigured, class));
         count_where(&mut self.toolong, is_class(Class::TooLong, class));
-        count_where(&mut self.excess, is_excess(verdict));
-        count_where(&mut self.out, is_out(verdict));
-        count_where(&mut self.copy, is_copy(verdict));
-        count_where(&mut self.delivered, is_delivered(verdict));
+        count_where(&mut self.excess, verdict.is_excess());
+        count_where(&mut self.out, verdict.is_out());
+        count_where(&mut self.copy, verdict.is_copy());
+        count_where(&mut self.delivered, verdict.is_delivered());
         count_filters(&mut self.filters, mask);
     }
 }

@@ -1,11 +1,11 @@
 //! The words of the ledger, each with the space before it.
 ghost use Rattle.std.specs.Prelude.{◌≡◌, ◌≤◌, length};
 ghost use Rattle.verdict_ledger.specs.declared.words.TheConstants.{VERDICT};
-ghost use Rattle.verdict_ledger.specs.Text.{word_field, network_word, verdict_text, reason_word};
+ghost use Rattle.afdx_frame.specs.Frame.{network_letter};
+ghost use Rattle.verdict_ledger.specs.Text.{word_field, verdict_text};
 
 use afdx_frame::Network;
 use integrity::Integrity;
-use pcap_io::BadReason;
 use redundancy::Redundancy;
 use vl_config::Class;
 use vl_judge::Verdict;
@@ -13,7 +13,7 @@ use vl_judge::Verdict;
 /// The word of a network.
 #[inline]
 pub fn network_field(network: Network) -> &'static str
-    ensures { result.now ≡ word_field (network_word network) }
+    ensures { result.now ≡ word_field (network_letter network) }
 {
     match network {
         Network::A => " A",
@@ -67,29 +67,5 @@ fn regular_field(verdict: &Verdict) -> &'static str
         (Some(Integrity::Off), Some(Redundancy::Deliver)) => " regular within off deliver",
         (Some(Integrity::Off), Some(Redundancy::Copy)) => " regular within off copy",
         (Some(Integrity::Off), _) => " regular within off both",
-    }
-}
-
-/// Why a recording can't be read on.
-pub fn reason_field(reason: BadReason) -> &'static str
-    ensures { result.now ≡ word_field (reason_word reason) }
-{
-    match reason {
-        BadReason::Length => " length",
-        BadReason::Fraction => " fraction",
-        BadReason::StampBack => " stampback",
-        BadReason::TooMany => " toomany",
-        BadReason::BlockLength => " blocklength",
-        BadReason::BlockLengthsDiffer => " blocklengthsdiffer",
-        BadReason::BlockBounds => " blockbounds",
-        BadReason::UnknownInterface => " unknowninterface",
-        BadReason::Section => " section",
-        BadReason::SimplePacket => " simplepacket",
-        BadReason::StampRange => " stamprange",
-        BadReason::SeveralInterfaces => " severalinterfaces",
-        BadReason::TooManyInterfaces => " toomanyinterfaces",
-        BadReason::NoSuchInterface => " nosuchinterface",
-        BadReason::FileHeader => " fileheader",
-        BadReason::NextFile => " nextfile",
     }
 }

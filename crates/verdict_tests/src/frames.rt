@@ -64,5 +64,5 @@ pub fn judge_next(rt: &impl Abort, lanes: &mut Lanes, frame: &TapFrame) -> Verdi
     if let Some(last) = lanes.last() {
         assert!(rt; last < frame.key());
     }
-    lanes.judge(frame)
+    lanes.judge(&frame.lent())
 }

@@ -8,7 +8,8 @@ mod examples;
 // further: mod many;
 
 use crate::frames::{FRAME, Row, frame_of, judge_next};
-use afdx_frame::{Network, TapFrame};
+use afdx_frame::Network;
+use frame_batch::Round as Frames;
 use pcap_io::OutSink;
 use std::alloc::{AllocError, Global};
 use std::process::Abort;
@@ -19,7 +20,7 @@ use vl_judge::{Lanes, Verdict};
 /// The lists that a round of the ledger takes.
 #[derive(Drop)]
 pub struct Round {
-    pub frames: Vec<TapFrame>,
+    pub frames: Frames,
     pub verdicts: Vec<Verdict>,
     pub keeps: Vec<Option<u32>>,
     pub masks: Vec<u8>,
@@ -29,7 +30,7 @@ impl Round {
     /// Of no frame.
     pub fn new(alloc: Global) -> Round {
         Round {
-            frames: Vec::new(alloc),
+            frames: Frames::new(alloc),
             verdicts: Vec::new(alloc),
             keeps: Vec::new(alloc),
             masks: Vec::new(alloc),
@@ -41,7 +42,13 @@ impl Round {
         assert!(rt; self.verdicts.len() == self.frames.len());
         assert!(rt; self.keeps.len() == self.frames.len());
         assert!(rt; self.masks.len() == self.frames.len());
-        append_lines(text, &self.frames, &self.verdicts, &self.keeps, &self.masks)
+        append_lines(
+            text,
+            &self.frames.all(),
+            &self.verdicts,
+            &self.keeps,
+            &self.masks,
+        )
     }
 }
 
@@ -49,17 +56,19 @@ impl Round {
 pub fn round_of(rt: &(impl Abort + AllocGlobal), config: &Config, rows: &[Row]) -> Option<Round> {
     let mut lanes = Lanes::new(rt.alloc(), config).ok()?;
     let mut round = Round::new(rt.alloc());
+    let mut frames = Vec::new(rt.alloc());
     for row in rows {
         let frame = frame_of(rt.alloc(), row)?;
         let verdict = judge_next(rt, &mut lanes, &frame);
         let has_room = round.verdicts.push(verdict).is_ok()
             && round.keeps.push(row.keep).is_ok()
             && round.masks.push(row.mask).is_ok()
-            && round.frames.push(frame).is_ok();
+            && frames.push(frame).is_ok();
         if !has_room {
             return None;
         }
     }
+    round.frames = Frames::from_frames(rt.alloc(), frames).ok()?;
     Some(round)
 }
 
@@ -98,7 +107,7 @@ fn add_line<W: OutSink>(
     assert!(rt; index < round.keeps.len() && index < round.masks.len());
     assert!(rt; ledger.totals().frames < 1 << 34);
     ledger.line(
-        &round.frames[index],
+        &round.frames.frame(index),
         &round.verdicts[index],
         round.keeps[index],
         round.masks[index],
@@ -153,7 +162,7 @@ fn add_text<W: OutSink>(
         masks,
     } = round;
     let mut text = Vec::new(rt.alloc());
-    if append_lines(&mut text, frames, verdicts, keeps, masks).is_err() {
+    if append_lines(&mut text, &frames.all(), verdicts, keeps, masks).is_err() {
         assert!(rt; text.is_empty());
         return Err(LedgerFault::Memory);
     }

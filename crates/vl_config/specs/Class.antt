@@ -1,7 +1,7 @@
 -- The class of a frame under a table: the first that fits. The order, and the bounds of 60 and 1514 bytes without the frame check
 -- sequence (an Ethernet frame's least and greatest length, IEEE 802.3), are this project's profile; the constant field, the
 -- virtual link and Smax are ARINC 664 Part 7.
-use Rattle.std.specs.Prelude.{ℕ, ◌+◌, Bool, false, not, List, length, Option, Some, None, ◌==◌, nat_lt, find, if◌then◌else◌}
+use Rattle.std.specs.Prelude.{ℕ, ◌+◌, Bool, true, false, not, List, codes, length, Option, Some, None, ◌==◌, nat_lt, find, if◌then◌else◌}
 use Rattle.std.specs.Option.{option_map, option_and_then}
 use Rattle.afdx_frame.specs.Frame.{Frame}
 use Rattle.afdx_frame.specs.View.{constant_of, link_of}
@@ -10,6 +10,29 @@ use Rattle.vl_config.specs.declared.class.Class.{Class}
 use Rattle.vl_config.specs.declared.class.Class.TheVariants.{Cut, Runt, Oversize, Foreign, Unconfigured, TooLong, Regular}
 use Rattle.vl_config.specs.Link.{VirtualLink}
 use Rattle.vl_config.specs.Document.{VlTable, has_id}
+
+-- the words of the classes, as ledgers and reports write them (this project's format)
+abbrev pub class_word : Class → List ℕ
+class_word Cut = codes "cut"
+class_word Runt = codes "runt"
+class_word Oversize = codes "oversize"
+class_word Foreign = codes "foreign"
+class_word Unconfigured = codes "unconfigured"
+class_word TooLong = codes "toolong"
+class_word Regular = codes "regular"
+
+-- the classes of frames whose link and sequence number are written: the bytes of the others may not hold them
+abbrev pub is_addressed : Class → Bool
+is_addressed Unconfigured = true
+is_addressed TooLong = true
+is_addressed Regular = true
+is_addressed _ = false
+
+-- the classes of frames whose link is configured
+abbrev pub is_on_a_link : Class → Bool
+is_on_a_link TooLong = true
+is_on_a_link Regular = true
+is_on_a_link _ = false
 
 abbrev pub has_constant : ℕ → Option ℕ → Bool
 has_constant constant None = false

@@ -1,10 +1,10 @@
 //! What a frame is before any judgement: a class decides whether policing sees it.
 
-ghost use Rattle.std.specs.Prelude.{◌≡◌};
+ghost use Rattle.std.specs.Prelude.{◌≡◌, ◌↔◌};
 ghost use Rattle.afdx_frame.specs.View.{constant_of};
-ghost use Rattle.vl_config.specs.Class.{class_by, has_constant};
+ghost use Rattle.vl_config.specs.Class.{class_by, class_word, has_constant, is_addressed, is_on_a_link};
 
-use afdx_frame::TapFrame;
+use afdx_frame::LentFrame;
 
 /// The class of a frame: the first that fits. Only `Regular` frames are policed.
 ///
@@ -28,6 +28,59 @@ pub enum Class {
     Regular,
 }
 
+impl Class {
+    /// The word of the class.
+    pub fn word(self) -> &'static str
+        ensures { result.now ≡ class_word self }
+    {
+        match self {
+            Class::Cut => "cut",
+            Class::Runt => "runt",
+            Class::Oversize => "oversize",
+            Class::Foreign => "foreign",
+            Class::Unconfigured => "unconfigured",
+            Class::TooLong => "toolong",
+            Class::Regular => "regular",
+        }
+    }
+
+    /// The class whose word the bytes are.
+    #[inline]
+    pub fn from_word(word: &[u8]) -> Option<Class>
+        ensures { (class : Class) → (class_word class ≡ word.now) ↔ (result ≡ Some class) }
+    {
+        match word {
+            b"regular" => Some(Class::Regular),
+            b"cut" => Some(Class::Cut),
+            b"runt" => Some(Class::Runt),
+            b"oversize" => Some(Class::Oversize),
+            b"foreign" => Some(Class::Foreign),
+            b"unconfigured" => Some(Class::Unconfigured),
+            b"toolong" => Some(Class::TooLong),
+            _ => None,
+        }
+    }
+
+    /// Do the bytes of a frame of this class hold its link and its sequence number for certain?
+    #[inline(always)]
+    pub fn is_addressed(self) -> bool
+        ensures { result ≡ is_addressed self }
+    {
+        match self {
+            Class::Unconfigured | Class::TooLong | Class::Regular => true,
+            Class::Cut | Class::Runt | Class::Oversize | Class::Foreign => false,
+        }
+    }
+
+    /// Is the link of a frame of this class configured?
+    #[inline(always)]
+    pub fn is_on_a_link(self) -> bool
+        ensures { result ≡ is_on_a_link self }
+    {
+        matches!(self, Class::TooLong | Class::Regular)
+    }
+}
+
 /// An Ethernet frame's least length without its frame check sequence, in bytes (IEEE 802.3).
 const LEAST_LENGTH: u32 = 60;
 /// An Ethernet frame's greatest length without its frame check sequence, in bytes (IEEE 802.3).
@@ -39,11 +92,11 @@ pub const CHECK_LENGTH: u32 = 4;
 /// None where the table does not have the link. For a caller that finds links by an index of its
 /// own; [`crate::Config::class`] finds the link itself.
 #[inline(always)]
-pub fn class_by(constant: u32, smax: Option<u32>, frame: &TapFrame) -> Class
+pub fn class_by(constant: u32, smax: Option<u32>, frame: &LentFrame<'_>) -> Class
     ensures { result ≡ class_by constant smax frame.now }
 {
     let whole = frame.whole();
-    if frame.view().bytes().len() < whole as usize {
+    if frame.captured() < whole as usize {
         Class::Cut
     } else if whole < LEAST_LENGTH {
         Class::Runt
@@ -61,10 +114,10 @@ pub fn class_by(constant: u32, smax: Option<u32>, frame: &TapFrame) -> Class
 }
 
 #[inline(always)]
-fn has_constant(constant: u32, frame: &TapFrame) -> bool
+fn has_constant(constant: u32, frame: &LentFrame<'_>) -> bool
     ensures { result ≡ has_constant constant (constant_of frame.now.bytes) }
 {
-    match frame.view().constant() {
+    match frame.constant() {
         Some(field) => field == constant,
         None => false,
     }

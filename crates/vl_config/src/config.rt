@@ -135,7 +135,7 @@ impl Config {
             Some(id) => self.smax(id),
             None => None,
         };
-        class_by(self.constant, smax, frame)
+        class_by(self.constant, smax, &frame.lent())
     }
 
     fn smax(&self, id: VlId) -> Option<u32>

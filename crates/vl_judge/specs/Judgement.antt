@@ -6,8 +6,11 @@ use Rattle.vl_config.specs.declared.class.Class.TheVariants.{Regular}
 use Rattle.policing.specs.declared.verdict.Policing.{Policing}
 use Rattle.policing.specs.declared.verdict.Policing.TheVariants.{Within, Excess}
 use Rattle.integrity.specs.declared.verdict.Integrity.{Integrity}
+use Rattle.integrity.specs.declared.verdict.Integrity.TheVariants.{Out}
 use Rattle.integrity.specs.Sequence.{is_valid}
+use Rattle.redundancy.specs.Deliveries as redundancy
 use Rattle.redundancy.specs.declared.verdict.Redundancy.{Redundancy}
+use Rattle.redundancy.specs.declared.verdict.Redundancy.TheVariants.{Copy}
 
 pub record Judgement : Type 0 where
   pub class : Class
@@ -43,3 +46,29 @@ judgement class policing integrity redundancy =
     else record { class = class; policing = Some policing; integrity = Some integrity; redundancy = None })
     else record { class = class; policing = Some policing; integrity = None; redundancy = None })
     else stopped_verdict class
+
+-- ---- what becomes of the frame
+
+abbrev pub is_excess_policing : Policing → Bool
+is_excess_policing Excess = true
+is_excess_policing _ = false
+
+abbrev pub is_out_integrity : Integrity → Bool
+is_out_integrity Out = true
+is_out_integrity _ = false
+
+abbrev pub is_copy_redundancy : Redundancy → Bool
+is_copy_redundancy Copy = true
+is_copy_redundancy _ = false
+
+abbrev pub is_excess : Judgement → Bool
+is_excess j = option_map_or is_excess_policing j.policing false
+
+abbrev pub is_out : Judgement → Bool
+is_out j = option_map_or is_out_integrity j.integrity false
+
+abbrev pub is_copy : Judgement → Bool
+is_copy j = option_map_or is_copy_redundancy j.redundancy false
+
+abbrev pub is_delivered : Judgement → Bool
+is_delivered j = option_map_or redundancy.is_delivered j.redundancy false

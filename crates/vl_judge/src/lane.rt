@@ -13,7 +13,7 @@ ghost use Rattle.integrity.specs.Sequence.{is_valid};
 ghost use Rattle.redundancy.specs.Deliveries as deliveries;
 
 use crate::verdict::Verdict;
-use afdx_frame::{Network, TapFrame, VlId};
+use afdx_frame::{LentFrame, Network, VlId};
 use integrity::{Check, Integrity};
 use policing::{Account, Policing};
 use redundancy::{Pair, Redundancy};
@@ -42,7 +42,7 @@ impl Side {
 
     /// Judges a regular frame; where it is not within its account, integrity checking doesn't see it.
     #[inline(always)]
-    fn judge(&mut self, on: bool, frame: &TapFrame, sn: u8) -> (Policing, Option<Integrity>)
+    fn judge(&mut self, on: bool, frame: &LentFrame<'_>, sn: u8) -> (Policing, Option<Integrity>)
         requires in_order { ForSome self.old.account.last (λ last. last ≤ frame.now.stamp) }
         requires short { frame.now.whole ≤ 1514 }
         ensures policing { (link : VirtualLink) (entries : List windows.Entry) →
@@ -108,7 +108,7 @@ impl Lane {
     }
 
     #[inline(always)]
-    fn judge_regular(&mut self, frame: &TapFrame) -> Verdict
+    fn judge_regular(&mut self, frame: &LentFrame<'_>) -> Verdict
         requires in_order { (later : ℕ) → frame.now.stamp ≤ later → NoneLater self.old later }
         requires short { frame.now.whole ≤ 1514 }
         ensures verdict { (link : VirtualLink) (earlier : List Judged) →
@@ -122,7 +122,7 @@ impl Lane {
         ensures id { self.new.id ≡ self.old.id }
     {
         // A regular frame has bytes, and so a sequence number.
-        let sn = frame.view().sequence().unwrap_or(0);
+        let sn = frame.sequence().unwrap_or(0);
         let (policing, integrity) = match frame.network() {
             Network::A => self.a.judge(self.integrity, frame, sn),
             Network::B => self.b.judge(self.integrity, frame, sn),
@@ -177,7 +177,7 @@ impl LaneBox {
 
     /// Judges a frame of the link under a table with this constant field.
     #[inline(always)]
-    pub fn judge(&mut self, constant: u32, frame: &TapFrame) -> Verdict
+    pub fn judge(&mut self, constant: u32, frame: &LentFrame<'_>) -> Verdict
         requires { (later : ℕ) → frame.now.stamp ≤ later → NoneLater self.old later }
         ensures verdict { (link : VirtualLink) (earlier : List Judged) →
             LaneStandsAfter self.old link earlier → result ≡
@@ -205,7 +205,7 @@ fn manage(
     on: bool,
     skew: u64,
     integrity: Option<Integrity>,
-    frame: &TapFrame,
+    frame: &LentFrame<'_>,
     sn: u8,
 ) -> Option<Redundancy>
     requires { (later : ℕ) → frame.now.stamp ≤ later → deliveries.NoneLater pair.old later }

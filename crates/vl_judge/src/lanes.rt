@@ -13,7 +13,8 @@ use crate::lane::LaneBox;
 use crate::part::{JudgedPart, Lent, Part};
 use crate::verdict::Verdict;
 use crate::workers::{count_marked, judge_part, last_key, place, without_lanes};
-use afdx_frame::{Key, TapFrame, VL_ID_COUNT};
+use afdx_frame::{Key, LentFrame, VL_ID_COUNT};
+use frame_batch::Round;
 use std::alloc::{AllocError, Global};
 use std::marker::Model;
 use std::sync::Wait;
@@ -84,7 +85,7 @@ impl Lanes {
 
     /// Judges a frame whose key is above that of the last one: the next frame in the order of both
     /// networks.
-    pub fn judge(&mut self, frame: &TapFrame) -> Verdict
+    pub fn judge(&mut self, frame: &LentFrame<'_>) -> Verdict
         requires { ForSome self.old.last (λ last. key_cmp last (key_of frame.now) ≡ Less) }
         ensures verdict { (vl_table : VlTable) (frames : List Frame) →
             StandsAfter self.old vl_table frames →
@@ -122,7 +123,7 @@ impl Lanes {
     pub fn judge_round<R: Threads + Wait + Sync>(
         mut self,
         rt: &R,
-        round: &[TapFrame],
+        round: &Round,
         workers: u32,
     ) -> Result<(Lanes, Vec<Verdict>), LaneFault>
         requires follows { FollowsOn self.last round.now }
@@ -153,7 +154,7 @@ impl Lanes {
     /// key is above that of the last frame, and each other one's above that of the frame before it.
     ///
     /// It takes one block of memory, for the verdicts, and of no frames none is taken.
-    pub fn judge_frames(&mut self, round: &[TapFrame]) -> Result<Vec<Verdict>, AllocError>
+    pub fn judge_frames(&mut self, round: &Round) -> Result<Vec<Verdict>, AllocError>
         requires { FollowsOn self.old.last round.now }
         ensures verdicts { IfOk result (λ said. (vl_table : VlTable) (frames : List Frame) →
             StandsAfter self.old vl_table frames →
@@ -166,8 +167,8 @@ impl Lanes {
         ensures fault { OnErr result (0 < length round.now) }
     {
         let mut said = Vec::with_capacity(self.alloc, round.len())?;
-        for frame in round {
-            said.push(self.judge(frame))?;
+        for index in 0..round.len() {
+            said.push(self.judge(&round.frame(index)))?;
         }
         Ok(said)
     }
@@ -176,7 +177,7 @@ impl Lanes {
     fn judge_shared<R: Threads + Wait + Sync>(
         self,
         rt: &R,
-        round: &[TapFrame],
+        round: &Round,
         marks: &[bool],
         marked: usize,
         workers: usize,
@@ -225,14 +226,14 @@ impl Lanes {
     }
 
     /// Says of each lane whether the round has a frame of it.
-    fn marks(&self, round: &[TapFrame]) -> Result<Vec<bool>, AllocError>
+    fn marks(&self, round: &Round) -> Result<Vec<bool>, AllocError>
         ensures len { IfOk result (λ marks. length marks.items ≡ length self.now.lanes) }
         ensures each { IfOk result (λ marks. (k : ℕ) → k < length self.now.lanes →
             slice_get marks.items k ≡ Some (has_frame self.now.lanes round.now k)) }
     {
         let mut marks = vec![in self.alloc; false; self.lanes.len()]?;
-        for frame in round {
-            let place = self.place_of(frame);
+        for index in 0..round.len() {
+            let place = self.place_of(&round.frame(index));
             if place < marks.len() {
                 marks[place] = true;
             }
@@ -242,10 +243,10 @@ impl Lanes {
 
     /// The place of the frame's lane, or the number of lanes where its link has none.
     #[inline(always)]
-    fn place_of(&self, frame: &TapFrame) -> usize
+    fn place_of(&self, frame: &LentFrame<'_>) -> usize
         ensures { result ≡ place_of self.now.lanes frame.now }
     {
-        match frame.view().vl() {
+        match frame.link() {
             Some(id) => self.index[id.0 as usize] as usize,
             None => self.lanes.len(),
         }

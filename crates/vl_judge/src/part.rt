@@ -6,7 +6,8 @@ ghost use Rattle.vl_judge.specs.Parts.{AreHalves, AreJoined, CanJudge, IsJudged,
 
 use crate::lane::LaneBox;
 use crate::verdict::Verdict;
-use afdx_frame::{Key, TapFrame};
+use afdx_frame::{Key, LentFrame};
+use frame_batch::Round;
 use std::alloc::{AllocError, Global};
 
 /// Lanes that stand one after the other in all lanes, from a place on.
@@ -38,7 +39,7 @@ pub(crate) struct Lent<'a> {
     /// The key of the last frame before the round.
     pub(crate) last: Option<Key>,
     pub(crate) index: &'a [u16],
-    pub(crate) round: &'a [TapFrame],
+    pub(crate) round: &'a Round,
 }
 
 impl Part {
@@ -80,11 +81,11 @@ impl JudgedPart {
 impl<'a> Lent<'a> {
     /// The place in a part of the frame's lane, where that is one of the part's.
     #[inline(always)]
-    fn place_in(&self, first: usize, len: usize, frame: &TapFrame) -> Option<usize>
+    fn place_in(&self, first: usize, len: usize, frame: &LentFrame<'_>) -> Option<usize>
         requires { length self.now.index.now ≡ VL_ID_COUNT }
         ensures { IsPlace self.now.index.now first len (link_of frame.now.bytes) result }
     {
-        let id = frame.view().vl()?;
+        let id = frame.link()?;
         let place = (self.index[id.0 as usize] as usize).checked_sub(first)?;
         if place < len { Some(place) } else { None }
     }
@@ -97,9 +98,9 @@ impl<'a> Lent<'a> {
         let Part { first, mut lanes } = part;
         let mut verdicts = Vec::new(self.alloc);
         for number in 0..self.round.len() {
-            let frame = &self.round[number];
-            if let Some(place) = self.place_in(first, lanes.len(), frame) {
-                let verdict = lanes[place].judge(self.constant, frame);
+            let frame = self.round.frame(number);
+            if let Some(place) = self.place_in(first, lanes.len(), &frame) {
+                let verdict = lanes[place].judge(self.constant, &frame);
                 verdicts.push(Numbered { number, verdict })?;
             }
         }

@@ -1,7 +1,7 @@
 //! The verdicts, and which judgements a frame reaches: the type keeps it.
 
 ghost use Rattle.std.specs.Prelude.{◌≡◌, ◌≢◌};
-ghost use Rattle.vl_judge.specs.Judgement.{Judgement, stopped_verdict};
+ghost use Rattle.vl_judge.specs.Judgement.{Judgement, is_copy, is_delivered, is_excess, is_out, stopped_verdict};
 
 use integrity::Integrity;
 use policing::Policing;
@@ -65,6 +65,41 @@ impl Verdict {
             policing: None,
             integrity: None,
             redundancy: None,
+        }
+    }
+
+    /// Does policing drop the frame?
+    #[inline(always)]
+    pub fn is_excess(&self) -> bool
+        ensures { result ≡ is_excess self.now }
+    {
+        matches!(self.policing, Some(Policing::Excess))
+    }
+
+    /// Does integrity checking drop the frame?
+    #[inline(always)]
+    pub fn is_out(&self) -> bool
+        ensures { result ≡ is_out self.now }
+    {
+        matches!(self.integrity, Some(Integrity::Out))
+    }
+
+    /// Is the frame the second of a pair?
+    #[inline(always)]
+    pub fn is_copy(&self) -> bool
+        ensures { result ≡ is_copy self.now }
+    {
+        matches!(self.redundancy, Some(Redundancy::Copy))
+    }
+
+    /// Is the frame delivered?
+    #[inline(always)]
+    pub fn is_delivered(&self) -> bool
+        ensures { result ≡ is_delivered self.now }
+    {
+        match self.redundancy {
+            Some(redundancy) => redundancy.is_delivered(),
+            None => false,
         }
     }
 }

@@ -9,7 +9,8 @@ ghost use Rattle.vl_judge.specs.declared.fault.LaneFault.TheVariants.{Spawn};
 use crate::fault::LaneFault;
 use crate::part::{JudgedPart, Lent, Numbered, Part};
 use crate::verdict::Verdict;
-use afdx_frame::{Key, TapFrame};
+use afdx_frame::Key;
+use frame_batch::Round;
 use std::alloc::{AllocError, Global};
 use std::snapshot::Snapshot;
 use std::sync::Wait;
@@ -162,14 +163,14 @@ pub(crate) fn judge_part<R: Threads + Wait + Sync>(
 pub(crate) fn without_lanes(
     alloc: Global,
     constant: u32,
-    round: &[TapFrame],
+    round: &Round,
 ) -> Result<Vec<Verdict>, AllocError>
     ensures { IfOk result (λ said. said.items
         ≡ map (λ frame. stopped_verdict (class_by constant None frame)) round.now) }
 {
     let mut said = Vec::with_capacity(alloc, round.len())?;
-    for frame in round {
-        said.push(Verdict::stopped(class_by(constant, None, frame)))?;
+    for index in 0..round.len() {
+        said.push(Verdict::stopped(class_by(constant, None, &round.frame(index))))?;
     }
     Ok(said)
 }
@@ -185,11 +186,11 @@ pub(crate) fn place(said: &mut [Verdict], verdicts: &[Numbered])
 }
 
 /// The key of the last frame, before or in a round.
-pub(crate) fn last_key(last: Option<Key>, round: &[TapFrame]) -> Option<Key>
+pub(crate) fn last_key(last: Option<Key>, round: &Round) -> Option<Key>
     ensures { result ≡ last_key last round.now }
 {
-    match round.last() {
-        Some(frame) => Some(frame.key()),
-        None => last,
+    match round.len() {
+        0 => last,
+        count => Some(round.frame(count - 1).key()),
     }
 }

@@ -5,10 +5,10 @@
 //! passes by either answer, and a test `ample_..` by the right one alone.
 
 use crate::workers::{Open, filtered, tap_frame};
-use afdx_frame::TapFrame;
 use bpf_isa::Packed;
 use bpf_loader::Program;
 use filter_workers::{ClaimDesk, Decision};
+use frame_batch::Round;
 use std::process::Abort;
 use std::sync::Wait;
 use std::thread::Threads;
@@ -35,12 +35,12 @@ fn every(rt: &impl AllocGlobal) -> Option<Program> {
 }
 
 /// Five frames without bytes.
-fn five_frames(rt: &impl AllocGlobal) -> Option<Vec<TapFrame>> {
+fn five_frames(rt: &impl AllocGlobal) -> Option<Round> {
     let mut frames = Vec::with_capacity(rt.alloc(), 5).ok()?;
     for number in 0..5 {
         frames.push(tap_frame(number, Vec::new(rt.alloc()))?).ok()?;
     }
-    Some(frames)
+    Round::from_frames(rt.alloc(), frames).ok()
 }
 
 /// Filters a round by so many workers. Returns whether there was the memory.

@@ -2,6 +2,7 @@
 
 use crate::workers::{Open, filtered, programs_of, tap_frame};
 use filter_workers::Decision;
+use frame_batch::Round;
 use std::test::Fail;
 use test_support::{ONE_LINK, frame};
 
@@ -16,6 +17,7 @@ fn one_link_of_two_frames_by_two_workers(rt: HostRuntime) -> Result<(), Fail> {
         };
         frames.push(frame)?;
     }
+    let frames = Round::from_frames(alloc, frames)?;
     let accepted = Decision {
         mask: 1,
         answer: u32::MAX,

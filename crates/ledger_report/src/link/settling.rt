@@ -8,7 +8,7 @@ use crate::bounds::NUMBERS;
 use crate::moment::Moment;
 use crate::network::NetworkReport;
 use crate::pairing::{Delivery, Fate};
-use crate::sides::{Sides, other};
+use crate::sides::Sides;
 use crate::signs::Sign;
 use crate::statistics::bin_of;
 use afdx_frame::Network;
@@ -30,7 +30,7 @@ impl LinkReport {
     ghost use Rattle.ledger_report.specs.Pairs.{MeetsOf};
     ghost use Rattle.ledger_report.specs.Pairs.{comes_late, fate_so_far, gone_in};
     ghost use Rattle.ledger_report.specs.Pairs.{counted_where, is_gone_by, is_held, met_with, window_in};
-    ghost use Rattle.ledger_report.specs.Words.{other_of};
+    ghost use Rattle.afdx_frame.specs.Frame.{other_network};
     ghost use Rattle.ledger_report.specs.Settling.{AccountsMore};
     ghost use Rattle.ledger_report.specs.Settling.{accounted, counted};
     ghost use Rattle.ledger_report.specs.declared.signs.Mark.{Mark};
@@ -56,7 +56,7 @@ impl LinkReport {
         ensures numbers { OnOk result (SettlesBefore number at.now self.old self.new) }
         ensures fate { IfOk result (λ fate. fate ≡ fate_so_far (comes_late number at.now self.old)
             (is_gone_by at.now.place.stamp (window_in self.old)
-            (gone_in self.old.pairing number (other_of at.now.network)))) }
+            (gone_in self.old.pairing number (other_network at.now.network)))) }
         ensures link { OnOk result (KeepsLink self.old self.new) }
         ensures settles { OnOk result (Settles (settled_by_next number at.now self.old)
             networks.now self.old.lanes self.new.lanes) }
@@ -80,7 +80,7 @@ impl LinkReport {
     fn fate_so_far(&self, number: u8, at: &Moment) -> Fate
         ensures pends { fate_pends result ≡ 1 }
         ensures fate { result ≡ fate_so_far false (is_gone_by at.now.place.stamp (window_in self.now)
-            (gone_in self.now.pairing number (other_of at.now.network))) }
+            (gone_in self.now.pairing number (other_network at.now.network))) }
     {
         let met = self
             .pairing

@@ -125,7 +125,7 @@ impl Parts {
             return Ok(false);
         }
         let answers = no_answers(self.alloc, count)?;
-        let frames = self.merger.cut(self.round_capacity)?;
+        let frames = self.merger.cut_owned(self.round_capacity)?;
         self.round = Some(Round::new(frames, answers));
         self.workers.fill(Worker::Idle);
         Ok(true)

@@ -10,7 +10,7 @@ use pcap_io::{DeviceFault, Ending, MemSource, ReadFault, Script, TapReader, TapS
 use std::alloc::{AllocError, Global};
 use std::process::Abort;
 use std::sync::Wait;
-use tap_queue::{Fed, RingLost, TapEnd, TapItem, feed, tap_ring};
+use tap_queue::{Fed, RingLost, TapBatch, TapEnd, TapItem, feed, tap_ring};
 use test_support::SOUND;
 
 /// A reader of network A of frames of 60 bytes with these stamps, each of which may be late by 1000.
@@ -193,7 +193,11 @@ fn together<R: Wait + Abort + AllocGlobal>(
     let reader = reader_of(rt, stamps, SOUND)?;
     let (_fed, mut end) = fed_ring(rt, rt.alloc(), reader, A, late)?;
     assert!(rt; matches!(end.take(rt), Ok(TapItem::Frame(_))));
-    Ok(end.take_together().ok().map(|frames| frames.len()))
+    Ok(match end.take_batch(rt) {
+        Ok(TapBatch::Frames(frames)) => Some(frames.count()),
+        Ok(TapBatch::End(_)) => Some(0),
+        Ok(TapBatch::Failed(_)) | Err(RingLost) => None,
+    })
 }
 
 #[test]

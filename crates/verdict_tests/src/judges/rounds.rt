@@ -4,7 +4,8 @@ ghost use Rattle.vl_judge.specs.Lanes.{FollowsOn};
 
 use crate::frames::{FRAME, Row, frame_of};
 use crate::judges::TWO_LINKS;
-use afdx_frame::{Key, TapFrame};
+use afdx_frame::Key;
+use frame_batch::Round;
 use integrity::Integrity;
 use policing::Policing;
 use redundancy::Redundancy;
@@ -17,34 +18,33 @@ use vl_config::{Class, Config};
 use vl_judge::{LaneFault, Lanes, Verdict};
 
 /// Says whether the keys of a round rise, from above the last one on.
-fn follows(last: Option<Key>, round: &[TapFrame]) -> bool
+fn follows(last: Option<Key>, round: &Round) -> bool
     ensures { result ≡ true → FollowsOn last round.now }
 {
     let mut before = last;
-    for frame in round {
+    for index in 0..round.len() {
+        let next = round.frame(index).key();
         if let Some(key) = before {
-            if key >= frame.key() {
+            if key >= next {
                 return false;
             }
         }
-        before = Some(frame.key());
+        before = Some(next);
     }
     true
 }
 
 /// The key of the last frame.
-pub(super) fn last_of(round: &[TapFrame]) -> Option<Key> {
-    match round.last() {
-        Some(frame) => Some(frame.key()),
-        None => None,
-    }
+pub(super) fn last_of(round: &Round) -> Option<Key> {
+    let last = round.len().checked_sub(1)?;
+    Some(round.frame(last).key())
 }
 
 /// Judges a round that follows on all that the lanes have judged.
 pub(super) fn judged<R: Threads + Wait + Sync + Abort>(
     rt: &R,
     lanes: Lanes,
-    round: &[TapFrame],
+    round: &Round,
     workers: u32,
 ) -> Result<(Lanes, Vec<Verdict>), LaneFault> {
     assert!(rt; workers >= 1 && workers <= 8);
@@ -76,13 +76,18 @@ const FRAMES: [Row; 4] = [
     },
 ];
 
-/// That round.
-pub(super) fn two_links(alloc: Global) -> Option<Vec<TapFrame>> {
-    let mut round = Vec::new(alloc);
-    for row in &FRAMES {
-        round.push(frame_of(alloc, row)?).ok()?;
+/// A round of the frames of these rows.
+fn round_of(alloc: Global, rows: &[Row]) -> Option<Round> {
+    let mut frames = Vec::new(alloc);
+    for row in rows {
+        frames.push(frame_of(alloc, row)?).ok()?;
     }
-    Some(round)
+    Round::from_frames(alloc, frames).ok()
+}
+
+/// That round.
+pub(super) fn two_links(alloc: Global) -> Option<Round> {
+    round_of(alloc, &FRAMES)
 }
 
 /// What integrity checking and redundancy management say of that round's frames.
@@ -110,32 +115,33 @@ pub(super) fn says_of_two_links(rt: &impl Abort, said: &[Verdict]) {
 }
 
 /// Judges that round as two, of which the first has so many frames.
-fn in_two_rounds<R: Threads + Wait + Sync + Abort>(
+fn in_two_rounds<R: Threads + Wait + Sync + Abort + AllocGlobal>(
     rt: &R,
     lanes: Lanes,
-    round: &[TapFrame],
     cut: usize,
     workers: u32,
 ) -> Result<(), Fail> {
-    let (first, second) = round.split_at(round.len().min(cut));
-    let (lanes, mut said) = judged(rt, lanes, first, workers)?;
+    let (first, second) = FRAMES.split_at(FRAMES.len().min(cut));
+    let first = round_of(rt.alloc(), first).ok_or("no round")?;
+    let (lanes, mut said) = judged(rt, lanes, &first, workers)?;
     assert!(rt; said.len() == first.len());
-    assert!(rt; lanes.last() == last_of(first));
-    let (lanes, more) = judged(rt, lanes, second, workers)?;
+    assert!(rt; lanes.last() == last_of(&first));
+    let second = round_of(rt.alloc(), second).ok_or("no round")?;
+    let (lanes, more) = judged(rt, lanes, &second, workers)?;
     said.extend_from_slice(&more)?;
     says_of_two_links(rt, &said);
-    assert!(rt; lanes.last() == last_of(round));
+    let both = two_links(rt.alloc()).ok_or("no round")?;
+    assert!(rt; lanes.last() == last_of(&both));
     Ok(())
 }
 
 #[test]
 fn two_links_in_lanes(rt: HostRuntime) -> Result<(), Fail> {
     let config = Config::read(rt.alloc(), TWO_LINKS)?;
-    let round = two_links(rt.alloc()).ok_or("no round")?;
     for workers in [1, 2, 8] {
         for cut in [0, 2, 4] {
             let lanes = Lanes::new(rt.alloc(), &config)?;
-            in_two_rounds(&rt, lanes, &round, cut, workers)?;
+            in_two_rounds(&rt, lanes, cut, workers)?;
         }
     }
     Ok(())

@@ -8,6 +8,7 @@ use redundancy::Redundancy;
 use std::process::Abort;
 use std::test::Fail;
 use vl_config::Class;
+use vl_judge::Verdict;
 
 /// The letter of what is read.
 pub fn letter(read: &Result<FrameLine, FrameFault>) -> u8 {
@@ -259,10 +260,12 @@ fn reads_the_values(rt: HostRuntime) {
         number: 960,
         link: Some(VlId(301)),
         sequence: Some(163),
-        class: Class::Regular,
-        policing: Some(Policing::Within),
-        integrity: Some(Integrity::Skip),
-        redundancy: Some(Redundancy::Copy),
+        verdict: Verdict {
+            class: Class::Regular,
+            policing: Some(Policing::Within),
+            integrity: Some(Integrity::Skip),
+            redundancy: Some(Redundancy::Copy),
+        },
         kept: Some(108),
         mask: 0xa1,
     };

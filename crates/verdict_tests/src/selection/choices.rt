@@ -9,6 +9,7 @@ use redundancy::Redundancy;
 use std::process::Abort;
 use std::test::Fail;
 use vl_config::Class;
+use vl_judge::Verdict;
 
 /// Three hours into the second day.
 const NOW: u64 = 97_200_000_000_000;
@@ -20,10 +21,12 @@ const COPY: FrameLine = FrameLine {
     number: 7,
     link: Some(VlId(301)),
     sequence: Some(9),
-    class: Class::Regular,
-    policing: Some(Policing::Within),
-    integrity: Some(Integrity::Next),
-    redundancy: Some(Redundancy::Copy),
+    verdict: Verdict {
+        class: Class::Regular,
+        policing: Some(Policing::Within),
+        integrity: Some(Integrity::Next),
+        redundancy: Some(Redundancy::Copy),
+    },
     kept: Some(60),
     mask: 5,
 };
@@ -35,10 +38,12 @@ const RUNT: FrameLine = FrameLine {
     number: 8,
     link: None,
     sequence: None,
-    class: Class::Runt,
-    policing: None,
-    integrity: None,
-    redundancy: None,
+    verdict: Verdict {
+        class: Class::Runt,
+        policing: None,
+        integrity: None,
+        redundancy: None,
+    },
     kept: None,
     mask: 0,
 };

@@ -9,6 +9,7 @@ use line_selection::{Chooser, Neighbours, Selection};
 use std::process::Abort;
 use std::test::Fail;
 use vl_config::Class;
+use vl_judge::Verdict;
 
 /// Filter 0 accepts the frame.
 fn by_filter() -> Selection {
@@ -37,10 +38,12 @@ fn line_of(index: usize, letter: u8) -> FrameLine {
         number: 0,
         link,
         sequence: None,
-        class: Class::Foreign,
-        policing: None,
-        integrity: None,
-        redundancy: None,
+        verdict: Verdict {
+            class: Class::Foreign,
+            policing: None,
+            integrity: None,
+            redundancy: None,
+        },
         kept: None,
         mask: if selected { 1 } else { 0 },
     }

@@ -1,10 +1,10 @@
 //! Generated rounds by one to eight workers, and large frames.
 
 use crate::workers::{Open, filtered, programs_of, tap_frame};
-use afdx_frame::TapFrame;
 use bpf_loader::Program;
 use bpf_machine::run;
 use filter_workers::Decision;
+use frame_batch::Round;
 use std::alloc::{AllocError, Global};
 use std::test::Fail;
 use test_support::{EVERY, ONE_LINK, frame};
@@ -19,7 +19,7 @@ const EXCESS_LENGTH: &str = "3,128 0 0 0,20 0 0 60,22 0 0 0,";
 const NONE: &str = "1,6 0 0 0,";
 
 /// Frames of 60 to 68 bytes, of links 0 to 6 in turn, with different last bytes.
-pub(crate) fn round_of(alloc: Global, count: u64) -> Option<Vec<TapFrame>> {
+pub(crate) fn round_of(alloc: Global, count: u64) -> Option<Round> {
     let mut frames = Vec::new(alloc);
     for number in 0..count {
         let len = 60 + (number % 9) as usize;
@@ -27,17 +27,18 @@ pub(crate) fn round_of(alloc: Global, count: u64) -> Option<Vec<TapFrame>> {
         let bytes = frame(alloc, (number % 7) as u8, len, last).ok()?;
         frames.push(tap_frame(number, bytes)?).ok()?;
     }
-    Some(frames)
+    Round::from_frames(alloc, frames).ok()
 }
 
 /// What the filters say of each frame, found by one run after the other.
 pub(crate) fn one_by_one(
     alloc: Global,
     programs: &[Program],
-    frames: &[TapFrame],
+    frames: &Round,
 ) -> Result<Vec<Decision>, AllocError> {
     let mut all = Vec::new(alloc);
-    for frame in frames {
+    for index in 0..frames.len() {
+        let frame = frames.frame(index);
         let mut decision = Decision { mask: 0, answer: 0 };
         for (place, program) in programs.iter().enumerate() {
             let (answer, _) = run(program, &frame.view(), frame.whole());
@@ -95,6 +96,7 @@ fn large_frames(rt: HostRuntime) -> Result<(), Fail> {
     for number in 0..6 {
         frames.push(tap_frame(number, frame(alloc, 5, 262_144, 7)?).ok_or("no frame")?)?;
     }
+    let frames = Round::from_frames(alloc, frames)?;
     let expected = Decision {
         mask: 1,
         answer: 262_084,

@@ -4,6 +4,7 @@
 use crate::frames::{bytes_of, judge_next};
 use crate::judges::rounds::judged;
 use afdx_frame::{Network, Stamp, TapFrame};
+use frame_batch::Round;
 use integrity::Integrity;
 use redundancy::Redundancy;
 use std::alloc::Global;
@@ -39,8 +40,8 @@ fn table_of(alloc: Global, links: u32) -> Result<String, Fail> {
 
 /// Frames of both networks, of the links 1 to `links` and some above them, some too short to have a
 /// link and some too long for theirs.
-fn mixed(alloc: Global, from: u64, count: u64, links: u64) -> Result<Vec<TapFrame>, Fail> {
-    let mut round = Vec::new(alloc);
+fn mixed(alloc: Global, from: u64, count: u64, links: u64) -> Result<Round, Fail> {
+    let mut frames = Vec::new(alloc);
     for place in from..from.saturating_add(count) {
         let link = (place % 8191 * 37 % (links % 4096 + 3) + 1) as u16;
         let len = if place % 29 == 0 {
@@ -55,9 +56,9 @@ fn mixed(alloc: Global, from: u64, count: u64, links: u64) -> Result<Vec<TapFram
             Network::B
         };
         let stamp = place % (1 << 40) * 1000;
-        round.push(frame_at(network, place, stamp, len as u32, bytes)?)?;
+        frames.push(frame_at(network, place, stamp, len as u32, bytes)?)?;
     }
-    Ok(round)
+    Ok(Round::from_frames(alloc, frames)?)
 }
 
 /// Judges rounds by so many workers, and by one call for each frame: both say the same.
@@ -75,7 +76,8 @@ fn agree<R: Threads + Wait + Sync + Abort + AllocGlobal>(
         let (next, said) = judged(rt, lanes, &round, workers)?;
         lanes = next;
         assert!(rt; said.len() == round.len());
-        for (frame, verdict) in round.iter().zip(&said) {
+        let frames = round.to_frames(rt.alloc())?;
+        for (frame, verdict) in frames.iter().zip(&said) {
             let expected = judge_next(rt, &mut one_by_one, frame);
             assert!(rt;
                 *verdict == expected,

@@ -3,6 +3,7 @@
 use crate::frames::judge_next;
 use crate::ledger::{By, Round, add};
 use afdx_frame::{Network, Stamp, TapFrame};
+use frame_batch::Round as Frames;
 use pcap_io::{Ending, WriteSink};
 use std::alloc::Global;
 use std::fmt::Write;
@@ -46,15 +47,17 @@ fn frame_at(alloc: Global, place: u32) -> Result<TapFrame, Fail> {
 fn many_of(rt: &(impl Abort + AllocGlobal), config: &Config, len: u32) -> Result<Round, Fail> {
     let mut lanes = Lanes::new(rt.alloc(), config)?;
     let mut round = Round::new(rt.alloc());
+    let mut frames = Vec::new(rt.alloc());
     for place in 0..len {
         let frame = frame_at(rt.alloc(), place)?;
         round.verdicts.push(judge_next(rt, &mut lanes, &frame))?;
-        round.frames.push(frame)?;
+        frames.push(frame)?;
         round
             .keeps
             .push(if place % 3 == 0 { Some(60) } else { None })?;
         round.masks.push(u8::from(place % 3 == 0))?;
     }
+    round.frames = Frames::from_frames(rt.alloc(), frames)?;
     Ok(round)
 }
 

@@ -3,5 +3,5 @@ use Rattle.std.proofs.Common.{◌≡◌, take}
 use Rattle.filter_workers.specs.Filters.{decisions_by}
 use Rattle.filter_workers.proofs.decision.filter_frames.Given as goal
 
-abbrev pub invariant-loop-frame : goal.invariant-loop-frame
-invariant-loop-frame l = l.decisions.items ≡ decisions_by l.programs (take l.frame-index l.frames)
+abbrev pub invariant-loop-index : goal.invariant-loop-index
+invariant-loop-index l = l.decisions.items ≡ decisions_by l.programs (take l.index l.frames)

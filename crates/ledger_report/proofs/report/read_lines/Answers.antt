@@ -76,7 +76,7 @@ loop-frame-preserved g c = record {
       (c.in-Ok-Line-Counts.ensures.sound c.loop-frame.invariant.sound)
       (counted_more links (reverse at.0) c.loop-frame.reading.lines c.take-taken.new.self (lent_of c.advance.new.self) _
       (said_of links _ at.0 _ _ _ (lent_of c.advance.new.self) c.line.result.now table c.line.ensures
-      (c.in_default.ensures.line (frame_lines at.0) at.1.counts_are))
+      (c.in_default.ensures.right (frame_lines at.0) at.1.counts_are).says)
       c.in_default.ensures.moves at.1.counted_are));
   sound = c.in-Ok-Line-Counts.ensures.sound c.loop-frame.invariant.sound;
   judged = λ bytes failures table is begun fresh.

@@ -4,14 +4,27 @@ use Rattle.afdx_frame.specs.declared.key.VlId.{VlId}
 use Rattle.vl_config.specs.declared.class.Class.{Class}
 use Rattle.integrity.specs.Sequence.{is_valid}
 use Rattle.vl_judge.specs.Judgement.{is_regular, is_within}
-use Rattle.verdict_ledger.specs.Text.{network_word, class_word, policing_word, integrity_word, redundancy_word, mask_text, is_addressed}
+use Rattle.redundancy.specs.Word.{redundancy_word}
+use Rattle.integrity.specs.Word.{integrity_word}
+use Rattle.policing.specs.Word.{policing_word}
+use Rattle.vl_config.specs.Class.{class_word, is_addressed}
+use Rattle.afdx_frame.specs.Frame.{network_letter}
+use Rattle.verdict_ledger.specs.Text.{mask_text}
 use Rattle.ledger_text.specs.Fields.{first_field, next_fields, fields_of, left_of}
 use Rattle.ledger_text.specs.Reads.{Any, Below, Optional, dash_or}
 use Rattle.ledger_text.specs.FrameText.{IsMaskOf, link_fits, link_text, stamp_bound}
 use Rattle.ledger_text.specs.declared.fault.FrameFault.TheVariants as faults
 use Rattle.ledger_text.proofs.Spelling.{make}
-use Rattle.ledger_text.proofs.Faults.{got, missed, told, whole, fits, fault_stamp, fault_network, fault_index, fault_link, fault_sequence, fault_class, fault_policing, fault_integrity, fault_redundancy, fault_kept, fault_mask, fault_fields}
+use Rattle.ledger_text.proofs.Faults.{got, missed, reads_any, told, whole, fits, fault_stamp, fault_network, fault_index, fault_link, fault_sequence, fault_class, fault_policing, fault_integrity, fault_redundancy, fault_kept, fault_mask, fault_fields}
 use Rattle.ledger_text.proofs.frame.read_frame.Goals as goal
+
+-- each verdict is there where it is reached
+pub invariant_of-verdict : goal.invariant_of-verdict
+invariant_of-verdict c =
+    let x6 = got (Optional Any (is_regular c.in_ok-class.class)) (dash_or policing_word) c.next-7.result.now c.policing_of.result c.ok_or-7.result c.in_ok-policing.policing c.policing_of.ensures c.ok_or-7.ensures.ok_part c.in_ok-policing.was in
+    let x7 = got (Optional Any (option_map_or is_within c.in_ok-policing.policing false)) (dash_or integrity_word) c.next-8.result.now c.integrity_of.result c.ok_or-8.result c.in_ok-integrity.integrity c.integrity_of.ensures c.ok_or-8.ensures.ok_part c.in_ok-integrity.was in
+    let x8 = got (Optional Any (option_map_or is_valid c.in_ok-integrity.integrity false)) (dash_or redundancy_word) c.next-9.result.now c.redundancy_of.result c.ok_or-9.result c.in_ok-redundancy.redundancy c.redundancy_of.ensures c.ok_or-9.ensures.ok_part c.in_ok-redundancy.was in
+    record { policing = x6.0.present; integrity = x7.0.present; redundancy = x8.0.present }
 
 pub returns-in_err-stamp : goal.returns-in_err-stamp
 returns-in_err-stamp c =
@@ -30,7 +43,7 @@ returns-in_err-network c =
     let l1 = c.next.ensures.left ∙ ap next_fields l0 in
     let x0 = got (Below stamp_bound) (decimal) c.next.result.now c.number_of.result c.ok_or.result c.in_ok-stamp.stamp c.number_of.ensures c.ok_or.ensures.ok_part c.in_ok-stamp.was in
     let e0 = x0.1 ∙ (c.next.ensures.field ∙ ap first_field l0) in
-    let none = missed (Any) (network_word) c.next-2.result.now c.network_of.result c.ok_or-2.result c.in_err-network.field-0.0 c.network_of.ensures c.ok_or-2.ensures.ok_part c.in_err-network.was in
+    let none = missed (Any) (network_letter) c.next-2.result.now c.from_letter.result c.ok_or-2.result c.in_err-network.field-0.0 (reads_any (network_letter) c.next-2.result.now c.from_letter.result c.from_letter.ensures) c.ok_or-2.ensures.ok_part c.in_err-network.was in
     let here = c.next-2.ensures.field ∙ ap first_field l1 in
     told line faults.Network c.from_residual-in_err-network.result (search rules) (fault_network fields c.in_ok-stamp.stamp x0.0 (e0, tt) (λ x h e. none x h (e ∙ sym here)))
 
@@ -43,7 +56,7 @@ returns-in_err-number c =
     let l2 = c.next-2.ensures.left ∙ ap next_fields l1 in
     let x0 = got (Below stamp_bound) (decimal) c.next.result.now c.number_of.result c.ok_or.result c.in_ok-stamp.stamp c.number_of.ensures c.ok_or.ensures.ok_part c.in_ok-stamp.was in
     let e0 = x0.1 ∙ (c.next.ensures.field ∙ ap first_field l0) in
-    let x1 = got (Any) (network_word) c.next-2.result.now c.network_of.result c.ok_or-2.result c.in_ok-network.network c.network_of.ensures c.ok_or-2.ensures.ok_part c.in_ok-network.was in
+    let x1 = got (Any) (network_letter) c.next-2.result.now c.from_letter.result c.ok_or-2.result c.in_ok-network.network (reads_any (network_letter) c.next-2.result.now c.from_letter.result c.from_letter.ensures) c.ok_or-2.ensures.ok_part c.in_ok-network.was in
     let e1 = x1.1 ∙ (c.next-2.ensures.field ∙ ap first_field l1) in
     let none = missed (Below (2 ^ 32)) (decimal) c.next-3.result.now c.number_of-2.result c.ok_or-3.result c.in_err-number.field-0.0 c.number_of-2.ensures c.ok_or-3.ensures.ok_part c.in_err-number.was in
     let here = c.next-3.ensures.field ∙ ap first_field l2 in
@@ -59,7 +72,7 @@ returns-in_err-link c =
     let l3 = c.next-3.ensures.left ∙ ap next_fields l2 in
     let x0 = got (Below stamp_bound) (decimal) c.next.result.now c.number_of.result c.ok_or.result c.in_ok-stamp.stamp c.number_of.ensures c.ok_or.ensures.ok_part c.in_ok-stamp.was in
     let e0 = x0.1 ∙ (c.next.ensures.field ∙ ap first_field l0) in
-    let x1 = got (Any) (network_word) c.next-2.result.now c.network_of.result c.ok_or-2.result c.in_ok-network.network c.network_of.ensures c.ok_or-2.ensures.ok_part c.in_ok-network.was in
+    let x1 = got (Any) (network_letter) c.next-2.result.now c.from_letter.result c.ok_or-2.result c.in_ok-network.network (reads_any (network_letter) c.next-2.result.now c.from_letter.result c.from_letter.ensures) c.ok_or-2.ensures.ok_part c.in_ok-network.was in
     let e1 = x1.1 ∙ (c.next-2.ensures.field ∙ ap first_field l1) in
     let x2 = got (Below (2 ^ 32)) (decimal) c.next-3.result.now c.number_of-2.result c.ok_or-3.result c.in_ok-number.number c.number_of-2.ensures c.ok_or-3.ensures.ok_part c.in_ok-number.was in
     let e2 = x2.1 ∙ (c.next-3.ensures.field ∙ ap first_field l2) in
@@ -78,7 +91,7 @@ returns-in_err-sequence c =
     let l4 = c.next-4.ensures.left ∙ ap next_fields l3 in
     let x0 = got (Below stamp_bound) (decimal) c.next.result.now c.number_of.result c.ok_or.result c.in_ok-stamp.stamp c.number_of.ensures c.ok_or.ensures.ok_part c.in_ok-stamp.was in
     let e0 = x0.1 ∙ (c.next.ensures.field ∙ ap first_field l0) in
-    let x1 = got (Any) (network_word) c.next-2.result.now c.network_of.result c.ok_or-2.result c.in_ok-network.network c.network_of.ensures c.ok_or-2.ensures.ok_part c.in_ok-network.was in
+    let x1 = got (Any) (network_letter) c.next-2.result.now c.from_letter.result c.ok_or-2.result c.in_ok-network.network (reads_any (network_letter) c.next-2.result.now c.from_letter.result c.from_letter.ensures) c.ok_or-2.ensures.ok_part c.in_ok-network.was in
     let e1 = x1.1 ∙ (c.next-2.ensures.field ∙ ap first_field l1) in
     let x2 = got (Below (2 ^ 32)) (decimal) c.next-3.result.now c.number_of-2.result c.ok_or-3.result c.in_ok-number.number c.number_of-2.ensures c.ok_or-3.ensures.ok_part c.in_ok-number.was in
     let e2 = x2.1 ∙ (c.next-3.ensures.field ∙ ap first_field l2) in
@@ -100,7 +113,7 @@ returns-in_err-class c =
     let l5 = c.next-5.ensures.left ∙ ap next_fields l4 in
     let x0 = got (Below stamp_bound) (decimal) c.next.result.now c.number_of.result c.ok_or.result c.in_ok-stamp.stamp c.number_of.ensures c.ok_or.ensures.ok_part c.in_ok-stamp.was in
     let e0 = x0.1 ∙ (c.next.ensures.field ∙ ap first_field l0) in
-    let x1 = got (Any) (network_word) c.next-2.result.now c.network_of.result c.ok_or-2.result c.in_ok-network.network c.network_of.ensures c.ok_or-2.ensures.ok_part c.in_ok-network.was in
+    let x1 = got (Any) (network_letter) c.next-2.result.now c.from_letter.result c.ok_or-2.result c.in_ok-network.network (reads_any (network_letter) c.next-2.result.now c.from_letter.result c.from_letter.ensures) c.ok_or-2.ensures.ok_part c.in_ok-network.was in
     let e1 = x1.1 ∙ (c.next-2.ensures.field ∙ ap first_field l1) in
     let x2 = got (Below (2 ^ 32)) (decimal) c.next-3.result.now c.number_of-2.result c.ok_or-3.result c.in_ok-number.number c.number_of-2.ensures c.ok_or-3.ensures.ok_part c.in_ok-number.was in
     let e2 = x2.1 ∙ (c.next-3.ensures.field ∙ ap first_field l2) in
@@ -125,7 +138,7 @@ returns-in_err-policing c =
     let l6 = c.next-6.ensures.left ∙ ap next_fields l5 in
     let x0 = got (Below stamp_bound) (decimal) c.next.result.now c.number_of.result c.ok_or.result c.in_ok-stamp.stamp c.number_of.ensures c.ok_or.ensures.ok_part c.in_ok-stamp.was in
     let e0 = x0.1 ∙ (c.next.ensures.field ∙ ap first_field l0) in
-    let x1 = got (Any) (network_word) c.next-2.result.now c.network_of.result c.ok_or-2.result c.in_ok-network.network c.network_of.ensures c.ok_or-2.ensures.ok_part c.in_ok-network.was in
+    let x1 = got (Any) (network_letter) c.next-2.result.now c.from_letter.result c.ok_or-2.result c.in_ok-network.network (reads_any (network_letter) c.next-2.result.now c.from_letter.result c.from_letter.ensures) c.ok_or-2.ensures.ok_part c.in_ok-network.was in
     let e1 = x1.1 ∙ (c.next-2.ensures.field ∙ ap first_field l1) in
     let x2 = got (Below (2 ^ 32)) (decimal) c.next-3.result.now c.number_of-2.result c.ok_or-3.result c.in_ok-number.number c.number_of-2.ensures c.ok_or-3.ensures.ok_part c.in_ok-number.was in
     let e2 = x2.1 ∙ (c.next-3.ensures.field ∙ ap first_field l2) in
@@ -153,7 +166,7 @@ returns-in_err-integrity c =
     let l7 = c.next-7.ensures.left ∙ ap next_fields l6 in
     let x0 = got (Below stamp_bound) (decimal) c.next.result.now c.number_of.result c.ok_or.result c.in_ok-stamp.stamp c.number_of.ensures c.ok_or.ensures.ok_part c.in_ok-stamp.was in
     let e0 = x0.1 ∙ (c.next.ensures.field ∙ ap first_field l0) in
-    let x1 = got (Any) (network_word) c.next-2.result.now c.network_of.result c.ok_or-2.result c.in_ok-network.network c.network_of.ensures c.ok_or-2.ensures.ok_part c.in_ok-network.was in
+    let x1 = got (Any) (network_letter) c.next-2.result.now c.from_letter.result c.ok_or-2.result c.in_ok-network.network (reads_any (network_letter) c.next-2.result.now c.from_letter.result c.from_letter.ensures) c.ok_or-2.ensures.ok_part c.in_ok-network.was in
     let e1 = x1.1 ∙ (c.next-2.ensures.field ∙ ap first_field l1) in
     let x2 = got (Below (2 ^ 32)) (decimal) c.next-3.result.now c.number_of-2.result c.ok_or-3.result c.in_ok-number.number c.number_of-2.ensures c.ok_or-3.ensures.ok_part c.in_ok-number.was in
     let e2 = x2.1 ∙ (c.next-3.ensures.field ∙ ap first_field l2) in
@@ -184,7 +197,7 @@ returns-in_err-redundancy c =
     let l8 = c.next-8.ensures.left ∙ ap next_fields l7 in
     let x0 = got (Below stamp_bound) (decimal) c.next.result.now c.number_of.result c.ok_or.result c.in_ok-stamp.stamp c.number_of.ensures c.ok_or.ensures.ok_part c.in_ok-stamp.was in
     let e0 = x0.1 ∙ (c.next.ensures.field ∙ ap first_field l0) in
-    let x1 = got (Any) (network_word) c.next-2.result.now c.network_of.result c.ok_or-2.result c.in_ok-network.network c.network_of.ensures c.ok_or-2.ensures.ok_part c.in_ok-network.was in
+    let x1 = got (Any) (network_letter) c.next-2.result.now c.from_letter.result c.ok_or-2.result c.in_ok-network.network (reads_any (network_letter) c.next-2.result.now c.from_letter.result c.from_letter.ensures) c.ok_or-2.ensures.ok_part c.in_ok-network.was in
     let e1 = x1.1 ∙ (c.next-2.ensures.field ∙ ap first_field l1) in
     let x2 = got (Below (2 ^ 32)) (decimal) c.next-3.result.now c.number_of-2.result c.ok_or-3.result c.in_ok-number.number c.number_of-2.ensures c.ok_or-3.ensures.ok_part c.in_ok-number.was in
     let e2 = x2.1 ∙ (c.next-3.ensures.field ∙ ap first_field l2) in
@@ -218,7 +231,7 @@ returns-in_err-kept c =
     let l9 = c.next-9.ensures.left ∙ ap next_fields l8 in
     let x0 = got (Below stamp_bound) (decimal) c.next.result.now c.number_of.result c.ok_or.result c.in_ok-stamp.stamp c.number_of.ensures c.ok_or.ensures.ok_part c.in_ok-stamp.was in
     let e0 = x0.1 ∙ (c.next.ensures.field ∙ ap first_field l0) in
-    let x1 = got (Any) (network_word) c.next-2.result.now c.network_of.result c.ok_or-2.result c.in_ok-network.network c.network_of.ensures c.ok_or-2.ensures.ok_part c.in_ok-network.was in
+    let x1 = got (Any) (network_letter) c.next-2.result.now c.from_letter.result c.ok_or-2.result c.in_ok-network.network (reads_any (network_letter) c.next-2.result.now c.from_letter.result c.from_letter.ensures) c.ok_or-2.ensures.ok_part c.in_ok-network.was in
     let e1 = x1.1 ∙ (c.next-2.ensures.field ∙ ap first_field l1) in
     let x2 = got (Below (2 ^ 32)) (decimal) c.next-3.result.now c.number_of-2.result c.ok_or-3.result c.in_ok-number.number c.number_of-2.ensures c.ok_or-3.ensures.ok_part c.in_ok-number.was in
     let e2 = x2.1 ∙ (c.next-3.ensures.field ∙ ap first_field l2) in
@@ -255,7 +268,7 @@ returns-in_err-mask c =
     let l10 = c.next-10.ensures.left ∙ ap next_fields l9 in
     let x0 = got (Below stamp_bound) (decimal) c.next.result.now c.number_of.result c.ok_or.result c.in_ok-stamp.stamp c.number_of.ensures c.ok_or.ensures.ok_part c.in_ok-stamp.was in
     let e0 = x0.1 ∙ (c.next.ensures.field ∙ ap first_field l0) in
-    let x1 = got (Any) (network_word) c.next-2.result.now c.network_of.result c.ok_or-2.result c.in_ok-network.network c.network_of.ensures c.ok_or-2.ensures.ok_part c.in_ok-network.was in
+    let x1 = got (Any) (network_letter) c.next-2.result.now c.from_letter.result c.ok_or-2.result c.in_ok-network.network (reads_any (network_letter) c.next-2.result.now c.from_letter.result c.from_letter.ensures) c.ok_or-2.ensures.ok_part c.in_ok-network.was in
     let e1 = x1.1 ∙ (c.next-2.ensures.field ∙ ap first_field l1) in
     let x2 = got (Below (2 ^ 32)) (decimal) c.next-3.result.now c.number_of-2.result c.ok_or-3.result c.in_ok-number.number c.number_of-2.ensures c.ok_or-3.ensures.ok_part c.in_ok-number.was in
     let e2 = x2.1 ∙ (c.next-3.ensures.field ∙ ap first_field l2) in
@@ -295,7 +308,7 @@ returns-then-not-is_at_end c =
     let l11 = c.next-11.ensures.left ∙ ap next_fields l10 in
     let x0 = got (Below stamp_bound) (decimal) c.next.result.now c.number_of.result c.ok_or.result c.in_ok-stamp.stamp c.number_of.ensures c.ok_or.ensures.ok_part c.in_ok-stamp.was in
     let e0 = x0.1 ∙ (c.next.ensures.field ∙ ap first_field l0) in
-    let x1 = got (Any) (network_word) c.next-2.result.now c.network_of.result c.ok_or-2.result c.in_ok-network.network c.network_of.ensures c.ok_or-2.ensures.ok_part c.in_ok-network.was in
+    let x1 = got (Any) (network_letter) c.next-2.result.now c.from_letter.result c.ok_or-2.result c.in_ok-network.network (reads_any (network_letter) c.next-2.result.now c.from_letter.result c.from_letter.ensures) c.ok_or-2.ensures.ok_part c.in_ok-network.was in
     let e1 = x1.1 ∙ (c.next-2.ensures.field ∙ ap first_field l1) in
     let x2 = got (Below (2 ^ 32)) (decimal) c.next-3.result.now c.number_of-2.result c.ok_or-3.result c.in_ok-number.number c.number_of-2.ensures c.ok_or-3.ensures.ok_part c.in_ok-number.was in
     let e2 = x2.1 ∙ (c.next-3.ensures.field ∙ ap first_field l2) in
@@ -336,7 +349,7 @@ returns c =
     let l11 = c.next-11.ensures.left ∙ ap next_fields l10 in
     let x0 = got (Below stamp_bound) (decimal) c.next.result.now c.number_of.result c.ok_or.result c.in_ok-stamp.stamp c.number_of.ensures c.ok_or.ensures.ok_part c.in_ok-stamp.was in
     let e0 = x0.1 ∙ (c.next.ensures.field ∙ ap first_field l0) in
-    let x1 = got (Any) (network_word) c.next-2.result.now c.network_of.result c.ok_or-2.result c.in_ok-network.network c.network_of.ensures c.ok_or-2.ensures.ok_part c.in_ok-network.was in
+    let x1 = got (Any) (network_letter) c.next-2.result.now c.from_letter.result c.ok_or-2.result c.in_ok-network.network (reads_any (network_letter) c.next-2.result.now c.from_letter.result c.from_letter.ensures) c.ok_or-2.ensures.ok_part c.in_ok-network.was in
     let e1 = x1.1 ∙ (c.next-2.ensures.field ∙ ap first_field l1) in
     let x2 = got (Below (2 ^ 32)) (decimal) c.next-3.result.now c.number_of-2.result c.ok_or-3.result c.in_ok-number.number c.number_of-2.ensures c.ok_or-3.ensures.ok_part c.in_ok-number.was in
     let e2 = x2.1 ∙ (c.next-3.ensures.field ∙ ap first_field l2) in

@@ -1,6 +1,5 @@
 use Rattle.std.proofs.Common.{◌≡◌, ℕ, List, ◌++◌, take, refl, ap, ◌∙◌}
 use Rattle.afdx_frame.specs.Frame.{Frame}
-use Rattle.afdx_frame.specs.LentFrame.{frame_of_lent}
 use Rattle.pcap_io.specs.Capture.{packet_header, packet_text}
 use Rattle.pcap_io.proofs.Transfers.{writes_first, writes_second}
 use Rattle.pcap_io.proofs.writer.write_packet.Goals as goal
@@ -13,10 +12,10 @@ text f keep head bytes first second =
 
 pub returns-in_err-write_all : goal.returns-in_err-write_all
 returns-in_err-write_all g c =
-    let f = frame_of_lent c.args.frame.now in
+    let f = c.args.frame.now in
     writes_first _ _ _ _ _ _ _ _ (take c.args.keep f.bytes) _ c.from_residual.ensures.0 c.in_err-write_all.was (text f c.args.keep _ f.bytes c.packet_header.ensures refl) c.write_all.ensures
 
 pub returns : goal.returns
 returns g c =
-    let f = frame_of_lent c.args.frame.now in
+    let f = c.args.frame.now in
     writes_second _ _ _ _ _ _ _ _ _ _ _ _ c.in_ok-write_all.was (text f c.args.keep _ _ c.packet_header.ensures (c.bytes-bytes.ensures ∙ c.view.ensures.value)) c.write_all.ensures c.write_all-2.ensures

@@ -1,6 +1,5 @@
 use Rattle.std.proofs.Common.{◌≡◌, ℕ, ◌+◌, List, ◌++◌, length, take, Option, sym, ap, ◌∙◌, arith, append_assoc, length-append}
 use Rattle.afdx_frame.specs.Frame.{Frame}
-use Rattle.afdx_frame.specs.LentFrame.{frame_of_lent}
 use Rattle.byteorder.specs.Endian.{little_bytes}
 use Rattle.pcapng_writer.specs.Blocks.{interface_of, packet_block, packet_body, packet_options, padded, padding_len}
 use Rattle.pcapng_writer.specs.Comment.{text_of}
@@ -42,7 +41,7 @@ appended interfaces f keep total i comment old one two three now head kept tail 
 
 pub returns-clause-block : goal.returns-clause-block
 returns-clause-block c =
-    let f = frame_of_lent c.args.frame.now in
+    let f = c.args.frame.now in
     let keep : ℕ = c.args.keep in
     let bytes : c.bytes.result.now ≡ f.bytes = c.bytes.ensures ∙ c.view.ensures.value in
     let kept : take keep c.bytes.result.now ≡ take keep f.bytes = ap (take keep) bytes in

@@ -11,7 +11,7 @@ use Rattle.round_output.proofs.outputs.write_flight.Goals as goal
 pub returns-in-Err-clause-stopped : goal.returns-in-Err-clause-stopped
 returns-in-Err-clause-stopped g c =
     let ps = (making_of c.args.flight.task.plan) in
-    let round = c.args.flight.round.frames.items in
+    let round = c.args.flight.round.frames in
     λ vl_table capture ledger frames before h said. record {
       packets = capture_some ps vl_table frames round _ _ h.packets;
       lines = lines_some ps vl_table frames round _ _ h.lines;
@@ -24,16 +24,16 @@ returns-in-Err-clause-stopped g c =
 pub returns-clause-written : goal.returns-clause-written
 returns-clause-written g c =
     let ps = (making_of c.args.flight.task.plan) in
-    let round = c.deref.ensures.value ∙ ap (λ (r : JudgedRound). r.frames.items) c.in-Ok.ensures.round in
-    let judged = c.deref-2.ensures.value ∙ ap (λ (r : JudgedRound). r.verdicts.items) c.in-Ok.ensures.round in
+    let round = ap (λ (r : JudgedRound). r.frames) c.in-Ok.ensures.round in
+    let judged = c.deref.ensures.value ∙ ap (λ (r : JudgedRound). r.verdicts.items) c.in-Ok.ensures.round in
     with_on_ok c.write_entries.result _ _ (λ f. λ vl_table capture ledger frames before after h said stands.
     f ps vl_table capture ledger frames before after h said c.in-Ok.ensures.entries stands) (rw (round, judged) at c.write_entries.ensures.written)
 
 pub returns-clause-stopped : goal.returns-clause-stopped
 returns-clause-stopped g c =
     let ps = (making_of c.args.flight.task.plan) in
-    let round = c.deref.ensures.value ∙ ap (λ (r : JudgedRound). r.frames.items) c.in-Ok.ensures.round in
-    let judged = c.deref-2.ensures.value ∙ ap (λ (r : JudgedRound). r.verdicts.items) c.in-Ok.ensures.round in
+    let round = ap (λ (r : JudgedRound). r.frames) c.in-Ok.ensures.round in
+    let judged = c.deref.ensures.value ∙ ap (λ (r : JudgedRound). r.verdicts.items) c.in-Ok.ensures.round in
     with_err c.write_entries.result _ _ (λ fault f. λ vl_table capture ledger frames before h said.
     same_effect fault ps vl_table capture ledger _ _ _ (f ps vl_table capture ledger frames before h said
     c.in-Ok.ensures.entries)) (rw (round, judged) at c.write_entries.ensures.stopped)

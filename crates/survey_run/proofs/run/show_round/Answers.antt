@@ -1,5 +1,5 @@
 -- There was no memory at a frame of the round.
-use Rattle.std.proofs.Common.{◌≡◌, ◌∙◌, ◌<◌, ℕ, suc, List, ◌∷◌, ◌++◌, length, get_or, take, drop, sym, ap}
+use Rattle.std.proofs.Common.{◌≡◌, ◌∙◌, ◌<◌, ℕ, suc, List, ◌∷◌, ◌++◌, length, get_or, take, drop, sym, ap, arith}
 use Rattle.std.proofs.Math.Seq.{drop-cons}
 use Rattle.std.proofs.lemmas.List.{take-append-drop}
 use Rattle.std.proofs.lemmas.Result.{err_from_is_err_and}
@@ -13,13 +13,13 @@ split_at frames i frame less is =
 pub returns-in_err-see-clause-given_up : goal.returns-in_err-see-clause-given_up
 returns-in_err-see-clause-given_up g c =
     let p = err_from_is_err_and c.from_residual.result c.from_residual.ensures.1 in
-    let i = c.loop-frame.frame-index in
+    let i = c.loop-index.index in
     rw p.1 (
       take i c.args.round.now,
-      c.frame-item.result,
+      c.frame.result,
       drop (suc i) c.args.round.now,
-      split_at c.args.round.now i c.frame-item.result c.loop-frame-test.true c.frame-item.is,
-      c.loop-frame.observer,
-      c.loop-frame.invariant,
+      split_at c.args.round.now i c.frame.result (omega (arith, c.loop-index-test.true, c.len-index-end.ensures)) c.frame.ensures,
+      c.loop-index.observer,
+      c.loop-index.invariant,
       c.in_err-see.ensures.given_up,
     )

@@ -3,5 +3,5 @@ use Rattle.std.proofs.Common.{take}
 use Rattle.survey_run.specs.Pass.{IsShown}
 use Rattle.survey_run.proofs.run.show_round.Given as goal
 
-abbrev pub invariant-loop-frame : goal.invariant-loop-frame
-invariant-loop-frame g l = IsShown g.O.Observer (take l.frame-index l.round) l.fn.observer l.observer
+abbrev pub invariant-loop-index : goal.invariant-loop-index
+invariant-loop-index g l = IsShown g.O.Observer (take l.index l.round) l.fn.observer l.observer

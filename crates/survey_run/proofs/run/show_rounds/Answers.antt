@@ -1,5 +1,5 @@
 -- Reading stopped, or the observer gave up.
-use Rattle.std.proofs.Common.{◌++◌}
+use Rattle.std.proofs.Common.{◌++◌, refl}
 use Rattle.std.proofs.lemmas.Result.{err_from_is_err_and}
 use Rattle.pcap_io.specs.Reader.{reading_of}
 use Rattle.survey_run.proofs.Pairing.{some_round, stops_for_memory}
@@ -20,8 +20,8 @@ returns-in_err-show_round-clause-stopped g c =
     (let s = c.loop-round.invariant.shown extent a b frames_a frames_b h in
     let m = c.in_ok-round.ensures.merged extent a b s.0 s.1 s.2 s.3 in
     let pair = c.next_round.new.self in
-    let round = c.deref.result.now in
-    let cut = some_round _ _ _ _ _ _ _ _ s.2 _ _ _ c.in-Some.round round m.2 c.in-Some.is c.deref.ensures.value in
+    let round = c.in-Some.round in
+    let cut = some_round _ _ _ _ _ _ _ _ s.2 _ _ _ c.in-Some.round round m.2 c.in-Some.is refl in
     let gave = c.in_err-show_round.ensures.given_up in (
       s.2 ++ round,
       stops_for_memory g.K.Keeper.kept_bytes extent a b m.0 m.1 (s.2 ++ round) pair.merger.pending pair.a.end pair.b.end pair.a.room pair.b.room pair.a.times pair.b.times

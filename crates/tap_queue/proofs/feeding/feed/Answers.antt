@@ -2,7 +2,7 @@ use Rattle.std.proofs.Common.{rules, List, ap, ◌∙◌, sym, subst, refl}
 use Rattle.pcap_io.specs.Reader.{reading_of}
 use Rattle.pcap_io.specs.Position.{Reading}
 use Rattle.tap_queue.specs.Items.{Gives, is_over}
-use Rattle.tap_queue.specs.Batches.{batch_items, rest_items}
+use Rattle.tap_queue.specs.Batches.{batch_items}
 use Rattle.tap_queue.specs.Ring.{put_items}
 use Rattle.tap_queue.specs.declared.item.TapItem.{TapItem}
 use Rattle.tap_queue.proofs.Given.{fed_but_some, fed_to_the_end, gives_append, over_append}
@@ -16,7 +16,7 @@ returns-then-not-put-clause-fed g c =
     let batch = c.next_batch-batch.result.0 in
     let given = gives_append _ _ _ items (batch_items batch) c.loop.invariant.given c.loop.invariant.going c.next_batch-batch.ensures.given in
     elim c.then-not-put.branch [
-      | then-not-put-via-then-not-put w ↦ fed_but_some _ _ items put (rest_items batch.rest) batch.first given (w.if-not-put.ensures.gone refl)
+      | then-not-put-via-then-not-put w ↦ fed_but_some _ _ items put (batch_items batch) given (w.if-not-put.ensures.gone refl) batch.some
       | then-not-put-via-else-not-put+then-last w ↦
           fed_to_the_end _ _ items put (batch_items batch) given c.loop.invariant.going (w.if-not-put.ensures.put refl) (sym c.next_batch-batch.ensures.last ∙ w.if-last.true)
     ]

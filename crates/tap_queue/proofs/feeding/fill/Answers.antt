@@ -1,10 +1,9 @@
-use Rattle.std.proofs.Common.{rules, List, ◌++◌, [], ap, ◌∙◌, sym, refl, arith}
+use Rattle.std.proofs.Common.{rules, [], ap, ◌∙◌, sym, refl, arith}
 use Rattle.std.proofs.lemmas.Bool.{false≢true}
 use Rattle.std.proofs.lemmas.List.{append-nil}
-use Rattle.tap_queue.specs.Batches.{batch_items, rest_items}
+use Rattle.tap_queue.specs.Batches.{batch_items}
 use Rattle.tap_queue.specs.Items.{is_over}
 use Rattle.tap_queue.specs.Ring.{put_items, put_of}
-use Rattle.tap_queue.specs.declared.item.TapItem.{TapItem}
 use Rattle.tap_queue.proofs.Given.{over_append, puts_on, puts_some}
 use Rattle.tap_queue.proofs.feeding.fill.Goals as goal
 
@@ -34,8 +33,8 @@ returns-then-over-clause-filled g c =
     ∙ (sym c.next_batch-batch.ensures.last ∙ c.if-over.true) in
     record {
       full = λ going _. false≢true (sym going ∙ over);
-      some = λ _. puts_some (put_of c.args.fed.now) c.loop.fed.put c.put_reserved.new.self c.loop.invariant.put.more (rest_items batch.rest) batch.first
-          c.loop.invariant.put.put c.put_reserved.ensures.put;
+      some = λ _. puts_some (put_of c.args.fed.now) c.loop.fed.put c.put_reserved.new.self c.loop.invariant.put.more (batch_items batch)
+          c.loop.invariant.put.put c.put_reserved.ensures.put batch.some;
     }
 
 pub loop-preserved : goal.loop-preserved
@@ -49,6 +48,6 @@ loop-preserved g c =
           ∙ (sym c.next_batch-batch.ensures.last ∙ c.if-over.false);
       room = omega (arith, inv.room, c.put_reserved.ensures.room);
       known = inv.known;
-      some = λ _. puts_some (put_of c.args.fed.now) c.loop.fed.put c.put_reserved.new.self inv.put.more (rest_items batch.rest) batch.first inv.put.put
-          c.put_reserved.ensures.put;
+      some = λ _. puts_some (put_of c.args.fed.now) c.loop.fed.put c.put_reserved.new.self inv.put.more (batch_items batch) inv.put.put
+          c.put_reserved.ensures.put batch.some;
     }

@@ -9,13 +9,13 @@ use Rattle.verdict_ledger.proofs.lines.append_lines.Goals as goal
 pub loop-index-preserved : goal.loop-index-preserved
 loop-index-preserved c =
     let start = c.args.text.now.items in
-    let frame = c.index-frames-index.result in
+    let frame = c.frame.result in
     let verdict = c.index-verdicts-index.result in
     let index = c.loop-index.index in
     let all = entries_of c.args.frames.now c.args.verdicts.now c.args.keeps.now c.args.masks.now in
     let e = entry_with frame verdict (get_or c.args.keeps.now index None) (get_or c.args.masks.now index 0) in
     let more = entries_more c.args.frames.now c.args.verdicts.now c.args.keeps.now c.args.masks.now index frame verdict
-    c.requires.verdicts c.requires.keeps c.requires.masks c.loop-index-test.true c.index-frames-index.is c.index-verdicts-index.is in
+    c.requires.verdicts c.requires.keeps c.requires.masks (omega (arith, c.loop-index-test.true, c.len-index-end.ensures)) c.frame.ensures c.index-verdicts-index.is in
     join start _ _ _ (line_text e) c.loop-index.invariant c.in-Ok.ensures.line
     ∙ ap (λ (l : List ℕ). start ++ l) (texts_more line_text all index e more)
 
@@ -26,4 +26,4 @@ returns-clause-lines c =
     let len = length-entries_of c.args.frames.now c.args.verdicts.now c.args.keeps.now c.args.masks.now
     c.requires.verdicts c.requires.keeps c.requires.masks in
     c.loop-index.invariant
-    ∙ ap (λ (l : List Entry). start ++ lines_text l) (take_all c.loop-index.index all (omega (arith, len, c.loop-index-test.false)))
+    ∙ ap (λ (l : List Entry). start ++ lines_text l) (take_all c.loop-index.index all (omega (arith, len, c.loop-index-test.false, c.len-index-end.ensures)))

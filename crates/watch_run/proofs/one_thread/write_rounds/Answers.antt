@@ -1,4 +1,4 @@
-use Rattle.std.proofs.Common.{◌++◌, rules}
+use Rattle.std.proofs.Common.{◌++◌, refl, rules}
 use Rattle.std.proofs.lemmas.Result.{err_from_is_err_and}
 use Rattle.tap_merge.proofs.TwoTaps.{part_of}
 use Rattle.watch_run.proofs.Watching.{frames_counted, no_round, room_left, round_follows, some_round, stops_by_merging, stops_by_writing}
@@ -26,16 +26,16 @@ write_round-requires-clause-follows g c =
     let begun = c.requires.begun in
     let w = c.loop-entries.invariant.watching begun.0 begun.1 begun.2 in
     let m = c.in_ok-round.ensures.merged (begun.0).late (begun.1).a (begun.1).b w.frames_a w.frames_b w.cut w.merged in
-    let cut = some_round _ _ _ _ _ _ _ w.cut _ _ _ c.in-Some.round c.deref.result.now m.2 c.in-Some.is c.deref.ensures.value in
-    rw w.written.lanes.last (round_follows m.0 m.1 w.cut c.deref.result.now c.next_round.new.self.merger.pending cut.follows.order)
+    let cut = some_round _ _ _ _ _ _ _ w.cut _ _ _ c.in-Some.round c.in-Some.round m.2 c.in-Some.is refl in
+    rw w.written.lanes.last (round_follows m.0 m.1 w.cut c.in-Some.round c.next_round.new.self.merger.pending cut.follows.order)
 
 pub write_round-requires-clause-room : goal.write_round-requires-clause-room
 write_round-requires-clause-room g c =
     let begun = c.requires.begun in
     let w = c.loop-entries.invariant.watching begun.0 begun.1 begun.2 in
     let m = c.in_ok-round.ensures.merged (begun.0).late (begun.1).a (begun.1).b w.frames_a w.frames_b w.cut w.merged in
-    let cut = some_round _ _ _ _ _ _ _ w.cut _ _ _ c.in-Some.round c.deref.result.now m.2 c.in-Some.is c.deref.ensures.value in
-    (room_left (begun.0).late (begun.1).a (begun.1).b m.0 m.1 w.cut c.deref.result.now c.next_round.new.self.merger.pending _ _ _ _ _
+    let cut = some_round _ _ _ _ _ _ _ w.cut _ _ _ c.in-Some.round c.in-Some.round m.2 c.in-Some.is refl in
+    (room_left (begun.0).late (begun.1).a (begun.1).b m.0 m.1 w.cut c.in-Some.round c.next_round.new.self.merger.pending _ _ _ _ _
     cut.read_a.read cut.read_b.read cut.follows.order
     (frames_counted (making_of c.args.plan.now) begun.0 w.cut _ w.written.tally.tally.totals))
 
@@ -55,9 +55,9 @@ returns-in_err-write_round-clause-stopped g c =
     rw (p.1, p.2) (λ vl_table before h.
     (let w = c.loop-entries.invariant.watching vl_table before h in
     let m = c.in_ok-round.ensures.merged vl_table.late before.a before.b w.frames_a w.frames_b w.cut w.merged in
-    let cut = some_round _ _ _ _ _ _ _ w.cut _ _ _ c.in-Some.round c.deref.result.now m.2 c.in-Some.is c.deref.ensures.value in
-    stops_by_writing _ (making_of c.args.plan.now) vl_table before m.0 m.1 (w.cut ++ c.deref.result.now) c.next_round.new.self.merger.pending _ _ _ _
-    (cut_is_first _ _ vl_table.late before.a before.b m.0 m.1 (w.cut ++ c.deref.result.now) c.next_round.new.self cut c.in_ok-round.ensures.agree)
+    let cut = some_round _ _ _ _ _ _ _ w.cut _ _ _ c.in-Some.round c.in-Some.round m.2 c.in-Some.is refl in
+    stops_by_writing _ (making_of c.args.plan.now) vl_table before m.0 m.1 (w.cut ++ c.in-Some.round) c.next_round.new.self.merger.pending _ _ _ _
+    (cut_is_first _ _ vl_table.late before.a before.b m.0 m.1 (w.cut ++ c.in-Some.round) c.next_round.new.self cut c.in_ok-round.ensures.agree)
     (part_of _ _ _ _ _ _ cut.read_a) (part_of _ _ _ _ _ _ cut.read_b) cut.follows.order cut.read_a.failures cut.read_b.failures
     (c.in_err-write_round.ensures.stopped vl_table before.capture before.ledger w.cut w.written)))
 
@@ -69,8 +69,8 @@ loop-entries-preserved g c = record {
       record {
         frames_a = m.0;
         frames_b = m.1;
-        cut = w.cut ++ c.deref.result.now;
-        merged = some_round _ _ _ _ _ _ _ w.cut _ _ _ c.in-Some.round c.deref.result.now m.2 c.in-Some.is c.deref.ensures.value;
+        cut = w.cut ++ c.in-Some.round;
+        merged = some_round _ _ _ _ _ _ _ w.cut _ _ _ c.in-Some.round c.in-Some.round m.2 c.in-Some.is refl;
         written = c.in_ok-write_round.ensures.written vl_table before.capture before.ledger w.cut w.written;
         agree = c.in_ok-round.ensures.agree;
         capture_going = c.in_ok-write_round.ensures.capture_going;

@@ -11,8 +11,8 @@ share_round-requires-clause-follows g c κs within =
     let begun = c.requires.begun in
     let h = begun.3 in
     shared_follows g.W.OutSink g.L.OutSink (making_of c.args.pool.now.task.plan) begun.0 begun.1 begun.2 c.args.rings.now c.next_round.new.self c.args.outputs.now c.args.flight.now
-    c.in-Ok-Some.round.items h
-    (some_taken begun.0.late h.cut c.next_round.new.self _ c.in-Ok-Some.field-0 c.in-Ok-Some.round c.in-Ok-Some.round.items
+    c.in-Ok-Some.round h
+    (some_taken begun.0.late h.cut c.next_round.new.self _ c.in-Ok-Some.field-0 c.in-Ok-Some.round c.in-Ok-Some.round
     (c.in-Ok-Some.ensures.merged begun.0.late h.cut h.taken) c.in-Ok-Some.field-0-is refl)
 
 pub share_round-requires-clause-room : goal.share_round-requires-clause-room
@@ -40,11 +40,11 @@ returns-in_err-share_round-in-Ok-Some-clause-stepped g c =
       sharing = tt;
       ended = λ is. (let wrong : ⊥ = cc is in absurd wrong);
       stopped = λ vl_table capture ledger h.
-          (let taken = some_taken vl_table.late h.cut rings _ c.in-Ok-Some.field-0 c.in-Ok-Some.round c.in-Ok-Some.round.items
+          (let taken = some_taken vl_table.late h.cut rings _ c.in-Ok-Some.field-0 c.in-Ok-Some.round c.in-Ok-Some.round
           (c.in-Ok-Some.ensures.merged vl_table.late h.cut h.taken) c.in-Ok-Some.field-0-is refl in
           record {
-            cut = h.cut ++ c.in-Ok-Some.round.items;
-            taken = stops_with vl_table.late (h.cut ++ c.in-Ok-Some.round.items) rings rings.a rings.b taken (takes_none rings.a) (takes_none rings.b);
+            cut = h.cut ++ c.in-Ok-Some.round;
+            taken = stops_with vl_table.late (h.cut ++ c.in-Ok-Some.round) rings rings.a rings.b taken (takes_none rings.a) (takes_none rings.b);
             why = inr (c.in_err-share_round-in-Ok-Some.ensures.stopped vl_table capture ledger h.cut h.shared);
             safe = no_source _ c.in_err-share_round-in-Ok-Some.field-0.0 (making_of c.args.pool.now.task.plan) vl_table capture ledger _ _ _
                 (c.in_err-share_round-in-Ok-Some.ensures.stopped vl_table capture ledger h.cut h.shared);
@@ -58,8 +58,8 @@ returns-in_ok-share_round-in-Ok-Some-clause-stepped g c =
       same_a = c.next_round.ensures.a;
       same_b = c.next_round.ensures.b;
       sharing = λ vl_table capture ledger h. record {
-        cut = h.cut ++ c.in-Ok-Some.round.items;
-        taken = some_taken vl_table.late h.cut rings _ c.in-Ok-Some.field-0 c.in-Ok-Some.round c.in-Ok-Some.round.items
+        cut = h.cut ++ c.in-Ok-Some.round;
+        taken = some_taken vl_table.late h.cut rings _ c.in-Ok-Some.field-0 c.in-Ok-Some.round c.in-Ok-Some.round
             (c.in-Ok-Some.ensures.merged vl_table.late h.cut h.taken) c.in-Ok-Some.field-0-is refl;
         shared = c.in_ok-share_round-in-Ok-Some.ensures.written vl_table capture ledger h.cut h.shared;
         capture_going = c.in_ok-share_round-in-Ok-Some.ensures.capture_going;

@@ -1,4 +1,5 @@
 use Rattle.std.proofs.Common.{◌<◌, ℕ, Option, subst, ap, ◌∙◌, arith}
+use Rattle.filter_workers.specs.Filters.{decision_by}
 use Rattle.filter_workers.specs.Seats.{DeskId, SeatState, Claims}
 use Rattle.filter_workers.proofs.Batching.{claim_is_nearer, decided_at, decided_more, numbers_more}
 use Rattle.filter_workers.proofs.worker.BorrowedRound.run.Goals as goal
@@ -23,5 +24,5 @@ loop-number-preserved g c =
           c.loop-number.invariant.numbers c.in_ok-push.ensures.items claim;
       decided = decided_more c.args.self.now.programs.now c.args.self.now.frames.now c.loop-number.decisions.items c.push.new.self.items _ _
           _ c.loop-number.invariant.decided c.in_ok-push.ensures.items (omega (arith, within, c.requires.size))
-          (decided_at c.args.self.now.programs.now c.args.self.now.frames.now _ c.in-Some.number _ _ c.filter_frame-decision.ensures (omega arith));
+          (decided_at c.args.self.now.programs.now c.args.self.now.frames.now _ c.in-Some.number _ _ (c.filter_frame-decision.ensures ∙ ap (decision_by c.args.self.now.programs.now) c.frame.ensures) (omega arith));
     }

@@ -1,15 +1,12 @@
-use Rattle.std.proofs.Common.{◌≡◌, ℕ, ◌<◌, ◌≤◌, ◌∙◌, ◌++◌, List, length, append_assoc, ap, arith}
+use Rattle.std.proofs.Common.{◌≡◌, ℕ, ◌<◌, ◌≤◌, ◌∙◌, List, length, ap, arith}
 use Rattle.std.proofs.lemmas.List.{length-map}
-use Rattle.std.specs.Prelude.{codes}
-use Rattle.std.specs.String.{string_bytes}
-use Rattle.verdict_ledger.specs.Text.{count_field, filter_line}
+use Rattle.verdict_ledger.specs.Text.{filter_line}
 use Rattle.vl_config.specs.Link.{VirtualLink}
 use Rattle.ledger_report.specs.CountsRight.{taps_in}
 use Rattle.ledger_report.proofs.TakeSteps.{filter_right}
 use Rattle.ledger_report.proofs.counts_lines.CountsLines.take_filter.Goals as goal
 
 pub returns-clause-right : goal.returns-clause-right
-unfolding filter_line count_field
 returns-clause-right c = λ lines are.
     (let found = c.in-Some.ensures.lookup in
     let table = c.args.config.now in
@@ -20,8 +17,7 @@ returns-clause-right c = λ lines are.
     omega (arith, c.if-filter-filters.false, simp length-map at (ap (λ (fs : List (List ℕ)). length fs) c.filters-else-missing.ensures.value)) in
     let below : filter < 8 = omega (arith, found.3.0, c.filters.ensures.count) in
     let accepted = found.3.1 0 ∙ c.filters.ensures.each lines filter are below in
-    let whole : string_bytes c.write.new.self ++ codes "\n" ≡ filter_line filter c.in-Some.accepted.now =
-    rw c.in_ok-write.ensures.bytes (rw c.requires (simp append_assoc)) in
+    let made : c.push_filter.new.text.items ≡ filter_line filter c.in-Some.accepted.now = rw c.requires at c.in_ok-push_filter.ensures in
     filter_right table lines c.args.self.now.links filter (taps_in c.args.self.now.endings) c.in-Some.accepted.now
-    (string_bytes c.write.new.self) c.args.line.now c.compare.result
-    all few below accepted c.compare.ensures.same c.compare.ensures.differs whole)
+    c.push_filter.new.text.items c.args.line.now c.compare.result
+    all few below accepted c.compare.ensures.same c.compare.ensures.differs made)

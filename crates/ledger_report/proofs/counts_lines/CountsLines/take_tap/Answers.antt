@@ -4,7 +4,7 @@ use Rattle.std.proofs.lemmas.Bool.{false≢true, ltb-true}
 use Rattle.std.proofs.lemmas.List.{length-map}
 use Rattle.afdx_frame.specs.declared.key.Network.TheVariants.{A, B}
 use Rattle.ledger_report.specs.TapLines.{said_in}
-use Rattle.ledger_report.specs.declared.counts.Counts.{Counts}
+use Rattle.verdict_ledger.specs.declared.totals.Totals.{Totals}
 use Rattle.ledger_report.proofs.TakeSteps.{few_taps, first_known, first_unknown, not_both, tap_here, tap_there, was_none}
 use Rattle.ledger_report.proofs.counts_lines.CountsLines.take_tap.Goals as goal
 use Rattle.ledger_report.proofs.counts_lines.CountsLines.take_tap.Goals.{then-is_none, else-is_none, then-self-filters, else-self-filters}
@@ -25,7 +25,7 @@ returns-in-Some-clause-right c = λ lines are.
       | then-self-filters w ↦ w.is_none-complete.ensures ∙ ap (λ (b : Bool). not b) (sym w.complete-is ∙ c.if-complete.true)
       | else-self-filters w ↦ absurd (omega (arith, w.if-self-filters.false, ltb-true _ _ (sym w.complete-is ∙ c.if-complete.true)))
     ] in
-    let counts = ap (λ (n : Counts). n.frames) (c.network-frames.ensures lines are) in
+    let counts = ap (λ (n : Totals). n.frames) (c.network.ensures lines are) in
     let filters = simp length-map at (ap (λ (fs : List (List ℕ)). length fs) c.filters.ensures.value) in
     let told = rw c.in-Some.is at c.in_ok-ending.ensures in
     record {
@@ -33,7 +33,7 @@ returns-in-Some-clause-right c = λ lines are.
       says = tt;
       ending = (
         said_in c.in-Some.ending,
-        tap_here lines endings c.if-is_none.network c.network-frames.result.frames
+        tap_here lines endings c.if-is_none.network c.network.result.now.frames
             (said_in c.in-Some.ending) c.args.line.now none network counts told,
       );
     })
@@ -45,7 +45,7 @@ returns-in_default-clause-right c = λ lines are.
       | then-is_none w ↦ first_known (is_some endings.a) c.is_none.result c.if-is_none.network c.is_none.ensures w.if-is_none.true w.network-is
       | else-is_none w ↦ first_unknown (is_some endings.a) c.is_none.result c.if-is_none.network c.is_none.ensures w.if-is_none.false w.network-is
     ] in
-    let counts = ap (λ (n : Counts). n.frames) (c.network-frames.ensures lines are) in
+    let counts = ap (λ (n : Totals). n.frames) (c.network.ensures lines are) in
     let filters = simp length-map at (ap (λ (fs : List (List ℕ)). length fs) c.filters.ensures.value) in (
       refl,
       λ right.
@@ -58,7 +58,7 @@ returns-in_default-clause-right c = λ lines are.
             | in_default-via-in-Some+else-complete w ↦ absurd (false≢true (sym w.if-complete.false ∙ complete))
             | in_default-via-in_default w ↦ (let never = rw w.in_default.is at c.in_ok-ending.ensures in
                 never right.ending.0
-                (tap_there lines endings c.if-is_none.network c.network-frames.result.frames right.ending.0 c.args.line.now none network counts
+                (tap_there lines endings c.if-is_none.network c.network.result.now.frames right.ending.0 c.args.line.now none network counts
                 right.ending.1))
           ]),
     ))

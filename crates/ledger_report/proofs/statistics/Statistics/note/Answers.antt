@@ -52,7 +52,7 @@ returns-in_default-clause-signs c = λ links lines is few account h.
     record {
       rules = rules;
       losses = losses_unseen links line lines c.note_networks.new.self.links.items
-          (unseen_where line.class (sym is.link.present ∙ ap (λ (o : Option VlId). is_some o) c.in_default.is)) losses;
+          (unseen_where line.verdict.class (sym is.link.present ∙ ap (λ (o : Option VlId). is_some o) c.in_default.is)) losses;
     }
 
 pub returns-clause-signs : goal.returns-clause-signs

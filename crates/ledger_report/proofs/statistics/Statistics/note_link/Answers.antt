@@ -37,13 +37,13 @@ pub returns-then-index-len-clause-losses : goal.returns-then-index-len-clause-lo
 returns-then-index-len-clause-losses c = λ links lines is few moment of_link sequence are links_are index_is h.
     subst (AreEach HasLosses links (c.args.line.now ∷ lines)) (sym (ap (λ (x : Statistics). x.links.items) c.note_outside.ensures.rest))
     (losses_unseen links c.args.line.now lines c.args.self.now.links.items
-    (seen_where c.args.line.now.class (addressed c.args.line.now c.args.id is of_link) ∙ ap not (sym c.is_unconfigured-unconfigured.ensures ∙ c.if-not-unconfigured.false)) h)
+    (seen_where c.args.line.now.verdict.class (addressed c.args.line.now c.args.id is of_link) ∙ ap not (sym c.is_unconfigured-unconfigured.ensures ∙ c.if-not-unconfigured.false)) h)
 
 pub returns-clause-losses : goal.returns-clause-losses
 returns-clause-losses c = λ links lines is few moment of_link sequence are links_are index_is h.
     losses_set links c.args.line.now lines c.args.self.now c.args.id c.args.number c.args.at.now c.place_of-index.result c.index_mut.result.now c.note.new.self is
     moment of_link sequence
-    (seen_where c.args.line.now.class (addressed c.args.line.now c.args.id is of_link) ∙ ap not (sym c.is_unconfigured-unconfigured.ensures ∙ c.if-unconfigured.false))
+    (seen_where c.args.line.now.verdict.class (addressed c.args.line.now c.args.id is of_link) ∙ ap not (sym c.is_unconfigured-unconfigured.ensures ∙ c.if-unconfigured.false))
     are links_are index_is c.place_of-index.ensures (omega (arith, c.if-index-len.false, c.len.ensures)) c.index_mut.ensures.value
     c.in_ok-note.ensures.losses h
 

@@ -7,4 +7,4 @@ use Rattle.ordered_merge.proofs.buffer.TapBuffer.note_numbers.Goals as goal
 pub returns : goal.returns
 returns c =
     subst (λ (s : BufferState). AllByRecursion (λ f. f.number < s.tap.next) s.frames) c.self.view_is
-    (buffered_numbers c.self.inside.queue.items c.self.inside.late.entries c.self.inside.next c.self.invariant)
+    (buffered_numbers c.self.inside.queue c.self.inside.late.items c.self.inside.next c.self.invariant)

@@ -1,4 +1,4 @@
-use Rattle.std.proofs.Common.{◌∙◌, ◌++◌, ◌∷◌, ℕ, List, [], Option, length, map, take, ap, sym, arith}
+use Rattle.std.proofs.Common.{◌∙◌, ◌++◌, ◌<◌, ◌∷◌, ℕ, List, [], Option, length, map, take, ap, sym, arith}
 use Rattle.std.proofs.lemmas.List.{length-map, length-take-le, map-append}
 use Rattle.filter_workers.specs.Filters.{mask_by}
 use Rattle.round_output.specs.Filters.{keep_by, making_of}
@@ -12,14 +12,15 @@ loop-index-preserved c =
     let vs = c.args.verdicts.now in
     let filters = c.args.plan.now.programs.now in
     let n = c.loop-index.index in
-    let f = c.index-frames-index.result in
+    let f = c.frame.result in
     let v = c.index-verdicts-index.result in
+    let within : n < length fs = omega (arith, c.loop-index-test.true, c.len-index-end.ensures) in
     let before = c.loop-index.invariant in
     let added = c.in_ok-add_frame.ensures in
-    let front = taken_next fs n f c.loop-index-test.true c.index-frames-index.is in
-    let said = taken_next vs n v (omega (arith, c.loop-index-test.true, c.requires.verdicts)) c.index-verdicts-index.is in
-    let size = length-take-le n fs (omega (arith, c.loop-index-test.true)) in
-    let judged = length-take-le n vs (omega (arith, c.loop-index-test.true, c.requires.verdicts)) ∙ sym size in
+    let front = taken_next fs n f within c.frame.ensures in
+    let said = taken_next vs n v (omega (arith, within, c.requires.verdicts)) c.index-verdicts-index.is in
+    let size = length-take-le n fs (omega (arith, within)) in
+    let judged = length-take-le n vs (omega (arith, within, c.requires.verdicts)) ∙ sym size in
     let kept = ap length before.keeps ∙ length-map (take n fs) (keep_by filters) in
     let masked = ap length before.masks ∙ length-map (take n fs) (mask_by filters) in
     record {

@@ -31,11 +31,11 @@ returns-clause-written g c =
     with_on_ok c.write_entries.result _ _ (λ f. λ vl_table capture ledger frames h.
     f (making_of c.args.plan.now) vl_table capture ledger frames c.args.self.now.lanes c.judge_frames.new.self h
     (rw c.deref-2.ensures.value (c.in_ok-verdicts.ensures.verdicts vl_table frames h.lanes))
-    (rw c.deref-2.ensures.value (rw c.deref.ensures.value at c.in_ok-fill.ensures)) (c.in_ok-verdicts.ensures.after vl_table frames h.lanes)) c.write_entries.ensures.written
+    (rw c.deref-2.ensures.value (rw (c.all.ensures, c.deref.ensures.value) at c.in_ok-fill.ensures)) (c.in_ok-verdicts.ensures.after vl_table frames h.lanes)) c.write_entries.ensures.written
 
 pub returns-clause-stopped : goal.returns-clause-stopped
 returns-clause-stopped g c =
     with_err c.write_entries.result _ _ (λ fault f. λ vl_table capture ledger frames h.
     f (making_of c.args.plan.now) vl_table capture ledger frames c.args.self.now.lanes h
     (rw c.deref-2.ensures.value (c.in_ok-verdicts.ensures.verdicts vl_table frames h.lanes))
-    (rw c.deref-2.ensures.value (rw c.deref.ensures.value at c.in_ok-fill.ensures))) c.write_entries.ensures.stopped
+    (rw c.deref-2.ensures.value (rw (c.all.ensures, c.deref.ensures.value) at c.in_ok-fill.ensures))) c.write_entries.ensures.stopped

@@ -3,7 +3,7 @@ use Rattle.ordered_merge.specs.Merge.{safe_frames}
 use Rattle.afdx_frame.specs.Frame.{Frame}
 use Rattle.tap_queue.specs.Ring.{taken_items}
 use Rattle.tap_merge.proofs.RingItems.{at_most, is_met, kept_fault, stops_with, taken_after_cut, takes_none, whatever_failed}
-use Rattle.tap_merge.proofs.TwoTaps.{all_cut, no_frames, none_safe}
+use Rattle.tap_merge.proofs.TwoTaps.{all_cut, none_safe}
 use Rattle.tap_merge.specs.Rings.{HasTaken}
 use Rattle.tap_merge.proofs.rings.Rings.next_round.Goals as goal
 
@@ -14,7 +14,7 @@ returns-in-Err-clause-stopped g c = λ late cut h.
 
 pub returns-then-merged-clause-merged : goal.returns-then-merged-clause-merged
 returns-then-merged-clause-merged g c = λ late cut h.
-    taken_after_cut c.get-most.result late cut c.merge_more.new.self c.cut.new.self c.in-Ok.round.items (c.in_ok-merged.ensures.merged late cut h) (search rules) (search rules)
+    taken_after_cut c.get-most.result late cut c.merge_more.new.self c.cut.new.self c.in-Ok.round (c.in_ok-merged.ensures.merged late cut h) (search rules) (search rules)
 
 pub returns-then-merged-clause-size : goal.returns-then-merged-clause-size
 returns-then-merged-clause-size g c =
@@ -24,7 +24,7 @@ returns-then-merged-clause-size g c =
 
 pub returns-in-None-clause-merged : goal.returns-in-None-clause-merged
 returns-in-None-clause-merged g c = λ late cut h.
-    (let none : c.in-Ok.round.items ≡ [] = no_frames _ c.in-Ok.round.items (sym c.is_empty.ensures ∙ c.if-not-is_empty.false) (search rules) in
+    (let none : c.in-Ok.round ≡ [] = c.is_empty.ensures.0 (search rules) in
     taken_after_cut c.get-most.result late cut c.merge_more.new.self c.cut.new.self [] (c.in_ok-merged.ensures.merged late cut h) c.in-Ok.ensures.rest (sym none ∙ c.in-Ok.ensures.round))
 
 pub returns-in-None-clause-ended : goal.returns-in-None-clause-ended
@@ -32,7 +32,7 @@ returns-in-None-clause-ended g c = λ _.
     (let rings = c.merge_more.new.self in
     let h = c.in_ok-merged.ensures.merged c.requires.0 c.requires.1 c.requires.2 in
     let both = c.in_ok-merged.ensures.ended (ap Ok c.if-merged.false) c.in-None.is in
-    let none : c.in-Ok.round.items ≡ [] = no_frames _ c.in-Ok.round.items (sym c.is_empty.ensures ∙ c.if-not-is_empty.false) (search rules) in (
+    let none : c.in-Ok.round ≡ [] = c.is_empty.ensures.0 (search rules) in (
       is_met rings.end_a rings.merger.a (taken_items rings.a) h.ended_a both.0,
       is_met rings.end_b rings.merger.b (taken_items rings.b) h.ended_b both.1,
       sym (ap (λ (l : List Frame). l ++ c.cut.new.self.pending) none) ∙ sym c.in-Ok.ensures.whole
@@ -47,7 +47,7 @@ returns-clause-stopped g c = λ late cut h.
 pub returns-clause-none_safe : goal.returns-clause-none_safe
 returns-clause-none_safe g c =
     let rings = c.merge_more.new.self in
-    let none : c.in-Ok.round.items ≡ [] = no_frames _ c.in-Ok.round.items (sym c.is_empty.ensures ∙ c.if-not-is_empty.false) (search rules) in
+    let none : c.in-Ok.round ≡ [] = c.is_empty.ensures.0 (search rules) in
     whatever_failed c.in-Some.fault (
       rw c.in-Ok.ensures.rest (none_safe rings.merger c.get-most.result c.get-most.ensures.nonzero (sym c.in-Ok.ensures.round ∙ none)),
       λ late cut h. subst (λ (l : List Frame). HasTaken late l (record rings { merger = c.cut.new.self })) (append-nil cut)

@@ -2,7 +2,6 @@ use Rattle.std.proofs.Common.{◌≡◌, ◌++◌, [], List, sym, subst, rules}
 use Rattle.std.proofs.lemmas.Result.{err_from_is_err_and}
 use Rattle.afdx_frame.specs.Frame.{Frame}
 use Rattle.tap_merge.specs.Taps.{HasMerged}
-use Rattle.tap_merge.proofs.TwoTaps.{no_frames}
 use Rattle.tap_merge.proofs.taps.Taps.next_round.Goals as goal
 
 pub returns-in_err-round-clause-stopped : goal.returns-in_err-round-clause-stopped
@@ -20,7 +19,7 @@ returns-then-merged-clause-merged g c = λ late a b frames_a frames_b cut h.
 pub returns-then-is_empty-clause-merged : goal.returns-then-is_empty-clause-merged
 returns-then-is_empty-clause-merged g c = λ late a b frames_a frames_b cut h.
     (let m = c.in_ok-merged.ensures.merged late a b frames_a frames_b cut h in
-    let none : c.in_ok-round.round.items ≡ [] = no_frames _ c.in_ok-round.round.items (sym c.if-is_empty.ensures) (search rules) in (
+    let none : c.in_ok-round.round ≡ [] = c.if-is_empty.ensures.0 (search rules) in (
       m.0,
       m.1,
       subst (λ (round : List Frame). HasMerged g.S.TapSource g.T.TapSource late a b m.0 m.1 (cut ++ round) c.cut_round.new.self)

@@ -3,7 +3,7 @@ use Rattle.tap_queue.specs.Batches.{rest_items}
 use Rattle.rtrb.specs.Ring.{known_items, received, sent}
 use Rattle.tap_queue.proofs.Rest.{some_left}
 use Rattle.tap_queue.proofs.end.TapEnd.settle.Goals as goal
-use Rattle.tap_queue.proofs.end.TapEnd.settle.Goals.{then-lost-via-then-lost, then-lost-via-else-lost+then-not-over, then-lost-via-else-lost+else-not-over+then-left-gt0, then-lost-via-else-lost+else-not-over+else-left-gt0+then-not-is_empty}
+use Rattle.tap_queue.proofs.end.TapEnd.settle.Goals.{then-lost-via-then-lost, then-lost-via-else-lost+then-not-over, then-lost-via-else-lost+else-not-over+then-left-gt0, then-lost-via-else-lost+else-not-over+else-left-gt0+then-count_of-gt0}
 
 pub returns-then-lost-clause-refused : goal.returns-then-lost-clause-refused
 returns-then-lost-clause-refused g c =
@@ -15,5 +15,5 @@ returns-then-lost-clause-refused g c =
       | then-lost-via-then-lost w ↦ inl w.if-lost.true
       | then-lost-via-else-lost+then-not-over w ↦ search rules
       | then-lost-via-else-lost+else-not-over+then-left-gt0 w ↦ inr (inr (left (omega (arith, looked.value, w.if-left-gt0.true))))
-      | then-lost-via-else-lost+else-not-over+else-left-gt0+then-not-is_empty w ↦ inr (inr (left (search rules)))
+      | then-lost-via-else-lost+else-not-over+else-left-gt0+then-count_of-gt0 w ↦ inr (inr (left (omega (arith, w.count_of.ensures, w.if-count_of-gt0.true))))
     ]

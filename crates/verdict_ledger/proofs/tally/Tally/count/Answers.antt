@@ -1,21 +1,8 @@
--- The counts of the frame's link move, and those of the others stay.
-use Rattle.std.proofs.Common.{ℕ, ◌<◌, ap, ◌∙◌, refl, arith}
+use Rattle.std.proofs.Common.{refl}
 use Rattle.verdict_ledger.specs.Entry.{entry_with}
-use Rattle.verdict_ledger.specs.Tally.{link_counts, is_entry_of}
-use Rattle.std.specs.List.{filter}
-use Rattle.verdict_ledger.proofs.Tallying.{counts_move, few_of_link}
 use Rattle.verdict_ledger.proofs.tally.Tally.count.Goals as goal
 
-pub returns-in-Some : goal.returns-in-Some
-returns-in-Some c = λ entries few tallied.
-    let e = entry_with c.args.frame.now c.args.verdict.now c.args.keep c.args.mask in
-    let id = c.in-Some.id in
-    let at = c.from.result in
-    let counts = c.args.self.now.counts in
-    let fits : at < 65536 = omega (arith, c.from.ensures) in
-    let now = c.count-in-Some.ensures (filter (is_entry_of id) entries) e (few_of_link entries id _ few) refl
-    (c.index_mut.ensures.value ∙ tallied.links at c.index_mut.result.now fits ∙ ap (λ (n : ℕ). link_counts entries (record { 0 = n })) c.from.ensures) in
-    record {
-      totals = c.count.ensures entries e few refl refl refl tallied.totals;
-      links = counts_move entries e counts.items id at c.count-in-Some.new.self c.in-Some.ensures c.from.ensures (omega (arith, counts.ok.0)) (omega arith) now tallied.links;
-    }
+pub returns : goal.returns
+returns c = λ entries few tallied.
+    c.count_by.ensures entries (entry_with c.args.frame.now c.args.verdict.now c.args.keep c.args.mask) few
+    c.link.ensures refl refl refl tallied

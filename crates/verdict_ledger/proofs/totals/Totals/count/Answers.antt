@@ -2,9 +2,9 @@
 use Rattle.std.proofs.Common.{[], ◌∷◌, ◌++◌, Option, is_some, ap, ◌∙◌, ℕ}
 use Rattle.vl_config.specs.declared.class.Class.{Class}
 use Rattle.vl_config.specs.declared.class.Class.TheVariants.{Cut, Runt, Oversize, Foreign, Unconfigured, TooLong}
-use Rattle.vl_judge.specs.Judgement.{Judgement}
+use Rattle.vl_judge.specs.Judgement.{Judgement, is_excess, is_out, is_copy, is_delivered}
 use Rattle.verdict_ledger.specs.Entry.{Entry}
-use Rattle.verdict_ledger.specs.Tally.{totals_of, is_class, is_excess, is_out, is_copy, is_delivered}
+use Rattle.verdict_ledger.specs.Tally.{totals_of, is_class}
 use Rattle.verdict_ledger.specs.declared.totals.Totals.{Totals}
 use Rattle.verdict_ledger.proofs.Counting.{counted, counted_all, totals_by}
 use Rattle.verdict_ledger.proofs.totals.Totals.count.Goals as goal

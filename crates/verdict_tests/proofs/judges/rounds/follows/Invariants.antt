@@ -3,5 +3,5 @@ use Rattle.std.proofs.Common.{drop}
 use Rattle.vl_judge.specs.Lanes.{FollowsOn}
 use Rattle.verdict_tests.proofs.judges.rounds.follows.Given as goal
 
-abbrev pub invariant-loop-frame : goal.invariant-loop-frame
-invariant-loop-frame l = FollowsOn l.before (drop l.frame-index l.round) → FollowsOn l.fn.last l.round
+abbrev pub invariant-loop-index : goal.invariant-loop-index
+invariant-loop-index l = FollowsOn l.before (drop l.index l.round) → FollowsOn l.fn.last l.round

@@ -10,7 +10,7 @@ use Rattle.vl_judge.proofs.lane.Lane.judge_regular.Goals.{in-A, in-B}
 pub returns-clause-after : goal.returns-clause-after
 returns-clause-after c = λ link earlier of stands.
     let number : c.unwrap_or-sn.result ≡ sequence_number c.args.frame.now =
-    rw (c.unwrap_or-sn.ensures, c.sequence.ensures, c.view.ensures.value) refl in
+    rw (c.unwrap_or-sn.ensures, c.sequence.ensures) refl in
     elim c.match-network.branch [
       | in-A w ↦ lane_after_a c.args.self.now _ link earlier _ of (sym w.in-A.ensures) stands
           (ap (λ (l : Lane). l.id) w.self-is) (ap (λ (l : Lane). l.smax) w.self-is) (ap (λ (l : Lane). l.skew) w.self-is)

@@ -6,13 +6,13 @@ use Rattle.vl_judge.specs.Lanes.{FollowsOn, StandsAfter, last_key}
 use Rattle.vl_judge.specs.Verdicts.{verdicts}
 use Rattle.vl_judge.proofs.lanes.Lanes.judge_frames.Given as goal
 
-abbrev pub invariant-loop-frame : goal.invariant-loop-frame
-invariant-loop-frame l = record {
-  follows : FollowsOn l.self.last (drop l.frame-index l.round);
-  last_is : l.self.last ≡ last_key l.fn.self.last (take l.frame-index l.round);
+abbrev pub invariant-loop-index : goal.invariant-loop-index
+invariant-loop-index l = record {
+  follows : FollowsOn l.self.last (drop l.index l.round);
+  last_is : l.self.last ≡ last_key l.fn.self.last (take l.index l.round);
   verdicts_are : (vl_table : VlTable) (frames : List Frame) → StandsAfter l.fn.self vl_table frames →
-      verdicts vl_table (frames ++ take l.frame-index l.round) ≡ verdicts vl_table frames ++ l.said.items;
-  count : length l.said.items ≡ l.frame-index;
+      verdicts vl_table (frames ++ take l.index l.round) ≡ verdicts vl_table frames ++ l.said.items;
+  count : length l.said.items ≡ l.index;
   after : (vl_table : VlTable) (frames : List Frame) → StandsAfter l.fn.self vl_table frames →
-      StandsAfter l.self vl_table (frames ++ take l.frame-index l.round);
+      StandsAfter l.self vl_table (frames ++ take l.index l.round);
 }

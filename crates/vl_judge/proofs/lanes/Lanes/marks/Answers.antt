@@ -43,14 +43,14 @@ more_other lanes round i frame k less is ne =
     (by_test (place_of lanes frame == k) (λ b. b ≡ false) (λ t. absurd (ne (eqb-true (place_of lanes frame) k t))) (λ f. refl))
     ∙ or_false (has_frame lanes (take i round) k))
 
-pub loop-frame-preserved : goal.loop-frame-preserved
-loop-frame-preserved c =
+pub loop-index-preserved : goal.loop-index-preserved
+loop-index-preserved c =
     let lanes = c.args.self.now.lanes in
     let round = c.args.round.now in
-    let i = c.loop-frame.frame-index in
-    let frame = c.frame-item.result in
-    let before = c.loop-frame.invariant in
-    let marks = c.loop-frame.marks.items in
+    let i = c.loop-index.index in
+    let frame = c.frame.result in
+    let before = c.loop-index.invariant in
+    let marks = c.loop-index.marks.items in
     let place = c.place_of-place.result in
     let at : place ≡ place_of lanes frame = c.place_of-place.ensures in
     elim c.if-place-len.branch [
@@ -60,16 +60,16 @@ loop-frame-preserved c =
             dite (ℕ_discrete k place)
             (λ e. subst (λ (n : ℕ). slice_get (set marks place true) n ≡ Some (has_frame lanes (take (i + 1) round) n)) (sym e)
             (get_set_same marks place true (omega (arith, less, e, before.len))
-            ∙ ap (λ b. Some b) (sym (more_of lanes round i frame place c.loop-frame-test.true c.frame-item.is (sym at)))))
+            ∙ ap (λ b. Some b) (sym (more_of lanes round i frame place (omega (arith, c.loop-index-test.true, c.len-index-end.ensures)) c.frame.ensures (sym at)))))
             (λ ne. get_set_other marks place k true ne
             ∙ (before.each k less
-            ∙ ap (λ b. Some b) (sym (more_other lanes round i frame k c.loop-frame-test.true c.frame-item.is (λ e. ne (sym e ∙ sym at))))));
+            ∙ ap (λ b. Some b) (sym (more_other lanes round i frame k (omega (arith, c.loop-index-test.true, c.len-index-end.ensures)) c.frame.ensures (λ e. ne (sym e ∙ sym at))))));
       })
       | else-place-len w ↦ rw w.marks-is (record {
         len = before.len;
         each = λ k less.
             before.each k less
-            ∙ ap (λ b. Some b) (sym (more_other lanes round i frame k c.loop-frame-test.true c.frame-item.is
-            (λ e. absurd (omega (arith, less, e, at, before.len, w.if-place-len.false, c.len-in-loop-frame.ensures, c.loop-frame.marks.ok.0)))));
+            ∙ ap (λ b. Some b) (sym (more_other lanes round i frame k (omega (arith, c.loop-index-test.true, c.len-index-end.ensures)) c.frame.ensures
+            (λ e. absurd (omega (arith, less, e, at, before.len, w.if-place-len.false, c.len-in-loop-index.ensures, c.loop-index.marks.ok.0)))));
       })
     ]

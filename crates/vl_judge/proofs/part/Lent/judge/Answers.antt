@@ -1,5 +1,5 @@
 -- A frame whose lane is one of the part's is judged in it; by any other the part's lanes stay as they are.
-use Rattle.std.proofs.Common.{◌++◌, Some, None, subst, arith}
+use Rattle.std.proofs.Common.{◌++◌, Some, None, refl, subst, arith}
 use Rattle.std.proofs.lemmas.Option.{slice_get_within}
 use Rattle.vl_judge.specs.Parts.{PartKnows, NonePartLater}
 use Rattle.vl_judge.specs.Lanes.{last_key}
@@ -10,32 +10,31 @@ use Rattle.vl_judge.proofs.part.Lent.judge.Goals.{in-Some+in_ok-push, in_default
 
 pub judge-verdict-requires : goal.judge-verdict-requires
 judge-verdict-requires c =
-    let frame = c.index-self-number.result in
+    let frame = c.frame-frame.result in
     let round = c.args.self.now.round.now in
     let before = c.loop-number.invariant in
-    rw (← c.index-self-number.is)
     (none_later_item c.args.self.now.index.now c.args.part.first c.loop-number.lanes.items _ frame c.in-Some.place c.index_mut.result.now
-    (place_is _ _ _ c.len.result frame _ (Some c.in-Some.place) (omega (arith, c.len.ensures, c.loop-number.lanes.ok.0)) c.index-self-number.is c.in-Some.ensures)
+    (place_is _ _ _ c.len.result frame frame (Some c.in-Some.place) (omega (arith, c.len.ensures, c.loop-number.lanes.ok.0)) refl c.in-Some.ensures)
     c.index_mut.ensures.value
-    (next_follows _ round c.loop-number.number frame c.loop-number-test.true c.index-self-number.is before.follows).0 before.none_later)
+    (next_follows _ round c.loop-number.number frame (omega (arith, c.loop-number-test.true, c.len-number-end.ensures)) c.frame-frame.ensures before.follows).0 before.none_later)
 
 pub loop-number-preserved : goal.loop-number-preserved
 loop-number-preserved c =
-    let frame = c.index-self-number.result in
-    let is = c.index-self-number.is in
+    let frame = c.frame-frame.result in
+    let is = c.frame-frame.ensures in
     let n = c.loop-number.number in
     elim c.match-place_in.branch [
       | in-Some+in_ok-push w ↦
           rw (w.lanes-is, w.verdicts-is, w.in_ok-push.ensures.items)
           (so_far_here _ _ _ _ _ _ n c.loop-number.lanes.items c.loop-number.verdicts.items frame w.in-Some.place w.index_mut.result.now
-          w.judge-verdict.new.self w.judge-verdict.result c.loop-number-test.true is
-          (place_is _ _ _ c.len.result frame _ (Some w.in-Some.place) (omega (arith, c.len.ensures, c.loop-number.lanes.ok.0)) is w.in-Some.ensures) w.index_mut.ensures.value
-          (rw is w.judge-verdict.ensures.verdict) (rw is w.judge-verdict.ensures.after) (rw is w.judge-verdict.ensures.none_later)
+          w.judge-verdict.new.self w.judge-verdict.result (omega (arith, c.loop-number-test.true, c.len-number-end.ensures)) is
+          (place_is _ _ _ c.len.result frame frame (Some w.in-Some.place) (omega (arith, c.len.ensures, c.loop-number.lanes.ok.0)) refl w.in-Some.ensures) w.index_mut.ensures.value
+          w.judge-verdict.ensures.verdict w.judge-verdict.ensures.after w.judge-verdict.ensures.none_later
           w.judge-verdict.ensures.id c.loop-number.invariant)
       | in_default w ↦
           rw (w.lanes-is, w.verdicts-is)
-          (so_far_elsewhere _ _ _ _ _ _ n c.loop-number.lanes.items c.loop-number.verdicts.items frame c.loop-number-test.true is
-          (place_is _ _ _ c.len.result frame _ None (omega (arith, c.len.ensures, c.loop-number.lanes.ok.0)) is w.in_default.ensures) c.loop-number.invariant)
+          (so_far_elsewhere _ _ _ _ _ _ n c.loop-number.lanes.items c.loop-number.verdicts.items frame (omega (arith, c.loop-number-test.true, c.len-number-end.ensures)) is
+          (place_is _ _ _ c.len.result frame frame None (omega (arith, c.len.ensures, c.loop-number.lanes.ok.0)) refl w.in_default.ensures) c.loop-number.invariant)
     ]
 
 pub returns : goal.returns
@@ -43,7 +42,7 @@ returns c =
     let round = c.args.self.now.round.now in
     let index = c.args.self.now.index.now in
     let first = c.args.part.first in
-    let is = all_taken round c.loop-number.number c.loop-number-test.false in
+    let is = all_taken round c.loop-number.number (omega (arith, c.loop-number-test.false, c.len-number-end.ensures)) in
     let before = c.loop-number.invariant in
     record {
       ids = before.ids;
@@ -53,6 +52,6 @@ returns c =
       said = before.said;
       within = before.within;
       covers = λ n frame id k got of at within.
-          before.covers n frame id k (omega (arith, slice_get_within round n frame got, c.loop-number-test.false)) got of at
+          before.covers n frame id k (omega (arith, slice_get_within round n frame got, c.loop-number-test.false, c.len-number-end.ensures)) got of at
           (omega (arith, within, length_by_ids c.loop-number.lanes.items c.args.part.lanes.items before.ids));
     }

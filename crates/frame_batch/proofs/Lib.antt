@@ -1,0 +1,3 @@
+mod Batches
+pub mod Drafts
+pub mod Queues

@@ -1,0 +1,13 @@
+-- A place among the frames of batches.
+use Rattle.std.specs.Prelude.{ℕ, List, drop}
+use Rattle.afdx_frame.specs.Frame.{Frame}
+use Rattle.frame_batch.specs.Queue.{IsBlockOf, queue_frames}
+use Rattle.frame_batch.specs.declared.cursor.QueueCursor.{QueueCursor}
+
+-- the frames from where a cursor stands
+abbrev pub cursor_left : QueueCursor → List Frame
+cursor_left c = drop c.at (queue_frames (drop c.batch c.batches.now.items))
+
+-- The block in which the cursor's frame stands was added to these blocks, where the cursor says so.
+abbrev pub IsAmong : QueueCursor → List (List ℕ) → Type 0
+IsAmong c blocks = IsBlockOf blocks c.batches.now.items c.batch c.block

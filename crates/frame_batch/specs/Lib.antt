@@ -1,0 +1,4 @@
+pub mod Batch
+pub mod Cursor
+pub mod Queue
+pub mod Round

@@ -1,0 +1,7 @@
+use Rattle.std.proofs.Common.{codes}
+use Rattle.std.proofs.lemmas.Bool.Decides.{Decides-eqb}
+use Rattle.std.proofs.lemmas.Slice.Eq.{strip_suffix_is}
+use Rattle.ledger_report.proofs.counts_lines.before_newline.Goals as goal
+
+pub returns : goal.returns
+returns c = strip_suffix_is Decides-eqb c.args.text.now (codes "\n") c.strip_suffix.result (rw c.as_bytes.ensures.value at c.strip_suffix.ensures.cases)

@@ -1,0 +1,350 @@
+//! The tables of links: all, worst first; and beside those of a baseline.
+
+use crate::charts::{Columns, Kind, Stair, push_stair};
+use crate::numbers::share;
+use crate::ranks::{LEVELS, Level, Rank, frames_of, level_of};
+use crate::view::{ROWS, TROUBLES, View, counts_of, has_strip};
+use crate::writer::Part::{
+    self, Both, Duration, Grouped, Millionths, Milliseconds, Number, Tenths, Text, Thousandths, Utc,
+};
+use crate::writer::{Page, Pair, flag};
+use afdx_frame::Network;
+use ledger_report::LinkReport;
+use ledger_report::Sign::{Alone, Early, Excess, Late, Lost, Out, TooLong};
+use report_comparison::{COUNTS, Count, LinkNumbers, WORSE, Worse};
+
+/// How many links a row of the map has.
+const MAP_COLUMNS: usize = 128;
+/// How many links in trouble without a row are named.
+const NAMED: usize = 512;
+
+/// What stands in the place of a number that isn't known.
+const UNKNOWN: Part<'static> = Text("&#8211;");
+
+/// The beginning of a drawing of activity.
+const SPARK: &str = "\
+<svg class=\"g sp\" viewBox=\"0 0 $used$ 28\" style=\"--h:28px\" preserveAspectRatio=\"none\" role=\"img\">";
+
+/// Appends a link's activity: A over B, and a strip under the columns with signs.
+fn push_spark(page: &mut Page, view: &View<'_>, link: &LinkReport) {
+    let empty = Columns::new(view, Kind::Sum, view.column(link).max(2));
+    let (a, b) = (
+        empty.with(&link.lanes.a.lines),
+        empty.with(&link.lanes.b.lines),
+    );
+    let mut marks = empty;
+    for sign in TROUBLES {
+        marks = marks.with(&link.lanes.a.signs.of(sign).bins);
+        marks = marks.with(&link.lanes.b.signs.of(sign).bins);
+    }
+    let up = Stair {
+        top: a.peak().max(b.peak()).max(1),
+        height: 11,
+        base: 11,
+        up: true,
+    };
+    let down = Stair {
+        base: 12,
+        up: false,
+        ..up
+    };
+    let strip = Stair {
+        top: 1,
+        height: 3,
+        base: 28,
+        ..up
+    };
+    fill!(page; SPARK; used = Number(view.used as u64));
+    push_stair(page, "fa", &a, up);
+    push_stair(page, "fb", &b, down);
+    push_stair(page, "mt", &marks, strip);
+    page.text("</svg>");
+}
+
+/// Appends a cell of counts, or `off` where the rule is off for the link.
+fn push_counts(page: &mut Page, on: bool, counts: Pair) {
+    let template = match (on, counts.sum()) {
+        (false, _) => "<td class=\"p z\">off</td>",
+        (true, 0) => "<td class=\"p\"><i class=\"z\">&#183;</i></td>",
+        (true, _) => "<td class=\"p\">$counts$</td>",
+    };
+    fill!(page; template; counts = Both(counts));
+}
+
+/// The class of a cell with a number, which may be wrong.
+fn class_of(wrong: bool) -> Part<'static> {
+    Text(if wrong { "r w" } else { "r" })
+}
+
+/// Appends the cells of what was judged.
+fn push_judged(page: &mut Page, view: &View<'_>, link: &LinkReport) {
+    if view.total(TooLong).sum() > 0 {
+        push_counts(page, true, counts_of(link, TooLong));
+    }
+    push_counts(page, true, counts_of(link, Excess));
+    push_counts(page, true, counts_of(link, Out));
+    push_counts(page, link.integrity, counts_of(link, Lost));
+    push_counts(page, link.redundancy, counts_of(link, Alone));
+    push_counts(page, link.redundancy, counts_of(link, Late));
+    let skew = link.skew_greatest.max(link.late_greatest);
+    let known = link.copies > 0 || skew > 0;
+    let most = if known {
+        Grouped(skew / 1_000)
+    } else {
+        UNKNOWN
+    };
+    let class = class_of(skew > link.skew_max);
+    fill!(page; "<td class=\"$class$\">$most$</td></tr>"; class, most);
+}
+
+/// The first cells of a link's row, and those after the drawing of its activity.
+const LINK: &str = "\
+<tr class=\"$level$\"><td><svg class=\"mk $mark$</svg></td><td class=\"r id\">$id$</td><td class=\"nm\">\
+$?strip$<a href=\"#v$id$\">$/$$name$$?strip$</a>$/$</td><td class=\"spk\">";
+
+const NUMBERS: &str = "\
+$?none$<i class=\"z\">no frame</i>$/$</td><td class=\"p\">$frames$</td><td class=\"r\">$bag$</td>\
+<td class=\"$early$\">$least$</td><td class=\"r ms\">$most$</td>$?sizes$<td class=\"r u\">$used$</td>$/$";
+
+/// How much of its allocation a link uses on a network, in tenths of a percent.
+fn used_tenths(view: &View<'_>, link: &LinkReport, network: Network) -> u64 {
+    let (side, lane) = (view.report.networks.of(network), link.lanes.of(network));
+    let length = side.last.saturating_sub(side.first);
+    let frames = share(lane.bytes, 1000, u64::from(link.smax));
+    share(frames, link.bag, length)
+}
+
+/// Appends the numbers of a link's row up to what was judged.
+fn push_numbers(page: &mut Page, view: &View<'_>, link: &LinkReport) {
+    let (a, b) = (&link.lanes.a, &link.lanes.b);
+    let used = used_tenths(view, link, Network::A).max(used_tenths(view, link, Network::B));
+    let (least, most) = if a.intervals == 0 && b.intervals == 0 {
+        (UNKNOWN, UNKNOWN)
+    } else {
+        (
+            Millionths(a.least.min(b.least)),
+            Milliseconds(a.greatest.max(b.greatest)),
+        )
+    };
+    let whole = used == 0 || used >= 100;
+    fill!(page; NUMBERS; none = flag(frames_of(link) == 0), frames = Both(Pair(a.frames, b.frames)),
+        bag = Number(link.bag / 1_000_000), early = class_of(counts_of(link, Early).sum() > 0), least, most,
+        sizes = flag(view.sizes), used = if whole { Number(used / 10) } else { Tenths(used) });
+}
+
+/// Appends the row of a link.
+fn push_link(page: &mut Page, view: &View<'_>, rank: &Rank, strip: bool) {
+    let Some((link, configured)) = view.link(rank.index) else {
+        return;
+    };
+    fill!(page; LINK; level = Text(rank.level.word()), mark = Text(rank.level.mark()), strip = flag(strip),
+        id = Number(u64::from(configured.id.0)), name = Text(&configured.name));
+    if frames_of(link) > 0 {
+        push_spark(page, view, link);
+    }
+    push_numbers(page, view, link);
+    push_judged(page, view, link);
+}
+
+/// The head of the table.
+const TITLES: &str = "\
+<div class=\"scroll\"><table><thead><tr><th></th><th class=\"r\">id</th><th>link</th>\
+<th>activity<small>A over B, signs under it</small></th>\
+<th class=\"p\">frames</th><th class=\"r\">BAG<small>ms</small></th>\
+<th class=\"r\">least<small>ms apart</small></th><th class=\"r ms\">most<small>ms apart</small></th>\
+$?sizes$<th class=\"r\">used<small>% of Smax/BAG</small></th>$/$\
+$?toolong$<th class=\"p\">toolong</th>$/$\
+<th class=\"p\">excess</th><th class=\"p\">out</th><th class=\"p\">lost</th>\
+<th class=\"p\">alone</th><th class=\"p\">late</th>\
+<th class=\"r\">skew<small>&#181;s, most</small></th></tr></thead><tbody>";
+
+/// Appends the table, and a map where it doesn't have all links.
+pub fn push_links(page: &mut Page, view: &View<'_>) {
+    fill!(page; TITLES; sizes = flag(view.sizes), toolong = Both(view.total(TooLong)));
+    for (at, rank) in view.ranks.iter().take(ROWS).enumerate() {
+        push_link(page, view, rank, has_strip(rank, at));
+    }
+    page.text("</tbody></table></div>");
+    if view.ranks.len() > ROWS {
+        push_map(page, view);
+        push_rest(page, view);
+    }
+}
+
+/// The class of a level's squares on the map, their inset and their side.
+fn square_of(level: Level) -> (&'static str, u64, u64) {
+    match level {
+        Level::Trouble => ("kt", 0, 9),
+        Level::Notice => ("kn", 2, 6),
+        Level::Silent => ("ks", 2, 6),
+        Level::Clean => ("kc", 3, 3),
+    }
+}
+
+/// Appends the squares of a level, where links are by rising identifier.
+fn push_squares(page: &mut Page, view: &View<'_>, level: Level) {
+    let (class, inset, side) = square_of(level);
+    fill!(page; "<path class=\"$class$\" d=\""; class = Text(class));
+    for (index, link) in view.report.links.iter().enumerate() {
+        if level_of(view.report, link) == level {
+            let x = (index % MAP_COLUMNS).saturating_mul(10) as u64;
+            let y = (index / MAP_COLUMNS).saturating_mul(10) as u64;
+            page.path(&[
+                ("M", x.saturating_add(inset)),
+                (" ", y.saturating_add(inset)),
+            ]);
+            page.path(&[("h", side), ("v", side), ("h-", side)]);
+            page.text("z");
+        }
+    }
+    page.text("\"/>");
+}
+
+/// Appends the map of all links.
+fn push_map(page: &mut Page, view: &View<'_>) {
+    let links = view.report.links.len();
+    fill!(page; "<h3 class=\"mh\">All $links$ links by rising id, $columns$ to a row";
+        links = Grouped(links as u64), columns = Number(MAP_COLUMNS as u64));
+    for level in LEVELS {
+        fill!(page; ", <svg class=\"mk $mark$</svg> $count$ $word$"; mark = Text(level.mark()),
+            count = Grouped(view.count_of(level)), word = Text(level.word()));
+    }
+    let height = links.div_ceil(MAP_COLUMNS).saturating_mul(10) as u64;
+    fill!(page; "</h3><svg class=\"rest\" viewBox=\"0 0 $width$ $height$\">";
+        width = Number(MAP_COLUMNS as u64 * 10), height = Number(height));
+    for level in LEVELS {
+        push_squares(page, view, level);
+    }
+    page.text("</svg>");
+}
+
+/// Appends the identifiers of links in trouble that have no row.
+fn push_rest(page: &mut Page, view: &View<'_>) {
+    let troubled = view.count_of(Level::Trouble) as usize;
+    let rest = troubled.saturating_sub(ROWS);
+    let before = "<p class=\"ids\">In trouble without a row above, by id, worst first:";
+    page.text(if rest > 0 { before } else { "" });
+    for rank in view.ranks.iter().skip(ROWS).take(rest.min(NAMED)) {
+        if let Some((link, _)) = view.link(rank.index) {
+            page.path(&[(" ", u64::from(link.id.0))]);
+        }
+    }
+    let more = Number(rest.saturating_sub(NAMED) as u64);
+    fill!(page; "$?more$ and $more$ more$/$$?rest$</p>$/$"; more, rest = flag(rest > 0));
+}
+
+/// The word of a count.
+pub fn count_word(count: Count) -> &'static str {
+    match count {
+        Count::TooLong => "toolong",
+        Count::Excess => "excess",
+        Count::Out => "out",
+        Count::Lost => "lost",
+        Count::LostBoth => "lost_both",
+        Count::Repeat => "repeat",
+        Count::Reset => "reset",
+        Count::Alone => "alone",
+        Count::Late => "late",
+    }
+}
+
+/// The word of a way to get worse: that of the count that grew.
+pub fn worse_word(how: Worse) -> &'static str {
+    match how {
+        Worse::LostCopies => "lost_copies",
+        Worse::New => "new",
+        Worse::Silent => "silent",
+        Worse::Grew(count) => count_word(count),
+    }
+}
+
+/// The title of the section on a baseline, and of the columns of its table.
+const COMPARISON: &str = "\
+<section><h2>Compared with the baseline <small>today over baseline, whose t = 0 is $start$, \
+with $frames$ frames in $length$; $worse$ of $links$ links got worse: a count did where it is at least \
+3 more, and more than twice as many by frame</small></h2>\
+<div class=\"scroll\"><table><thead><tr><th class=\"r\">id</th><th>link</th><th>worse</th>\
+<th class=\"r\">frames<small>by second</small></th><th class=\"r\">copies</th>\
+<th class=\"r\">least<small>ms apart</small></th><th class=\"r\">skew<small>&#181;s, most</small></th>";
+
+/// A cell: today's number over the baseline's.
+const CELL: &str = "<td class=\"$class$\">$today$<br/><i>$before$</i></td>";
+
+/// Thousandths, where they are known.
+fn thousandths(number: Option<u64>) -> Part<'static> {
+    match number {
+        Some(number) => Thousandths(number),
+        None => UNKNOWN,
+    }
+}
+
+/// How many there are in a thousand frames of a link in a flight.
+fn share_in(numbers: Option<LinkNumbers>, count: Count) -> Part<'static> {
+    thousandths(numbers.and_then(|numbers| numbers.share(count)))
+}
+
+/// The cells of a link's numbers in a flight, but those of counts.
+fn cells_of(numbers: Option<LinkNumbers>) -> [Part<'static>; 4] {
+    let Some(numbers) = numbers else {
+        return [UNKNOWN; 4];
+    };
+    [
+        thousandths(numbers.rate()),
+        Grouped(numbers.copies),
+        numbers.least.map_or(UNKNOWN, |least| Millionths(least)),
+        numbers.skew.map_or(UNKNOWN, |skew| Grouped(skew / 1_000)),
+    ]
+}
+
+/// Appends the row of a link beside that of the baseline.
+fn push_compared(page: &mut Page, view: &View<'_>, index: usize) {
+    let (Some(link), Some((_, configured))) = (view.compared(index), view.link(index)) else {
+        return;
+    };
+    fill!(page; "<tr><td class=\"r id\">$id$</td><td class=\"nm\">$name$</td><td class=\"w\">";
+        id = Number(u64::from(link.link.0)), name = Text(&configured.name));
+    for how in WORSE.iter().filter(|how| link.is_worse(**how)) {
+        fill!(page; "$word$ "; word = Text(worse_word(*how)));
+    }
+    page.text("</td>");
+    let (cells, past) = (cells_of(link.today), cells_of(link.baseline));
+    for (today, before) in cells.iter().zip(past.iter()) {
+        fill!(page; CELL; class = Text("r"), today = *today, before = *before);
+    }
+    for count in COUNTS {
+        fill!(page; CELL; class = class_of(link.is_worse(Worse::Grew(count))),
+            today = share_in(link.today, count), before = share_in(link.baseline, count));
+    }
+    page.text("</tr>");
+}
+
+/// Appends the rows of the first links that got worse, or of the first others, so many at most.
+fn push_rows(page: &mut Page, view: &View<'_>, is_worse: bool, most: usize) {
+    let ranks = view
+        .ranks
+        .iter()
+        .filter(|rank| view.is_worse(rank.index) == is_worse);
+    for rank in ranks.take(most) {
+        push_compared(page, view, rank.index);
+    }
+}
+
+/// Appends the section, where there is a baseline: links that got worse first.
+pub fn push_comparison(page: &mut Page, view: &View<'_>) {
+    let Some(baseline) = view.baseline else {
+        return;
+    };
+    let (links, worse) = (view.ranks.len(), view.worse_links());
+    fill!(page; COMPARISON; start = Utc(baseline.start), frames = Grouped(baseline.counts.all().frames),
+        length = Duration(baseline.end.saturating_sub(baseline.start)), worse = Grouped(worse as u64),
+        links = Grouped(links as u64));
+    for count in COUNTS {
+        let word = Text(count_word(count));
+        fill!(page; "<th class=\"r\">$word$<small>in 1000 frames</small></th>"; word);
+    }
+    page.text("</tr></thead><tbody>");
+    push_rows(page, view, true, ROWS);
+    push_rows(page, view, false, ROWS.saturating_sub(worse));
+    let more = Grouped(links.saturating_sub(ROWS) as u64);
+    fill!(page; "</tbody></table></div>$?more$<p class=\"ids\">and $more$ more links</p>$/$</section>"; more);
+}
