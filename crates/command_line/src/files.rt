@@ -2,7 +2,10 @@
 ghost use Rattle.std.specs.Prelude.{◌≡◌, [], ◌∷◌, false, true, find};
 ghost use Rattle.command_line.specs.Files.{files_of, filter_file, file_at, is_one_file, is_standard, is_stream, is_twin, later_answer, none, one_each, second_answer, shared_answer, twin_of};
 
-use crate::arguments::{CaptureArguments, DebugArguments, FilterArgument, Invocation};
+use crate::arguments::{
+    CaptureArguments, CutArguments, DebugArguments, FilterArgument, Invocation, ReportArguments,
+    WatchArguments,
+};
 use crate::fault::{Fault, FileOption};
 
 /// Does a path stand for standard input or output?
@@ -73,6 +76,51 @@ fn at_most_three<'a>(
     [first, second, third, NO_FILE, NO_FILE, NO_FILE, NO_FILE]
 }
 
+/// The files of `watch`.
+fn watch_files(given: WatchArguments<'_>) -> [GivenFile<'_>; MAX_FILES]
+    ensures { result ≡ files_of (Invocation.Watch given.entry) }
+{
+    [
+        read(FileOption::Config, Some(given.config)),
+        read(FileOption::Filter, given.filter),
+        read(FileOption::A, given.a),
+        read(FileOption::B, given.b),
+        written(FileOption::Capture, given.capture),
+        written(FileOption::Ledger, Some(given.ledger)),
+        written(FileOption::Manifest, given.manifest),
+    ]
+}
+
+/// The files of `cut`.
+fn cut_files(given: CutArguments<'_>) -> [GivenFile<'_>; MAX_FILES]
+    ensures { result ≡ files_of (Invocation.Cut given.entry) }
+{
+    [
+        read(FileOption::Ledger, Some(given.ledger)),
+        read(FileOption::A, given.a),
+        read(FileOption::B, given.b),
+        read(FileOption::Config, given.config),
+        written(FileOption::Output, Some(given.output)),
+        NO_FILE,
+        NO_FILE,
+    ]
+}
+
+/// The files of `report`.
+fn report_files(given: ReportArguments<'_>) -> [GivenFile<'_>; MAX_FILES]
+    ensures { result ≡ files_of (Invocation.Report given.entry) }
+{
+    [
+        read(FileOption::Config, Some(given.config)),
+        read(FileOption::Manifest, given.manifest),
+        read(FileOption::Ledger, Some(given.ledger)),
+        read(FileOption::Baseline, given.baseline),
+        written(FileOption::Output, Some(given.output)),
+        NO_FILE,
+        NO_FILE,
+    ]
+}
+
 impl<'a> Invocation<'a> {
     /// The files that the arguments name: those that are read in the order in which they are looked at, and
     /// then those that are written.
@@ -86,43 +134,19 @@ impl<'a> Invocation<'a> {
                 read(FileOption::Recording, Some(given.recording)),
                 written(FileOption::Output, Some(given.output)),
             ),
-            Invocation::Watch(given) => [
-                read(FileOption::Config, Some(given.config)),
-                read(FileOption::Filter, given.filter),
-                read(FileOption::A, given.a),
-                read(FileOption::B, given.b),
-                written(FileOption::Capture, given.capture),
-                written(FileOption::Ledger, Some(given.ledger)),
-                written(FileOption::Manifest, given.manifest),
-            ],
+            Invocation::Watch(given) => watch_files(given),
             Invocation::Debug(given) => at_most_three(
                 filter_file(given.filter),
                 read(FileOption::Tap, Some(given.tap)),
                 NO_FILE,
             ),
-            Invocation::Cut(given) => [
-                read(FileOption::Ledger, Some(given.ledger)),
-                read(FileOption::A, given.a),
-                read(FileOption::B, given.b),
-                read(FileOption::Config, given.config),
-                written(FileOption::Output, Some(given.output)),
-                NO_FILE,
-                NO_FILE,
-            ],
+            Invocation::Cut(given) => cut_files(given),
             Invocation::Links(given) => at_most_three(
                 read(FileOption::Icd, given.icd),
                 read(FileOption::A, given.a),
                 read(FileOption::B, given.b),
             ),
-            Invocation::Report(given) => [
-                read(FileOption::Config, Some(given.config)),
-                read(FileOption::Manifest, given.manifest),
-                read(FileOption::Ledger, Some(given.ledger)),
-                read(FileOption::Baseline, given.baseline),
-                written(FileOption::Output, Some(given.output)),
-                NO_FILE,
-                NO_FILE,
-            ],
+            Invocation::Report(given) => report_files(given),
             Invocation::Check(given) => [
                 read(FileOption::Config, Some(given.config)),
                 read(FileOption::Filter, given.filter),

@@ -1,9 +1,9 @@
 -- Batches one after another.
-use Rattle.std.proofs.Common.{◌≡◌, ℕ, zero, suc, ◌+◌, ◌-◌, ◌<◌, ◌≤◌, min, Bool, true, false, cond, nat_lt, List, [], ◌∷◌, ◌++◌, Option, Some, None, IfSome, length, take, drop, get_or, slice_get, refl, sym, ap, ◌∙◌, subst, arith}
+use Rattle.std.proofs.Common.{◌≡◌, ℕ, zero, suc, ◌+◌, ◌-◌, ◌<◌, ◌≤◌, min, Bool, true, false, cond, nat_lt, List, [], ◌∷◌, ◌++◌, Option, Some, None, IfSome, length, take, drop, get_or, slice_get, slice_set, refl, sym, ap, ◌∙◌, subst, arith}
 use Rattle.std.proofs.Math.ListN.{drop_of_length-le}
 use Rattle.std.proofs.Math.Seq.{drop-append_seam, take-length}
 use Rattle.std.proofs.lemmas.Bool.{ltb-false, ltb-true}
-use Rattle.std.proofs.lemmas.List.{append-nil, drop-drop, length-append, length-drop, length-map, length-take, take-append-drop, take_more}
+use Rattle.std.proofs.lemmas.List.{append-nil, drop-append-le, drop-drop, drop-map, length-append, length-drop, length-map, length-take, take-append-drop, take_more}
 use Rattle.std.proofs.lemmas.Grind.{flat_map-append}
 use Rattle.std.proofs.lemmas.List.Sums.{prefix_len-le-length}
 use Rattle.std.proofs.lemmas.Option.{get_or_from_slice_get, slice_get-get_or, slice_get_within, slice_get-map}
@@ -71,14 +71,28 @@ back_of (x ∷ y ∷ bs) b f here last =
     let at : length (batch_frames x ++ more) - 1 ≡ length (batch_frames x) + (length more - 1) = omega (arith, some, length-append (batch_frames x) more) in
     ap (slice_get (batch_frames x ++ more)) at ∙ get_back (batch_frames x) more (length more - 1) ∙ rest
 
--- the first batch has one frame, which is taken out with it
-pub only_popped : (bs : List BatchState) (b : BatchState) → slice_get bs 0 ≡ Some b → length b.left ≡ 1
-    → queue_frames (drop 1 bs) ≡ drop 1 (queue_frames bs)
-only_popped [] b here one = cc
-only_popped (x ∷ bs) b here one =
+-- the first batch goes whole, and so many frames with it
+pub first_gone : (bs : List BatchState) (b : BatchState) (left : ℕ) → slice_get bs 0 ≡ Some b → length b.left ≤ left
+    → drop (left - length b.left) (queue_frames (drop 1 bs)) ≡ drop left (queue_frames bs)
+first_gone [] b left here few = cc
+first_gone (x ∷ bs) b left here few =
     let same : x ≡ b = cc in
-    let size : length (batch_frames x) ≡ 1 = length-map x.left (record_frame x.block) ∙ ap (λ (y : BatchState). length y.left) same ∙ one in
-    sym (drop-append_seam (batch_frames x) (queue_frames bs)) ∙ ap (λ (n : ℕ). drop n (batch_frames x ++ queue_frames bs)) size
+    let size : length (batch_frames x) ≡ length b.left = length-map x.left (record_frame x.block) ∙ ap (λ (y : BatchState). length y.left) same in
+    let all : length (batch_frames x) + (left - length b.left) ≡ left = omega (arith, few, size) in
+    ap (drop (left - length b.left)) (sym (drop-append_seam (batch_frames x) (queue_frames bs)))
+    ∙ drop-drop (left - length b.left) (length (batch_frames x)) (batch_frames x ++ queue_frames bs)
+    ∙ ap (λ (n : ℕ). drop n (batch_frames x ++ queue_frames bs)) all
+
+-- the first batch stays, and has more frames than go
+pub first_shorter : (bs : List BatchState) (b : BatchState) (left : ℕ) → slice_get bs 0 ≡ Some b → left < length b.left
+    → queue_frames (slice_set bs 0 (record b { left = drop left b.left })) ≡ drop left (queue_frames bs)
+first_shorter [] b left here few = cc
+first_shorter (x ∷ bs) b left here few =
+    let same : x ≡ b = cc in
+    let size : length (batch_frames b) ≡ length b.left = length-map b.left (record_frame b.block) in
+    ap (λ (l : List Frame). l ++ queue_frames bs) (sym (drop-map (record_frame b.block) left b.left))
+    ∙ sym (drop-append-le left (batch_frames b) (queue_frames bs) (omega (arith, few, size)))
+    ∙ ap (λ (y : BatchState). drop left (batch_frames y ++ queue_frames bs)) (sym same)
 
 -- ---- a place
 

@@ -1,17 +1,18 @@
 //! A place in a queue, from which its frames are copied.
 ghost use Rattle.std.specs.Prelude.{◌≡◌, ◌-◌, ◌<◌, ◌≤◌, ◌++◌, [], List, ℕ, IfOk, IfSome, OnOk, drop, length, slice_get, take};
 ghost use Rattle.std.specs.Option.{option_map};
+ghost use Rattle.afdx_frame.specs.Frame.{key_of};
 ghost use Rattle.frame_batch.specs.Queue.{count_in};
 ghost use Rattle.frame_batch.specs.Round.{IsBlockAt, draft_frames};
 
 use crate::batch::FrameBatch;
 use crate::draft::RoundDraft;
-use afdx_frame::LentFrame;
+use afdx_frame::Key;
 use std::alloc::{AllocError, Global};
 use std::collections::VecDeque;
 
-/// The index that the block of a batch has in a draft: the one that is known, or else that of a share of it that
-/// is added.
+/// The index that the block of a batch has in a draft: the one that is known, or else that of a share of it
+/// that is added.
 #[inline(always)]
 fn place_block(
     alloc: Global,
@@ -21,7 +22,8 @@ fn place_block(
 ) -> Result<usize, AllocError>
     requires { IfSome known (λ k. IsBlockAt draft.old.blocks k batch.now.block) }
     ensures here { IfOk result (λ k. IsBlockAt draft.new.blocks k batch.now.block) }
-    ensures blocks { OnOk result ((more : List (List ℕ)) × (draft.new.blocks ≡ draft.old.blocks ++ more)) }
+    ensures blocks { OnOk result ((more : List (List ℕ))
+        × (draft.new.blocks ≡ draft.old.blocks ++ more)) }
     ensures frames { OnOk result (draft_frames draft.new ≡ draft_frames draft.old) }
 {
     match known {
@@ -59,17 +61,17 @@ impl<'a> QueueCursor<'a> {
         }
     }
 
-    /// The frame at this place. None: no frame is left.
+    /// The key of the frame at this place. None: no frame is left.
     #[inline(always)]
-    pub fn first(&self) -> Option<LentFrame<'a>>
-        ensures { result ≡ slice_get (cursor_left self.now) 0 }
+    pub fn first_key(&self) -> Option<Key>
+        ensures { result ≡ option_map key_of (slice_get (cursor_left self.now) 0) }
     {
         if self.batch == self.batches.len() {
             return None;
         }
         let batch = &self.batches[self.batch];
         let _count = batch.count();
-        Some(batch.frame(self.at))
+        Some(batch.entry(self.at).key())
     }
 
     /// Copies the frame at this place into the draft, with a share of its block, unless that was added, and
@@ -84,7 +86,8 @@ impl<'a> QueueCursor<'a> {
         requires among { IsAmong self.old draft.old.blocks }
         ensures frames { OnOk result (draft_frames draft.new
             ≡ draft_frames draft.old ++ take 1 (cursor_left self.old)) }
-        ensures blocks { OnOk result ((more : List (List ℕ)) × (draft.new.blocks ≡ draft.old.blocks ++ more)) }
+        ensures blocks { OnOk result ((more : List (List ℕ))
+            × (draft.new.blocks ≡ draft.old.blocks ++ more)) }
         ensures left { OnOk result (cursor_left self.new ≡ drop 1 (cursor_left self.old)) }
         ensures among { OnOk result (IsAmong self.new draft.new.blocks) }
     {

@@ -1,5 +1,5 @@
 //! Where a frame stands in its block.
-ghost use Rattle.std.specs.Prelude.{◌≡◌, ◌≤◌, IfErr, IfOk, length, slice_range};
+ghost use Rattle.std.specs.Prelude.{◌≡◌, ◌≤◌, ℕ, List, IfErr, IfOk, length, slice_range};
 ghost use Rattle.afdx_frame.specs.Frame.{IsFrame, frame_with, key_of};
 ghost use Rattle.afdx_frame.specs.FrameBytes.{block_bytes};
 ghost use Rattle.frame_batch.specs.Batch.{IsRecordOf, record_facts, record_frame};
@@ -130,5 +130,17 @@ impl FrameRecord {
         ensures { result ≡ self.now.stamp }
     {
         self.stamp
+    }
+
+    /// The frame's place in the order of both taps.
+    #[inline(always)]
+    pub fn key(&self) -> Key
+        ensures { (block : List ℕ) → result ≡ key_of (record_frame block self.now) }
+    {
+        Key {
+            stamp: self.stamp,
+            network: self.network,
+            number: u64::from(self.number),
+        }
     }
 }

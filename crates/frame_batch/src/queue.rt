@@ -96,17 +96,18 @@ impl FrameQueue {
         count
     }
 
-    /// Takes out the first frame, if there is one.
-    #[inline]
-    pub fn pop(&mut self)
-        ensures { self.new ≡ drop 1 self.old }
+    /// Takes out so many first frames, or all where there are no more.
+    pub fn skip(&mut self, count: usize)
+        ensures { self.new ≡ drop count self.old }
     {
-        if self.batches.len() == 0 {
-            return;
-        }
-        if self.batches[0].count() > 1 {
-            self.batches[0].skip(1);
-        } else {
+        let mut left = count;
+        while left > 0 && self.batches.len() > 0 {
+            let first = self.batches[0].count();
+            if left < first {
+                self.batches[0].skip(left);
+                return;
+            }
+            left -= first;
             drop(self.batches.pop_front());
         }
     }

@@ -174,8 +174,10 @@ fn end_links(
 
 /// Adds to each network what its lanes have.
 fn add_lanes(links: &[LinkReport], networks: &mut Sides<NetworkReport>) -> Result<(), AllocError>
-    ensures a { OnOk result (AddsLanes (length links.now) A links.now networks.old.a.signs networks.new.a.signs) }
-    ensures b { OnOk result (AddsLanes (length links.now) B links.now networks.old.b.signs networks.new.b.signs) }
+    ensures a { OnOk result
+        (AddsLanes (length links.now) A links.now networks.old.a.signs networks.new.a.signs) }
+    ensures b { OnOk result
+        (AddsLanes (length links.now) B links.now networks.old.b.signs networks.new.b.signs) }
     ensures networks { OnOk result (KeepsNetworks networks.old networks.new) }
 {
     for link in links {

@@ -180,6 +180,10 @@ impl TapBuffer {
     pub(crate) fn drop_first(&mut self, count: usize)
         ensures { self.new ≡ record self.old { frames = drop count self.old.frames } }
     {
+        if self.late.is_empty() {
+            self.queue.skip(count);
+            return;
+        }
         for _ in 0..count {
             self.drop_one();
         }
@@ -193,7 +197,7 @@ impl TapBuffer {
         if late_leads(&self.queue, &self.late) {
             drop(self.late.pop_front());
         } else {
-            self.queue.pop();
+            self.queue.skip(1);
         }
     }
 

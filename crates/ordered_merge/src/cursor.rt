@@ -1,7 +1,8 @@
 //! A place among the pending frames of one tap, from which they are copied.
 ghost use Rattle.std.specs.Prelude.{◌≡◌, ◌+◌, ◌<◌, ◌++◌, [], Bool, List, ℕ, IfOk, OnOk, cond, drop, length, slice_get, take};
 ghost use Rattle.std.specs.Option.{option_map};
-ghost use Rattle.afdx_frame.specs.Frame.{key_of};
+ghost use Rattle.afdx_frame.specs.Frame.{Frame, key_of};
+ghost use Rattle.frame_batch.specs.Cursor.{cursor_left};
 ghost use Rattle.frame_batch.specs.Round.{draft_frames};
 ghost use Rattle.ordered_merge.specs.Order.{IsRising, insert_frames, leads};
 
@@ -18,62 +19,59 @@ pub(crate) struct TapCursor<'a> {
     late: &'a VecDeque<TapFrame>,
     /// How many of those that came late were copied.
     passed: usize,
+    /// Whether the first frame that is left is one that came late.
+    is_late: bool,
+    /// The key of the first frame that is left.
+    first: Option<Key>,
+    ghost late_leads: { is_late ≡ leads (drop passed late.now.items) (cursor_left queue) },
+    ghost first_key: { first ≡ option_map key_of (slice_get
+        (cond is_late (drop passed late.now.items) (cursor_left queue)) 0) },
+}
+
+/// Whether the first of all frames is the first list's, where each list begins with a frame of this key, or is
+/// empty.
+#[inline(always)]
+fn key_leads(first: Option<Key>, other: Option<Key>) -> bool
+    ensures { (f g : List Frame) → first ≡ option_map key_of (slice_get f 0)
+        → other ≡ option_map key_of (slice_get g 0) → result ≡ leads f g }
+{
+    match (first, other) {
+        (None, _) => false,
+        (Some(_), None) => true,
+        (Some(first), Some(other)) => comes_before(first, other),
+    }
 }
 
 impl<'a> TapCursor<'a> {
-    ghost use Rattle.frame_batch.specs.Cursor.{cursor_left};
     ghost use Rattle.ordered_merge.specs.Cursor.{CanCopy, late_left, tap_left};
+
+    /// At the first frame of a queue from a cursor on, and of those that came late but for so many.
+    #[inline(always)]
+    fn at(queue: QueueCursor<'a>, late: &'a VecDeque<TapFrame>, passed: usize) -> TapCursor<'a>
+        ensures queue { result.queue ≡ queue.entry }
+        ensures late { late_left result ≡ drop passed late.now.items }
+    {
+        let late_key = match late.get(passed) {
+            Some(frame) => Some(frame.key()),
+            None => None,
+        };
+        let queue_key = queue.first_key();
+        let is_late = key_leads(late_key, queue_key);
+        TapCursor {
+            queue,
+            late,
+            passed,
+            is_late,
+            first: if is_late { late_key } else { queue_key },
+        }
+    }
 
     /// At the first frame of both.
     pub(crate) fn new(queue: QueueCursor<'a>, late: &'a VecDeque<TapFrame>) -> TapCursor<'a>
         ensures queue { result.queue ≡ queue.entry }
         ensures late { late_left result ≡ late.now.items }
     {
-        TapCursor {
-            queue,
-            late,
-            passed: 0,
-        }
-    }
-
-    /// The first frame that came late, of those that are left.
-    #[inline(always)]
-    fn first_late(&self) -> Option<&'a TapFrame>
-        ensures { option_map (λ f. f.now) result ≡ slice_get (late_left self.now) 0 }
-    {
-        self.late.get(self.passed)
-    }
-
-    /// Whether the first frame that is left is one that came late.
-    #[inline(always)]
-    fn late_leads(&self) -> bool
-        ensures { result ≡ leads (late_left self.now) (cursor_left self.now.queue) }
-    {
-        match (self.first_late(), self.queue.first()) {
-            (None, _) => false,
-            (Some(_), None) => true,
-            (Some(late), Some(queued)) => comes_before(late.key(), queued.key()),
-        }
-    }
-
-    /// The key of the first frame that is left.
-    #[inline(always)]
-    fn first_key(&self) -> Option<Key>
-        requires late_rises { IsRising (late_left self.now) }
-        requires queue_rises { IsRising (cursor_left self.now.queue) }
-        ensures { result ≡ option_map key_of (slice_get (tap_left self.now) 0) }
-    {
-        if self.late_leads() {
-            match self.first_late() {
-                Some(frame) => Some(frame.key()),
-                None => None,
-            }
-        } else {
-            match self.queue.first() {
-                Some(frame) => Some(frame.key()),
-                None => None,
-            }
-        }
+        TapCursor::at(queue, late, 0)
     }
 
     /// Whether the first frame that is left of both is this one's.
@@ -85,11 +83,7 @@ impl<'a> TapCursor<'a> {
         requires other_queue_rises { IsRising (cursor_left other.now.queue) }
         ensures { result ≡ leads (tap_left self.now) (tap_left other.now) }
     {
-        match (self.first_key(), other.first_key()) {
-            (None, _) => false,
-            (Some(_), None) => true,
-            (Some(first), Some(other)) => comes_before(first, other),
-        }
+        key_leads(self.first, other.first)
     }
 
     /// Copies the first frame that is left into the draft, and goes on to the next.
@@ -107,16 +101,19 @@ impl<'a> TapCursor<'a> {
         requires can { CanCopy self.old draft.old }
         ensures frames { OnOk result (draft_frames draft.new
             ≡ draft_frames draft.old ++ take 1 (tap_left self.old)) }
-        ensures blocks { OnOk result ((more : List (List ℕ)) × (draft.new.blocks ≡ draft.old.blocks ++ more)) }
+        ensures blocks { OnOk result ((more : List (List ℕ))
+            × (draft.new.blocks ≡ draft.old.blocks ++ more)) }
         ensures left { OnOk result (tap_left self.new ≡ drop 1 (tap_left self.old)) }
         ensures can { OnOk result (CanCopy self.new draft.new) }
     {
-        if !self.late_leads() {
-            self.queue.copy_first(alloc, draft)?;
-            return Ok(());
+        let (mut queue, mut passed) = (self.queue, self.passed);
+        if self.is_late {
+            draft.add_frame(self.late[passed].share(alloc)?)?;
+            passed += 1;
+        } else {
+            queue.copy_first(alloc, draft)?;
         }
-        draft.add_frame(self.late[self.passed].share(alloc)?)?;
-        self.passed += 1;
+        *self = TapCursor::at(queue, self.late, passed);
         Ok(())
     }
 }

@@ -88,8 +88,8 @@ impl Merger {
         }
     }
 
-    /// Adds the next frames of a network, which has not ended, one after another. An `Err` gives those back for
-    /// which there is no memory.
+    /// Adds the next frames of a network, which has not ended, one after another. An `Err` gives those back
+    /// for which there is no memory.
     pub fn fetch_all(&mut self, network: Network, batch: FrameBatch) -> Result<(), FrameBatch>
         requires { CanFetchAll network self.old (batch_frames batch) }
         ensures { (moved : List Frame) × (batch_frames batch ≡ moved ++ left_after result)

@@ -64,6 +64,12 @@ pub struct View<'a> {
 }
 
 impl<'a> View<'a> {
+    /// What a page shows of a report: with the sizes of frames, and beside an earlier report, where those
+    /// are wanted.
+    ///
+    /// # Errors
+    ///
+    /// `AllocError` if there is no memory for it.
     pub fn new(
         alloc: Global,
         report: &'a Report,

@@ -11,6 +11,7 @@ use std::fmt::Write;
 pub struct Pair(pub u64, pub u64);
 
 impl Pair {
+    /// Both together, 2^64 - 1 at most.
     pub fn sum(self) -> u64 {
         self.0.saturating_add(self.1)
     }

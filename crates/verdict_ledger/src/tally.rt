@@ -61,8 +61,8 @@ impl Tally {
         self.count_by(frame.link(), verdict, keep, mask);
     }
 
-    /// Counts a frame by what its line says: its link, its verdict, how many bytes of it are kept, and the mask
-    /// of the filters that accept it.
+    /// Counts a frame by what its line says: its link, its verdict, how many bytes of it are kept, and the
+    /// mask of the filters that accept it.
     #[inline]
     pub fn count_by(&mut self, link: Option<VlId>, verdict: &Verdict, keep: Option<u32>, mask: u8)
         ensures { (entries : List Entry) (e : Entry) → length entries < MAX_LINES

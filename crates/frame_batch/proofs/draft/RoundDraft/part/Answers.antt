@@ -1,5 +1,4 @@
-use Rattle.std.proofs.Common.{ℕ, List, map, slice_range, ap, ◌∙◌}
-use Rattle.afdx_frame.specs.Frame.{Frame}
+use Rattle.std.proofs.Common.{List, map, slice_range, ap, ◌∙◌}
 use Rattle.afdx_frame.specs.FrameBytes.{block_bytes}
 use Rattle.frame_batch.specs.Round.{DraftState, draft_frames, placed_frame}
 use Rattle.frame_batch.specs.declared.draft.Placed.{Placed}
