@@ -319,6 +319,14 @@ queue_buffer_popped queue late n b t = record {
   late_kept = b.late_kept;
 }
 
+-- after so many of the queue's first are taken out, where none came late
+pub queue_skipped : (count : ℕ) (queue late : List Frame) (n : ℕ) → late ≡ [] → IsBuffer queue late n → IsBuffer (drop count queue) late n
+queue_skipped zero queue late n none b = b
+queue_skipped (suc count) [] late n none b = b
+queue_skipped (suc count) (f ∷ queue) late n none b =
+    let leads : leads late (f ∷ queue) ≡ false = ap (λ (l : List Frame). leads l (f ∷ queue)) none in
+    queue_skipped count queue late n none (queue_buffer_popped (f ∷ queue) late n b leads)
+
 -- ---- what is kept of each
 
 pub buffered_fit : (queue : List Frame) (late : List Frame) (n : ℕ) → IsBuffer queue late n → AllByRecursion (λ f. f.stamp < 2 ^ 63) (buffered queue late)

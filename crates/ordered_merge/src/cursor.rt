@@ -106,14 +106,14 @@ impl<'a> TapCursor<'a> {
         ensures left { OnOk result (tap_left self.new ≡ drop 1 (tap_left self.old)) }
         ensures can { OnOk result (CanCopy self.new draft.new) }
     {
-        let (mut queue, mut passed) = (self.queue, self.passed);
-        if self.is_late {
-            draft.add_frame(self.late[passed].share(alloc)?)?;
-            passed += 1;
-        } else {
+        if !self.is_late {
+            let mut queue = self.queue;
             queue.copy_first(alloc, draft)?;
+            *self = TapCursor::at(queue, self.late, self.passed);
+            return Ok(());
         }
-        *self = TapCursor::at(queue, self.late, passed);
+        draft.add_frame(self.late[self.passed].share(alloc)?)?;
+        *self = TapCursor::at(self.queue, self.late, self.passed + 1);
         Ok(())
     }
 }

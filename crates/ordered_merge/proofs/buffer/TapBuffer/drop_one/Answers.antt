@@ -12,7 +12,7 @@ invariant_of-self c =
 
 pub invariant_of-self-else-late_leads : goal.invariant_of-self-else-late_leads
 invariant_of-self-else-late_leads c =
-    rw c.pop.ensures
+    rw c.skip.ensures
     (queue_buffer_popped c.self.inside.queue c.self.inside.late.items c.self.inside.next c.self.invariant (sym c.late_leads.ensures ∙ c.if-late_leads.false))
 
 pub returns-then-late_leads : goal.returns-then-late_leads
@@ -23,6 +23,6 @@ returns-then-late_leads c =
 
 pub returns-else-late_leads : goal.returns-else-late_leads
 returns-else-late_leads c =
-    rw (← c.self.view_is, c.pop.ensures)
+    rw (← c.self.view_is, c.skip.ensures)
     (ap (λ (l : List Frame). record (the_view c.self.inside) { frames = l })
     (other_rest c.self.inside.late.items c.self.inside.queue c.self.invariant.late_rises (sym c.late_leads.ensures ∙ c.if-late_leads.false)))
