@@ -28,8 +28,8 @@ pub(crate) struct TapCursor<'a> {
         (cond is_late (drop passed late.now.items) (cursor_left queue)) 0) },
 }
 
-/// Whether the first of all frames is the first list's, where each list begins with a frame of this key, or is
-/// empty.
+/// Whether the first of all frames is the first list's, where each list begins with a frame of this key, or
+/// is empty.
 #[inline(always)]
 fn key_leads(first: Option<Key>, other: Option<Key>) -> bool
     ensures { (f g : List Frame) → first ≡ option_map key_of (slice_get f 0)

@@ -1,7 +1,6 @@
-use Rattle.std.proofs.Common.{◌≡◌, Bool, Option, true, false, cond, slice_get, refl, sym, ap, ◌∙◌}
+use Rattle.std.proofs.Common.{◌≡◌, Bool, Option, true, false, cond, slice_get, sym, ap, ◌∙◌}
 use Rattle.std.specs.Option.{option_map}
 use Rattle.afdx_frame.specs.Frame.{Frame, key_of}
-use Rattle.afdx_frame.specs.declared.key.Key.{Key}
 use Rattle.frame_batch.specs.Cursor.{cursor_left}
 use Rattle.ordered_merge.specs.Cursor.{late_left, tap_left}
 use Rattle.ordered_merge.specs.Order.{IsRising, leads}
