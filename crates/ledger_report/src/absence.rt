@@ -17,6 +17,17 @@ pub struct Absence {
     pub to: u64,
 }
 
+impl Absence {
+    /// Of so many lines at a moment.
+    fn of(lines: u64, stamp: u64) -> Absence {
+        Absence {
+            lines,
+            from: stamp,
+            to: stamp,
+        }
+    }
+}
+
 /// The block that the link's latest lines belong to.
 #[derive(Clone, Copy)]
 struct Run {
@@ -28,6 +39,16 @@ struct Run {
 }
 
 impl Run {
+    /// That begins with a line of a network, at whose time the other network had so many frames.
+    fn start(network: Network, stamp: u64, before: u64) -> Run {
+        Run {
+            network,
+            counted: Absence::of(0, stamp),
+            group: Absence::of(1, stamp),
+            before,
+        }
+    }
+
     /// Counts the latest lines, where the other network was alive around them.
     fn settle(&mut self, networks: &Sides<NetworkReport>) {
         if !networks.of(self.network.other()).covers(self.before) {
@@ -85,23 +106,8 @@ impl Absences {
     #[inline]
     pub(crate) fn note(&mut self, network: Network, stamp: u64, networks: &Sides<NetworkReport>) {
         let before = networks.of(network.other()).frames;
-        let one = Absence {
-            lines: 1,
-            from: stamp,
-            to: stamp,
-        };
-        let none = Absence {
-            lines: 0,
-            from: stamp,
-            to: stamp,
-        };
         let Some(held) = self.run else {
-            self.run = Some(Run {
-                network,
-                counted: none,
-                group: one,
-                before,
-            });
+            self.run = Some(Run::start(network, stamp, before));
             return;
         };
         let mut run = held;
@@ -113,17 +119,12 @@ impl Absences {
         }
         run.settle(networks);
         if run.network == network {
-            run.group = one;
+            run.group = Absence::of(1, stamp);
             run.before = before;
             self.run = Some(run);
         } else {
             self.keep(run);
-            self.run = Some(Run {
-                network,
-                counted: none,
-                group: one,
-                before,
-            });
+            self.run = Some(Run::start(network, stamp, before));
         }
     }
 

@@ -49,6 +49,16 @@ pub struct Fates {
     pub alone: u64,
 }
 
+/// Of no delivery.
+const NO_FATES: Fates = Fates {
+    paired: 0,
+    late: 0,
+    first: 0,
+    met: 0,
+    uncovered: 0,
+    alone: 0,
+};
+
 /// What the lines of one link say.
 #[derive(Drop)]
 pub struct LinkReport {
@@ -143,14 +153,7 @@ impl LinkReport {
                 b: Lane::new(alloc)?,
             },
             deliveries: 0,
-            fates: Fates {
-                paired: 0,
-                late: 0,
-                first: 0,
-                met: 0,
-                uncovered: 0,
-                alone: 0,
-            },
+            fates: NO_FATES,
             copies: 0,
             skew_sum: 0,
             skew_greatest: 0,

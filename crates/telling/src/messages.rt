@@ -516,11 +516,10 @@ fn explain(
         return eprintln!(rt; "{name}: {error}");
     }
     match (*fault, file) {
-        (Fault::File(_) | Fault::Watch(WatchFault::Read { .. }), Some(file)) => {
-            explain_file(rt, command, file, fault)
-        }
         (
-            Fault::Cut(CutFault::Read { .. })
+            Fault::File(_)
+            | Fault::Watch(WatchFault::Read { .. })
+            | Fault::Cut(CutFault::Read { .. })
             | Fault::Report(ReportFault::Read)
             | Fault::Baseline(ReportFault::Read),
             Some(file),
@@ -534,15 +533,8 @@ fn explain(
         (Fault::Report(ReportFault::Manifest(ManifestFault::Form { .. })), _) => {
             explain_manifest(rt, command, name, fault)
         }
-        (
-            Fault::Report(
-                ReportFault::Contradiction {
-                    line,
-                    found: Contradiction::Link,
-                },
-            ),
-            _,
-        ) => { explain_link(rt, command, line, fault) }
+        (Fault::Report(ReportFault::Contradiction { line, found }), _)
+            if found == Contradiction::Link => explain_link(rt, command, line, fault),
         (Fault::Config(fault), _) => explain_table(rt, command, fault),
         (Fault::Icd(fault), _) => explain_icd(rt, name, fault),
         (Fault::Asm(fault), _) => explain_source(rt, command, fault, known.source),
