@@ -4,8 +4,8 @@ use command_line::{Exit, Fault, Summary, hint_of};
 use std::io;
 use tap_inputs::{Skipped, TapEnd, Taps};
 
-/// How a command ended, of `watch` the line on the worst links, if it is to be told, how many packets that are not of
-/// Ethernet its recordings have, and why the system took an output no longer.
+/// How a command ended, of `watch` the line on the worst links, how many packets that are not of Ethernet its
+/// recordings have, and why the system took an output no longer.
 #[derive(Drop)]
 pub struct Ended {
     pub exit: Exit,
