@@ -48,7 +48,7 @@ pub struct Progress {
     started: Instant,
     a: ReadSoFar,
     b: ReadSoFar,
-    /// How many frames the command says that it has taken. 0: it says so of none yet, or of none at all.
+    /// How many frames the command has told that it took. 0: none yet, or it doesn't tell.
     frames: AtomicU64,
     /// When the line was written last, in milliseconds since the start. 0: it wasn't yet.
     written: AtomicU64,
@@ -134,8 +134,8 @@ impl Progress {
     }
 }
 
-/// The line: how many percent of each recording were read, where that is known, how many frames were taken, or
-/// bytes read where of no frame is said so, and how many a second.
+/// The line: how many percent of each recording were read, where that is known, how many frames were taken,
+/// or how many bytes were read where none was, and how many a second.
 #[derive(Clone, Copy)]
 struct ProgressLine {
     a: Option<u64>,
