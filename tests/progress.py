@@ -12,7 +12,7 @@ from harness import EVERY, PROGRAM, SUCCESS, frame, header, recording, say, show
 from summaries import OTHER_TABLE, summary_of
 from watching import TABLE, Desk, tap
 
-LINE = re.compile(r"afdxmon: (?:A (\d+) %, )?(?:B (\d+) %, )?(\d+) frames, (\d+) a second")
+LINE = re.compile(r"afdxmon: (?:A (\d+) %, )?(?:B (\d+) %, )?(\d+) (frames|bytes), (\d+) a second")
 
 
 class Screen:
@@ -61,16 +61,16 @@ def judged(name, told, expected, last):
     lines = [match.groups() for match in LINE.finditer(told)]
     if shown(told) != expected:
         return say(name, f"the screen shows {shown(told)!r}, not {expected!r}")
-    if not lines or lines[-1][:3] != last:
+    if not lines or lines[-1][:4] != last:
         return say(name, f"the lines are {lines}, the last not {last}")
-    frames = int(last[2])
+    count = int(last[2])
     # It came between 0.8 and 5 seconds after the start, for each piece that was waited for.
-    rate = int(lines[-1][3])
-    return say(name, "" if frames // 10 <= rate <= frames * 2 else f"{rate} frames a second of {frames}")
+    rate = int(lines[-1][4])
+    return say(name, "" if count // 10 <= rate <= count * 2 else f"{rate} {last[3]} a second of {count}")
 
 
 def networks(desk):
-    """`watch` with one recording in a file and one that comes by a pipe, in both byte orders."""
+    """`watch` with one recording in a file and one that comes by a pipe, in both byte orders. When its end comes, all before is judged."""
     few = tap(*((i, frame(5, 60, i % 255 + 1)) for i in range(100)))
     pipe = os.path.join(desk.directory, "pipe")
     os.mkfifo(pipe)
@@ -87,7 +87,7 @@ def networks(desk):
             if quiet:
                 say(name, "" if (status, told) == (SUCCESS, "") else f"status {status}, {told!r}")
             else:
-                judged(name, told, summary, (None, "100", "1101"))
+                judged(name, told, summary, (None, "100", "1100", "frames"))
             ledger = expected.lines + expected.summary
             say(f"{name}: its outputs", desk.compared("capture", expected.capture) or desk.compared("ledger", ledger))
     os.remove(pipe)
@@ -128,7 +128,7 @@ def session(desk):
     status, told = screen.run(arguments, slowly(pipe, whole[:-10], whole[-10:]), stdin=subprocess.DEVNULL)
     if (status, screen.out) != (SUCCESS, b"frames 300\n"):
         say("progress of debug: its answer", f"status {status}, {screen.out!r}")
-    judged("progress of debug", told, "", (None, None, "300"))
+    judged("progress of debug", told, "", (None, None, str(len(whole)), "bytes"))
     os.remove(pipe)
 
 

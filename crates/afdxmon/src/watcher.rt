@@ -84,6 +84,12 @@ impl<'a> Watcher<'a> {
 }
 
 impl RunObserver for Watcher<'_> {
+    fn judges(&self, frames: usize) {
+        if let Some(progress) = self.progress {
+            progress.add_frames(frames);
+        }
+    }
+
     /// Tells at once that an output can't be written. No thread can end the read that another waits in, so
     /// the run goes on until that comes to its end.
     fn waits(&self) {

@@ -12,8 +12,8 @@ use pcap_io::WriteSink;
 use pcapng_writer::Interfaces;
 use run_manifest::sum_of;
 use run_outputs::{
-    Ended, LedgerWriter, RunSums, Spans, TextSums, WorstLinks, blocks_of, create, create_hashed,
-    file_in, format_of, shared, with_manifest,
+    Ended, LedgerWriter, RunSums, Spans, TextSums, blocks_of, create, create_hashed, file_in,
+    format_of, shared, with_manifest, worst_links,
 };
 use std::sync::Wait;
 use std::sync::atomic::AtomicBool;
@@ -108,17 +108,19 @@ fn skipped_in(end: &Option<TapEnd>) -> u64 {
 /// How a run over two recordings ended, whose outputs are handed to the system, and the sums of its files.
 fn settle<'p>(
     rt: &HostRuntime,
+    config: &Config,
     run: Result<
         Watched<TapFiles<'p>, TapFiles<'p>, CaptureSink, LedgerSink>,
         WatchRefused<TapFiles<'p>, TapFiles<'p>, CaptureSink, LedgerSink>,
     >,
 ) -> (Ended, RunSums) {
-    let (outcome, [a, b], capture, ledger) = match run {
+    let (outcome, worst, [a, b], capture, ledger) = match run {
         Ok(done) => {
             let [a, b] = done.endings;
-            let totals = done.totals;
+            let totals = *done.tally.totals();
             (
                 Ok(Summary { a, b, totals }),
+                worst_links(rt.alloc(), config, &done.tally),
                 [Some(end_of(rt, done.a)), Some(end_of(rt, done.b))],
                 done.capture,
                 done.ledger,
@@ -126,6 +128,7 @@ fn settle<'p>(
         }
         Err(refused) => (
             Err(Fault::Watch(refused.fault)),
+            None,
             [end_if_back(rt, refused.a), end_if_back(rt, refused.b)],
             refused.capture,
             refused.ledger,
@@ -135,7 +138,6 @@ fn settle<'p>(
     let capture_fails = capture.finish(outcome.is_ok()).err();
     let ledger_fails = ledger.finish(outcome.is_ok()).err();
     let sums = [capture.take_sum(), ledger.take_sum()];
-    let (worst, spans) = ledger.into_found();
     let exit = Exit::of_watch(outcome, capture_fails.is_none(), ledger_fails.is_none());
     let at = [
         last_file(&a, &exit, Network::A),
@@ -150,16 +152,7 @@ fn settle<'p>(
         unread: None,
     };
     let read = [a.map(|end| end.sums), b.map(|end| end.sums)];
-    (ended, RunSums::new(read, sums, spans))
-}
-
-/// The worst links of a ledger that is to be written, if a person is to be told.
-fn worst_links(rt: &HostRuntime, analysis: &Analysis<'_>) -> Option<WorstLinks> {
-    if analysis.given.quiet || !analysis.full {
-        None
-    } else {
-        Some(WorstLinks::new(rt.alloc()))
-    }
+    (ended, RunSums::new(read, sums, ledger.into_spans()))
 }
 
 /// What a run over two recordings is given: the arguments, the table, and the filters.
@@ -253,13 +246,13 @@ fn run_watch<'p, R: Threads + Wait + Sync>(
         a,
         b,
         WriteSink::new(capture),
-        WriteSink::new(LedgerWriter::new(ledger, worst_links(rt, analysis), spans)),
+        WriteSink::new(LedgerWriter::new(ledger, spans)),
         &watcher,
     );
     if let Some(progress) = progress {
         progress.erase(rt);
     }
-    Ok(settle(rt, run))
+    Ok(settle(rt, analysis.config, run))
 }
 
 /// Judges and filters the frames of two recordings that may pause, while another thread tells of pauses.

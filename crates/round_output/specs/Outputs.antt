@@ -6,9 +6,8 @@ use Rattle.afdx_frame.specs.Frame.{Frame}
 use Rattle.round_output.specs.Filters.{Making, capture_by, entries_by, ledger_by, lines_by}
 use Rattle.pcap_io.specs.Writer.{sink_of}
 use Rattle.pcap_io.specs.declared.recording.Ending.{Ending}
-use Rattle.verdict_ledger.specs.Ledger.{StandsAfter as LedgerStandsAfter, sink_of as ledger_sink}
-use Rattle.verdict_ledger.specs.Tally.{totals_of}
-use Rattle.verdict_ledger.specs.declared.totals.Totals.{Totals}
+use Rattle.verdict_ledger.specs.Ledger.{IsTallyOf, StandsAfter as LedgerStandsAfter, sink_of as ledger_sink}
+use Rattle.verdict_ledger.specs.declared.tally.Tally.{Tally}
 use Rattle.verdict_ledger.specs.declared.fault.LedgerFault.{LedgerFault}
 use Rattle.verdict_ledger.specs.declared.fault.LedgerFault.TheVariants as ledger_faults
 use Rattle.vl_config.specs.Document.{VlTable}
@@ -106,10 +105,10 @@ pub record StopsWriting (fault : WatchFault) (ps : Making) (vl_table : VlTable) 
   pub fails : SinkFails fault capture.failures capture'.failures ledger.failures ledger'.failures
 
 -- Both outputs are complete, with these counts.
-pub record IsFinished (ps : Making) (vl_table : VlTable) (capture ledger capture' ledger' : SinkView) (frames : List Frame) (a b : Ending) (totals : Totals) : Type 0 where
+pub record IsFinished (ps : Making) (vl_table : VlTable) (capture ledger capture' ledger' : SinkView) (frames : List Frame) (a b : Ending) (tally : Tally) : Type 0 where
   pub packets : Appends capture.contents capture'.contents (capture_by ps vl_table frames)
   pub text : Appends ledger.contents ledger'.contents (ledger_by ps vl_table frames a b)
-  pub totals_are : totals ≡ totals_of (entries_by ps vl_table frames)
+  pub counts : IsTallyOf (entries_by ps vl_table frames) tally
   pub capture_failures : capture'.failures ≡ capture.failures
   pub ledger_failures : ledger'.failures ≡ ledger.failures
 

@@ -25,7 +25,7 @@ use pcap_io::{CaptureWriter, Ending, OutSink};
 use run_outcome::{CAPTURE_FAILED, Output, WatchFault};
 use std::alloc::{AllocError, Global};
 use std::sync::Wait;
-use verdict_ledger::{Ledger, LedgerFault, LedgerRefused, Totals};
+use verdict_ledger::{Ledger, LedgerFault, LedgerRefused, Tally};
 use vl_config::Config;
 use vl_judge::{Lanes, Verdict};
 use worker_pool::{Done, InFlight, Pool, PoolFault};
@@ -289,7 +289,7 @@ impl<W: OutSink, L: OutSink> Outputs<W, L> {
     }
 
     /// Writes the rest of the ledger, by how both recordings ended, and gives the sinks and the counts.
-    pub fn finish(self, a: Ending, b: Ending) -> Result<(W, L, Totals), Unwritten<W, L>>
+    pub fn finish(self, a: Ending, b: Ending) -> Result<(W, L, Tally), Unwritten<W, L>>
         requires going { ledger_has_failed self.ledger ≡ false }
         ensures finished { IfOk result (λ done. (ps : Making) (vl_table : VlTable)
             (capture ledger : SinkView) (frames : List Frame)
@@ -311,8 +311,8 @@ impl<W: OutSink, L: OutSink> Outputs<W, L> {
             ledger,
         } = self;
         let capture = capture.finish();
-        match ledger.finish(a, b) {
-            Ok((ledger, totals)) => Ok((capture, ledger, totals)),
+        match ledger.close(a, b) {
+            Ok((ledger, tally)) => Ok((capture, ledger, tally)),
             Err(LedgerRefused { sink, fault }) => Err(Unwritten {
                 fault: fault_of_ledger(fault),
                 capture,

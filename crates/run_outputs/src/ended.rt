@@ -1,16 +1,15 @@
 //! How a command ended, or why it wasn't begun.
-use crate::worst::WorstLinks;
 use afdx_frame::Network;
 use command_line::{Exit, Fault, Summary, hint_of};
 use std::io;
 use tap_inputs::{Skipped, TapEnd, Taps};
 
-/// How a command ended, of `watch` the worst links, if they are to be told, how many packets that are not of
-/// Ethernet its recordings have, and why the system took an output no longer.
+/// How a command ended, of `watch` the line on the worst links, how many packets that are not of Ethernet its
+/// recordings have, and why the system took an output no longer.
 #[derive(Drop)]
 pub struct Ended {
     pub exit: Exit,
-    pub worst: Option<WorstLinks>,
+    pub worst: Option<String>,
     pub skipped: Skipped,
     pub reason: Option<io::Error>,
     /// Why a recording wasn't read that the answer of `check` is about.
@@ -78,7 +77,7 @@ pub fn summarise(rt: &HostRuntime, ended: &Ended, taps: &Taps) -> io::Result<()>
         rt.eprintln(hint)?;
     }
     match &ended.worst {
-        Some(worst) if !worst.is_empty() => eprintln!(rt; "{worst}"),
-        Some(_) | None => Ok(()),
+        Some(worst) => rt.eprintln(worst),
+        None => Ok(()),
     }
 }

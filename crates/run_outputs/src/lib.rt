@@ -1,6 +1,7 @@
-//! How commands end and what they write: captures, ledgers of which the worst links are told, manifests.
+//! How commands end and what they write: captures, ledgers, manifests.
 //!
-//! - [`Ended`]: how a command ended; [`summarise`] tells a person what a run came to.
+//! - [`Ended`]: how a command ended; [`summarise`] tells a person what a run came to, and of which links
+//!   ([`worst_links`]) the most frames were discarded.
 //! - [`create`], [`format_of`] and [`LedgerWriter`]: what is written.
 //! - [`with_manifest`]: writes the manifest of a run.
 //! - [`Seen`]: what a cut saw of its ledger, and its notes.
@@ -19,5 +20,5 @@ pub use ended::{Ended, file_in, summarise};
 pub use manifest::{RunSums, TextSums, arguments, with_manifest};
 pub use opening::{blocks_of, create, create_hashed, format_of, live_output, shared};
 pub use seen::Seen;
-pub use spans::Spans;
-pub use worst::{LedgerWriter, WorstLinks};
+pub use spans::{LedgerWriter, Spans};
+pub use worst::worst_links;

@@ -1,8 +1,10 @@
 //! When the frames of both networks came: read off the lines of frames as they are written to the ledger, of
 //! which a look takes the ends alone. A network's letter is the only capital in such a line.
 use memchr::{memchr, memchr_iter, memrchr, memrchr_iter};
-use run_manifest::Span;
-use std::str;
+use run_manifest::{Span, Sum};
+use std::io::Write;
+use std::{io, str};
+use tap_inputs::Blocks;
 
 /// The timestamp of the line of a frame whose network's letter stands at this place. None: another line.
 fn stamp_before(bytes: &[u8], letter: usize) -> Option<u64> {
@@ -69,5 +71,49 @@ impl Spans {
         if let Some(last) = bytes.get(..taken).and_then(|taken| taken.last()) {
             self.begins_line = *last == b'\n';
         }
+    }
+}
+
+/// A ledger that is written. Of it the spans of its networks are told, or aren't.
+#[derive(Drop)]
+pub struct LedgerWriter {
+    blocks: Blocks,
+    spans: Option<Spans>,
+}
+
+impl LedgerWriter {
+    /// A ledger whose bytes go on to `blocks`; no spans are told where `spans` is None.
+    pub fn new(blocks: Blocks, spans: Option<Spans>) -> LedgerWriter {
+        LedgerWriter { blocks, spans }
+    }
+
+    /// The spans that were found, None where they aren't told.
+    pub fn into_spans(self) -> Option<Spans> {
+        self.spans
+    }
+
+    /// The sum of what the system took.
+    pub fn take_sum(&mut self) -> Sum {
+        self.blocks.take_sum()
+    }
+
+    /// Hands the system all that was written. Where the run met no fault, an older file to which it wrote
+    /// nothing is emptied.
+    pub fn finish(&mut self, sound: bool) -> io::Result<()> {
+        self.blocks.finish(sound)
+    }
+}
+
+impl Write for LedgerWriter {
+    fn write(&mut self, bytes: &[u8]) -> io::Result<usize> {
+        let count = self.blocks.write(bytes)?;
+        if let Some(spans) = &mut self.spans {
+            spans.pass(bytes, count);
+        }
+        Ok(count)
+    }
+
+    fn flush(&mut self) -> io::Result<()> {
+        self.blocks.flush()
     }
 }

@@ -1,64 +1,42 @@
-//! The virtual links with the most discards, for a person at a terminal: read off the lines of the links as
-//! they are written to the ledger, so that the counts are the ledger's.
-use crate::spans::Spans;
-use run_manifest::Sum;
+//! The virtual links with the most discards, for a person at a terminal.
+use integrity::Integrity;
+use policing::Policing;
 use std::alloc::{AllocError, Global};
+use std::fmt;
 use std::fmt::{Display, Formatter};
-use std::io::Write;
-use std::{fmt, io, str};
-use tap_inputs::Blocks;
+use verdict_ledger::{LinkCounts, Tally};
+use vl_config::{Class, Config, Link};
 
 /// How many links are told.
 const MOST: usize = 5;
 
-/// What the line of a link begins with.
-const LINK: &str = "link ";
-
-/// What was discarded of a link's frames.
-#[derive(Drop)]
-struct Discards {
-    /// The link's identifier and name, as the ledger has them.
-    link: String,
-    toolong: u64,
-    excess: u64,
-    out: u64,
+/// A link, and the counts of its frames.
+#[derive(Clone, Copy)]
+struct Discards<'c> {
+    link: &'c Link,
+    counts: LinkCounts,
 }
 
-/// The count after a word of a line.
-fn count_after(line: &str, word: &str) -> Option<u64> {
-    let (_, after) = line.split_once(word)?;
-    let (count, _) = after.split_once(' ')?;
-    count.parse().ok()
-}
-
-impl Discards {
-    /// Those of the line of a link. None: it is another line, or there is no memory.
-    fn of_line(alloc: Global, line: &str) -> Option<Discards> {
-        let (link, counts) = line.strip_prefix(LINK)?.split_once(" frames ")?;
-        Some(Discards {
-            link: String::from_str(alloc, link).ok()?,
-            toolong: count_after(counts, " toolong ")?,
-            excess: count_after(counts, " excess ")?,
-            out: count_after(counts, " out ")?,
-        })
-    }
-
+impl Discards<'_> {
     fn count(&self) -> u64 {
-        self.toolong
-            .saturating_add(self.excess)
-            .saturating_add(self.out)
+        let counts = self.counts;
+        counts
+            .toolong
+            .saturating_add(counts.excess)
+            .saturating_add(counts.out)
     }
 }
 
 /// `301 engine_1 (10 excess, 3 out)`.
-impl Display for Discards {
+impl Display for Discards<'_> {
     fn fmt<W: fmt::Write>(&self, f: &mut Formatter<W>) -> fmt::Result {
-        f.write_str(&self.link)?;
+        let (id, name, counts) = (self.link.id.0, &self.link.name, self.counts);
+        write!(f, "{id} {name}")?;
         let mut before = " (";
         for (count, word) in [
-            (self.toolong, "toolong"),
-            (self.excess, "excess"),
-            (self.out, "out"),
+            (counts.toolong, Class::TooLong.word()),
+            (counts.excess, Policing::Excess.word()),
+            (counts.out, Integrity::Out.word()),
         ] {
             if count > 0 {
                 write!(f, "{before}{count} {word}")?;
@@ -69,152 +47,38 @@ impl Display for Discards {
     }
 }
 
-/// The links with the most discards.
-#[derive(Drop)]
-pub struct WorstLinks {
+/// The links with discards, at most so many as are told: those with the most come first, and of as many the
+/// least identifier.
+fn worst_of<'c>(
     alloc: Global,
-    /// Those with the most come first, and of as many the least identifier.
-    links: Vec<Discards>,
-    /// Have the lines of the links begun?
-    has_begun: bool,
-    /// What came of a line.
-    line: Vec<u8>,
-}
-
-impl WorstLinks {
-    /// Of a ledger of which nothing was written.
-    pub fn new(alloc: Global) -> WorstLinks {
-        WorstLinks {
-            alloc,
-            links: Vec::new(alloc),
-            has_begun: false,
-            line: Vec::new(alloc),
-        }
-    }
-
-    /// Whether no link has a discard.
-    pub fn is_empty(&self) -> bool {
-        self.links.is_empty()
-    }
-
-    /// Keeps a link if it is one of the worst. The ledger has the links by rising identifier.
-    fn keep(&mut self, found: Discards) -> Result<(), AllocError> {
-        let count = found.count();
-        if count == 0 {
-            return Ok(());
-        }
-        let place = self
-            .links
-            .iter()
-            .take_while(|link| link.count() >= count)
-            .count();
-        self.links.insert(place.min(self.links.len()), found)?;
-        if self.links.len() > MOST {
-            self.links.pop();
-        }
-        Ok(())
-    }
-
-    /// Takes the line that has come.
-    fn end_line(&mut self) -> Result<(), AllocError> {
-        let found = match str::from_utf8(&self.line) {
-            Ok(line) => Discards::of_line(self.alloc, line),
-            Err(_) => None,
+    config: &'c Config,
+    tally: &Tally,
+) -> Result<Vec<Discards<'c>>, AllocError> {
+    let mut worst: Vec<Discards<'c>> = Vec::new(alloc);
+    for link in config.links() {
+        let found = Discards {
+            link,
+            counts: *tally.link(link.id),
         };
-        self.line.clear();
-        match found {
-            Some(found) => self.keep(found),
-            None => Ok(()),
+        let count = found.count();
+        let before = worst.iter().filter(|link| link.count() >= count).count();
+        if count > 0 && before < MOST {
+            worst.insert(before.min(worst.len()), found)?;
+            worst.truncate(MOST);
         }
     }
-
-    /// Takes the next bytes of the ledger. Its first text with a link begins with it.
-    fn pass(&mut self, bytes: &[u8]) -> Result<(), AllocError> {
-        self.has_begun = self.has_begun || bytes.starts_with(LINK.as_bytes());
-        if !self.has_begun {
-            return Ok(());
-        }
-        for byte in bytes {
-            if *byte == b'\n' {
-                self.end_line()?;
-            } else {
-                self.line.push(*byte)?;
-            }
-        }
-        Ok(())
-    }
+    Ok(worst)
 }
 
-impl Display for WorstLinks {
-    fn fmt<W: fmt::Write>(&self, f: &mut Formatter<W>) -> fmt::Result {
-        f.write_str("afdxmon: summary: worst links")?;
-        let mut before = ": ";
-        for link in &self.links {
-            write!(f, "{before}{link}")?;
-            before = ", ";
-        }
-        Ok(())
+/// What a person is told of the links with the most discards, by the counts of a run. None: no link has any,
+/// or there is no memory.
+pub fn worst_links(alloc: Global, config: &Config, tally: &Tally) -> Option<String> {
+    let worst = worst_of(alloc, config, tally).ok()?;
+    let mut line = String::new(alloc);
+    let mut before = "afdxmon: summary: worst links: ";
+    for link in &worst {
+        write!(line, "{before}{link}").ok()?;
+        before = ", ";
     }
-}
-
-/// A ledger that is written. Of it the worst links are told, or aren't, and the spans of its networks.
-#[derive(Drop)]
-pub struct LedgerWriter {
-    blocks: Blocks,
-    worst: Option<WorstLinks>,
-    spans: Option<Spans>,
-}
-
-impl LedgerWriter {
-    /// A ledger whose bytes go on to `blocks`; no links are told where `worst` is None, and no spans where
-    /// `spans` is.
-    pub fn new(blocks: Blocks, worst: Option<WorstLinks>, spans: Option<Spans>) -> LedgerWriter {
-        LedgerWriter {
-            blocks,
-            worst,
-            spans,
-        }
-    }
-
-    /// The links that were found, None where they aren't told or there was no memory for them, and the spans.
-    pub fn into_found(self) -> (Option<WorstLinks>, Option<Spans>) {
-        (self.worst, self.spans)
-    }
-
-    /// The sum of what the system took.
-    pub fn take_sum(&mut self) -> Sum {
-        self.blocks.take_sum()
-    }
-
-    /// Hands the system all that was written. Where the run met no fault, an older file to which it wrote
-    /// nothing is emptied.
-    pub fn finish(&mut self, sound: bool) -> io::Result<()> {
-        self.blocks.finish(sound)
-    }
-
-    /// Looks at what was written. Without memory nothing is told.
-    fn note(&mut self, bytes: &[u8]) {
-        if let Some(worst) = &mut self.worst {
-            if worst.pass(bytes).is_err() {
-                self.worst = None;
-            }
-        }
-    }
-}
-
-impl Write for LedgerWriter {
-    fn write(&mut self, bytes: &[u8]) -> io::Result<usize> {
-        let count = self.blocks.write(bytes)?;
-        if let Some(written) = bytes.get(..count) {
-            self.note(written);
-        }
-        if let Some(spans) = &mut self.spans {
-            spans.pass(bytes, count);
-        }
-        Ok(count)
-    }
-
-    fn flush(&mut self) -> io::Result<()> {
-        self.blocks.flush()
-    }
+    if line.is_empty() { None } else { Some(line) }
 }

@@ -13,7 +13,6 @@ mod blocks;
 mod disorder;
 mod interface;
 mod opening;
-mod packets;
 mod pauses;
 mod progress;
 mod recordings;

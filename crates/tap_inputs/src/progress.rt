@@ -1,7 +1,6 @@
 //! What a person at a terminal sees of the reading: how far it is, on one line that is written over, and
 //! gone at the end.
 use crate::blocks::LiveInput;
-use crate::packets::PacketCount;
 use crate::recordings::Reading;
 use afdx_frame::Network;
 use input_check::{FORMAT_LEN, Format, format_of};
@@ -25,7 +24,6 @@ struct ReadSoFar {
     /// How many bytes it has, if that is known.
     length: Option<u64>,
     bytes: AtomicU64,
-    frames: AtomicU64,
 }
 
 impl ReadSoFar {
@@ -33,7 +31,6 @@ impl ReadSoFar {
         ReadSoFar {
             length,
             bytes: AtomicU64::new(0),
-            frames: AtomicU64::new(0),
         }
     }
 
@@ -51,6 +48,8 @@ pub struct Progress {
     started: Instant,
     a: ReadSoFar,
     b: ReadSoFar,
+    /// How many frames the command has told that it took. 0: none yet, or it doesn't tell.
+    frames: AtomicU64,
     /// When the line was written last, in milliseconds since the start. 0: it wasn't yet.
     written: AtomicU64,
 }
@@ -66,6 +65,7 @@ impl Progress {
             started: Instant::now(rt).ok()?,
             a: ReadSoFar::of(a),
             b: ReadSoFar::of(b),
+            frames: AtomicU64::new(0),
             written: AtomicU64::new(0),
         })
     }
@@ -77,11 +77,15 @@ impl Progress {
         }
     }
 
+    /// Counts frames that the command has taken. The line says so when it comes next.
+    pub fn add_frames(&self, frames: usize) {
+        self.frames.fetch_add(frames as u64, Ordering::Relaxed);
+    }
+
     /// Counts what was read of a recording, and writes the line if it is time.
-    fn count(&self, rt: &HostRuntime, network: Network, bytes: u64, frames: u64) {
+    fn add_bytes(&self, rt: &HostRuntime, network: Network, bytes: u64) {
         let reading = self.reading(network);
         reading.bytes.fetch_add(bytes, Ordering::Relaxed);
-        reading.frames.fetch_add(frames, Ordering::Relaxed);
         let Ok(elapsed) = self.started.elapsed(rt) else {
             return;
         };
@@ -101,16 +105,24 @@ impl Progress {
         }
     }
 
+    /// How many bytes were read.
+    fn bytes(&self) -> u64 {
+        let of_a = self.a.bytes.load(Ordering::Relaxed);
+        of_a.saturating_add(self.b.bytes.load(Ordering::Relaxed))
+    }
+
     /// What the line says so many milliseconds after the start.
     fn line(&self, now: u64) -> ProgressLine {
-        let of_a = self.a.frames.load(Ordering::Relaxed);
-        let of_b = self.b.frames.load(Ordering::Relaxed);
-        let frames = of_a.saturating_add(of_b);
+        let (count, unit) = match self.frames.load(Ordering::Relaxed) {
+            0 => (self.bytes(), "bytes"),
+            frames => (frames, "frames"),
+        };
         ProgressLine {
             a: self.a.percent(),
             b: self.b.percent(),
-            frames,
-            rate: frames.saturating_mul(1000).checked_div(now).unwrap_or(0),
+            count,
+            unit,
+            rate: count.saturating_mul(1000).checked_div(now).unwrap_or(0),
         }
     }
 
@@ -122,19 +134,20 @@ impl Progress {
     }
 }
 
-/// The line: how many percent of each recording were read, where that is known, how many frames, and how
-/// many a second.
+/// The line: how many percent of each recording were read, where that is known, how many frames were taken,
+/// or how many bytes were read where none was, and how many a second.
 #[derive(Clone, Copy)]
 struct ProgressLine {
     a: Option<u64>,
     b: Option<u64>,
-    frames: u64,
+    count: u64,
+    unit: &'static str,
     rate: u64,
 }
 
 impl Display for ProgressLine {
     fn fmt<W: fmt::Write>(&self, f: &mut Formatter<W>) -> fmt::Result {
-        let (frames, rate) = (self.frames, self.rate);
+        let (count, unit, rate) = (self.count, self.unit, self.rate);
         f.write_str(ERASE)?;
         f.write_str("afdxmon: ")?;
         if let Some(percent) = self.a {
@@ -143,7 +156,7 @@ impl Display for ProgressLine {
         if let Some(percent) = self.b {
             write!(f, "B {percent} %, ")?;
         }
-        write!(f, "{frames} frames, {rate} a second")
+        write!(f, "{count} {unit}, {rate} a second")
     }
 }
 
@@ -152,7 +165,6 @@ impl Display for ProgressLine {
 pub struct Recording<'p> {
     input: Digesting<LiveInput>,
     reading: Reading<'p>,
-    packets: PacketCount,
     head: [u8; FORMAT_LEN],
     kept: usize,
 }
@@ -163,7 +175,6 @@ impl<'p> Recording<'p> {
         Recording {
             input: Digesting::new(input, reading.hashed),
             reading,
-            packets: PacketCount::new(),
             head: [0; FORMAT_LEN],
             kept: 0,
         }
@@ -218,9 +229,8 @@ impl Read for Recording<'_> {
         let bytes = &buf[..count];
         self.keep(bytes);
         if let Some(progress) = self.reading.progress {
-            let frames = self.packets.pass(bytes);
             let Reading { rt, network, .. } = self.reading;
-            progress.count(rt, network, bytes.len() as u64, frames);
+            progress.add_bytes(rt, network, bytes.len() as u64);
         }
         Ok(count)
     }

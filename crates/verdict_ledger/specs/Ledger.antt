@@ -22,13 +22,17 @@ has_failed ledger = ledger.failed
 abbrev pub totals_in : {W : Type 0} → Ledger W → Totals
 totals_in ledger = ledger.tally.totals
 
+-- those, and the counts of each link
+abbrev pub tally_in : {W : Type 0} → Ledger W → Tally
+tally_in ledger = ledger.tally
+
 -- what it wrote to, whether it stands or gave its sink back
 abbrev pub begun_sink : {W : Type 0} → Result (Ledger W) (LedgerRefused W) → W
 begun_sink (Ok ledger) = sink_of ledger
 begun_sink (Err refused) = refused.sink
 
--- what a ledger that is finished wrote to
-abbrev pub finished_sink : {W : Type 0} → Result (W × Totals) (LedgerRefused W) → W
+-- what a ledger that is finished wrote to, whatever counts it gave
+abbrev pub finished_sink : {W T : Type 0} → Result (W × T) (LedgerRefused W) → W
 finished_sink (Ok finished) = finished.0
 finished_sink (Err refused) = refused.sink
 

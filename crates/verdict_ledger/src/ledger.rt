@@ -39,7 +39,7 @@ pub struct Ledger<W> {
 impl<W: OutSink> Ledger<W> {
     ghost use Rattle.verdict_ledger.specs.declared.fault.LedgerFault.TheVariants.{Memory, Failed};
     ghost use Rattle.verdict_ledger.specs.Ledger.{StandsAfter, begun_sink, finished_sink};
-    ghost use Rattle.verdict_ledger.specs.Ledger.{has_failed, sink_of, totals_in};
+    ghost use Rattle.verdict_ledger.specs.Ledger.{has_failed, sink_of, tally_in, totals_in};
 
     /// Writes the first line of the ledger of a table, for 1 to [`MAX_FILTERS`](crate::MAX_FILTERS)
     /// filters.
@@ -282,14 +282,11 @@ impl<W: OutSink> Ledger<W> {
         self.tally.totals()
     }
 
-    /// Writes the lines of the links, by rising identifier, of the filters, of how the recordings of
-    /// networks A and B ended, and of all frames. Gives the sink and the counts.
+    /// Does what [`close`](Ledger::close) does, and gives the sink and the counts of all frames alone.
     ///
     /// # Errors
     ///
-    /// `Device` if the sink failed and `Memory`, each after a prefix of the lines; `Failed` if a call
-    /// has met a fault before, and then nothing is written. Each gives the sink back. There are always
-    /// lines to write, so `Memory` may come for any ledger.
+    /// Those of [`close`](Ledger::close).
     pub fn finish(self, a: Ending, b: Ending) -> Result<(W, Totals), LedgerRefused<W>>
         ensures written { has_failed self ≡ false
             → (vl_table : VlTable) (filters : ℕ) (entries : List Entry)
@@ -301,6 +298,32 @@ impl<W: OutSink> Ledger<W> {
             → result ≡ Err (record { sink = sink_of self; fault = Failed }) }
         ensures going { OnOk result (has_failed self ≡ false) }
         ensures totals { IfOk result (λ finished. finished.1 ≡ totals_in self) }
+    {
+        match self.close(a, b) {
+            Ok((sink, tally)) => Ok((sink, *tally.totals())),
+            Err(refused) => Err(refused),
+        }
+    }
+
+    /// Writes the lines of the links, by rising identifier, of the filters, of how the recordings of
+    /// networks A and B ended, and of all frames. Gives the sink and all counts, those of links too.
+    ///
+    /// # Errors
+    ///
+    /// `Device` if the sink failed and `Memory`, each after a prefix of the lines; `Failed` if a call
+    /// has met a fault before, and then nothing is written. Each gives the sink back. There are always
+    /// lines to write, so `Memory` may come for any ledger.
+    pub fn close(self, a: Ending, b: Ending) -> Result<(W, Tally), LedgerRefused<W>>
+        ensures written { has_failed self ≡ false
+            → (vl_table : VlTable) (filters : ℕ) (entries : List Entry)
+            → StandsAfter self vl_table filters entries → IsAppended (refusal_of result)
+            (W.contents (sink_of self)) (W.contents (finished_sink result))
+            (W.failures (sink_of self)) (W.failures (finished_sink result))
+            (rest_text vl_table filters entries a b) }
+        ensures failed { has_failed self ≡ true
+            → result ≡ Err (record { sink = sink_of self; fault = Failed }) }
+        ensures going { OnOk result (has_failed self ≡ false) }
+        ensures tally { IfOk result (λ closed. closed.1 ≡ tally_in self) }
     {
         let Ledger {
             mut spool,
@@ -316,7 +339,7 @@ impl<W: OutSink> Ledger<W> {
             });
         }
         match spool.write_summary(&links, &tally, filters, a, b) {
-            Ok(()) => Ok((spool.into_sink(), *tally.totals())),
+            Ok(()) => Ok((spool.into_sink(), tally)),
             Err(fault) => Err(LedgerRefused {
                 sink: spool.into_sink(),
                 fault,

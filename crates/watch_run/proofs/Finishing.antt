@@ -12,7 +12,7 @@ use Rattle.tap_queue.specs.Ring.{taken_items}
 use Rattle.tap_queue.specs.declared.item.TapItem.{TapItem}
 use Rattle.tap_queue.specs.declared.item.TapItem.TheVariants as items
 use Rattle.verdict_ledger.specs.Ledger.{sink_of as ledger_sink}
-use Rattle.verdict_ledger.specs.declared.totals.Totals.{Totals}
+use Rattle.verdict_ledger.specs.declared.tally.Tally.{Tally}
 use Rattle.vl_config.specs.Document.{VlTable}
 use Rattle.round_output.specs.Outputs.{IsFinished, SinkFails, StopsFinishing}
 use Rattle.tap_merge.specs.Rings.{EndsWith, HasEnding, HasTaken, WhereFailed}
@@ -55,13 +55,13 @@ settled_return late before after rings settled_a settled_b = record {
   b_failures = settled_b.same_failures;
 }
 
-pub finishes : (ps : Making) (vl_table : VlTable) (before after : WatchDevices) (rings : Rings) (cut : List Frame) (end_a end_b : Ending) (totals : Totals) →
+pub finishes : (ps : Making) (vl_table : VlTable) (before after : WatchDevices) (rings : Rings) (cut : List Frame) (end_a end_b : Ending) (tally : Tally) →
     IsTapBack A vl_table.late before.a (taken_items rings.a) after.a → IsTapBack B vl_table.late before.b (taken_items rings.b) after.b → HasTaken vl_table.late cut rings →
     rings.end_a ≡ Some end_a → rings.end_b ≡ Some end_b → rings.merger.pending ≡ [] →
-    IsFinished ps vl_table before.capture before.ledger after.capture after.ledger cut end_a end_b totals → IsFilterCount (length ps.filters) →
-    IsWatched ps vl_table (end_a ∷ end_b ∷ []) totals before after
-finishes ps vl_table before after rings cut end_a end_b totals settled_a settled_b h is_a is_b none f number =
-    watched ps vl_table before after (frames_in (taken_items rings.a)) (frames_in (taken_items rings.b)) cut end_a end_b totals rings.merger settled_a.reading settled_b.reading
+    IsFinished ps vl_table before.capture before.ledger after.capture after.ledger cut end_a end_b tally → IsFilterCount (length ps.filters) →
+    IsWatched ps vl_table (end_a ∷ end_b ∷ []) tally before after
+finishes ps vl_table before after rings cut end_a end_b tally settled_a settled_b h is_a is_b none f number =
+    watched ps vl_table before after (frames_in (taken_items rings.a)) (frames_in (taken_items rings.b)) cut end_a end_b tally rings.merger settled_a.reading settled_b.reading
     settled_a.ahead settled_b.ahead (settled_return vl_table.late before after rings settled_a settled_b)
     (settled_a.run.ended end_a (ending_taken rings.end_a end_a rings.merger.a (taken_items rings.a) h.ended_a is_a))
     (settled_b.run.ended end_b (ending_taken rings.end_b end_b rings.merger.b (taken_items rings.b) h.ended_b is_b)) h.follows none f number

@@ -12,7 +12,7 @@ use Rattle.ordered_merge.proofs.Following.{follows_order, one_order}
 use Rattle.pcap_io.specs.Device.{CountsFailure}
 use Rattle.pcap_io.specs.Position.{Reading}
 use Rattle.pcap_io.specs.declared.recording.Ending.{Ending}
-use Rattle.verdict_ledger.specs.declared.totals.Totals.{Totals}
+use Rattle.verdict_ledger.specs.declared.tally.Tally.{Tally}
 use Rattle.vl_config.specs.Document.{VlTable}
 use Rattle.run_outcome.specs.Recording.{IsRecording, LeavesUnread}
 use Rattle.round_output.specs.Outputs.{IsFinished, SinkFails, StopsFinishing}
@@ -112,12 +112,12 @@ aborted fault ps vl_table before after a b unread_a unread_b r s = (
   },
 )
 
-pub watched : (ps : Making) (vl_table : VlTable) (before after : WatchDevices) (fa fb cut : List Frame) (end_a end_b : Ending) (totals : Totals)
+pub watched : (ps : Making) (vl_table : VlTable) (before after : WatchDevices) (fa fb cut : List Frame) (end_a end_b : Ending) (tally : Tally)
     (m : MergerState) (a b : Reading) (unread_a unread_b : List ℕ) → Returned a b unread_a unread_b after →
     HasRead networks.A vl_table.late before.a fa (Some end_a) a → HasRead networks.B vl_table.late before.b fb (Some end_b) b → Follows m fa fb cut → m.pending ≡ [] →
-    IsFinished ps vl_table before.capture before.ledger after.capture after.ledger cut end_a end_b totals → IsFilterCount (length ps.filters) →
-    IsWatched ps vl_table (end_a ∷ end_b ∷ []) totals before after
-watched ps vl_table before after fa fb cut end_a end_b totals m a b unread_a unread_b r read_a read_b follows none f number = record {
+    IsFinished ps vl_table before.capture before.ledger after.capture after.ledger cut end_a end_b tally → IsFilterCount (length ps.filters) →
+    IsWatched ps vl_table (end_a ∷ end_b ∷ []) tally before after
+watched ps vl_table before after fa fb cut end_a end_b tally m a b unread_a unread_b r read_a read_b follows none f number = record {
   filters = number;
   a = end_a;
   b = end_b;
@@ -130,7 +130,7 @@ watched ps vl_table before after fa fb cut end_a end_b totals m a b unread_a unr
   order = follows_order m fa fb cut follows none;
   capture = f.packets;
   ledger = f.text;
-  totals_are = f.totals_are;
+  counts = f.counts;
   capture_failures = f.capture_failures;
   ledger_failures = f.ledger_failures;
 }

@@ -12,7 +12,7 @@ use Rattle.pcap_io.proofs.Parse.{one_holds}
 use Rattle.ordered_merge.proofs.Following.{one_order}
 use Rattle.ordered_merge.specs.Order.{IsOrder}
 use Rattle.run_outcome.specs.Recording.{IsRecording, most_frames}
-use Rattle.verdict_ledger.specs.Tally.{totals_of}
+use Rattle.verdict_ledger.specs.Tally.{link_counts, totals_of}
 use Rattle.round_output.specs.Filters.{capture_by, entries_by, ledger_by}
 use Rattle.watch_run.specs.Laws.{SameBytesInSameBytesOut}
 use Rattle.afdx_frame.specs.declared.key.Network.TheVariants.{A, B}
@@ -47,7 +47,7 @@ one_sink one other after after' old bytes bytes' is also h k same =
     ∙ sym (holds_both old after' bytes' (subst (λ (o : Option (List ℕ)). Appends o after' bytes') also k))
 
 pub same_bytes_out : SameBytesInSameBytesOut
-same_bytes_out ps vl_table endings endings' totals totals' before before' after after' same w v =
+same_bytes_out ps vl_table endings endings' tally tally' before before' after after' same w v =
     let a = one_source A vl_table.late before.a.remaining before'.a.remaining same.bytes_a w.frames_a v.frames_a w.a v.a same.one_a same.other_a w.read_a.complete v.read_a.complete in
     let b = one_source B vl_table.late before.b.remaining before'.b.remaining same.bytes_b w.frames_b v.frames_b w.b v.b same.one_b same.other_b w.read_b.complete v.read_b.complete in
     let order : IsOrder v.frames_a v.frames_b w.frames =
@@ -62,5 +62,7 @@ same_bytes_out ps vl_table endings endings' totals totals' before before' after 
           ∙ ap (λ (e : Ending). ledger_by ps vl_table v.frames e w.b) a.1
           ∙ ap (λ (e : Ending). ledger_by ps vl_table v.frames v.a e) b.1);
       same_endings = w.endings_are ∙ ap (λ (e : Ending). e ∷ w.b ∷ []) a.1 ∙ ap (λ (e : Ending). v.a ∷ e ∷ []) b.1 ∙ sym v.endings_are;
-      same_totals = w.totals_are ∙ ap (λ (fs : List Frame). totals_of (entries_by ps vl_table fs)) frames ∙ sym v.totals_are;
+      same_totals = w.counts.totals ∙ ap (λ (fs : List Frame). totals_of (entries_by ps vl_table fs)) frames ∙ sym v.counts.totals;
+      same_links = λ id none known.
+          (w.counts.links id none known ∙ ap (λ (fs : List Frame). link_counts (entries_by ps vl_table fs) (record { 0 = id })) frames ∙ sym (v.counts.links id none known));
     }

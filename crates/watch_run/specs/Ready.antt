@@ -59,7 +59,7 @@ Runs s t w l ps ready result =
     (vl_table : VlTable) (before : WatchDevices) → IsFilterCount (length ps.filters)
     → IsReady s t w l ps vl_table before ready
     → MatchResult result
-    (λ done. IsWatched ps vl_table done.endings done.totals before
+    (λ done. IsWatched ps vl_table done.endings done.tally before
     (devices_at s t w l done.a done.b done.capture done.ledger))
     (λ refused. AbortsBegun refused.fault ps vl_table before
     (option_map (source_at s) refused.a) (option_map (source_at t) refused.b)

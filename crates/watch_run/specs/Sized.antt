@@ -15,7 +15,7 @@ module _ {S T W L : Type 0} (s : SourceMembers S) (t : SourceMembers T) (w : Sin
   -- the whole run over these devices is done
   abbrev pub HasWatched : Making → VlTable → S → T → W → L → Watched S T W L → Type 0
   HasWatched ps vl_table a b capture ledger done =
-      IsWatched ps vl_table done.endings done.totals (devices_at s t w l a b capture ledger) (devices_at s t w l done.a done.b done.capture done.ledger)
+      IsWatched ps vl_table done.endings done.tally (devices_at s t w l a b capture ledger) (devices_at s t w l done.a done.b done.capture done.ledger)
 
   -- the run over these devices was aborted, on one thread
   abbrev pub HasAborted : Making → VlTable → S → T → W → L → WatchRefused S T W L → Type 0

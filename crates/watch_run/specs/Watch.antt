@@ -6,8 +6,8 @@ use Rattle.afdx_frame.specs.declared.key.Network.TheVariants.{A, B}
 use Rattle.round_output.specs.Filters.{Making, capture_by, entries_by, ledger_by, lines_by}
 use Rattle.ordered_merge.specs.Order.{IsOrder}
 use Rattle.pcap_io.specs.declared.recording.Ending.{Ending}
-use Rattle.verdict_ledger.specs.Tally.{totals_of}
-use Rattle.verdict_ledger.specs.declared.totals.Totals.{Totals}
+use Rattle.verdict_ledger.specs.Ledger.{IsTallyOf}
+use Rattle.verdict_ledger.specs.declared.tally.Tally.{Tally}
 use Rattle.vl_config.specs.Document.{VlTable}
 use Rattle.run_outcome.specs.Recording.{IsRecording}
 use Rattle.run_outcome.specs.declared.fault.WatchFault.{WatchFault}
@@ -22,8 +22,8 @@ use Rattle.run_outcome.specs.Opening.{AbortsAtOpening, FailsOnly, WatchDevices}
 -- ---- a whole run
 
 -- Both recordings were read to their endings. The capture is that of all their frames in the one order, the ledger has a line for
--- each, with the verdicts along that order, and the totals count them.
-pub record IsWatched (ps : Making) (vl_table : VlTable) (endings : List Ending) (totals : Totals) (before after : WatchDevices) : Type 0 where
+-- each, with the verdicts along that order, and the tally has the counts of all of them and of each link's.
+pub record IsWatched (ps : Making) (vl_table : VlTable) (endings : List Ending) (tally : Tally) (before after : WatchDevices) : Type 0 where
   pub filters : IsFilterCount (length ps.filters)
   pub a : Ending
   pub b : Ending
@@ -36,7 +36,7 @@ pub record IsWatched (ps : Making) (vl_table : VlTable) (endings : List Ending) 
   pub order : IsOrder frames_a frames_b frames
   pub capture : Appends before.capture.contents after.capture.contents (capture_by ps vl_table frames)
   pub ledger : Appends before.ledger.contents after.ledger.contents (ledger_by ps vl_table frames a b)
-  pub totals_are : totals ≡ totals_of (entries_by ps vl_table frames)
+  pub counts : IsTallyOf (entries_by ps vl_table frames) tally
   pub capture_failures : after.capture.failures ≡ before.capture.failures
   pub ledger_failures : after.ledger.failures ≡ before.ledger.failures
 

@@ -7,6 +7,9 @@ use tap_queue::TapGate;
 
 /// Is told how a run on threads gets on. No clause speaks of it.
 pub trait RunObserver {
+    /// So many frames more came of both recordings, in their one order, and are judged now.
+    fn judges(&self, _frames: usize) {}
+
     /// Nothing came of the recordings for some milliseconds. What is safe was handed to the sinks. Told again
     /// and again until something comes.
     fn waits(&self) {}

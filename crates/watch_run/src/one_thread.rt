@@ -23,7 +23,7 @@ use run_outcome::{WatchFault, WatchRefused};
 use std::alloc::Global;
 use std::num::NonZeroUsize;
 use tap_merge::{Taps, Unopened};
-use verdict_ledger::Totals;
+use verdict_ledger::Tally;
 use vl_config::Config;
 
 /// A whole analysis of two recordings, with the devices that it was given.
@@ -31,8 +31,8 @@ use vl_config::Config;
 pub struct Watched<S, T, W, L> {
     /// How the recordings of networks A and B ended.
     pub endings: [Ending; 2],
-    /// The counts of all frames.
-    pub totals: Totals,
+    /// The counts of all frames, and of each link's.
+    pub tally: Tally,
     /// The source of network A.
     pub a: S,
     /// The source of network B.
@@ -111,7 +111,7 @@ fn finish<S: TapSource, T: TapSource, W: OutSink, L: OutSink>(
     ensures watched { IfOk result (λ done.
         (ps : Making) (vl_table : VlTable) (before : WatchDevices)
         → IsWatching S.TapSource T.TapSource W.OutSink L.OutSink ps vl_table before taps outputs
-        → IsFilterCount (length ps.filters) → IsWatched ps vl_table done.endings done.totals before
+        → IsFilterCount (length ps.filters) → IsWatched ps vl_table done.endings done.tally before
         (devices_at S.TapSource T.TapSource W.OutSink L.OutSink
         done.a done.b done.capture done.ledger)) }
     ensures aborted { IfErr result (λ refused. IfSome refused.a (λ a. IfSome refused.b (λ b.
@@ -127,9 +127,9 @@ fn finish<S: TapSource, T: TapSource, W: OutSink, L: OutSink>(
     };
     let (a, b) = taps.into_sources();
     match outputs.finish(end_a, end_b) {
-        Ok((capture, ledger, totals)) => Ok(Watched {
+        Ok((capture, ledger, tally)) => Ok(Watched {
             endings: [end_a, end_b],
-            totals,
+            tally,
             a,
             b,
             capture,
@@ -170,7 +170,7 @@ pub fn watch_whole<S: TapSource, T: TapSource, W: OutSink, L: OutSink>(
     ledger: L,
 ) -> Result<Watched<S, T, W, L>, WatchRefused<S, T, W, L>>
     ensures watched { IfOk result (λ done. IsWatched (pcap_of programs.now) config.now
-        done.endings done.totals
+        done.endings done.tally
         (devices_at S.TapSource T.TapSource W.OutSink L.OutSink a b capture ledger)
         (devices_at S.TapSource T.TapSource W.OutSink L.OutSink
         done.a done.b done.capture done.ledger)) }

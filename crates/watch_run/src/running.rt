@@ -74,9 +74,10 @@ fn settle_idle<'a, R: Wait, W: OutSink, L: OutSink, G: RunGate + RunObserver + S
 
 /// Takes and merges the next frames, hands a round of them to the workers of a pool, and writes the one
 /// before, which they were at. False: both recordings have ended, and all is written.
-fn write_next<'a, R: Wait, W: OutSink, L: OutSink, G: RunGate + Sync>(
+fn write_next<'a, R: Wait, W: OutSink, L: OutSink, G: RunGate + RunObserver + Sync>(
     rt: &R,
     round_len: NonZeroUsize,
+    gate: &G,
     pool: &mut Pool<Formatting<'a, G>>,
     rings: &mut Rings,
     outputs: &mut Outputs<W, L>,
@@ -94,6 +95,7 @@ fn write_next<'a, R: Wait, W: OutSink, L: OutSink, G: RunGate + Sync>(
 {
     match rings.next_round(rt, round_len) {
         Ok(Some(round)) => {
+            gate.judges(round.len());
             outputs.share_round(rt, pool, flight, round, entries)?;
             Ok(true)
         }
@@ -152,6 +154,7 @@ where
         match write_next(
             rt,
             round_len,
+            gate,
             pool,
             rings,
             &mut outputs,
@@ -219,7 +222,7 @@ fn finish_outputs<S, T, W: OutSink, L: OutSink>(
         → HasWritten W.OutSink L.OutSink
         ps vl_table capture ledger frames outputs
         → IsFinished ps vl_table capture ledger (sink_at W.OutSink done.capture)
-        (sink_at L.OutSink done.ledger) frames end_a end_b done.totals) }
+        (sink_at L.OutSink done.ledger) frames end_a end_b done.tally) }
     ensures stopped { IfErr result (λ refused. (ps : Making) (vl_table : VlTable)
         (capture ledger : SinkView) (frames : List Frame)
         → HasWritten W.OutSink L.OutSink
@@ -229,9 +232,9 @@ fn finish_outputs<S, T, W: OutSink, L: OutSink>(
         (sink_at L.OutSink refused.ledger) frames end_a end_b) }
 {
     match outputs.finish(end_a, end_b) {
-        Ok((capture, ledger, totals)) => Ok(Watched {
+        Ok((capture, ledger, tally)) => Ok(Watched {
             endings: [end_a, end_b],
-            totals,
+            tally,
             a,
             b,
             capture,
@@ -298,7 +301,7 @@ impl<S: TapSource + Drop, T: TapSource + Drop> Running<S, T> {
             (reading_of T.remaining T.failures (promise_of self.feeds.b).reader.value)
             → IsRunning W.OutSink L.OutSink
             ps vl_table before.capture before.ledger self.rings outputs
-            → IsFilterCount (length ps.filters) → IsWatched ps vl_table done.endings done.totals before
+            → IsFilterCount (length ps.filters) → IsWatched ps vl_table done.endings done.tally before
             (devices_at S.TapSource T.TapSource W.OutSink L.OutSink
             done.a done.b done.capture done.ledger)) }
         ensures aborted { IfErr result (λ refused.

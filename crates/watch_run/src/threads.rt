@@ -264,7 +264,7 @@ where
     L: OutSink + Drop,
     G: RunGate + TapGate + RunObserver + Sync,
     ensures watched { IfOk result (λ done. IsWorkerCount workers × IsWatched (pcap_of programs.now) config.now
-        done.endings done.totals
+        done.endings done.tally
         (devices_at S.TapSource T.TapSource W.OutSink L.OutSink a b capture ledger)
         (devices_at S.TapSource T.TapSource W.OutSink L.OutSink
         done.a done.b done.capture done.ledger)) }

@@ -1,4 +1,5 @@
-//! What is told of a run on threads: each frame and each tap once, and a fault that ends it once.
+//! What is told of a run on threads: each frame, as it is judged and as it is filtered, and each tap once, and
+//! a fault that ends it once.
 
 use crate::watch::{Given, NO_FAILURE, NOT_FIRST, Scripts, Way, recording, run_past};
 use afdx_frame::Network;
@@ -16,6 +17,7 @@ use watch_run::RunObserver;
 /// How often frames and taps were told, and the fault of the capture.
 #[derive(Drop)]
 struct Told {
+    judged: AtomicU64,
     frames: AtomicU64,
     taps_a: AtomicU64,
     taps_b: AtomicU64,
@@ -25,6 +27,7 @@ struct Told {
 impl Told {
     fn new() -> Told {
         Told {
+            judged: AtomicU64::new(0),
             frames: AtomicU64::new(0),
             taps_a: AtomicU64::new(0),
             taps_b: AtomicU64::new(0),
@@ -50,6 +53,10 @@ impl TapGate for Told {
 }
 
 impl RunObserver for Told {
+    fn judges(&self, frames: usize) {
+        self.judged.fetch_add(frames as u64, SeqCst);
+    }
+
     fn aborts(&self, fault: WatchFault) {
         let output = Output::Capture;
         if fault == (WatchFault::Write { output }) {
@@ -83,7 +90,9 @@ fn each_is_told_once(rt: HostRuntime) -> Result<(), Fail> {
         let told = Told::new();
         let ran = run_past(&rt, Way::Workers(2), given, scripts, &told)?;
         assert!(rt; ran.outcome.is_ok() == (*aborts == 0));
-        assert!(rt; ran.outcome.is_err() || told.frames.load(SeqCst) == 3);
+        for count in [&told.judged, &told.frames] {
+            assert!(rt; ran.outcome.is_err() || count.load(SeqCst) == 3);
+        }
         assert!(rt; told.taps_a.load(SeqCst) == 1 && told.taps_b.load(SeqCst) == 1);
         assert!(rt; told.aborts.load(SeqCst) == *aborts);
     }

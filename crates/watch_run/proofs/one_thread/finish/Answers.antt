@@ -7,7 +7,7 @@ use Rattle.watch_run.proofs.one_thread.finish.Goals as goal
 
 pub returns-in-Ok-clause-watched : goal.returns-in-Ok-clause-watched
 returns-in-Ok-clause-watched g c = λ ps vl_table before h number.
-    watched ps vl_table before _ h.frames_a h.frames_b h.cut c.in-Some-Some.end_a c.in-Some-Some.end_b c.in-Ok.totals c.args.taps.merger
+    watched ps vl_table before _ h.frames_a h.frames_b h.cut c.in-Some-Some.end_a c.in-Some-Some.end_b c.in-Ok.tally c.args.taps.merger
     (reading_of g.S.TapSource.remaining g.S.TapSource.failures c.args.taps.a) (reading_of g.T.TapSource.remaining g.T.TapSource.failures c.args.taps.b) _ _ (record {
       a_left = c.into_sources-a.ensures.a;
       b_left = c.into_sources-a.ensures.b;

@@ -1,6 +1,7 @@
 use Rattle.std.proofs.Common.{◌∙◌, length, sym, subst, append_assoc}
 use Rattle.std.proofs.KnownBytes.{Appends-trans}
 use Rattle.std.specs.Io.KnownBytes.{Appends}
+use Rattle.verdict_ledger.specs.Ledger.{IsTallyOf}
 use Rattle.verdict_ledger.specs.Text.{ledger_head, lines_text, rest_text}
 use Rattle.round_output.specs.Filters.{entries_by, lines_by}
 use Rattle.round_output.proofs.Writing.{ledger_stops}
@@ -15,7 +16,7 @@ returns-in-Ok-clause-finished g c = rw c.finish-capture.ensures (λ ps vl_table 
       packets = h.packets;
       text = subst (Appends ledger.contents (g.L.OutSink.contents c.in-Ok.ledger)) (append_assoc ledger_head (lines_text entries) rest)
           (Appends-trans _ _ _ (lines_by ps vl_table frames) rest h.lines written.0);
-      totals_are = c.in-Ok.ensures.totals ∙ h.tally.tally.totals;
+      counts = subst (IsTallyOf entries) (sym c.in-Ok.ensures.tally) h.tally.tally;
       capture_failures = h.capture_failures;
       ledger_failures = written.1 ∙ h.ledger_failures;
     }))
