@@ -1,6 +1,6 @@
 //! That no output is another file of its command, and that the standard streams are there.
 use afdx_frame::Network;
-use analyser::{
+use command_line::{
     Fault, FileOption, GivenFile, Inode, Invocation, Named, NamedFile, WatchArguments, is_standard,
 };
 use std::alloc::AllocError;
@@ -90,7 +90,7 @@ pub fn refuse_shared(rt: &HostRuntime, command: Invocation<'_>, taps: &Taps) -> 
         let option = option_of(command, network);
         add_later_files(rt, &mut named, taps.of_network(network), option).map_err(|_| NO_RUN)?;
     }
-    analyser::refuse_shared(&named)
+    command_line::refuse_shared(&named)
 }
 
 /// The system's error for a stream that is closed.

@@ -1,11 +1,12 @@
 //! Whether a run of `watch` would be sound, told on standard output.
-use crate::text_of;
+use crate::given::text_of;
 use afdx_frame::Network;
-use analyser::{CheckArguments, Exit, Fault, FileOption, WatchFault, filter_of, is_standard};
 use bpf_loader::Program;
 use check_text::{Answer, FilterAnswer, TapAnswer, json_of, text_of as answer_text, verdict_of};
+use command_line::{CheckArguments, Exit, Fault, FileOption, is_standard};
+use commands::filter_of;
 use input_check::{Inputs, Look, Reach, link_questions, questions_of};
-use run_outcome::MAX_FRAMES;
+use run_outcome::{MAX_FRAMES, WatchFault};
 use run_outputs::Ended;
 use std::fmt::Write;
 use survey_run::{Extent, Pass, Recorded, show_recordings};

@@ -1,10 +1,10 @@
 //! The page on what a ledger says.
 use crate::files::refuse_shared;
-use crate::{is_at_terminal, text_of};
-use analyser::{
-    Contradiction, Exit, Fault, FileOption, Invocation, ManifestFault, ReportArguments,
-    ReportFault, read_config,
+use crate::given::{is_at_terminal, text_of};
+use command_line::{
+    Contradiction, Exit, Fault, FileOption, Invocation, ManifestFault, ReportArguments, ReportFault,
 };
+use commands::read_config;
 use ledger_report::{Report, WrongLine, read_report};
 use ledger_text::{LedgerStop, LineFault};
 use pcap_io::ReadSource;
