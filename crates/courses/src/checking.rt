@@ -120,12 +120,12 @@ fn filter_answers(
     rt: &HostRuntime,
     given: &CheckArguments<'_>,
     config: Option<&Config>,
-) -> Result<Vec<FilterAnswer>, Fault> {
+) -> Result<Vec<FilterAnswer>, Refused> {
     let mut answers = Vec::new(rt.alloc());
     if let Some(path) = given.filter {
         let code = text_of(rt, path, FileOption::Filter)?;
         let answer = filter_answer(None, filter_of(rt.alloc(), &code, None))?;
-        answers.push(answer).map_err(|_| NO_RUN)?;
+        answers.push(answer)?;
     }
     let Some(config) = config else {
         return Ok(answers);
@@ -133,7 +133,7 @@ fn filter_answers(
     for (index, code) in config.filters().iter().enumerate() {
         let number = Some(index as u8 + 1);
         let answer = filter_answer(number, filter_of(rt.alloc(), code, number))?;
-        answers.push(answer).map_err(|_| NO_RUN)?;
+        answers.push(answer)?;
     }
     Ok(answers)
 }
@@ -171,7 +171,7 @@ struct Table<'a> {
 /// Tells whether a run with these inputs would be sound.
 pub fn check(rt: &HostRuntime, given: &CheckArguments<'_>, taps: &Taps) -> Result<Ended, Refused> {
     let text = text_of(rt, given.config, FileOption::Config)?;
-    let faults = table_faults(rt.alloc(), &text).map_err(|_| NO_RUN)?;
+    let faults = table_faults(rt.alloc(), &text)?;
     let config = table_in(rt, &text, &faults)?;
     let table = Table {
         text: &text,
@@ -192,7 +192,7 @@ fn check_inputs(
     let name_b = name_of(rt, taps.of_network(Network::B))?;
     let recordings = (taps, [name_a.as_str(), name_b.as_str()]);
     let filters = filter_answers(rt, given, table.config)?;
-    let mut inputs = Inputs::new(rt.alloc(), table.config).map_err(|_| NO_RUN)?;
+    let mut inputs = Inputs::new(rt.alloc(), table.config)?;
     let passed = read_recordings(rt, given, recordings, table.config, &mut inputs)?;
     tell_inputs(rt, given, table, &filters, &inputs, passed)
 }
@@ -210,9 +210,9 @@ fn tell_inputs(
         a: reach_of(passed.a),
         b: reach_of(passed.b),
     };
-    let mut questions = questions_of(rt.alloc(), inputs, look).map_err(|_| NO_RUN)?;
-    for question in link_questions(rt.alloc(), inputs).map_err(|_| NO_RUN)? {
-        questions.push(question).map_err(|_| NO_RUN)?;
+    let mut questions = questions_of(rt.alloc(), inputs, look)?;
+    for question in link_questions(rt.alloc(), inputs)? {
+        questions.push(question)?;
     }
     let answer = Answer {
         table: shown_path(given.config),
@@ -239,10 +239,10 @@ fn tell_answer(
     let alloc = rt.alloc();
     let text = if given.json {
         let mut text = json_of(alloc, answer).map_err(|_| NO_RUN)?;
-        text.push('\n').map_err(|_| NO_RUN)?;
+        text.push('\n')?;
         text
     } else {
-        answer_text(alloc, answer).map_err(|_| NO_RUN)?
+        answer_text(alloc, answer)?
     };
     if let Err(error) = rt.print(&text) {
         return Err(Refused {

@@ -117,8 +117,10 @@ fn baseline_of(
     let Some(mut ledger) = ledger else {
         return Ok(None);
     };
-    let report = read_report(rt.alloc(), config, ReadSource::new(&mut ledger));
-    Ok(Some(report.map_err(|fault| baseline_fault(fault_of(fault)))?))
+    match read_report(rt.alloc(), config, ReadSource::new(&mut ledger)) {
+        Ok(report) => Ok(Some(report)),
+        Err(fault) => Err(baseline_fault(fault_of(fault))),
+    }
 }
 
 /// The page, the numbers, or at a terminal the first part as text.
@@ -131,13 +133,14 @@ fn text_for(
     baseline: Option<&Report>,
 ) -> Result<String, Fault> {
     let (alloc, sizes) = (rt.alloc(), has_sizes(config));
-    if given.json {
-        return json_of(alloc, report, config, sizes, manifest, baseline).map_err(|_| NO_REPORT);
-    }
-    if is_at_terminal(rt, given.output) {
-        return summary_of(alloc, report, config, baseline).map_err(|_| NO_REPORT);
-    }
-    page_of(alloc, report, config, sizes, manifest, baseline).map_err(|_| NO_REPORT)
+    let text = if given.json {
+        json_of(alloc, report, config, sizes, manifest, baseline).ok()
+    } else if is_at_terminal(rt, given.output) {
+        summary_of(alloc, report, config, baseline).ok()
+    } else {
+        page_of(alloc, report, config, sizes, manifest, baseline).ok()
+    };
+    text.ok_or(NO_REPORT)
 }
 
 /// How the program ends that has told of a ledger.
