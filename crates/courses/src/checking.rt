@@ -5,9 +5,10 @@ use bpf_loader::Program;
 use check_text::{Answer, FilterAnswer, TapAnswer, json_of, text_of as answer_text, verdict_of};
 use command_line::{CheckArguments, Exit, Fault, FileOption, is_standard};
 use commands::filter_of;
-use input_check::{Inputs, Look, Reach, link_questions, questions_of};
+use input_check::{Inputs, Look, Question, Reach, link_questions, questions_of};
 use run_outcome::{MAX_FRAMES, WatchFault};
 use run_outputs::Ended;
+use std::alloc::{AllocError, Global};
 use std::fmt::Write;
 use survey_run::{Extent, Pass, Recorded, show_recordings};
 use table_check::{TableFault, table_faults};
@@ -68,8 +69,10 @@ fn name_of(rt: &HostRuntime, tap: &Tap) -> Result<String, Fault> {
         2 => write!(name, "{first} and 1 more file"),
         count => write!(name, "{first} and {} more files", count.saturating_sub(1)),
     };
-    written.map_err(|_| NO_RUN)?;
-    Ok(name)
+    match written {
+        Ok(()) => Ok(name),
+        Err(_) => Err(NO_RUN),
+    }
 }
 
 /// Reads the first frames of both recordings.
@@ -120,12 +123,12 @@ fn filter_answers(
     rt: &HostRuntime,
     given: &CheckArguments<'_>,
     config: Option<&Config>,
-) -> Result<Vec<FilterAnswer>, Refused> {
+) -> Result<Vec<FilterAnswer>, Fault> {
     let mut answers = Vec::new(rt.alloc());
     if let Some(path) = given.filter {
         let code = text_of(rt, path, FileOption::Filter)?;
         let answer = filter_answer(None, filter_of(rt.alloc(), &code, None))?;
-        answers.push(answer)?;
+        answers.push(answer).map_err(|_| NO_RUN)?;
     }
     let Some(config) = config else {
         return Ok(answers);
@@ -133,7 +136,7 @@ fn filter_answers(
     for (index, code) in config.filters().iter().enumerate() {
         let number = Some(index as u8 + 1);
         let answer = filter_answer(number, filter_of(rt.alloc(), code, number))?;
-        answers.push(answer)?;
+        answers.push(answer).map_err(|_| NO_RUN)?;
     }
     Ok(answers)
 }
@@ -197,6 +200,19 @@ fn check_inputs(
     tell_inputs(rt, given, table, &filters, &inputs, passed)
 }
 
+/// What recordings leave open: of the run, and then of single links.
+fn all_questions(
+    alloc: Global,
+    inputs: &Inputs<'_>,
+    look: Look,
+) -> Result<Vec<Question>, AllocError> {
+    let mut questions = questions_of(alloc, inputs, look)?;
+    for question in link_questions(alloc, inputs)? {
+        questions.push(question)?;
+    }
+    Ok(questions)
+}
+
 /// Tells what was found.
 fn tell_inputs(
     rt: &HostRuntime,
@@ -210,10 +226,7 @@ fn tell_inputs(
         a: reach_of(passed.a),
         b: reach_of(passed.b),
     };
-    let mut questions = questions_of(rt.alloc(), inputs, look)?;
-    for question in link_questions(rt.alloc(), inputs)? {
-        questions.push(question)?;
-    }
+    let questions = all_questions(rt.alloc(), inputs, look)?;
     let answer = Answer {
         table: shown_path(given.config),
         text: table.text,

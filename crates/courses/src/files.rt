@@ -99,8 +99,10 @@ fn named_files<'a>(
 
 /// Refuses an output of a command that is another of its files.
 pub fn refuse_shared(rt: &HostRuntime, command: Invocation<'_>, taps: &Taps) -> Result<(), Fault> {
-    let named = named_files(rt, command, taps).map_err(|_| NO_RUN)?;
-    command_line::refuse_shared(&named)
+    match named_files(rt, command, taps) {
+        Ok(named) => command_line::refuse_shared(&named),
+        Err(_) => Err(NO_RUN),
+    }
 }
 
 /// The system's error for a stream that is closed.

@@ -92,11 +92,10 @@ fn refuse_other(rt: &HostRuntime, manifest: Option<&Manifest>, ledger: Sum) -> R
     let Some(manifest) = manifest else {
         return Ok(());
     };
-    let may_be = manifest.outputs.ledger.may_be_of(rt.alloc(), ledger);
-    if may_be.map_err(|_| NO_REPORT)? {
-        Ok(())
-    } else {
-        Err(not_of(ManifestFault::Ledger))
+    match manifest.outputs.ledger.may_be_of(rt.alloc(), ledger) {
+        Ok(true) => Ok(()),
+        Ok(false) => Err(not_of(ManifestFault::Ledger)),
+        Err(_) => Err(NO_REPORT),
     }
 }
 
