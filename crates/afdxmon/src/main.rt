@@ -1,156 +1,24 @@
 //! `afdxmon`: analyses recordings of AFDX networks (ARINC 664 Part 7).
 //!
-//! The program opens files and standard streams, hands them to the command of `analyser` and tells how
-//! it ended. What a command does stands in that crate, with its contract.
+//! The program reads its command line, hands it to the course of its command and tells how that ended. What
+//! a command does stands in the crates of `analyser`, with its contract.
 #![tactic(auto)]
 
-mod check;
-mod cutting;
-mod debugging;
-mod files;
-mod links;
-mod report;
 mod watcher;
 mod watching;
 
-use afdx_frame::Network;
-use analyser::{
-    AsmRun, CaptureArguments, CaptureRun, CommandLine, Exit, Fault, FileOption, FilterArgument,
-    Invocation, Lateness, MAX_LATE_MICROS, USAGE, capture_by, filter_of, filter_of_source,
-    gathered, is_standard, read_arguments, read_config, read_file, run_asm,
-};
-use bpf_loader::Program;
-use check::check;
-use cutting::cut;
-use debugging::debug;
-use files::refuse_shared;
-use links::links;
-use pcap_io::{ReadSource, WriteSink};
-use pcapng_writer::Interfaces;
-use report::report;
-use run_outputs::{Ended, arguments, create, file_in, format_of, live_output, summarise};
+use analyser::{CommandLine, Exit, Invocation, USAGE, gathered, read_arguments};
+use courses::{asm, capture, check, cut, debug, links, report};
+use run_outputs::{Ended, arguments, summarise};
 use std::io;
 use std::io::{ErrorKind, IsTerminal};
 use std::process::ExitCode;
 use std::sync::Wait;
 use std::sync::atomic::{AtomicBool, Ordering};
 use std::thread::Threads;
-use tap_inputs::{
-    NO_RUN, Noting, Reading, Refused, Skipped, Taps, end_of, files_of, open, status_of,
-};
+use tap_inputs::{NO_RUN, Refused, Taps, status_of};
 use telling::{Known, tell};
-use vl_config::Config;
 use watching::watch;
-
-/// Assembles the filter's source on standard input, and prints its numeric form to standard output.
-fn asm(rt: &HostRuntime) -> Result<Exit, Refused> {
-    let AsmRun {
-        outcome,
-        text,
-        source: _,
-        sink,
-    } = run_asm(
-        rt.alloc(),
-        ReadSource::new(rt.stdin()),
-        WriteSink::new(Noting::new(rt.stdout())),
-    );
-    let (flushed, reason) = sink.into_writer().finish();
-    match Exit::of_text(outcome, flushed) {
-        Exit::Fault(fault) => Err(Refused {
-            source: text,
-            reason,
-            ..Refused::from(fault)
-        }),
-        exit => Ok(exit),
-    }
-}
-
-/// The text of a file.
-fn text_of(rt: &HostRuntime, path: &str, file: FileOption) -> Result<String, Fault> {
-    let mut source = ReadSource::new(open(rt, path, file)?);
-    read_file(rt.alloc(), file, &mut source)
-}
-
-/// The filter that a command is given.
-fn filter(rt: &HostRuntime, given: FilterArgument<'_>) -> Result<Program, Refused> {
-    match given {
-        FilterArgument::Code(code) => Ok(filter_of(rt.alloc(), code, None)?),
-        FilterArgument::Numeric(path) => {
-            let code = text_of(rt, path, FileOption::Filter)?;
-            Ok(filter_of(rt.alloc(), &code, None)?)
-        }
-        FilterArgument::Source(path) => {
-            let text = text_of(rt, path, FileOption::Source)?;
-            match filter_of_source(rt.alloc(), &text) {
-                Ok(program) => Ok(program),
-                Err(fault) => Err(Refused {
-                    source: Some(text),
-                    ..Refused::from(fault)
-                }),
-            }
-        }
-    }
-}
-
-/// Is this path standard output, and that a terminal?
-fn is_at_terminal(rt: &HostRuntime, path: &str) -> bool {
-    is_standard(path) && rt.stdout().is_terminal()
-}
-
-/// How late a timestamp may be, in nanoseconds: not at all where no option says so.
-fn late_of(late: Option<Lateness>) -> u64 {
-    late.map_or(0, |late| late.nanoseconds())
-}
-
-/// Copies the frames of a recording that the filter accepts. What was written before a fault is handed to
-/// the system too. An error is a fault that was met before.
-fn capture(rt: &HostRuntime, given: &CaptureArguments<'_>, taps: &Taps) -> Result<Ended, Refused> {
-    if is_at_terminal(rt, given.output) {
-        return Ok(Ended::from(Exit::Terminal));
-    }
-    let program = filter(rt, given.filter)?;
-    let recording = open(rt, given.recording, FileOption::Recording)?;
-    refuse_shared(rt, Invocation::Capture(*given), taps)?;
-    let (tap, late) = (taps.of_network(Network::A), late_of(given.late));
-    let length = tap.look(rt, (FileOption::Recording, &recording), late)?;
-    let output = create(rt, given.output, FileOption::Output)?;
-    let (output, live) = live_output(rt, output, length.is_none())?;
-    let source = files_of(Reading::quiet(rt, Network::A), tap, recording, live)?;
-    let format = format_of(given.pcapng, Interfaces::One, None);
-    let CaptureRun {
-        outcome,
-        source,
-        sink,
-    } = capture_by(
-        rt.alloc(),
-        &program,
-        late,
-        format,
-        source,
-        WriteSink::new(output),
-    );
-    let reason = sink.into_writer().finish(outcome.is_ok()).err();
-    let end = end_of(rt, source);
-    let exit = Exit::of_capture(outcome, reason.is_none());
-    Ok(Ended {
-        skipped: Skipped::one(end.skipped),
-        at: [file_in(&end, &exit, Network::A), 0],
-        reason,
-        ..Ended::from(exit)
-    })
-}
-
-/// The greatest window for late timestamps of a run over two recordings, in nanoseconds.
-const MAX_LATE: u64 = MAX_LATE_MICROS * 1000;
-
-/// The table of virtual links, if it is given.
-fn table_of(rt: &HostRuntime, path: Option<&str>) -> Result<Option<Config>, Fault> {
-    let Some(path) = path else {
-        return Ok(None);
-    };
-    let text = text_of(rt, path, FileOption::Config)?;
-    Ok(Some(read_config(rt.alloc(), &text)?))
-}
 
 /// Why the arguments can't be had as text.
 fn unreadable(error: &io::Error) -> &'static str {

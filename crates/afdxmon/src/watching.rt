@@ -1,13 +1,12 @@
 //! The course of `watch`: two recordings judged and filtered, on threads.
-use crate::files::{refuse_closed, refuse_shared};
 use crate::watcher::Watcher;
-use crate::{MAX_LATE, is_at_terminal, text_of};
 use afdx_frame::Network;
 use analyser::{
     Exit, Fault, FileOption, Invocation, Plan, RunSizes, Summary, WatchArguments, WatchRefused,
     Watched, load_filters, read_config, sized_watch,
 };
 use bpf_loader::Program;
+use courses::{MAX_LATE, is_at_terminal, refuse_closed, refuse_shared, text_of};
 use pcap_io::WriteSink;
 use pcapng_writer::Interfaces;
 use run_manifest::sum_of;

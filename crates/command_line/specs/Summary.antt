@@ -1,5 +1,11 @@
 -- What a run of watch came to, as a person at a terminal is told (this project's format), and which input its counts speak against.
 use Rattle.std.specs.Prelude.{ℕ, ◌-◌, ◌/◌, ◌==◌, nat_lt, nat_le, Bool, ◌&&◌, List, [], ◌++◌, Option, None, Some, codes, decimal, if◌then◌else◌}
+use Rattle.integrity.specs.Word.{integrity_word}
+use Rattle.integrity.specs.declared.verdict.Integrity.TheVariants as integrity
+use Rattle.policing.specs.Word.{policing_word}
+use Rattle.policing.specs.declared.verdict.Policing.TheVariants as policing
+use Rattle.vl_config.specs.Class.{class_word}
+use Rattle.vl_config.specs.declared.class.Class.TheVariants as class
 use Rattle.pcap_io.specs.Word.{frames_before}
 use Rattle.pcap_io.specs.declared.recording.Ending.{Ending}
 use Rattle.verdict_ledger.specs.declared.totals.Totals.{Totals}
@@ -48,11 +54,13 @@ abbrev pub four_counts : List ℕ → ℕ → List ℕ → ℕ → List ℕ → 
 four_counts one k two l three m four n =
     count_part one k ++ codes ", " ++ count_part two l ++ codes ", " ++ count_part three m ++ codes ", " ++ count_part four n
 
--- what discarded frames, and how many
+-- what discarded frames, by the words of the verdicts, and how many
 unfoldable pub discards_part : Totals → List ℕ
 discards_part t =
-    four_counts (codes "cut") t.cut (codes "runt") t.runt (codes "oversize") t.oversize (codes "foreign") t.foreign ++ codes ", "
-    ++ four_counts (codes "unconfigured") t.unconfigured (codes "toolong") t.toolong (codes "excess") t.excess (codes "out") t.out
+    four_counts (class_word class.Cut) t.cut (class_word class.Runt) t.runt (class_word class.Oversize) t.oversize (class_word class.Foreign) t.foreign
+    ++ (codes ", "
+    ++ four_counts (class_word class.Unconfigured) t.unconfigured (class_word class.TooLong) t.toolong
+    (policing_word policing.Excess) t.excess (integrity_word integrity.Out) t.out)
 
 -- how many frames there are, and of each network
 unfoldable pub frames_part : Ending → Ending → Totals → List ℕ

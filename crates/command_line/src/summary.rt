@@ -2,10 +2,13 @@
 ghost use Rattle.std.specs.Prelude.{◌≡◌};
 ghost use Rattle.command_line.specs.Summary.{hint_of, hint_words, is_nearly_all};
 
+use integrity::Integrity;
 use pcap_io::Ending;
+use policing::Policing;
 use std::fmt;
 use std::fmt::{Display, Formatter};
 use verdict_ledger::Totals;
+use vl_config::Class;
 
 /// Which input of a run its counts speak against.
 #[derive(Clone, Copy, PartialEq, Eq)]
@@ -144,20 +147,19 @@ impl Display for DiscardsPart {
 
     ghost output = { λ part. Some (discards_part part.0) };
 
-    #[tactic(auto, unfolding(crate::specs::Summary::discards_part))]
     fn fmt<W: fmt::Write>(&self, f: &mut Formatter<W>) -> fmt::Result {
         let t = self.0;
         let by_class = FourCounts(
-            Count("cut", t.cut),
-            Count("runt", t.runt),
-            Count("oversize", t.oversize),
-            Count("foreign", t.foreign),
+            Count(Class::Cut.word(), t.cut),
+            Count(Class::Runt.word(), t.runt),
+            Count(Class::Oversize.word(), t.oversize),
+            Count(Class::Foreign.word(), t.foreign),
         );
         let by_link = FourCounts(
-            Count("unconfigured", t.unconfigured),
-            Count("toolong", t.toolong),
-            Count("excess", t.excess),
-            Count("out", t.out),
+            Count(Class::Unconfigured.word(), t.unconfigured),
+            Count(Class::TooLong.word(), t.toolong),
+            Count(Policing::Excess.word(), t.excess),
+            Count(Integrity::Out.word(), t.out),
         );
         write!(f, "{by_class}, {by_link}")
     }

@@ -1,10 +1,10 @@
 //! The page on what a ledger says.
 use crate::files::refuse_shared;
-use crate::{is_at_terminal, text_of};
-use analyser::{
-    Contradiction, Exit, Fault, FileOption, Invocation, ManifestFault, ReportArguments,
-    ReportFault, read_config,
+use crate::given::{is_at_terminal, text_of};
+use command_line::{
+    Contradiction, Exit, Fault, FileOption, Invocation, ManifestFault, ReportArguments, ReportFault,
 };
+use commands::read_config;
 use ledger_report::{Report, WrongLine, read_report};
 use ledger_text::{LedgerStop, LineFault};
 use pcap_io::ReadSource;
@@ -92,11 +92,10 @@ fn refuse_other(rt: &HostRuntime, manifest: Option<&Manifest>, ledger: Sum) -> R
     let Some(manifest) = manifest else {
         return Ok(());
     };
-    let may_be = manifest.outputs.ledger.may_be_of(rt.alloc(), ledger);
-    if may_be.map_err(|_| NO_REPORT)? {
-        Ok(())
-    } else {
-        Err(not_of(ManifestFault::Ledger))
+    match manifest.outputs.ledger.may_be_of(rt.alloc(), ledger) {
+        Ok(true) => Ok(()),
+        Ok(false) => Err(not_of(ManifestFault::Ledger)),
+        Err(_) => Err(NO_REPORT),
     }
 }
 
@@ -117,8 +116,10 @@ fn baseline_of(
     let Some(mut ledger) = ledger else {
         return Ok(None);
     };
-    let report = read_report(rt.alloc(), config, ReadSource::new(&mut ledger));
-    Ok(Some(report.map_err(|fault| baseline_fault(fault_of(fault)))?))
+    match read_report(rt.alloc(), config, ReadSource::new(&mut ledger)) {
+        Ok(report) => Ok(Some(report)),
+        Err(fault) => Err(baseline_fault(fault_of(fault))),
+    }
 }
 
 /// The page, the numbers, or at a terminal the first part as text.
@@ -131,13 +132,14 @@ fn text_for(
     baseline: Option<&Report>,
 ) -> Result<String, Fault> {
     let (alloc, sizes) = (rt.alloc(), has_sizes(config));
-    if given.json {
-        return json_of(alloc, report, config, sizes, manifest, baseline).map_err(|_| NO_REPORT);
-    }
-    if is_at_terminal(rt, given.output) {
-        return summary_of(alloc, report, config, baseline).map_err(|_| NO_REPORT);
-    }
-    page_of(alloc, report, config, sizes, manifest, baseline).map_err(|_| NO_REPORT)
+    let text = if given.json {
+        json_of(alloc, report, config, sizes, manifest, baseline).ok()
+    } else if is_at_terminal(rt, given.output) {
+        summary_of(alloc, report, config, baseline).ok()
+    } else {
+        page_of(alloc, report, config, sizes, manifest, baseline).ok()
+    };
+    text.ok_or(NO_REPORT)
 }
 
 /// How the program ends that has told of a ledger.

@@ -1,12 +1,15 @@
 //! The frames of a ledger's lines, cut from its recordings.
 use crate::files::refuse_shared;
-use crate::{MAX_LATE, is_at_terminal, table_of};
+use crate::given::{MAX_LATE, is_at_terminal, table_of};
 use afdx_frame::Network;
-use analyser::{
-    CutArguments, CutEnding, CutFault, Exit, Fault, FileOption, Invocation, LinesRun, Neighbours,
-    NeighboursRun, Selection, SelectionOption, cut_frames, is_standard, neighbours_of, print_lines,
-    selection_of,
+use command_line::{
+    CutArguments, Exit, Fault, FileOption, Invocation, SelectionOption, is_standard,
 };
+use commands::selection_of;
+use cut_run::{
+    CutEnding, CutFault, LinesRun, NeighboursRun, cut_frames, neighbours_of, print_lines,
+};
+use line_selection::{Neighbours, Selection};
 use packet_format::PacketFormat;
 use pcap_io::{ReadSource, WriteSink};
 use pcapng_writer::Interfaces;

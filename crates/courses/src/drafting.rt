@@ -1,6 +1,6 @@
 //! The table of virtual links that is drafted from recordings and a document.
-use crate::{MAX_LATE, text_of};
-use analyser::{Exit, Fault, FileOption, LinksArguments};
+use crate::given::{MAX_LATE, text_of};
+use command_line::{Exit, Fault, FileOption, LinksArguments};
 use icd_links::IcdLinks;
 use link_draft::{Comparison, DraftFault, LeftOut, Recordings, Sources, draft_of};
 use pcap_io::Ending;

@@ -1,12 +1,14 @@
 //! Whether a run of `watch` would be sound, told on standard output.
-use crate::text_of;
+use crate::given::text_of;
 use afdx_frame::Network;
-use analyser::{CheckArguments, Exit, Fault, FileOption, WatchFault, filter_of, is_standard};
 use bpf_loader::Program;
 use check_text::{Answer, FilterAnswer, TapAnswer, json_of, text_of as answer_text, verdict_of};
-use input_check::{Inputs, Look, Reach, link_questions, questions_of};
-use run_outcome::MAX_FRAMES;
+use command_line::{CheckArguments, Exit, Fault, FileOption, is_standard};
+use commands::filter_of;
+use input_check::{Inputs, Look, Question, Reach, link_questions, questions_of};
+use run_outcome::{MAX_FRAMES, WatchFault};
 use run_outputs::Ended;
+use std::alloc::{AllocError, Global};
 use std::fmt::Write;
 use survey_run::{Extent, Pass, Recorded, show_recordings};
 use table_check::{TableFault, table_faults};
@@ -67,8 +69,10 @@ fn name_of(rt: &HostRuntime, tap: &Tap) -> Result<String, Fault> {
         2 => write!(name, "{first} and 1 more file"),
         count => write!(name, "{first} and {} more files", count.saturating_sub(1)),
     };
-    written.map_err(|_| NO_RUN)?;
-    Ok(name)
+    match written {
+        Ok(()) => Ok(name),
+        Err(_) => Err(NO_RUN),
+    }
 }
 
 /// Reads the first frames of both recordings.
@@ -170,7 +174,7 @@ struct Table<'a> {
 /// Tells whether a run with these inputs would be sound.
 pub fn check(rt: &HostRuntime, given: &CheckArguments<'_>, taps: &Taps) -> Result<Ended, Refused> {
     let text = text_of(rt, given.config, FileOption::Config)?;
-    let faults = table_faults(rt.alloc(), &text).map_err(|_| NO_RUN)?;
+    let faults = table_faults(rt.alloc(), &text)?;
     let config = table_in(rt, &text, &faults)?;
     let table = Table {
         text: &text,
@@ -191,9 +195,22 @@ fn check_inputs(
     let name_b = name_of(rt, taps.of_network(Network::B))?;
     let recordings = (taps, [name_a.as_str(), name_b.as_str()]);
     let filters = filter_answers(rt, given, table.config)?;
-    let mut inputs = Inputs::new(rt.alloc(), table.config).map_err(|_| NO_RUN)?;
+    let mut inputs = Inputs::new(rt.alloc(), table.config)?;
     let passed = read_recordings(rt, given, recordings, table.config, &mut inputs)?;
     tell_inputs(rt, given, table, &filters, &inputs, passed)
+}
+
+/// What recordings leave open: of the run, and then of single links.
+fn all_questions(
+    alloc: Global,
+    inputs: &Inputs<'_>,
+    look: Look,
+) -> Result<Vec<Question>, AllocError> {
+    let mut questions = questions_of(alloc, inputs, look)?;
+    for question in link_questions(alloc, inputs)? {
+        questions.push(question)?;
+    }
+    Ok(questions)
 }
 
 /// Tells what was found.
@@ -209,10 +226,7 @@ fn tell_inputs(
         a: reach_of(passed.a),
         b: reach_of(passed.b),
     };
-    let mut questions = questions_of(rt.alloc(), inputs, look).map_err(|_| NO_RUN)?;
-    for question in link_questions(rt.alloc(), inputs).map_err(|_| NO_RUN)? {
-        questions.push(question).map_err(|_| NO_RUN)?;
-    }
+    let questions = all_questions(rt.alloc(), inputs, look)?;
     let answer = Answer {
         table: shown_path(given.config),
         text: table.text,
@@ -238,10 +252,10 @@ fn tell_answer(
     let alloc = rt.alloc();
     let text = if given.json {
         let mut text = json_of(alloc, answer).map_err(|_| NO_RUN)?;
-        text.push('\n').map_err(|_| NO_RUN)?;
+        text.push('\n')?;
         text
     } else {
-        answer_text(alloc, answer).map_err(|_| NO_RUN)?
+        answer_text(alloc, answer)?
     };
     if let Err(error) = rt.print(&text) {
         return Err(Refused {

@@ -1,6 +1,6 @@
 //! That no output is another file of its command, and that the standard streams are there.
 use afdx_frame::Network;
-use analyser::{
+use command_line::{
     Fault, FileOption, GivenFile, Inode, Invocation, Named, NamedFile, WatchArguments, is_standard,
 };
 use std::alloc::AllocError;
@@ -80,17 +80,29 @@ fn add_later_files<'a>(
     Ok(())
 }
 
-/// Refuses an output of a command that is another of its files.
-pub fn refuse_shared(rt: &HostRuntime, command: Invocation<'_>, taps: &Taps) -> Result<(), Fault> {
+/// What the paths of a command's files name.
+fn named_files<'a>(
+    rt: &HostRuntime,
+    command: Invocation<'a>,
+    taps: &'a Taps,
+) -> Result<Vec<NamedFile<'a>>, AllocError> {
     let mut named = Vec::new(rt.alloc());
     for file in command.files() {
-        named.push(named_file(rt, file)).map_err(|_| NO_RUN)?;
+        named.push(named_file(rt, file))?;
     }
     for network in [Network::A, Network::B] {
         let option = option_of(command, network);
-        add_later_files(rt, &mut named, taps.of_network(network), option).map_err(|_| NO_RUN)?;
+        add_later_files(rt, &mut named, taps.of_network(network), option)?;
     }
-    analyser::refuse_shared(&named)
+    Ok(named)
+}
+
+/// Refuses an output of a command that is another of its files.
+pub fn refuse_shared(rt: &HostRuntime, command: Invocation<'_>, taps: &Taps) -> Result<(), Fault> {
+    match named_files(rt, command, taps) {
+        Ok(named) => command_line::refuse_shared(&named),
+        Err(_) => Err(NO_RUN),
+    }
 }
 
 /// The system's error for a stream that is closed.
