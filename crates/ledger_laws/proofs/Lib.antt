@@ -1,0 +1,4 @@
+pub mod Texts
+pub mod Counts
+pub mod Written
+pub mod OneReading

@@ -1,0 +1,72 @@
+-- A ledger that is written is read back whole.
+use Rattle.std.specs.Prelude.{◌≡◌, ℕ, ◌^◌, ◌<◌, IsTrue, List, [], ◌∷◌, ◌++◌, map, take, Option, Some}
+use Rattle.std.specs.List.{AllByRecursion}
+use Rattle.ledger_text.specs.FrameText.{IsFrameLine, shown}
+use Rattle.ledger_text.specs.Ledger.{ReadLine, ReadsLines}
+use Rattle.ledger_text.specs.Order.{IsLineAt, IsLineFaultAt}
+use Rattle.ledger_text.specs.declared.fault.LineFault.{LineFault}
+use Rattle.ledger_text.specs.declared.order.Counts.TheVariants as counts
+use Rattle.ledger_text.specs.declared.order.LedgerLine.{LedgerLine}
+use Rattle.ledger_text.specs.declared.order.LedgerLine.TheVariants as lines
+use Rattle.ledger_text.specs.declared.order.Stage.{Stage}
+use Rattle.ledger_text.specs.declared.order.Stage.TheVariants as stages
+use Rattle.pcap_io.specs.declared.recording.Ending.{Ending}
+use Rattle.pcap_io.specs.declared.recording.Ending.TheVariants as ending
+use Rattle.verdict_ledger.specs.Entry.{Entry}
+use Rattle.verdict_ledger.specs.Tally.{totals_of}
+use Rattle.verdict_ledger.specs.Text.{ledger_text}
+use Rattle.vl_config.specs.Document.{VlTable}
+use Rattle.vl_config.specs.Link.{VirtualLink, is_name}
+
+-- ---- what is written
+
+-- the identifier of a link has 16 bits, and its name is one
+pub record IsNamed (link : VirtualLink) : Type 0 where
+  pub id : link.id.0 < 2 ^ 16
+  pub name : IsTrue (is_name link.name)
+
+-- how many packets an ending counts
+abbrev pub packets_of : Ending → ℕ
+packets_of (ending.Clean n) = n
+packets_of (ending.Cut n) = n
+packets_of (ending.Bad n reason) = n
+
+-- The line of each entry reads as what it shows, each link has a name, and no count has more than 64 bits.
+pub record AreWritable (links : List VirtualLink) (entries : List Entry) (a b : Ending) : Type 0 where
+  pub shown : AllByRecursion (λ e. IsFrameLine (shown e)) entries
+  pub named : AllByRecursion IsNamed links
+  pub few : length entries < 2 ^ 64
+  pub few_a : packets_of a < 2 ^ 64
+  pub few_b : packets_of b < 2 ^ 64
+
+-- ---- what its lines say
+
+-- a line of counts of each link and of each filter, two of taps, and the total
+abbrev pub counts_lines : List VirtualLink → List ℕ → List LedgerLine
+counts_lines links filters =
+    map (λ link. lines.Counts counts.Link) links
+    ++ (map (λ accepted. lines.Counts counts.Filter) filters
+    ++ lines.Counts counts.Tap ∷ lines.Counts counts.Tap ∷ lines.Counts counts.Total ∷ [])
+
+-- the head, what the line of each frame shows, and the lines of counts
+abbrev pub written_lines : VlTable → ℕ → List Entry → List LedgerLine
+written_lines vl_table filters entries =
+    lines.Head ∷ (map (λ e. lines.Frame (shown e)) entries ++ counts_lines vl_table.links (take filters (totals_of entries).filters))
+
+-- A written ledger is lines that say this, one after another, and nothing more.
+abbrev pub WrittenLedgerIsRead : Type 0
+WrittenLedgerIsRead = (vl_table : VlTable) (filters : ℕ) (entries : List Entry) (a b : Ending) → AreWritable vl_table.links entries a b
+    → (rs : List ReadLine) × (map (λ r. r.line) rs ≡ written_lines vl_table filters entries)
+    × ReadsLines stages.Head (Some (ledger_text vl_table filters entries a b)) rs (stages.Counts counts.Total) (Some [])
+
+-- ---- and nothing else is read of it
+
+-- Where bytes are whole lines, those that were read of them are the first, and the others are left.
+abbrev pub ReadsFirstLines : Type 0
+ReadsFirstLines = (stage here end : Stage) (bytes : List ℕ) (left : Option (List ℕ)) (rs all : List ReadLine)
+    → ReadsLines stage (Some bytes) rs here left → ReadsLines stage (Some bytes) all end (Some [])
+    → (others : List ReadLine) × (all ≡ rs ++ others) × ReadsLines here left others end (Some [])
+
+-- A line that stands at its place has no fault there.
+abbrev pub LineIsNotWrong : Type 0
+LineIsNotWrong = (stage : Stage) (line : List ℕ) (said : LedgerLine) (fault : LineFault) → IsLineAt stage line said → IsLineFaultAt stage line fault → ⊥

@@ -1,0 +1,19 @@
+//! What is written is read: laws that hold of the definitions alone.
+ghost use Rattle.ledger_laws.specs.Laws.{LineIsNotWrong, ReadsFirstLines, WrittenLedgerIsRead};
+
+/// A written ledger is whole lines, one after another: the head, what the line of each frame shows, and the
+/// lines of counts, the last of which is that of all frames.
+pub fn written_ledger_is_read()
+    ensures { WrittenLedgerIsRead }
+{}
+
+/// The lines that were read of whole lines are the first of these, and the others are left: so of a written
+/// ledger nothing else is read.
+pub fn reads_first_lines()
+    ensures { ReadsFirstLines }
+{}
+
+/// A line that stands at its place has no fault there: so no line of a written ledger is refused.
+pub fn line_is_not_wrong()
+    ensures { LineIsNotWrong }
+{}

@@ -1,0 +1,6 @@
+//! Laws of the ledgers that `verdict_ledger` writes and `ledger_text` reads.
+#![tactic(auto)]
+
+mod laws;
+
+pub use laws::{line_is_not_wrong, reads_first_lines, written_ledger_is_read};
