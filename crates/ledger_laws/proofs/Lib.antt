@@ -2,3 +2,4 @@ pub mod Texts
 pub mod Counts
 pub mod Written
 pub mod OneReading
+pub mod Shown

@@ -1,22 +1,26 @@
 -- A ledger that is written is read back whole.
-use Rattle.std.specs.Prelude.{◌≡◌, ℕ, ◌^◌, ◌<◌, IsTrue, List, [], ◌∷◌, ◌++◌, map, take, Option, Some}
+use Rattle.std.specs.Prelude.{◌≡◌, ℕ, ◌^◌, ◌<◌, IsTrue, List, [], ◌∷◌, ◌++◌, length, map, take, Option, Some, IfSome}
 use Rattle.std.specs.List.{AllByRecursion}
-use Rattle.ledger_text.specs.FrameText.{IsFrameLine, shown}
+use Rattle.afdx_frame.specs.Frame.{Frame, IsFrame}
+use Rattle.ledger_text.specs.FrameText.{IsFrameLine, IsMaskOf, shown}
 use Rattle.ledger_text.specs.Ledger.{ReadLine, ReadsLines}
 use Rattle.ledger_text.specs.Order.{IsLineAt, IsLineFaultAt}
+use Rattle.ledger_text.specs.Reads.{Below}
 use Rattle.ledger_text.specs.declared.fault.LineFault.{LineFault}
 use Rattle.ledger_text.specs.declared.order.Counts.TheVariants as counts
 use Rattle.ledger_text.specs.declared.order.LedgerLine.{LedgerLine}
 use Rattle.ledger_text.specs.declared.order.LedgerLine.TheVariants as lines
 use Rattle.ledger_text.specs.declared.order.Stage.{Stage}
 use Rattle.ledger_text.specs.declared.order.Stage.TheVariants as stages
+use Rattle.pcap_io.specs.Bytes.{IsBytes}
 use Rattle.pcap_io.specs.declared.recording.Ending.{Ending}
 use Rattle.pcap_io.specs.declared.recording.Ending.TheVariants as ending
-use Rattle.verdict_ledger.specs.Entry.{Entry}
+use Rattle.verdict_ledger.specs.Entry.{Entry, entries_of}
 use Rattle.verdict_ledger.specs.Tally.{totals_of}
 use Rattle.verdict_ledger.specs.Text.{ledger_text}
 use Rattle.vl_config.specs.Document.{VlTable}
 use Rattle.vl_config.specs.Link.{VirtualLink, is_name}
+use Rattle.vl_judge.specs.Verdicts.{verdicts}
 
 -- ---- what is written
 
@@ -58,6 +62,19 @@ abbrev pub WrittenLedgerIsRead : Type 0
 WrittenLedgerIsRead = (vl_table : VlTable) (filters : ℕ) (entries : List Entry) (a b : Ending) → AreWritable vl_table.links entries a b
     → (rs : List ReadLine) × (map (λ r. r.line) rs ≡ written_lines vl_table filters entries)
     × ReadsLines stages.Head (Some (ledger_text vl_table filters entries a b)) rs (stages.Counts counts.Total) (Some [])
+
+-- What a run puts beside a verdict: a frame that its recording holds, and bytes kept of it where its mask names a filter.
+pub record IsKept (e : Entry) : Type 0 where
+  pub frame : IsFrame e.frame
+  pub bytes : IsBytes e.frame.bytes
+  pub kept : IfSome e.keep (Below (2 ^ 32))
+  pub mask : IsMaskOf e.keep e.mask
+
+-- The lines of frames with their verdicts read as what they show.
+abbrev pub VerdictsAreShown : Type 0
+VerdictsAreShown = (vl_table : VlTable) (frames : List Frame) (keeps : List (Option ℕ)) (masks : List ℕ)
+    → AllByRecursion IsKept (entries_of frames (verdicts vl_table frames) keeps masks)
+    → AllByRecursion (λ e. IsFrameLine (shown e)) (entries_of frames (verdicts vl_table frames) keeps masks)
 
 -- ---- and nothing else is read of it
 

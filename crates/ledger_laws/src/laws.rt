@@ -1,10 +1,15 @@
 //! What is written is read: laws that hold of the definitions alone.
-ghost use Rattle.ledger_laws.specs.Laws.{LineIsNotWrong, ReadsFirstLines, WrittenLedgerIsRead};
+ghost use Rattle.ledger_laws.specs.Laws.{LineIsNotWrong, ReadsFirstLines, VerdictsAreShown, WrittenLedgerIsRead};
 
 /// A written ledger is whole lines, one after another: the head, what the line of each frame shows, and the
 /// lines of counts, the last of which is that of all frames.
 pub fn written_ledger_is_read()
     ensures { WrittenLedgerIsRead }
+{}
+
+/// The lines of frames with the verdicts of `vl_judge` read as what they show.
+pub fn verdicts_are_shown()
+    ensures { VerdictsAreShown }
 {}
 
 /// The lines that were read of whole lines are the first of these, and the others are left: so of a written

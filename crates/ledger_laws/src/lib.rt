@@ -3,4 +3,4 @@
 
 mod laws;
 
-pub use laws::{line_is_not_wrong, reads_first_lines, written_ledger_is_read};
+pub use laws::{line_is_not_wrong, reads_first_lines, verdicts_are_shown, written_ledger_is_read};
