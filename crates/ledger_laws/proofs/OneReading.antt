@@ -1,5 +1,5 @@
 -- What is read of lines is read one way.
-use Rattle.std.proofs.Common.{◌≡◌, ◌≢◌, ◌∙◌, ℕ, zero, suc, ◌+◌, ◌*◌, ◌^◌, ◌<◌, Bool, true, false, cond, not, List, [], ◌∷◌, ◌++◌, length, get_or, codes, Option, None, Some, refl, sym, ap, subst, arith, length-append}
+use Rattle.std.proofs.Common.{◌≡◌, ◌∙◌, true≢false, ℕ, zero, suc, ◌+◌, ◌*◌, ◌^◌, ◌<◌, Bool, true, false, cond, not, List, [], ◌∷◌, ◌++◌, length, get_or, codes, Option, None, Some, refl, sym, ap, subst, arith, length-append}
 use Rattle.std.proofs.lemmas.Bool.Decides.{nat_tests}
 use Rattle.std.proofs.lemmas.Fmt.{digits_decimal}
 use Rattle.std.specs.Fmt.{decimal}
@@ -37,7 +37,7 @@ step x xs b e h =
     by false e h = (e, omega (arith, h))
 
 ten_is : (x : ℕ) → 10 ≡ x → is_newline x ≡ false → ⊥
-ten_is x e h = absurd (sym (ap is_newline e) ∙ h)
+ten_is x e h = subst (λ (y : ℕ). is_newline y ≡ false → ⊥) e (λ none. true≢false none) h
 
 same_text : (xs ys m n : List ℕ) → NoNewline xs → NoNewline ys → (xs ++ 10 ∷ []) ++ m ≡ (ys ++ 10 ∷ []) ++ n → (xs ≡ ys) × (m ≡ n)
 same_text [] [] m n p q e = (refl, cc)
@@ -87,9 +87,20 @@ one_said stages.Frames text (lines.Frame v) (lines.Counts k) p q = absurd (frame
 one_said stages.Frames text (lines.Counts j) (lines.Frame w) p q = absurd (frame_is_no_counts text w j q p)
 one_said stages.Frames text (lines.Counts j) (lines.Counts k) p q = ap lines.Counts (one_kind j k (p ∙ sym q))
 one_said (stages.Counts last) text (lines.Counts j) (lines.Counts k) p q = ap lines.Counts (one_kind j k (p.0 ∙ sym q.0))
-one_said _ _ _ _ p q = absurd (p, q)
+one_said stages.Head text lines.Head _ p q = absurd q
+one_said stages.Head text _ _ p q = absurd p
+one_said stages.Frames text lines.Head _ p q = absurd p
+one_said stages.Frames text _ lines.Head p q = absurd q
+one_said (stages.Counts last) text (lines.Counts j) _ p q = absurd q
+one_said (stages.Counts last) text _ _ p q = absurd p
 
 -- ---- the lines, one after another
+
+abbrev make : List ℕ → LedgerLine → ReadLine
+make text line = record { text = text; line = line }
+
+same_line : (r q : ReadLine) → r.text ≡ q.text → r.line ≡ q.line → q ≡ r
+same_line r q text line = let same : make q.text q.line ≡ make r.text r.line = cc in same
 
 pub first_lines : (stage here end : Stage) (bytes : List ℕ) (left : Option (List ℕ)) (rs all : List ReadLine)
     → ReadsLines stage (Some bytes) rs here left → ReadsLines stage (Some bytes) all end (Some [])
@@ -104,13 +115,13 @@ first_lines stage here end bytes left (r ∷ rs) (q ∷ all) (Some m, takes, mor
 first_lines stage here end bytes left (r ∷ rs) (q ∷ all) (Some m, takes, more) (Some n, first, others) =
     let same = same_text r.text q.text m n takes.one first.one (sym takes.gone ∙ first.gone) in
     let said = one_said stage r.text r.line q.line takes.stands (subst (λ (x : List ℕ). IsLineAt stage x q.line) (sym same.0) first.stands) in
-    let line : q ≡ r = let text = same.0 in cc in
+    let line : q ≡ r = same_line r q same.0 said in
     let left_same : n ≡ m = sym same.1 in
     let rest : ReadsLines (stage_after r.line) (Some m) all end (Some []) =
     subst (λ (x : LedgerLine). ReadsLines (stage_after x) (Some m) all end (Some [])) (sym said)
     (subst (λ (x : List ℕ). ReadsLines (stage_after q.line) (Some x) all end (Some [])) left_same others) in
     let found = first_lines (stage_after r.line) here end m left rs all more rest in
-    (found.0, (let tail : all ≡ rs ++ found.0 = found.1.0 in cc), found.1.1)
+    (found.0, (let tail : all ≡ rs ++ found.0 = found.1 in cc), found.2)
 
 -- ---- a line that stands at its place
 
@@ -125,4 +136,9 @@ not_wrong stages.Frames line (lines.Frame v) (faults.Frame fault) p q =
     q.0.departs v p.values (subst (λ (fields : List (List ℕ)). Agrees (suc (fields_before fault)) (frame_fields v) fields) (sym p.fields) (agrees_itself (suc (fields_before fault)) (frame_fields v)))
 not_wrong stages.Frames line (lines.Counts kind) (faults.Frame fault) p q = q.1 kind p
 not_wrong (stages.Counts last) line (lines.Counts kind) faults.Order p q = q kind p.0 p.1
-not_wrong _ _ _ _ p q = absurd (p, q)
+not_wrong stages.Head line lines.Head _ p q = absurd q
+not_wrong stages.Head line _ _ p q = absurd p
+not_wrong stages.Frames line lines.Head _ p q = absurd p
+not_wrong stages.Frames line _ _ p q = absurd q
+not_wrong (stages.Counts last) line (lines.Counts kind) _ p q = absurd q
+not_wrong (stages.Counts last) line _ _ p q = absurd p

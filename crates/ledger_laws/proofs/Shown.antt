@@ -1,5 +1,6 @@
 -- The lines of frames with their verdicts.
 use Rattle.std.proofs.Common.{◌≡◌, ◌∙◌, ℕ, zero, suc, ◌+◌, ◌-◌, ◌*◌, ◌^◌, ◌<◌, ◌≤◌, Bool, true, false, cond, nat_lt, nat_le, ltb-false, le-leb, lit<, List, [], ◌∷◌, ◌++◌, length, map, take, drop, slice_index, Option, None, Some, is_some, IfSome, refl, sym, ap, subst, arith, append_assoc, append-nil}
+use Rattle.std.proofs.lemmas.Bool.{false≢true}
 use Rattle.std.specs.List.{AllByRecursion}
 use Rattle.std.specs.Option.{option_map}
 use Rattle.afdx_frame.specs.Frame.{Frame, IsFrame}
@@ -59,8 +60,8 @@ sequence_there bytes h long =
 -- ---- a frame whose link is written has 60 bytes
 
 neither : (a b : Bool) (other : Class) → is_addressed (cond a Cut (cond b Runt other)) ≡ true → (a ≡ false) × (b ≡ false)
-neither true b other h = absurd (omega (arith, h))
-neither false true other h = absurd (omega (arith, h))
+neither true b other h = absurd (false≢true h)
+neither false true other h = absurd (false≢true h)
 neither false false other h = (refl, refl)
 
 long_enough : (vl_table : VlTable) (f : Frame) → is_addressed (class_of vl_table f) ≡ true → 60 ≤ length f.bytes
@@ -159,11 +160,11 @@ shown_line : (vl_table : VlTable) (e : Entry) → e.verdict.class ≡ class_of v
 shown_line vl_table e same is h =
     let long = λ (addressed : is_addressed e.verdict.class ≡ true). long_enough vl_table e.frame (sym (ap is_addressed same) ∙ addressed) in
     record {
-      stamp = omega (arith, h.frame.stamp_fits);
-      number = h.frame.number_fits;
-      link = where_addressed link_fits (is_addressed e.verdict.class) (link_of e.frame.bytes) (λ addressed. link_there e.frame.bytes h.bytes (long addressed));
+      stamp = omega (arith, h.held.frame.stamp_fits);
+      number = h.held.frame.number_fits;
+      link = where_addressed link_fits (is_addressed e.verdict.class) (link_of e.frame.bytes) (λ addressed. link_there e.frame.bytes h.held.bytes (long addressed));
       sequence = where_addressed (Below (2 ^ 8)) (is_addressed e.verdict.class) (sequence_of e.frame.bytes)
-          (λ addressed. sequence_there e.frame.bytes h.bytes (long addressed));
+          (λ addressed. sequence_there e.frame.bytes h.held.bytes (long addressed));
       reached = is;
       kept = h.kept;
       mask = h.mask;

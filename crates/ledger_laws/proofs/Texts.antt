@@ -139,6 +139,10 @@ join_fields x (y ∷ ys) h =
       few = omega (arith, length-append x (32 ∷ rest), h.0.few, more.few);
     }
 
+join_all : (xs : List (List ℕ)) → AreParts xs → IsPart (21 * length xs) (join_with_byte 32 xs)
+join_all [] h = word_part 0 [] refl refl
+join_all (x ∷ xs) h = join_fields x xs h
+
 clear_plain : (xs : List ℕ) → list_all (λ b. nat_lt 32 b) xs ≡ true → is_plain xs ≡ true
 clear_plain [] h = refl
 clear_plain (x ∷ xs) h =
@@ -178,4 +182,4 @@ frame_part v z =
         ),
       ),
     ) in
-    join_fields _ _ fields
+    join_all (frame_fields v) fields

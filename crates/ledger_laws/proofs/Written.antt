@@ -1,5 +1,6 @@
 -- A written ledger, line by line from its end to its head.
 use Rattle.std.proofs.Common.{◌≡◌, ◌∙◌, ℕ, ◌+◌, ◌^◌, ◌<◌, ◌≤◌, Bool, true, false, List, [], ◌∷◌, ◌++◌, length, map, take, codes, flat_map, Option, Some, refl, sym, ap, subst, arith, append_assoc, append-nil}
+use Rattle.std.proofs.lemmas.Bool.{false≢true}
 use Rattle.std.specs.List.{AllByRecursion, join_with_byte}
 use Rattle.afdx_frame.specs.declared.key.Network.TheVariants.{A, B}
 use Rattle.ledger_text.proofs.Texts.{entry_text, reads_back}
@@ -48,7 +49,7 @@ permits stages.Frames kind = true
 permits (stages.Counts last) kind = may_follow last kind
 
 stands_there : (stage : Stage) (kind : Counts) (text : List ℕ) → permits stage kind ≡ true → IsCounts text kind → IsLineAt stage text (lines.Counts kind)
-stands_there stages.Head kind text h is = absurd h
+stands_there stages.Head kind text h is = absurd (false≢true h)
 stands_there stages.Frames kind text h is = is
 stands_there (stages.Counts last) kind text h is = (is, h)
 
@@ -77,20 +78,20 @@ taps_and_total stage entries a b may few few_a few_b =
 -- ---- the filters and the links before them
 
 taps_follow : (stage : Stage) → permits stage counts.Filter ≡ true → permits stage counts.Tap ≡ true
-taps_follow stages.Head h = absurd h
+taps_follow stages.Head h = absurd (false≢true h)
 taps_follow stages.Frames h = refl
 taps_follow (stages.Counts counts.Link) h = refl
 taps_follow (stages.Counts counts.Filter) h = refl
 taps_follow (stages.Counts counts.Tap) h = refl
-taps_follow (stages.Counts counts.Total) h = absurd h
+taps_follow (stages.Counts counts.Total) h = absurd (false≢true h)
 
 filters_follow : (stage : Stage) → permits stage counts.Link ≡ true → permits stage counts.Filter ≡ true
-filters_follow stages.Head h = absurd h
+filters_follow stages.Head h = absurd (false≢true h)
 filters_follow stages.Frames h = refl
 filters_follow (stages.Counts counts.Link) h = refl
-filters_follow (stages.Counts counts.Filter) h = absurd h
-filters_follow (stages.Counts counts.Tap) h = absurd h
-filters_follow (stages.Counts counts.Total) h = absurd h
+filters_follow (stages.Counts counts.Filter) h = absurd (false≢true h)
+filters_follow (stages.Counts counts.Tap) h = absurd (false≢true h)
+filters_follow (stages.Counts counts.Total) h = absurd (false≢true h)
 
 filters_before : (stage : Stage) (filter : ℕ) (accepted : List ℕ) (rest : List ℕ) → permits stage counts.Filter ≡ true → AreFew accepted
     → filter + length accepted < 2 ^ 64 → ((after : Stage) → permits after counts.Tap ≡ true → Whole after rest last_lines)

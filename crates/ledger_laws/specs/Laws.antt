@@ -63,10 +63,14 @@ WrittenLedgerIsRead = (vl_table : VlTable) (filters : ℕ) (entries : List Entry
     → (rs : List ReadLine) × (map (λ r. r.line) rs ≡ written_lines vl_table filters entries)
     × ReadsLines stages.Head (Some (ledger_text vl_table filters entries a b)) rs (stages.Counts counts.Total) (Some [])
 
--- What a run puts beside a verdict: a frame that its recording holds, and bytes kept of it where its mask names a filter.
+-- a frame as a recording holds it
+pub record IsHeld (f : Frame) : Type 0 where
+  pub frame : IsFrame f
+  pub bytes : IsBytes f.bytes
+
+-- What a run puts beside a verdict: the frame, and bytes kept of it where its mask names a filter.
 pub record IsKept (e : Entry) : Type 0 where
-  pub frame : IsFrame e.frame
-  pub bytes : IsBytes e.frame.bytes
+  pub held : IsHeld e.frame
   pub kept : IfSome e.keep (Below (2 ^ 32))
   pub mask : IsMaskOf e.keep e.mask
 
