@@ -1,11 +1,11 @@
 -- The lines of counts.
-use Rattle.std.proofs.Common.{◌≡◌, ◌∙◌, ℕ, zero, suc, ◌+◌, ◌^◌, ◌<◌, ◌≤◌, Bool, true, false, cond, ◌&&◌, IsTrue, nat_lt, nat_le, leb-true, lt-ltb, ltb-true, List, [], ◌∷◌, ◌++◌, length, map, take, codes, refl, sym, ap, subst, arith, append_assoc, length-take}
+use Rattle.std.proofs.Common.{◌≡◌, ◌∙◌, ℕ, zero, suc, ◌+◌, ◌^◌, ◌<◌, ◌≤◌, Bool, true, ◌&&◌, IsTrue, nat_lt, nat_le, leb-true, ltb-true, List, [], ◌∷◌, ◌++◌, length, take, codes, refl, sym, ap, arith, append_assoc, length-take}
 use Rattle.std.specs.Fmt.{decimal}
 use Rattle.std.specs.List.{AllByRecursion, count_by, filter, list_all}
 use Rattle.std.proofs.lemmas.Bool.Decides.{nat_tests}
 use Rattle.std.proofs.lemmas.List.Sums.{count_by-le-length, length-filter}
 use Rattle.ledger_text.proofs.Decimals.{both_true, first_true, second_true}
-use Rattle.ledger_text.specs.Fields.{fields_of, first_field, is_space}
+use Rattle.ledger_text.specs.Fields.{fields_of, first_field}
 use Rattle.ledger_text.specs.Order.{IsCounts, counts_word}
 use Rattle.ledger_text.specs.declared.bounds.TheConstants.{BLOCK_LEN}
 use Rattle.ledger_text.specs.declared.order.Counts.{Counts}
@@ -18,7 +18,7 @@ use Rattle.pcap_io.specs.declared.recording.Ending.TheVariants as ending
 use Rattle.afdx_frame.specs.Frame.{network_letter}
 use Rattle.afdx_frame.specs.declared.key.Network.{Network}
 use Rattle.verdict_ledger.specs.Entry.{Entry}
-use Rattle.verdict_ledger.specs.Tally.{counts_of, filter_count, is_entry_of, link_counts, totals_of}
+use Rattle.verdict_ledger.specs.Tally.{counts_of, is_entry_of, link_counts, totals_of}
 use Rattle.verdict_ledger.specs.Text.{classes_text, count_field, ending_text, filter_line, judged_text, link_line, number_field, tap_line, total_line, word_field}
 use Rattle.vl_config.specs.Link.{VirtualLink, is_name, is_name_byte}
 use Rattle.ledger_laws.proofs.Texts.{IsPart, is_plain, join_parts, letter_part, number_part, word_part}

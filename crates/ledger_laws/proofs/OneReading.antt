@@ -1,18 +1,22 @@
 -- What is read of lines is read one way.
-use Rattle.std.proofs.Common.{◌≡◌, ◌∙◌, true≢false, ℕ, zero, suc, ◌+◌, ◌*◌, ◌^◌, ◌<◌, Bool, true, false, cond, not, List, [], ◌∷◌, ◌++◌, length, get_or, codes, Option, None, Some, refl, sym, ap, subst, arith, length-append}
-use Rattle.std.proofs.lemmas.Bool.Decides.{nat_tests}
+use Rattle.std.proofs.Common.{◌≡◌, ◌∙◌, true≢false, ℕ, zero, suc, ◌+◌, ◌*◌, ◌<◌, ◌≤◌, Bool, true, false, cond, not, List, [], ◌∷◌, ◌++◌, length, get_or, is_none, Option, None, Some, refl, sym, ap, subst, arith, length-append, append-nil}
 use Rattle.std.proofs.lemmas.Fmt.{digits_decimal}
+use Rattle.std.proofs.lemmas.Bool.{false≢true}
 use Rattle.std.specs.Fmt.{decimal}
+use Rattle.std.specs.Io.KnownBytes.{Consumes, IsAtEnd}
 use Rattle.std.specs.List.{position_or_len}
 use Rattle.std.specs.Str.Parse.{AllDigits}
 use Rattle.ledger_text.proofs.Decimals.{own}
 use Rattle.ledger_text.proofs.Spelling.{one_line}
-use Rattle.ledger_text.specs.Fields.{Agrees, fields_of, first_field}
+use Rattle.ledger_text.specs.Fields.{Agrees, first_field}
 use Rattle.ledger_text.specs.FrameText.{IsFrameText, fields_before, frame_fields}
 use Rattle.ledger_text.specs.Ledger.{ReadLine, ReadsLines}
+use Rattle.ledger_text.specs.Lines.{IsNextLine}
 use Rattle.ledger_text.specs.Newlines.{NoNewline, is_newline}
 use Rattle.ledger_text.specs.Order.{IsCounts, IsLineAt, IsLineFaultAt, counts_word}
-use Rattle.ledger_text.specs.Places.{stage_after}
+use Rattle.ledger_text.specs.Places.{has_total, stage_after}
+use Rattle.ledger_text.specs.Reader.{IsBadLine, IsFound, Reading, last_of}
+use Rattle.ledger_text.specs.declared.bounds.TheConstants.{BLOCK_LEN, MOST_LINES}
 use Rattle.ledger_text.specs.declared.fault.LineFault.{LineFault}
 use Rattle.ledger_text.specs.declared.fault.LineFault.TheVariants as faults
 use Rattle.ledger_text.specs.declared.frame.FrameLine.{FrameLine}
@@ -22,6 +26,8 @@ use Rattle.ledger_text.specs.declared.order.LedgerLine.{LedgerLine}
 use Rattle.ledger_text.specs.declared.order.LedgerLine.TheVariants as lines
 use Rattle.ledger_text.specs.declared.order.Stage.{Stage}
 use Rattle.ledger_text.specs.declared.order.Stage.TheVariants as stages
+use Rattle.ledger_text.specs.declared.reader.Found.TheVariants as found
+use Rattle.ledger_text.specs.declared.reader.LedgerStop.{LedgerStop}
 
 -- ---- the text of a line
 
@@ -130,7 +136,7 @@ agrees_itself zero fields = tt
 agrees_itself (suc n) [] = refl
 agrees_itself (suc n) (field ∷ fields) = (refl, agrees_itself n fields)
 
-pub not_wrong : (stage : Stage) (line : List ℕ) (said : LedgerLine) (fault : LineFault) → IsLineAt stage line said → IsLineFaultAt stage line fault → ⊥
+not_wrong : (stage : Stage) (line : List ℕ) (said : LedgerLine) (fault : LineFault) → IsLineAt stage line said → IsLineFaultAt stage line fault → ⊥
 not_wrong stages.Head line lines.Head faults.Head p q = q p
 not_wrong stages.Frames line (lines.Frame v) (faults.Frame fault) p q =
     q.0.departs v p.values (subst (λ (fields : List (List ℕ)). Agrees (suc (fields_before fault)) (frame_fields v) fields) (sym p.fields) (agrees_itself (suc (fields_before fault)) (frame_fields v)))
@@ -142,3 +148,107 @@ not_wrong stages.Frames line lines.Head _ p q = absurd p
 not_wrong stages.Frames line _ _ p q = absurd q
 not_wrong (stages.Counts last) line (lines.Counts kind) _ p q = absurd q
 not_wrong (stages.Counts last) line _ _ p q = absurd p
+
+-- ---- none is refused
+
+-- bytes without a newline end before the first
+ends_before : (line after text rest : List ℕ) → NoNewline line → line ++ after ≡ (text ++ 10 ∷ []) ++ rest → length line ≤ length text
+ends_before [] after text rest h e = omega arith
+ends_before (x ∷ line) after [] rest h e =
+    let first : 10 ≡ x = sym (ap (λ (l : List ℕ). get_or l 0 0) e) in
+    absurd (ten_is x first (step x line (is_newline x) refl h).0)
+ends_before (x ∷ line) after (y ∷ text) rest h e =
+    let others : line ++ after ≡ (text ++ 10 ∷ []) ++ rest = cc in
+    omega (arith, ends_before line after text rest (step x line (is_newline x) refl h).1 others)
+
+total_is_last : (stage : Stage) (text : List ℕ) (line : LedgerLine) → has_total stage ≡ true → IsLineAt stage text line → ⊥
+total_is_last stages.Head text line h p = false≢true h
+total_is_last stages.Frames text line h p = false≢true h
+total_is_last (stages.Counts counts.Link) text line h p = false≢true h
+total_is_last (stages.Counts counts.Filter) text line h p = false≢true h
+total_is_last (stages.Counts counts.Tap) text line h p = false≢true h
+total_is_last (stages.Counts counts.Total) text (lines.Counts kind) h p = false≢true p.1
+total_is_last (stages.Counts counts.Total) text _ h p = p
+
+none_is_no : (bytes : List ℕ) → None ≡ Some bytes → ⊥
+none_is_no bytes e = true≢false (ap is_none e)
+
+same_bytes : (xs ys : List ℕ) → Some xs ≡ Some ys → ys ≡ xs
+same_bytes xs ys e = cc
+
+-- what the bytes are that begin with others
+consumed : (left after : Option (List ℕ)) (bytes xs : List ℕ) → left ≡ Some bytes → Consumes left after xs → (rest : List ℕ) × (bytes ≡ xs ++ rest)
+consumed None after bytes xs e h = absurd (none_is_no bytes e)
+consumed (Some ys) None bytes xs e h = absurd h
+consumed (Some ys) (Some rest) bytes xs e h = (rest, same_bytes ys bytes e ∙ h)
+
+consumed_all : (left after : Option (List ℕ)) (bytes xs : List ℕ) → left ≡ Some bytes → Consumes left after xs → IsAtEnd after → bytes ≡ xs
+consumed_all None after bytes xs e h end = absurd (none_is_no bytes e)
+consumed_all (Some ys) None bytes xs e h end = absurd h
+consumed_all (Some ys) (Some rest) bytes xs e h end = same_bytes ys bytes e ∙ h ∙ ap (λ (l : List ℕ). xs ++ l) end ∙ append-nil xs
+
+at_end : (left : Option (List ℕ)) (bytes : List ℕ) → left ≡ Some bytes → IsAtEnd left → bytes ≡ []
+at_end None bytes e h = absurd (none_is_no bytes e)
+at_end (Some ys) bytes e h = same_bytes ys bytes e ∙ h
+
+-- whole lines are left
+abbrev AreLeft : Stage → List ℕ → List ReadLine → Type 0
+AreLeft stage bytes others = ReadsLines stage (Some bytes) others (stages.Counts counts.Total) (Some [])
+
+line_refused : (stage : Stage) (bytes line rest : List ℕ) (others : List ReadLine) (fault : LineFault) → NoNewline line → bytes ≡ (line ++ 10 ∷ []) ++ rest
+    → AreLeft stage bytes others → IsLineFaultAt stage line fault → ⊥
+line_refused stage bytes line rest [] fault one is (last, none) bad =
+    let empty = same_bytes bytes [] none in
+    omega (arith, ap length (empty ∙ is), length-append (line ++ 10 ∷ []) rest, length-append line (10 ∷ []))
+line_refused stage bytes line rest (r ∷ others) fault one is (None, takes, more) bad = takes.gone
+line_refused stage bytes line rest (r ∷ others) fault one is (Some m, takes, more) bad =
+    let same = same_text r.text line m rest takes.one one (sym takes.gone ∙ is) in
+    not_wrong stage line r.line fault (subst (λ (x : List ℕ). IsLineAt stage x r.line) same.0 takes.stands) bad
+
+long_refused : (stage : Stage) (bytes line rest : List ℕ) (others : List ReadLine) → NoNewline line → length line ≡ BLOCK_LEN → bytes ≡ line ++ rest
+    → AreLeft stage bytes others → ⊥
+long_refused stage bytes line rest [] one long is (last, none) = omega (arith, ap length (same_bytes bytes [] none ∙ is), length-append line rest, long)
+long_refused stage bytes line rest (r ∷ others) one long is (None, takes, more) = takes.gone
+long_refused stage bytes line rest (r ∷ others) one long is (Some m, takes, more) =
+    omega (arith, ends_before line rest r.text m one (sym is ∙ takes.gone), takes.short, long)
+
+part_refused : (stage : Stage) (bytes : List ℕ) (others : List ReadLine) → has_total stage ≡ true → 0 < length bytes → AreLeft stage bytes others → ⊥
+part_refused stage bytes [] total some (last, none) = omega (arith, some, ap length (same_bytes bytes [] none))
+part_refused stage bytes (r ∷ others) total some (mid, takes, more) = total_is_last stage r.text r.line total takes.stands
+
+pub none_refused : (old new : Reading) (bytes line : List ℕ) (others : List ReadLine) (fault : LineFault) → old.left ≡ Some bytes
+    → AreLeft old.stage bytes others → old.number < MOST_LINES → IsBadLine old new line fault → ⊥
+none_refused old new bytes line others faults.Newline is reads few (total, one, some, short, gone, end) =
+    part_refused old.stage bytes others total (subst (λ (l : List ℕ). 0 < length l) (sym (consumed_all old.left new.left bytes line is gone end)) some) reads
+none_refused old new bytes line others faults.Long is reads few (one, long, gone) =
+    let found = consumed old.left new.left bytes line is gone in
+    long_refused old.stage bytes line found.0 others one long found.1 reads
+none_refused old new bytes line others faults.TooMany is reads few (next, many) = omega (arith, few, many)
+none_refused old new bytes line others faults.Head is reads few ((one, short, gone), (low, bad)) =
+    let found = consumed old.left new.left bytes (line ++ 10 ∷ []) is gone in
+    line_refused old.stage bytes line found.0 others faults.Head one found.1 reads bad
+none_refused old new bytes line others (faults.Frame fault) is reads few ((one, short, gone), (low, bad)) =
+    let found = consumed old.left new.left bytes (line ++ 10 ∷ []) is gone in
+    line_refused old.stage bytes line found.0 others (faults.Frame fault) one found.1 reads bad
+none_refused old new bytes line others faults.Order is reads few ((one, short, gone), (low, bad)) =
+    let found = consumed old.left new.left bytes (line ++ 10 ∷ []) is gone in
+    line_refused old.stage bytes line found.0 others faults.Order one found.1 reads bad
+
+-- ---- no end is found before
+
+not_ended : (stage : Stage) (bytes : List ℕ) (others : List ReadLine) → has_total stage ≡ false → NoNewline bytes → AreLeft stage bytes others → ⊥
+not_ended stage bytes [] without one (last, none) = true≢false (sym (ap has_total last) ∙ without)
+not_ended stage bytes (r ∷ others) without one (None, takes, more) = takes.gone
+not_ended stage bytes (r ∷ others) without one (Some m, takes, more) =
+    omega (arith, ends_before bytes [] r.text m one (append-nil bytes ∙ takes.gone), ap length takes.gone, length-append (r.text ++ 10 ∷ []) m, length-append r.text (10 ∷ []))
+
+end_before : (old new : Reading) (bytes line : List ℕ) (others : List ReadLine) (within : Bool) → old.left ≡ Some bytes → AreLeft old.stage bytes others
+    → has_total old.stage ≡ false → IsNextLine old.left new.left line (last_of within) → ⊥
+end_before old new bytes line others true is reads without (one, some, short, gone, end) =
+    not_ended old.stage bytes others without (subst NoNewline (sym (consumed_all old.left new.left bytes line is gone end)) one) reads
+end_before old new bytes line others false is reads without (here, after) =
+    not_ended old.stage bytes others without (subst NoNewline (sym (at_end old.left bytes is here)) refl) reads
+
+pub no_end_before : (old new : Reading) (bytes line : List ℕ) (others : List ReadLine) (stop : LedgerStop) → old.left ≡ Some bytes
+    → AreLeft old.stage bytes others → IsFound old new line (found.Incomplete stop) → ⊥
+no_end_before old new bytes line others stop is reads (without, count, next, stays) = end_before old new bytes line others stop.within_line is reads without next

@@ -1,12 +1,11 @@
 -- The lines of frames with their verdicts.
-use Rattle.std.proofs.Common.{◌≡◌, ◌∙◌, ℕ, zero, suc, ◌+◌, ◌-◌, ◌*◌, ◌^◌, ◌<◌, ◌≤◌, Bool, true, false, cond, nat_lt, nat_le, ltb-false, le-leb, lit<, List, [], ◌∷◌, ◌++◌, length, map, take, drop, slice_index, Option, None, Some, is_some, IfSome, refl, sym, ap, subst, arith, append_assoc, append-nil}
+use Rattle.std.proofs.Common.{◌≡◌, ◌∙◌, ℕ, zero, suc, ◌+◌, ◌-◌, ◌^◌, ◌<◌, ◌≤◌, Bool, true, false, cond, nat_lt, ltb-false, le-leb, List, [], ◌∷◌, ◌++◌, length, map, take, drop, Option, None, Some, refl, sym, ap, subst, arith, append_assoc, append-nil}
 use Rattle.std.proofs.lemmas.Bool.{false≢true}
 use Rattle.std.specs.List.{AllByRecursion}
 use Rattle.std.specs.Option.{option_map}
-use Rattle.afdx_frame.specs.Frame.{Frame, IsFrame}
+use Rattle.afdx_frame.specs.Frame.{Frame}
 use Rattle.afdx_frame.specs.Number.{big_endian, number_at}
 use Rattle.afdx_frame.specs.View.{link_of, sequence_of}
-use Rattle.afdx_frame.specs.declared.key.VlId.{VlId}
 use Rattle.integrity.specs.declared.verdict.Integrity.{Integrity}
 use Rattle.integrity.specs.declared.verdict.Integrity.TheVariants.{First, Reset, Next, Skip, Off, Out}
 use Rattle.ledger_text.specs.FrameText.{IsFrameLine, link_fits, shown}
@@ -21,7 +20,7 @@ use Rattle.vl_config.specs.Document.{VlTable}
 use Rattle.vl_config.specs.Link.{VirtualLink}
 use Rattle.vl_config.specs.declared.class.Class.{Class}
 use Rattle.vl_config.specs.declared.class.Class.TheVariants.{Cut, Runt, Oversize, Foreign, Unconfigured, TooLong, Regular}
-use Rattle.vl_judge.specs.Judgement.{IsReached, Judgement, is_regular, judgement, stopped_verdict}
+use Rattle.vl_judge.specs.Judgement.{IsReached, is_regular, judgement}
 use Rattle.vl_judge.specs.Verdicts.{Judged, integrity_of, judged_frames, judged_frames_after, policing_of, redundancy_of, verdict_by, verdict_of, verdicts}
 use Rattle.ledger_laws.specs.Laws.{IsKept}
 

@@ -1,5 +1,5 @@
 -- The bytes of a line, and how many they are.
-use Rattle.std.proofs.Common.{◌≡◌, ◌∙◌, ℕ, ◌+◌, ◌*◌, ◌^◌, ◌<◌, ◌≤◌, Bool, true, false, cond, not, ◌&&◌, IsTrue, nat_lt, nat_le, ltb-true, leb-true, lt-ltb, List, [], ◌∷◌, ◌++◌, length, Option, None, Some, IfSome, codes, refl, sym, ap, arith, append_assoc, length-append}
+use Rattle.std.proofs.Common.{◌≡◌, ◌∙◌, ℕ, ◌+◌, ◌*◌, ◌^◌, ◌<◌, ◌≤◌, Bool, true, false, cond, not, nat_lt, nat_le, ltb-true, leb-true, lt-ltb, List, [], ◌∷◌, ◌++◌, length, Option, None, Some, IfSome, refl, ap, arith, length-append}
 use Rattle.std.proofs.lemmas.Bool.Decides.{nat_tests}
 use Rattle.std.proofs.lemmas.Fmt.{digits_decimal, length-decimal-le}
 use Rattle.std.proofs.lemmas.List.Folds.{list_all-append}
@@ -27,7 +27,7 @@ use Rattle.policing.specs.declared.verdict.Policing.TheVariants.{Within, Excess}
 use Rattle.redundancy.specs.Word.{redundancy_word}
 use Rattle.redundancy.specs.declared.verdict.Redundancy.{Redundancy}
 use Rattle.redundancy.specs.declared.verdict.Redundancy.TheVariants.{Deliver, Copy, Both}
-use Rattle.verdict_ledger.specs.Text.{hex_digit, mask_text}
+use Rattle.verdict_ledger.specs.Text.{mask_text}
 use Rattle.vl_config.specs.Class.{class_word}
 use Rattle.vl_config.specs.declared.class.Class.{Class}
 use Rattle.vl_config.specs.declared.class.Class.TheVariants.{Cut, Runt, Oversize, Foreign, Unconfigured, TooLong, Regular}

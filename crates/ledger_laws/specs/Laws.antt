@@ -4,14 +4,17 @@ use Rattle.std.specs.List.{AllByRecursion}
 use Rattle.afdx_frame.specs.Frame.{Frame, IsFrame}
 use Rattle.ledger_text.specs.FrameText.{IsFrameLine, IsMaskOf, shown}
 use Rattle.ledger_text.specs.Ledger.{ReadLine, ReadsLines}
-use Rattle.ledger_text.specs.Order.{IsLineAt, IsLineFaultAt}
+use Rattle.ledger_text.specs.Reader.{IsBadLine, IsFound, Reading}
 use Rattle.ledger_text.specs.Reads.{Below}
+use Rattle.ledger_text.specs.declared.bounds.TheConstants.{MOST_LINES}
 use Rattle.ledger_text.specs.declared.fault.LineFault.{LineFault}
 use Rattle.ledger_text.specs.declared.order.Counts.TheVariants as counts
 use Rattle.ledger_text.specs.declared.order.LedgerLine.{LedgerLine}
 use Rattle.ledger_text.specs.declared.order.LedgerLine.TheVariants as lines
 use Rattle.ledger_text.specs.declared.order.Stage.{Stage}
 use Rattle.ledger_text.specs.declared.order.Stage.TheVariants as stages
+use Rattle.ledger_text.specs.declared.reader.Found.TheVariants as found
+use Rattle.ledger_text.specs.declared.reader.LedgerStop.{LedgerStop}
 use Rattle.pcap_io.specs.Bytes.{IsBytes}
 use Rattle.pcap_io.specs.declared.recording.Ending.{Ending}
 use Rattle.pcap_io.specs.declared.recording.Ending.TheVariants as ending
@@ -88,6 +91,12 @@ ReadsFirstLines = (stage here end : Stage) (bytes : List ℕ) (left : Option (Li
     → ReadsLines stage (Some bytes) rs here left → ReadsLines stage (Some bytes) all end (Some [])
     → (others : List ReadLine) × (all ≡ rs ++ others) × ReadsLines here left others end (Some [])
 
--- A line that stands at its place has no fault there.
-abbrev pub LineIsNotWrong : Type 0
-LineIsNotWrong = (stage : Stage) (line : List ℕ) (said : LedgerLine) (fault : LineFault) → IsLineAt stage line said → IsLineFaultAt stage line fault → ⊥
+-- Where whole lines up to `total` are left, a reader refuses none of them, unless it has read as many as it may.
+abbrev pub NoLineIsRefused : Type 0
+NoLineIsRefused = (old new : Reading) (bytes line : List ℕ) (others : List ReadLine) (fault : LineFault) → old.left ≡ Some bytes
+    → ReadsLines old.stage (Some bytes) others (stages.Counts counts.Total) (Some []) → old.number < MOST_LINES → IsBadLine old new line fault → ⊥
+
+-- And it finds no end before they are read.
+abbrev pub NoEndIsFoundBefore : Type 0
+NoEndIsFoundBefore = (old new : Reading) (bytes line : List ℕ) (others : List ReadLine) (stop : LedgerStop) → old.left ≡ Some bytes
+    → ReadsLines old.stage (Some bytes) others (stages.Counts counts.Total) (Some []) → IsFound old new line (found.Incomplete stop) → ⊥

@@ -1,5 +1,6 @@
 //! What is written is read: laws that hold of the definitions alone.
-ghost use Rattle.ledger_laws.specs.Laws.{LineIsNotWrong, ReadsFirstLines, VerdictsAreShown, WrittenLedgerIsRead};
+ghost use Rattle.ledger_laws.specs.Laws.{NoEndIsFoundBefore, NoLineIsRefused, ReadsFirstLines, VerdictsAreShown};
+ghost use Rattle.ledger_laws.specs.Laws.{WrittenLedgerIsRead};
 
 /// A written ledger is whole lines, one after another: the head, what the line of each frame shows, and the
 /// lines of counts, the last of which is that of all frames.
@@ -18,7 +19,8 @@ pub fn reads_first_lines()
     ensures { ReadsFirstLines }
 {}
 
-/// A line that stands at its place has no fault there: so no line of a written ledger is refused.
-pub fn line_is_not_wrong()
-    ensures { LineIsNotWrong }
+/// A reader refuses no line of them, unless it has read as many as it may, and finds no end before `total`.
+pub fn written_lines_are_not_refused()
+    ensures lines { NoLineIsRefused }
+    ensures end { NoEndIsFoundBefore }
 {}

@@ -3,4 +3,6 @@
 
 mod laws;
 
-pub use laws::{line_is_not_wrong, reads_first_lines, verdicts_are_shown, written_ledger_is_read};
+pub use laws::{
+    reads_first_lines, verdicts_are_shown, written_ledger_is_read, written_lines_are_not_refused,
+};
