@@ -218,7 +218,7 @@ part_refused stage bytes (r ∷ others) total some (mid, takes, more) = total_is
 
 pub none_refused : (old new : Reading) (bytes line : List ℕ) (others : List ReadLine) (fault : LineFault) → old.left ≡ Some bytes
     → AreLeft old.stage bytes others → old.number < MOST_LINES → IsBadLine old new line fault → ⊥
-none_refused old new bytes line others faults.Newline is reads few (total, one, some, short, gone, end) =
+none_refused old new bytes line others faults.Newline is reads few (total, (one, some, short, gone, end)) =
     part_refused old.stage bytes others total (subst (λ (l : List ℕ). 0 < length l) (sym (consumed_all old.left new.left bytes line is gone end)) some) reads
 none_refused old new bytes line others faults.Long is reads few (one, long, gone) =
     let found = consumed old.left new.left bytes line is gone in
