@@ -12,7 +12,7 @@ ghost use Rattle.cut_run.specs.Printed.{IsLinesRun, LeavesLines, LineDevices, Pr
 ghost use Rattle.cut_run.specs.Printed.{Sources, StopsAtText, StopsChecking, line_devices_at, whole_line};
 ghost use Rattle.cut_run.specs.declared.fault.CutFault.TheVariants as faults;
 
-use crate::cut::{CutEnding, ledger_fault};
+use crate::cut::{CutEnding, into_ledger, ledger_fault};
 use crate::fault::CutFault;
 use crate::observer::LineObserver;
 use crate::recordings::{Recordings, Unopened, is_read};
@@ -277,7 +277,7 @@ pub fn print_lines<L: TapSource, S: TapSource, T: TapSource, W: OutSink, O: Line
     let (recordings, output) = printing.into_devices();
     LinesRun {
         outcome,
-        ledger: ledger.into_source(),
+        ledger: into_ledger(ledger),
         recordings,
         output,
     }
