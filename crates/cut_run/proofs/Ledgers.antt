@@ -307,7 +307,7 @@ ledger_stops l s t w format choice before rs fs taken fa fb old new taking text 
   named = h.took.named.named;
   spread = h.took.spread;
   takes = h.took.takes;
-  why = λ few. (unread_of new.lines, is.2, part_ahead (left_of l old) (l.remaining (source_of new)) (unread_of new.lines) is.1);
+  why = λ few. (unread_of new.lines, is.2, few, part_ahead (left_of l old) (l.remaining (source_of new)) (unread_of new.lines) is.1);
   written = h.took.written;
   ledger_failures = rw (sym h.read.no_failure) is.0;
   a_failures = h.took.named.read_a.no_failure;

@@ -106,7 +106,7 @@ ledger_stops_noting l selection count before rs old new chooser neighbours text 
   stage = stage_of old;
   left = left_of l old;
   lines = h.read.lines;
-  why = (unread_of new.lines, is.2, part_ahead (left_of l old) (l.remaining (source_of new)) (unread_of new.lines) is.1);
+  why = (unread_of new.lines, is.2, few, part_ahead (left_of l old) (l.remaining (source_of new)) (unread_of new.lines) is.1);
   failures = rw (sym h.read.no_failure) is.0;
 }
 ledger_stops_noting l selection count before rs old new chooser neighbours text read.Failed h is = absurd is

@@ -244,7 +244,7 @@ ledger_stops_printing l s t w choice before rs printed old new printing text (re
     ))
 ledger_stops_printing l s t w choice before rs printed old new printing text read.Device h is = λ few sources back.
     (let checked = checked_back s t before.recordings (read_lines choice.skips (frame_lines rs)) printing.recordings sources h.print.checked back in
-    let part : FailsInLine (left_of l old) (l.remaining (source_of new)) = (unread_of new.lines, is.2, part_ahead (left_of l old) (l.remaining (source_of new)) (unread_of new.lines) is.1) in (
+    let part : FailsInLine (left_of l old) (l.remaining (source_of new)) = (unread_of new.lines, is.2, few, part_ahead (left_of l old) (l.remaining (source_of new)) (unread_of new.lines) is.1) in (
       record {
         ledger = rw (sym h.read.no_failure) is.0;
         recordings = well_up_to before.recordings (sources_at s t sources) (read_lines choice.skips (frame_lines rs)) checked;

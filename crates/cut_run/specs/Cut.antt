@@ -147,7 +147,7 @@ IsBadNext n fault rs stage left rest =
 -- The ledger's source failed after the last whole line that it gave: what was read ahead of it ends no line, and what it still gives stands
 -- after that.
 abbrev pub FailsInLine : Option (List ℕ) → Option (List ℕ) → Type 0
-FailsInLine left rest = (unread : List ℕ) × NoNewline unread × Consumes left rest unread
+FailsInLine left rest = (unread : List ℕ) × NoNewline unread × (length unread ≤ BLOCK_LEN) × Consumes left rest unread
 
 -- the next line of the ledger is that of a frame, and says this, and what the source still gives stands after it
 abbrev pub StopsAfter : Stage → Option (List ℕ) → Option (List ℕ) → FrameLine → Type 0
