@@ -3,3 +3,4 @@ pub mod Counts
 pub mod Written
 pub mod OneReading
 pub mod Shown
+pub mod Kept
