@@ -1,5 +1,5 @@
 -- One more line of the ledger beside what is cut of it.
-use Rattle.std.proofs.Common.{◌≡◌, ◌∙◌, ℕ, ◌+◌, ◌<◌, ◌≤◌, false, List, [], ◌∷◌, ◌++◌, length, Option, Some, None, sym, ap, subst, arith, length-append}
+use Rattle.std.proofs.Common.{◌≡◌, ◌∙◌, ℕ, ◌+◌, ◌<◌, ◌≤◌, false, List, [], ◌∷◌, ◌++◌, length, Option, Some, None, refl, sym, ap, subst, arith, length-append}
 use Rattle.std.proofs.lemmas.List.{append-nil}
 use Rattle.std.specs.Io.KnownBytes.{Consumes, Keeps, prepend_known}
 use Rattle.afdx_frame.specs.Frame.{Frame}
@@ -9,7 +9,7 @@ use Rattle.frame_finder.specs.Finder.{finding_of}
 use Rattle.ledger_text.specs.Ledger.{EndsAt, HasReadLines, ReadLine, frame_lines, frames_in, has_failed as ledger_failed, left_of, lent_of, number_of, stage_of}
 use Rattle.ledger_text.specs.Lines.{unread_of}
 use Rattle.ledger_text.specs.Reader.{IsBadLine, IsFound, IsReadFault, reading_of, source_of}
-use Rattle.ledger_text.specs.declared.bounds.TheConstants.{MOST_LINES}
+use Rattle.ledger_text.specs.declared.bounds.TheConstants.{BLOCK_LEN, MOST_LINES}
 use Rattle.ledger_text.specs.declared.fault.LineFault.{LineFault}
 use Rattle.ledger_text.specs.declared.fault.LineFault.TheVariants as wrong
 use Rattle.ledger_text.specs.declared.fault.ReadFault.{ReadFault}
@@ -26,7 +26,7 @@ use Rattle.packet_format.specs.Packets.{Format}
 use Rattle.packet_writer.specs.Writer.{sink_of}
 use Rattle.run_outcome.specs.Device.{SinkMembers, SourceMembers, SourceView}
 use Rattle.run_outcome.specs.Fault.{FailsWhere}
-use Rattle.cut_run.specs.Cut.{CutDevices, HasWritten, IsBadNext, IsLineFault, NextSays, ReadsNext, ledger_fault, place_at, stop_of}
+use Rattle.cut_run.specs.Cut.{CutDevices, HasWritten, IsBadNext, IsLineFault, IsReadAhead, NextSays, ReadsNext, StopsAfter, ledger_fault, place_at, stop_of}
 use Rattle.cut_run.specs.Cutting.{EndsCut, HasCut, HasTaken, IsTakeFault, StopsCut, StopsTaking, TakesMore, WritesUpTo}
 use Rattle.cut_run.specs.Faults.{LedgerSource, names}
 use Rattle.cut_run.specs.Lines.{Choice, read_lines}
@@ -142,11 +142,26 @@ ends_incomplete l s t w format choice before rs fs taken fa fb old new taking st
     ends_with l s t w format choice before rs fs taken fa fb old new taking (ending.Incomplete stop)
     (found_incomplete l before.ledger.remaining before.ledger.failures rs old new stop h.read is) is.3.2 h
 
+-- ---- what was read ahead
+
+ahead : (unread : List ℕ) (rest : Option (List ℕ)) → Consumes (prepend_known unread rest) rest unread
+ahead unread None = tt
+ahead unread (Some ys) = refl
+
+pub read_ahead : {L : Type 0} (l : SourceMembers L) (reader : LedgerReader L) → length (unread_of reader.lines) ≤ BLOCK_LEN
+    → IsReadAhead (left_of l reader) (l.remaining (source_of reader))
+read_ahead l reader few = (unread_of reader.lines, few, ahead (unread_of reader.lines) (l.remaining (source_of reader)))
+
+pub stops_after : {L : Type 0} (l : SourceMembers L) (old new : LedgerReader L) (v : FrameLine)
+    → IsFound (reading_of l.remaining l.failures old) (reading_of l.remaining l.failures new) (lent_of new) (found.Line (lines.Frame v))
+    → length (unread_of new.lines) ≤ BLOCK_LEN → StopsAfter (stage_of old) (left_of l old) (l.remaining (source_of new)) v
+stops_after l old new v is few = (lent_of new, left_of l new, found_line l old new (lines.Frame v) is, read_ahead l new few)
+
 -- ---- a line that stops the cut
 
 -- what a line's fault says of the ledger
 pub line_fault : (skips : Option Network) (fault : CutFault) (before : CutDevices) (rs : List ReadLine) (stage : Stage) (left rest : Option (List ℕ)) (fa fb : List Frame) (n : ℕ)
-    (v : FrameLine) → n ≡ length rs + 1 → ReadsNext skips stage left v → IsTakeFault fault n before.a before.b (read_lines skips (frame_lines rs)) v fa fb
+    (v : FrameLine) → n ≡ length rs + 1 → ReadsNext skips stage left rest v → IsTakeFault fault n before.a before.b (read_lines skips (frame_lines rs)) v fa fb
     → IsLineFault skips fault before rs stage left rest fa fb
 line_fault skips (faults.Ledger k f) before rs stage left rest fa fb n v count says why = absurd why
 line_fault skips (faults.Order k) before rs stage left rest fa fb n v count says why = (why.0 ∙ count, (v, says, why.1))
@@ -207,8 +222,8 @@ frame_stops l s t w format choice before rs fs taken fa fb old new was now v fau
       named = stops.named;
       spread = stops.spread;
       takes = stops.takes;
-      why = line_fault choice.skips fault before rs (stage_of old) (left_of l old) (l.remaining (source_of new)) stops.frames_a stops.frames_b (number_of new) v count
-          (says, stops.read) stops.why;
+      why = λ few. line_fault choice.skips fault before rs (stage_of old) (left_of l old) (l.remaining (source_of new)) stops.frames_a stops.frames_b (number_of new) v count
+          (stops_after l old new v is few, stops.read) stops.why;
       written = written_at format choice fault rs (stage_of old) (left_of l old) stops.frames_a stops.frames_b taken v before.output.contents (w.contents (sink_of now.output)) says stops.written;
       ledger_failures = ledger_well fault (number_of new) before.a before.b (read_lines choice.skips (frame_lines rs)) v stops.frames_a stops.frames_b before.ledger.failures (l.failures (source_of new)) stops.why (is.2 ∙ h.read.no_failure);
       a_failures = stops.a_failures;
@@ -230,13 +245,15 @@ bad_at stage n m left rest text x y stage2 n2 wrong.TooMany same h = rw same at 
 
 pub bad_next : {L : Type 0} (l : SourceMembers L) (bytes : Option (List ℕ)) (failures : ℕ) (rs : List ReadLine) (old new : LedgerReader L) (text : List ℕ) (n : ℕ)
     (fault : LineFault) → HasReadLines l bytes failures rs old → n ≡ number_of old + 1
-    → IsBadLine (reading_of l.remaining l.failures old) (reading_of l.remaining l.failures new) text fault → IsBadNext n fault rs (stage_of old) (left_of l old)
-bad_next l bytes failures rs old new text n fault h count is = (
+    → IsBadLine (reading_of l.remaining l.failures old) (reading_of l.remaining l.failures new) text fault → length (unread_of new.lines) ≤ BLOCK_LEN
+    → IsBadNext n fault rs (stage_of old) (left_of l old) (l.remaining (source_of new))
+bad_next l bytes failures rs old new text n fault h count is few = (
   count ∙ ap (λ (m : ℕ). m + 1) h.number,
   (
     text,
     left_of l new,
     bad_at (stage_of old) (number_of old) (length rs) (left_of l old) (left_of l new) text (l.failures (source_of old)) (l.failures (source_of new)) (stage_of new) (number_of new) fault h.number is,
+    read_ahead l new few,
   ),
 )
 
@@ -267,7 +284,7 @@ ledger_stops l s t w format choice before rs fs taken fa fb old new taking text 
   named = h.took.named.named;
   spread = h.took.spread;
   takes = h.took.takes;
-  why = bad_next l before.ledger.remaining before.ledger.failures rs old new text n f h.read is.0 is.1;
+  why = λ few. bad_next l before.ledger.remaining before.ledger.failures rs old new text n f h.read is.0 is.1 few;
   written = h.took.written;
   ledger_failures = is.2 ∙ h.read.no_failure;
   a_failures = h.took.named.read_a.no_failure;
@@ -290,7 +307,7 @@ ledger_stops l s t w format choice before rs fs taken fa fb old new taking text 
   named = h.took.named.named;
   spread = h.took.spread;
   takes = h.took.takes;
-  why = (unread_of new.lines, is.2, part_ahead (left_of l old) (l.remaining (source_of new)) (unread_of new.lines) is.1);
+  why = λ few. (unread_of new.lines, is.2, few, part_ahead (left_of l old) (l.remaining (source_of new)) (unread_of new.lines) is.1);
   written = h.took.written;
   ledger_failures = rw (sym h.read.no_failure) is.0;
   a_failures = h.took.named.read_a.no_failure;

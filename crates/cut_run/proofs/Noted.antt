@@ -12,7 +12,7 @@ use Rattle.ledger_text.specs.declared.order.LedgerLine.TheVariants as lines
 use Rattle.ledger_text.specs.declared.reader.Found.TheVariants as found
 use Rattle.ledger_text.specs.declared.reader.LedgerReader.{LedgerReader}
 use Rattle.ledger_text.specs.declared.reader.LedgerStop.{LedgerStop}
-use Rattle.ledger_text.proofs.Ledgers.{found_line, found_one_more, frame_lines_one_more}
+use Rattle.ledger_text.proofs.Ledgers.{found_one_more, frame_lines_one_more}
 use Rattle.line_selection.specs.Neighbours.{HasAsked, HasNoted}
 use Rattle.line_selection.specs.declared.chooser.Chooser.{Chooser}
 use Rattle.line_selection.specs.declared.neighbours.Neighbours.{Neighbours}
@@ -21,7 +21,7 @@ use Rattle.run_outcome.specs.Device.{SourceMembers, SourceView}
 use Rattle.cut_run.specs.Cut.{ledger_fault}
 use Rattle.cut_run.specs.Noting.{EndsNoting, HasNotedLines, StopsNoting}
 use Rattle.cut_run.specs.declared.fault.CutFault.TheVariants as faults
-use Rattle.cut_run.proofs.Ledgers.{bad_next, line_of, part_ahead}
+use Rattle.cut_run.proofs.Ledgers.{bad_next, line_of, part_ahead, stops_after}
 
 -- so many lines, and what was noted of them
 abbrev pub IsNoting : {L : Type 0} → SourceMembers L → Selection → ℕ → SourceView → LedgerReader L → Chooser → Neighbours → Type 0
@@ -80,12 +80,12 @@ pub no_memory : {L : Type 0} (l : SourceMembers L) (selection : Selection) (coun
     (chooser : Chooser) (neighbours : Neighbours) (v : FrameLine) → HasNotedLines l selection count before rs old chooser neighbours
     → IsFound (reading_of l.remaining l.failures old) (reading_of l.remaining l.failures new) (lent_of new) (found.Line (lines.Frame v))
     → StopsNoting l faults.Memory before new
-no_memory l selection count before rs old new chooser neighbours v h is = record {
+no_memory l selection count before rs old new chooser neighbours v h is = λ few. record {
   rs = rs;
   stage = stage_of old;
   left = left_of l old;
   lines = h.read.lines;
-  why = inr (v, (lent_of new, left_of l new, found_line l old new (lines.Frame v) is));
+  why = inr (v, stops_after l old new v is few);
   failures = is.2 ∙ h.read.no_failure;
 }
 
@@ -93,20 +93,20 @@ pub ledger_stops_noting : {L : Type 0} (l : SourceMembers L) (selection : Select
     (chooser : Chooser) (neighbours : Neighbours) (text : List ℕ) (fault : ReadFault) → HasNotedLines l selection count before rs old chooser neighbours
     → IsReadFault (reading_of l.remaining l.failures old) (reading_of l.remaining l.failures new) text (unread_of new.lines) fault
     → StopsNoting l (ledger_fault fault) before new
-ledger_stops_noting l selection count before rs old new chooser neighbours text (read.Line n f) h is = record {
+ledger_stops_noting l selection count before rs old new chooser neighbours text (read.Line n f) h is = λ few. record {
   rs = rs;
   stage = stage_of old;
   left = left_of l old;
   lines = h.read.lines;
-  why = bad_next l before.remaining before.failures rs old new text n f h.read is.0 is.1;
+  why = bad_next l before.remaining before.failures rs old new text n f h.read is.0 is.1 few;
   failures = is.2 ∙ h.read.no_failure;
 }
-ledger_stops_noting l selection count before rs old new chooser neighbours text read.Device h is = record {
+ledger_stops_noting l selection count before rs old new chooser neighbours text read.Device h is = λ few. record {
   rs = rs;
   stage = stage_of old;
   left = left_of l old;
   lines = h.read.lines;
-  why = (unread_of new.lines, is.2, part_ahead (left_of l old) (l.remaining (source_of new)) (unread_of new.lines) is.1);
+  why = (unread_of new.lines, is.2, few, part_ahead (left_of l old) (l.remaining (source_of new)) (unread_of new.lines) is.1);
   failures = rw (sym h.read.no_failure) is.0;
 }
 ledger_stops_noting l selection count before rs old new chooser neighbours text read.Failed h is = absurd is

@@ -32,7 +32,7 @@ use Rattle.cut_run.specs.declared.fault.CutFault.TheVariants as faults
 use Rattle.cut_run.specs.declared.fault.CutSource.TheVariants as source
 use Rattle.cut_run.specs.declared.print.Printing.{Printing}
 use Rattle.cut_run.specs.declared.recordings.Recordings.{Recordings}
-use Rattle.cut_run.proofs.Ledgers.{bad_next, ledger_well, line_fault, line_of, part_ahead}
+use Rattle.cut_run.proofs.Ledgers.{bad_next, ledger_well, line_fault, line_of, part_ahead, stops_after}
 use Rattle.cut_run.proofs.Naming.{part_read}
 use Rattle.cut_run.proofs.Whole.{part_of}
 
@@ -112,7 +112,7 @@ pub ends_printing : {L S T W : Type 0} (l : SourceMembers L) (s : SourceMembers 
     (rs : List ReadLine) (printed : List (List ℕ)) (old new : LedgerReader L) (printing : Printing S T W) (e : CutEnding)
     → EndsAt rs (stage_of old) (left_of l old) (stop_of e) → l.failures (source_of new) ≡ l.failures (source_of old) → HasPrintedLedger l s t w choice before rs printed old printing
     → LeavesLines l s t w choice (Ok e) before new printing
-ends_printing l s t w choice before rs printed old new printing e at same h = λ sources back. record {
+ends_printing l s t w choice before rs printed old new printing e at same h = λ few sources back. record {
   rs = rs;
   stage = stage_of old;
   left = left_of l old;
@@ -135,11 +135,11 @@ record Stopped (skips : Option Network) (fault : CutFault) (before : LineDevices
   ledger : FailsWhere (names fault LedgerSource) x y
 
 stopped : {S T : Type 0} (s : SourceMembers S) (t : SourceMembers T) (skips : Option Network) (before : LineDevices) (was : Option Sources) (rs : List ReadLine) (stage : Stage) (left rest : Option (List ℕ))
-    (v : FrameLine) (n : ℕ) (fault : CutFault) (recordings : Option (Recordings S T)) (sources : Option (S × T)) (x y : ℕ) → n ≡ length rs + 1 → ReadsNext skips stage left v
+    (v : FrameLine) (n : ℕ) (fault : CutFault) (recordings : Option (Recordings S T)) (sources : Option (S × T)) (x y : ℕ) → n ≡ length rs + 1 → ReadsNext skips stage left rest v
     → StopsChecking s t was (read_lines skips (frame_lines rs)) v n fault recordings → GivesBack s t recordings sources → y ≡ x
     → Stopped skips fault before was (sources_at s t sources) rs stage left rest x y
 stopped s t skips before None rs stage left rest v n fault None None x y count says stops back same =
-    subst (λ (f : CutFault). Stopped skips f before None None rs stage left rest x y) (sym stops) (record { checked = tt; recordings = tt; ledger = same })
+    subst (λ (f : CutFault). Stopped skips f before None None rs stage left rest x y) (sym stops) (record { checked = (v, says.0); recordings = tt; ledger = same })
 stopped s t skips before None rs stage left rest v n fault None (Some z) x y count says stops back same = absurd back
 stopped s t skips before None rs stage left rest v n fault (Some r) sources x y count says stops back same = absurd stops
 stopped s t skips before (Some b) rs stage left rest v n fault None sources x y count says stops back same = absurd stops
@@ -178,11 +178,11 @@ pub stops_printing : {L S T W : Type 0} (l : SourceMembers L) (s : SourceMembers
     → IsFound (reading_of l.remaining l.failures old) (reading_of l.remaining l.failures new) (lent_of new) (found.Line (lines.Frame v))
     → StopsAtText s t w choice before (frame_lines rs) (frame_texts rs) printed v (lent_of new) (number_of new) fault now
     → LeavesLines l s t w choice (Err fault) before new now
-stops_printing l s t w choice before rs printed old new was now v fault h is stops = λ sources back.
+stops_printing l s t w choice before rs printed old new was now v fault h is stops = λ few sources back.
     (let count : number_of new ≡ length rs + 1 = is.1.2 ∙ ap (λ (n : ℕ). n + 1) h.read.number in
     let line = found_line l old new (lines.Frame v) is in
     let stop = stopped s t choice.skips before before.recordings rs (stage_of old) (left_of l old) (l.remaining (source_of new)) v (number_of new) fault now.recordings sources before.ledger.failures
-    (l.failures (source_of new)) count ((lent_of new, left_of l new, line), stops.read) stops.checked back (is.2 ∙ h.read.no_failure) in (
+    (l.failures (source_of new)) count (stops_after l old new v is few, stops.read) stops.checked back (is.2 ∙ h.read.no_failure) in (
       record { ledger = stop.ledger; recordings = stop.recordings; output = stops.output_failures },
       inr (record {
         rs = rs;
@@ -223,9 +223,9 @@ pub ledger_stops_printing : {L S T W : Type 0} (l : SourceMembers L) (s : Source
     → HasPrintedLedger l s t w choice before rs printed old printing
     → IsReadFault (reading_of l.remaining l.failures old) (reading_of l.remaining l.failures new) text (unread_of new.lines) fault
     → LeavesLines l s t w choice (Err (ledger_fault fault)) before new printing
-ledger_stops_printing l s t w choice before rs printed old new printing text (read.Line n f) h is = λ sources back.
+ledger_stops_printing l s t w choice before rs printed old new printing text (read.Line n f) h is = λ few sources back.
     (let checked = checked_back s t before.recordings (read_lines choice.skips (frame_lines rs)) printing.recordings sources h.print.checked back in
-    let bad = bad_next l before.ledger.remaining before.ledger.failures rs old new text n f h.read is.0 is.1 in (
+    let bad = bad_next l before.ledger.remaining before.ledger.failures rs old new text n f h.read is.0 is.1 few in (
       record {
         ledger = is.2 ∙ h.read.no_failure;
         recordings = well_bad n f before.recordings (sources_at s t sources) (read_lines choice.skips (frame_lines rs)) checked;
@@ -242,9 +242,9 @@ ledger_stops_printing l s t w choice before rs printed old new printing text (re
         written = h.print.written;
       }),
     ))
-ledger_stops_printing l s t w choice before rs printed old new printing text read.Device h is = λ sources back.
+ledger_stops_printing l s t w choice before rs printed old new printing text read.Device h is = λ few sources back.
     (let checked = checked_back s t before.recordings (read_lines choice.skips (frame_lines rs)) printing.recordings sources h.print.checked back in
-    let part : FailsInLine (left_of l old) (l.remaining (source_of new)) = (unread_of new.lines, is.2, part_ahead (left_of l old) (l.remaining (source_of new)) (unread_of new.lines) is.1) in (
+    let part : FailsInLine (left_of l old) (l.remaining (source_of new)) = (unread_of new.lines, is.2, few, part_ahead (left_of l old) (l.remaining (source_of new)) (unread_of new.lines) is.1) in (
       record {
         ledger = rw (sym h.read.no_failure) is.0;
         recordings = well_up_to before.recordings (sources_at s t sources) (read_lines choice.skips (frame_lines rs)) checked;

@@ -12,6 +12,7 @@ use Rattle.frame_finder.specs.declared.finder.FrameFinder.{FrameFinder}
 use Rattle.ledger_text.specs.Ledger.{HasReadLines}
 use Rattle.ledger_text.specs.Lines.{unread_of}
 use Rattle.ledger_text.specs.Reader.{source_of}
+use Rattle.ledger_text.specs.declared.bounds.TheConstants.{BLOCK_LEN}
 use Rattle.ledger_text.specs.declared.order.Stage.TheVariants as stages
 use Rattle.ledger_text.specs.declared.reader.LedgerReader.{LedgerReader}
 use Rattle.packet_format.specs.Packets.{Format, head_by}
@@ -65,11 +66,11 @@ part_of s network before frames finder few part = record {
 pub run_of : {L S T W : Type 0} (l : SourceMembers L) (s : SourceMembers S) (t : SourceMembers T) (w : SinkMembers W) (format : Format) (choice : Choice)
     (outcome : Result CutEnding CutFault) (before : CutDevices) (ledger : LedgerReader L) (taking : Taking S T W)
     → length (finding_of s.remaining s.failures taking.recordings.a).unread ≤ MAX_SNAPLEN
-    → length (finding_of t.remaining t.failures taking.recordings.b).unread ≤ MAX_SNAPLEN
+    → length (finding_of t.remaining t.failures taking.recordings.b).unread ≤ MAX_SNAPLEN → length (unread_of ledger.lines) ≤ BLOCK_LEN
     → MatchResult outcome (λ e. EndsCut l s t w format choice e before ledger taking) (λ fault. StopsCut l s t w format choice fault before ledger taking)
     → IsCutRun format choice outcome before
     (devices_at l s t w (source_of ledger) (finder_source taking.recordings.a) (finder_source taking.recordings.b) (sink_of taking.output))
-run_of l s t w format choice (Ok e) before ledger taking few_a few_b ends =
+run_of l s t w format choice (Ok e) before ledger taking few_a few_b few ends =
     let named = ends.took.named in
     record {
       rs = ends.rs;
@@ -95,7 +96,7 @@ run_of l s t w format choice (Ok e) before ledger taking few_a few_b ends =
       written = ends.took.written;
       no_failure = record { ledger = ends.no_failure; a = named.read_a.no_failure; b = named.read_b.no_failure; output = ends.took.no_failure };
     }
-run_of l s t w format choice (Err fault) before ledger taking few_a few_b stops = (
+run_of l s t w format choice (Err fault) before ledger taking few_a few_b few stops = (
   record { ledger = stops.ledger_failures; a = stops.a_failures; b = stops.b_failures; output = stops.output_failures },
   inr (record {
     rs = stops.rs;
@@ -115,7 +116,7 @@ run_of l s t w format choice (Err fault) before ledger taking few_a few_b stops 
       spread = stops.spread;
     };
     takes = stops.takes;
-    why = stops.why;
+    why = stops.why few;
     written = stops.written;
   }),
 )

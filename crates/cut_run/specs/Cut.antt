@@ -1,5 +1,5 @@
 -- What a cut leaves, and why it was aborted (this project's profile).
-use Rattle.std.specs.Prelude.{◌≡◌, ◌⊎◌, ℕ, true, ◌+◌, ◌-◌, ◌^◌, ◌<◌, List, ◌++◌, length, take, Option, Some, None, Result, Ok, Err}
+use Rattle.std.specs.Prelude.{◌≡◌, ◌⊎◌, ℕ, true, ◌+◌, ◌-◌, ◌^◌, ◌<◌, ◌≤◌, List, ◌++◌, length, take, Option, Some, None, Result, Ok, Err}
 use Rattle.std.specs.Io.KnownBytes.{Appends, Consumes}
 use Rattle.std.specs.List.{zip}
 use Rattle.afdx_frame.specs.Frame.{Frame}
@@ -8,6 +8,7 @@ use Rattle.afdx_frame.specs.declared.key.Network.TheVariants.{A, B}
 use Rattle.ledger_text.specs.Ledger.{EndsAt, ReadLine, ReadsLines, TakesLine, frame_lines}
 use Rattle.ledger_text.specs.Newlines.{NoNewline}
 use Rattle.ledger_text.specs.Reader.{IsBadLine, Reading}
+use Rattle.ledger_text.specs.declared.bounds.TheConstants.{BLOCK_LEN}
 use Rattle.ledger_text.specs.declared.fault.LineFault.{LineFault}
 use Rattle.ledger_text.specs.declared.fault.ReadFault.{ReadFault}
 use Rattle.ledger_text.specs.declared.fault.ReadFault.TheVariants as read
@@ -133,35 +134,44 @@ AreRefused fault a b a_after b_after =
 abbrev pub NextSays : Stage → Option (List ℕ) → FrameLine → Type 0
 NextSays stage left v = (text : List ℕ) × (rest : Option (List ℕ)) × TakesLine stage left rest (record { text = text; line = lines.Frame v })
 
--- the line after these, the n-th, is none of a ledger
-abbrev pub IsBadNext : ℕ → LineFault → List ReadLine → Stage → Option (List ℕ) → Type 0
-IsBadNext n fault rs stage left =
-    (n ≡ length rs + 1) × ((text : List ℕ) × (rest : Option (List ℕ))
-    × IsBadLine (place_at stage (length rs) left) (place_at stage (length rs) rest) text fault)
+-- A source still gives what is left, but for what was read ahead of it, which is no more than a block.
+abbrev pub IsReadAhead : Option (List ℕ) → Option (List ℕ) → Type 0
+IsReadAhead left rest = (unread : List ℕ) × (length unread ≤ BLOCK_LEN) × Consumes left rest unread
+
+-- the line after these, the n-th, is none of a ledger, and what the source still gives stands after it
+abbrev pub IsBadNext : ℕ → LineFault → List ReadLine → Stage → Option (List ℕ) → Option (List ℕ) → Type 0
+IsBadNext n fault rs stage left rest =
+    (n ≡ length rs + 1) × ((text : List ℕ) × (after : Option (List ℕ))
+    × IsBadLine (place_at stage (length rs) left) (place_at stage (length rs) after) text fault × IsReadAhead after rest)
 
 -- The ledger's source failed after the last whole line that it gave: what was read ahead of it ends no line, and what it still gives stands
 -- after that.
 abbrev pub FailsInLine : Option (List ℕ) → Option (List ℕ) → Type 0
-FailsInLine left rest = (unread : List ℕ) × NoNewline unread × Consumes left rest unread
+FailsInLine left rest = (unread : List ℕ) × NoNewline unread × (length unread ≤ BLOCK_LEN) × Consumes left rest unread
 
--- the next line of the ledger is that of a frame that is looked up, and says this
-abbrev pub ReadsNext : Option Network → Stage → Option (List ℕ) → FrameLine → Type 0
-ReadsNext skips stage left v = NextSays stage left v × (is_read skips v.network ≡ true)
+-- the next line of the ledger is that of a frame, and says this, and what the source still gives stands after it
+abbrev pub StopsAfter : Stage → Option (List ℕ) → Option (List ℕ) → FrameLine → Type 0
+StopsAfter stage left rest v =
+    (text : List ℕ) × (after : Option (List ℕ)) × TakesLine stage left after (record { text = text; line = lines.Frame v }) × IsReadAhead after rest
+
+-- and it is looked up
+abbrev pub ReadsNext : Option Network → Stage → Option (List ℕ) → Option (List ℕ) → FrameLine → Type 0
+ReadsNext skips stage left rest v = StopsAfter stage left rest v × (is_read skips v.network ≡ true)
 
 -- What the fault says of the line after these, of which each frame was found; `rest` is what the ledger's source still gives.
 abbrev pub IsLineFault : Option Network → CutFault → CutDevices → List ReadLine → Stage → Option (List ℕ) → Option (List ℕ) → List Frame → List Frame → Type 0
-IsLineFault skips (faults.Ledger n fault) before rs stage left rest frames_a frames_b = IsBadNext n fault rs stage left
+IsLineFault skips (faults.Ledger n fault) before rs stage left rest frames_a frames_b = IsBadNext n fault rs stage left rest
 IsLineFault skips (faults.Order n) before rs stage left rest frames_a frames_b =
     (n ≡ length rs + 1)
-    × ((v : FrameLine) × ReadsNext skips stage left v × (ComesLater (last_key (read_lines skips (frame_lines rs))) v → ⊥))
+    × ((v : FrameLine) × ReadsNext skips stage left rest v × (ComesLater (last_key (read_lines skips (frame_lines rs))) v → ⊥))
 IsLineFault skips (faults.Absent n) before rs stage left rest frames_a frames_b =
     (n ≡ length rs + 1)
-    × ((v : FrameLine) × ReadsNext skips stage left v × LacksFrame (view_of v.network before.a before.b) (side v.network frames_a frames_b) v)
+    × ((v : FrameLine) × ReadsNext skips stage left rest v × LacksFrame (view_of v.network before.a before.b) (side v.network frames_a frames_b) v)
 IsLineFault skips (faults.Read source.Ledger) before rs stage left rest frames_a frames_b = FailsInLine left rest
 IsLineFault skips (faults.Read (source.Recording network)) before rs stage left rest frames_a frames_b =
-    (v : FrameLine) × ReadsNext skips stage left v × (v.network ≡ network)
-IsLineFault skips faults.Memory before rs stage left rest frames_a frames_b = (v : FrameLine) × ReadsNext skips stage left v
-IsLineFault skips faults.Write before rs stage left rest frames_a frames_b = (v : FrameLine) × ReadsNext skips stage left v
+    (v : FrameLine) × ReadsNext skips stage left rest v × (v.network ≡ network)
+IsLineFault skips faults.Memory before rs stage left rest frames_a frames_b = (v : FrameLine) × ReadsNext skips stage left rest v
+IsLineFault skips faults.Write before rs stage left rest frames_a frames_b = (v : FrameLine) × ReadsNext skips stage left rest v
 IsLineFault skips (faults.Header network fault) before rs stage left rest frames_a frames_b = ⊥
 
 -- The output has the whole capture of what was taken. Where the sink failed, the next line is taken too, and a prefix of its frame's packet

@@ -1,12 +1,14 @@
 -- A cut between its first line and its last.
-use Rattle.std.specs.Prelude.{◌≡◌, ◌<◌, ℕ, true, false, List, [], ◌∷◌, ◌++◌, length, take, Option, None, Result, Ok, Err, ◌⊎◌, ⊤}
+use Rattle.std.specs.Prelude.{◌≡◌, ◌<◌, ◌≤◌, ℕ, true, false, List, [], ◌∷◌, ◌++◌, length, take, Option, None, Result, Ok, Err, ◌⊎◌, ⊤}
 use Rattle.std.specs.Io.KnownBytes.{Appends}
 use Rattle.std.specs.List.{zip}
 use Rattle.afdx_frame.specs.Frame.{Frame}
 use Rattle.afdx_frame.specs.declared.key.Network.TheVariants.{A, B}
 use Rattle.frame_finder.specs.Finder.{finding_of}
 use Rattle.ledger_text.specs.Ledger.{EndsAt, HasReadLines, ReadLine, ReadsLines, frame_lines}
+use Rattle.ledger_text.specs.Lines.{unread_of}
 use Rattle.ledger_text.specs.Reader.{source_of}
+use Rattle.ledger_text.specs.declared.bounds.TheConstants.{BLOCK_LEN}
 use Rattle.ledger_text.specs.declared.frame.FrameLine.{FrameLine}
 use Rattle.ledger_text.specs.declared.order.Stage.{Stage}
 use Rattle.ledger_text.specs.declared.order.Stage.TheVariants as stages
@@ -134,7 +136,7 @@ pub record StopsCut {L S T W : Type 0} (l : SourceMembers L) (s : SourceMembers 
   pub named : AreFramesOf frames_a frames_b (read_lines choice.skips (frame_lines rs)) found
   pub spread : AreSpread choice.skips (frame_lines rs) found fs
   pub takes : TakesOf choice (frame_lines rs) (zip (frame_lines rs) fs) taken
-  pub why : IsLineFault choice.skips fault before rs stage left (l.remaining (source_of ledger)) frames_a frames_b
+  pub why : length (unread_of ledger.lines) ≤ BLOCK_LEN → IsLineFault choice.skips fault before rs stage left (l.remaining (source_of ledger)) frames_a frames_b
   pub written : HasWritten format choice fault rs stage left frames_a frames_b taken before.output.contents (w.contents (sink_of taking.output))
   pub ledger_failures : FailsWhere (names fault LedgerSource) before.ledger.failures (l.failures (source_of ledger))
   pub a_failures : FailsWhere (names fault (RecordingSource A)) before.a.failures (finding_of s.remaining s.failures taking.recordings.a).reading.failures

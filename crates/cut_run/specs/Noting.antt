@@ -1,7 +1,9 @@
 -- What is noted of a ledger's lines for their neighbours, and why it isn't (this project's profile).
-use Rattle.std.specs.Prelude.{◌≡◌, ◌⊎◌, ℕ, List, [], Option, None, Result, Ok, Err}
+use Rattle.std.specs.Prelude.{◌≡◌, ◌⊎◌, ℕ, ◌≤◌, List, [], length, Option, None, Result, Ok, Err}
 use Rattle.ledger_text.specs.Ledger.{EndsAt, HasReadLines, ReadLine, ReadsLines, frame_lines}
+use Rattle.ledger_text.specs.Lines.{unread_of}
 use Rattle.ledger_text.specs.Reader.{source_of}
+use Rattle.ledger_text.specs.declared.bounds.TheConstants.{BLOCK_LEN}
 use Rattle.ledger_text.specs.declared.frame.FrameLine.{FrameLine}
 use Rattle.ledger_text.specs.declared.order.Stage.{Stage}
 use Rattle.ledger_text.specs.declared.order.Stage.TheVariants as stages
@@ -13,7 +15,7 @@ use Rattle.line_selection.specs.declared.neighbours.Neighbours.{Neighbours}
 use Rattle.line_selection.specs.declared.selection.Selection.{Selection}
 use Rattle.run_outcome.specs.Device.{SourceMembers, SourceView, source_at}
 use Rattle.run_outcome.specs.Fault.{FailsWhere}
-use Rattle.cut_run.specs.Cut.{FailsInLine, IsBadNext, NextSays}
+use Rattle.cut_run.specs.Cut.{FailsInLine, IsBadNext, StopsAfter}
 use Rattle.cut_run.specs.Faults.{LedgerSource, names}
 use Rattle.cut_run.specs.declared.fault.CutFault.{CutFault}
 use Rattle.cut_run.specs.declared.fault.CutFault.TheVariants as faults
@@ -35,9 +37,9 @@ pub record NotesLines (selection : Selection) (count : ℕ) (before after : Sour
 
 -- what the fault says of the line after these; there may be no memory before the first line, or at the line of a frame
 abbrev pub IsNoteFault : CutFault → List ReadLine → Stage → Option (List ℕ) → Option (List ℕ) → Type 0
-IsNoteFault (faults.Ledger n fault) rs stage left rest = IsBadNext n fault rs stage left
+IsNoteFault (faults.Ledger n fault) rs stage left rest = IsBadNext n fault rs stage left rest
 IsNoteFault (faults.Read source.Ledger) rs stage left rest = FailsInLine left rest
-IsNoteFault faults.Memory rs stage left rest = (rs ≡ []) ⊎ ((v : FrameLine) × NextSays stage left v)
+IsNoteFault faults.Memory rs stage left rest = ((rs ≡ []) × (rest ≡ left)) ⊎ ((v : FrameLine) × StopsAfter stage left rest v)
 IsNoteFault fault rs stage left rest = ⊥
 
 -- The run was aborted at the line after these.
@@ -66,4 +68,4 @@ abbrev pub EndsNoting : {L : Type 0} → SourceMembers L → Selection → ℕ �
 EndsNoting l selection count before ledger neighbours = NotesLines selection count before (source_at l (source_of ledger)) neighbours
 
 abbrev pub StopsNoting : {L : Type 0} → SourceMembers L → CutFault → SourceView → LedgerReader L → Type 0
-StopsNoting l fault before ledger = AbortsNoting fault before (source_at l (source_of ledger))
+StopsNoting l fault before ledger = length (unread_of ledger.lines) ≤ BLOCK_LEN → AbortsNoting fault before (source_at l (source_of ledger))

@@ -7,7 +7,9 @@ use Rattle.afdx_frame.specs.declared.key.Network.{Network}
 use Rattle.afdx_frame.specs.declared.key.Network.TheVariants.{A, B}
 use Rattle.frame_finder.specs.Finder.{finder_source, finding_of}
 use Rattle.ledger_text.specs.Ledger.{EndsAt, HasReadLines, ReadLine, ReadsLines, TakesLine, frame_lines}
+use Rattle.ledger_text.specs.Lines.{unread_of}
 use Rattle.ledger_text.specs.Reader.{source_of}
+use Rattle.ledger_text.specs.declared.bounds.TheConstants.{BLOCK_LEN}
 use Rattle.ledger_text.specs.declared.frame.FrameLine.{FrameLine}
 use Rattle.ledger_text.specs.declared.order.LedgerLine.{LedgerLine}
 use Rattle.ledger_text.specs.declared.order.LedgerLine.TheVariants as lines
@@ -19,7 +21,7 @@ use Rattle.pcap_io.specs.Device.{Writes}
 use Rattle.run_outcome.specs.Device.{SinkMembers, SinkView, SourceMembers, SourceView, sink_at, source_at}
 use Rattle.run_outcome.specs.Fault.{FailsWhere}
 use Rattle.run_outcome.specs.Recording.{IsReadPart}
-use Rattle.cut_run.specs.Cut.{CutDevices, FailsInLine, IsBadNext, IsLineFault, IsUnopened, any_lateness, stop_of}
+use Rattle.cut_run.specs.Cut.{CutDevices, FailsInLine, IsBadNext, IsLineFault, IsUnopened, StopsAfter, any_lateness, stop_of}
 use Rattle.cut_run.specs.Cutting.{IsTakeFault}
 use Rattle.cut_run.specs.Faults.{LedgerSource, OutputSink, RecordingSource, names}
 use Rattle.cut_run.specs.Lines.{AreFramesOf, Choice, Chooses, Rise, TakesOf, is_read, read_lines}
@@ -120,9 +122,9 @@ StopsBefore fault before after was now = ⊥
 
 -- what a fault says of the line after these, if there are no recordings
 abbrev pub IsLoneFault : CutFault → List ReadLine → Stage → Option (List ℕ) → Option (List ℕ) → Type 0
-IsLoneFault (faults.Ledger n fault) rs stage left rest = IsBadNext n fault rs stage left
+IsLoneFault (faults.Ledger n fault) rs stage left rest = IsBadNext n fault rs stage left rest
 IsLoneFault (faults.Read source.Ledger) rs stage left rest = FailsInLine left rest
-IsLoneFault faults.Write rs stage left rest = ⊤
+IsLoneFault faults.Write rs stage left rest = (v : FrameLine) × StopsAfter stage left rest v
 IsLoneFault fault rs stage left rest = ⊥
 
 -- The lines before were checked, if there are recordings, and why the next one isn't printed.
@@ -254,9 +256,9 @@ GivesBack s t (Some recordings) (Some (a, b)) =
     × (length (finding_of t.remaining t.failures recordings.b).unread ≤ MAX_SNAPLEN)
 GivesBack s t recordings sources = ⊥
 
--- Whatever sources come back, the devices are left so.
+-- Whatever recordings come back, the devices are left so.
 abbrev pub LeavesLines : {L S T W : Type 0} → SourceMembers L → SourceMembers S → SourceMembers T → SinkMembers W → Choice → Result CutEnding CutFault
     → LineDevices → LedgerReader L → Printing S T W → Type 0
 LeavesLines {L} {S} {T} {W} l s t w choice outcome before ledger printing =
-    (sources : Option (S × T)) → GivesBack s t printing.recordings sources
+    length (unread_of ledger.lines) ≤ BLOCK_LEN → (sources : Option (S × T)) → GivesBack s t printing.recordings sources
     → IsLinesRun choice outcome before (line_devices_at l s t w (source_of ledger) sources printing.output)

@@ -5,12 +5,14 @@ ghost use Rattle.afdx_frame.specs.declared.bounds.TheConstants.{MAX_SNAPLEN};
 ghost use Rattle.frame_finder.specs.Finder.{finder_source, finding_of};
 ghost use Rattle.ledger_text.specs.declared.frame.FrameLine.{FrameLine};
 ghost use Rattle.afdx_frame.specs.declared.key.Network.{Network};
-ghost use Rattle.ledger_text.specs.declared.bounds.TheConstants.{MOST_LINES};
+ghost use Rattle.ledger_text.specs.declared.bounds.TheConstants.{BLOCK_LEN, MOST_LINES};
 ghost use Rattle.line_selection.specs.Neighbours.{AreNoted, Around, HasAsked};
 ghost use Rattle.packet_format.specs.Packets.{Format, format_of};
 ghost use Rattle.packet_writer.specs.Writer.{format_in, has_failed, sink_of};
 ghost use Rattle.run_outcome.specs.Device.{SinkView, SourceView};
 ghost use Rattle.ledger_text.specs.Ledger.{has_failed as ledger_failed};
+ghost use Rattle.ledger_text.specs.Lines.{unread_of};
+ghost use Rattle.ledger_text.specs.Reader.{source_of};
 ghost use Rattle.cut_run.specs.Cut.{CutDevices, devices_at, IsCutRun, ledger_fault};
 ghost use Rattle.cut_run.specs.Cutting.{EndsCut, HasCut, HasTaken, StopsCut, StopsTaking, TakesMore, WritesTaken};
 ghost use Rattle.cut_run.specs.Lines.{Choice};
@@ -73,6 +75,14 @@ pub(crate) fn ledger_fault(fault: ReadFault) -> CutFault
             source: CutSource::Ledger,
         },
     }
+}
+
+/// The source that a reader of a ledger reads. No more than a block was read ahead of it.
+pub(crate) fn into_ledger<L: TapSource>(reader: LedgerReader<L>) -> L
+    ensures source { result ≡ source_of reader }
+    ensures lost { length (unread_of reader.lines) ≤ BLOCK_LEN }
+{
+    reader.into_source()
 }
 
 impl<S: TapSource, T: TapSource, W: OutSink> Taking<'_, S, T, W> {
@@ -295,7 +305,7 @@ pub fn cut_frames<L: TapSource, S: TapSource, T: TapSource, W: OutSink, O: LineO
     let (a, b, output) = taking.into_devices();
     CutRun {
         outcome,
-        ledger: ledger.into_source(),
+        ledger: into_ledger(ledger),
         a,
         b,
         output,

@@ -4,7 +4,7 @@ ghost use Rattle.ledger_text.specs.Ledger.{has_failed as ledger_failed};
 ghost use Rattle.run_outcome.specs.Device.{SourceView, source_at};
 ghost use Rattle.cut_run.specs.Noting.{EndsNoting, HasNotedLines, IsNeighboursRun, StopsNoting};
 
-use crate::cut::ledger_fault;
+use crate::cut::{into_ledger, ledger_fault};
 use crate::fault::CutFault;
 use ledger_text::{Found, LedgerLine, LedgerReader, LinesRefused};
 use line_selection::{Chooser, Neighbours, Selection};
@@ -99,6 +99,6 @@ pub fn neighbours_of<L: TapSource>(
     };
     NeighboursRun {
         outcome,
-        ledger: ledger.into_source(),
+        ledger: into_ledger(ledger),
     }
 }

@@ -12,7 +12,7 @@ ghost use Rattle.cut_run.specs.Printed.{IsLinesRun, LeavesLines, LineDevices, Pr
 ghost use Rattle.cut_run.specs.Printed.{Sources, StopsAtText, StopsChecking, line_devices_at, whole_line};
 ghost use Rattle.cut_run.specs.declared.fault.CutFault.TheVariants as faults;
 
-use crate::cut::{CutEnding, ledger_fault};
+use crate::cut::{CutEnding, into_ledger, ledger_fault};
 use crate::fault::CutFault;
 use crate::observer::LineObserver;
 use crate::recordings::{Recordings, Unopened, is_read};
@@ -207,6 +207,28 @@ fn print_all<L: TapSource, S: TapSource, T: TapSource, W: OutSink, O: LineObserv
     }
 }
 
+/// A run that was aborted before its first line.
+fn not_begun<L, S, T, W>(
+    fault: CutFault,
+    ledger: L,
+    recordings: Option<(S, T)>,
+    output: W,
+) -> LinesRun<L, S, T, W>
+    ensures { result ≡ record {
+      outcome = Err fault;
+      ledger = ledger;
+      recordings = recordings;
+      output = output;
+    } }
+{
+    LinesRun {
+        outcome: Err(fault),
+        ledger,
+        recordings,
+        output,
+    }
+}
+
 /// Prints the lines of frames that the selection takes, as they stand in the ledger and in its order. Where
 /// there are recordings, each line of a frame is checked against its network's, taken or not. With
 /// neighbours the lines near selected ones are taken too, and lines of the network that is skipped are passed
@@ -239,12 +261,7 @@ pub fn print_lines<L: TapSource, S: TapSource, T: TapSource, W: OutSink, O: Line
     let mut ledger = match LedgerReader::new(alloc, ledger) {
         Ok(reader) => reader,
         Err(LinesRefused { source }) => {
-            return LinesRun {
-                outcome: Err(CutFault::Memory),
-                ledger: source,
-                recordings,
-                output,
-            };
+            return not_begun(CutFault::Memory, source, recordings, output);
         }
     };
     let recordings = match recordings {
@@ -252,12 +269,7 @@ pub fn print_lines<L: TapSource, S: TapSource, T: TapSource, W: OutSink, O: Line
         Some((a, b)) => match Recordings::open(alloc, a, b) {
             Ok(recordings) => Some(recordings),
             Err(Unopened { fault, a, b }) => {
-                return LinesRun {
-                    outcome: Err(fault),
-                    ledger: ledger.into_source(),
-                    recordings: Some((a, b)),
-                    output,
-                };
+                return not_begun(fault, ledger.into_source(), Some((a, b)), output);
             }
         },
     };
@@ -277,7 +289,7 @@ pub fn print_lines<L: TapSource, S: TapSource, T: TapSource, W: OutSink, O: Line
     let (recordings, output) = printing.into_devices();
     LinesRun {
         outcome,
-        ledger: ledger.into_source(),
+        ledger: into_ledger(ledger),
         recordings,
         output,
     }

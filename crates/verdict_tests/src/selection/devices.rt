@@ -57,12 +57,14 @@ const EVERY_LINE: Selection = Selection {
     filters: None,
 };
 
+/// The ledger failed.
+const LEDGER_FAILS: CutFault = CutFault::Read {
+    source: CutSource::Ledger,
+};
+
 #[test]
-fn a_ledger_that_fails_between_lines(rt: HostRuntime) -> Result<(), Fail> {
-    let fault = CutFault::Read {
-        source: CutSource::Ledger,
-    };
-    for (len, printed, captured) in FAILURES {
+fn a_printed_ledger_that_fails_between_lines(rt: HostRuntime) -> Result<(), Fail> {
+    for (len, printed, _) in FAILURES {
         let sink = MemSink::new(rt.alloc(), WIDE)?;
         let no_recordings: Option<(MemSource, MemSource)> = None;
         let ledger = failing(rt.alloc(), len)?;
@@ -76,8 +78,15 @@ fn a_ledger_that_fails_between_lines(rt: HostRuntime) -> Result<(), Fail> {
             sink,
             &NoObserver,
         );
-        assert!(rt; lines.outcome == Err(fault));
+        assert!(rt; lines.outcome == Err(LEDGER_FAILS));
         assert!(rt; has_first(&lines.output, LINES, printed));
+    }
+    Ok(())
+}
+
+#[test]
+fn a_cut_ledger_that_fails_between_lines(rt: HostRuntime) -> Result<(), Fail> {
+    for (len, _, captured) in FAILURES {
         let sink = MemSink::new(rt.alloc(), WIDE)?;
         let (a, b) = (
             source(rt.alloc(), &FIRST_RUN)?,
@@ -96,7 +105,7 @@ fn a_ledger_that_fails_between_lines(rt: HostRuntime) -> Result<(), Fail> {
             sink,
             &NoObserver,
         );
-        assert!(rt; cut.outcome == Err(fault));
+        assert!(rt; cut.outcome == Err(LEDGER_FAILS));
         assert!(rt; has_first(&cut.output, &FIRST_RUN, captured));
     }
     Ok(())

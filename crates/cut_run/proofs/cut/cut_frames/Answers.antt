@@ -29,9 +29,9 @@ returns g c = λ around noted.
     (let choice : Choice = record { selection = c.args.selection.now; around = around; skips = c.args.skips } in
     let before = devices_at g.L.TapSource g.S.TapSource g.T.TapSource g.W.OutSink c.args.ledger c.args.a c.args.b c.args.output in
     let wrote = c.in-Ok-begin.ensures.written in
-    rw (c.into_source-2.ensures, c.into_devices-a.ensures.devices)
+    rw (c.into_ledger.ensures.source, c.into_devices-a.ensures.devices)
     (run_of g.L.TapSource g.S.TapSource g.T.TapSource g.W.OutSink (format_of c.args.format) choice c.cut_lines-outcome.result before c.cut_lines-outcome.new.ledger c.cut_lines-outcome.new.taking
-    c.into_devices-a.ensures.lost.0 c.into_devices-a.ensures.lost.1
+    c.into_devices-a.ensures.lost.0 c.into_devices-a.ensures.lost.1 c.into_ledger.ensures.lost
     (c.cut_lines-outcome.ensures (format_of c.args.format) around before (record {
       read = reads_nothing g.L.TapSource c.args.ledger c.in-Ok-new.reader c.in-Ok-new.ensures.source c.in-Ok-new.ensures.unread c.in-Ok-new.ensures.start;
       took = record {

@@ -14,7 +14,7 @@ returns g c =
       asked = c.new-chooser.ensures selection None tt;
       noted = c.in-Ok.ensures selection;
     } in
-    rw c.into_source.ensures (elim c.match-note_lines.branch [
+    rw c.into_ledger.ensures.source (elim c.match-note_lines.branch [
       | in-Ok-note_lines w ↦ rw w.outcome-is (w.in-Ok-note_lines.ensures c.args.around before begun)
-      | in-Err-note_lines w ↦ rw w.outcome-is (w.in-Err-note_lines.ensures c.args.around before begun)
+      | in-Err-note_lines w ↦ rw w.outcome-is (w.in-Err-note_lines.ensures c.args.around before begun c.into_ledger.ensures.lost)
     ])
