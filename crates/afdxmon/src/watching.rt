@@ -8,7 +8,7 @@ use analyser::{
 use bpf_loader::Program;
 use courses::{MAX_LATE, is_at_terminal, refuse_closed, refuse_shared, text_of};
 use pcap_io::WriteSink;
-use pcapng_writer::Interfaces;
+use pcapng::Interfaces;
 use run_manifest::sum_of;
 use run_outputs::{
     Ended, LedgerWriter, RunSums, Spans, TextSums, blocks_of, create, create_hashed, file_in,

@@ -8,9 +8,9 @@ use Rattle.packet_format.specs.Packets.{Format}
 use Rattle.pcap_io.specs.Device.{CountsFailure}
 use Rattle.pcap_io.specs.Position.{Reads}
 use Rattle.pcap_io.specs.declared.position.Position.{Position}
-use Rattle.run_outcome.specs.declared.fault.Output.TheVariants as output
-use Rattle.run_outcome.specs.declared.fault.WatchFault.{WatchFault}
-use Rattle.run_outcome.specs.declared.fault.WatchFault.TheVariants as watch
+use Rattle.run_fault.specs.declared.fault.Output.TheVariants as output
+use Rattle.run_fault.specs.declared.fault.WatchFault.{WatchFault}
+use Rattle.run_fault.specs.declared.fault.WatchFault.TheVariants as watch
 use Rattle.capture_run.specs.Capture.{packet_of, packets_of}
 use Rattle.capture_run.specs.Copy.{Copying, StopsCopy, WritesAccepted}
 

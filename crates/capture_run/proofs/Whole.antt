@@ -9,15 +9,15 @@ use Rattle.pcap_io.specs.Device.{CountsFailure}
 use Rattle.pcap_io.specs.Position.{Opens, Reads, start_at}
 use Rattle.pcap_io.specs.declared.position.Position.{Position}
 use Rattle.pcap_io.specs.declared.recording.Ending.{Ending}
-use Rattle.run_outcome.specs.Recording.{HasReadTap, LeavesUnread, most_frames}
-use Rattle.run_outcome.specs.Device.{Devices}
+use Rattle.run_fault.specs.Recording.{HasReadTap, LeavesUnread, most_frames}
+use Rattle.run_fault.specs.Device.{Devices}
 use Rattle.capture_run.specs.Capture.{FailsToAllocate, FailsToMake, IsAbortedBy, IsCapturedBy, capture_by, packet_of}
 use Rattle.capture_run.specs.Copy.{Copying, IsCopied, StopsAtMemory, StopsAtPacket, StopsCopy}
-use Rattle.run_outcome.specs.declared.fault.Output.TheVariants as output
-use Rattle.run_outcome.specs.declared.fault.WatchFault.{WatchFault}
-use Rattle.run_outcome.specs.declared.fault.WatchFault.TheVariants as watch
+use Rattle.run_fault.specs.declared.fault.Output.TheVariants as output
+use Rattle.run_fault.specs.declared.fault.WatchFault.{WatchFault}
+use Rattle.run_fault.specs.declared.fault.WatchFault.TheVariants as watch
 use Rattle.capture_run.proofs.Copying.{written_after, written_within}
-use Rattle.run_outcome.proofs.Recording.{complete, read_within}
+use Rattle.run_fault.proofs.Recording.{complete, read_within}
 
 -- Between `old` and `new` a copy was made: before it the reader was opened and what a capture begins with was written, and after it both
 -- devices were given back.

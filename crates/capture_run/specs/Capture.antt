@@ -15,11 +15,11 @@ use Rattle.pcap_io.specs.declared.layout.Layout.{Layout}
 use Rattle.pcap_io.specs.declared.layout.TheConstants.{FILE_HEADER_LEN}
 use Rattle.pcap_io.specs.declared.position.Position.{Position}
 use Rattle.pcap_io.specs.declared.recording.Ending.{Ending}
-use Rattle.run_outcome.specs.declared.fault.Output.TheVariants as output
-use Rattle.run_outcome.specs.declared.fault.WatchFault.{WatchFault}
-use Rattle.run_outcome.specs.declared.fault.WatchFault.TheVariants as watch
-use Rattle.run_outcome.specs.Recording.{HasReadTap, IsRecording, LeavesUnread}
-use Rattle.run_outcome.specs.Device.{Devices}
+use Rattle.run_fault.specs.declared.fault.Output.TheVariants as output
+use Rattle.run_fault.specs.declared.fault.WatchFault.{WatchFault}
+use Rattle.run_fault.specs.declared.fault.WatchFault.TheVariants as watch
+use Rattle.run_fault.specs.Recording.{HasReadTap, IsRecording, LeavesUnread}
+use Rattle.run_fault.specs.Device.{Devices}
 
 -- how many bytes are kept of an accepted frame
 abbrev pub kept_len : List Packed → Frame → ℕ

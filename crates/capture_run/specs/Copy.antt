@@ -6,15 +6,15 @@ use Rattle.afdx_frame.specs.declared.key.Network.TheVariants as networks
 use Rattle.bpf_isa.specs.declared.packed.Packed.{Packed}
 use Rattle.filter_workers.specs.Filters.{answer_for}
 use Rattle.packet_format.specs.Packets.{Format}
-use Rattle.packet_writer.specs.Writer.{IsPcapng}
+use Rattle.packet_format.specs.Writer.{IsPcapng}
 use Rattle.pcap_io.specs.Device.{AppendsPrefix, CountsFailure}
 use Rattle.pcap_io.specs.Position.{TakesAPacket, EndLeaves, LacksBytes, LacksMemory, Reading, Reads, ending_here}
 use Rattle.pcap_io.specs.declared.position.Position.{Position}
 use Rattle.pcap_io.specs.declared.recording.Ending.{Ending}
 use Rattle.capture_run.specs.Capture.{packet_of, packets_of}
-use Rattle.run_outcome.specs.declared.fault.Output.TheVariants as output
-use Rattle.run_outcome.specs.declared.fault.WatchFault.{WatchFault}
-use Rattle.run_outcome.specs.declared.fault.WatchFault.TheVariants as watch
+use Rattle.run_fault.specs.declared.fault.Output.TheVariants as output
+use Rattle.run_fault.specs.declared.fault.WatchFault.{WatchFault}
+use Rattle.run_fault.specs.declared.fault.WatchFault.TheVariants as watch
 
 -- What a call that writes a frame's packet leaves of the sink. Memory is missing only for the packet of an accepted frame.
 abbrev pub WritesAccepted : Format → List Packed → Frame → Result (Unit {0}) WatchFault → Option (List ℕ) → Option (List ℕ) → ℕ → ℕ → Type 0

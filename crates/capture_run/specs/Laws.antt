@@ -11,7 +11,7 @@ use Rattle.pcap_io.specs.declared.layout.Precision.TheVariants.{Converted}
 use Rattle.pcap_io.specs.declared.layout.TheConstants.{FILE_HEADER_LEN}
 use Rattle.pcap_io.specs.declared.recording.Ending.{Ending}
 use Rattle.pcap_io.specs.declared.recording.Ending.TheVariants.{Clean}
-use Rattle.run_outcome.specs.Recording.{IsRecording}
+use Rattle.run_fault.specs.Recording.{IsRecording}
 use Rattle.capture_run.specs.Capture.{accepted, capture_text, kept_len}
 
 -- No accepted frame without bytes is of a time that is written as the start of a pcap file. The frames of a pcap recording are none; those of

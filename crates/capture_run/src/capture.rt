@@ -1,21 +1,20 @@
 //! One tap, one filter, a capture.
 ghost use Rattle.std.specs.Prelude.{◌≡◌, ◌≤◌, None, Some, IfOk, IfErr, IfSome, IsSome, OnOk, false};
 ghost use Rattle.packet_format.specs.Packets.{format_of};
-ghost use Rattle.packet_writer.specs.Writer.{format_in, has_failed, sink_of};
+ghost use Rattle.packet_format.specs.Writer.{format_in, has_failed, sink_of};
 ghost use Rattle.pcap_io.specs.Reader.{position_of, reading_of, unread_of};
 ghost use Rattle.pcap_io.specs.declared.recording.Stage.TheVariants.{Going};
 ghost use Rattle.capture_run.specs.Capture.{IsAborted, IsAbortedBy, IsCaptured, IsCapturedBy};
-ghost use Rattle.run_outcome.specs.Device.{devices_of};
-ghost use Rattle.run_outcome.specs.Fault.{open_fault};
+ghost use Rattle.run_fault.specs.Device.{devices_of};
+ghost use Rattle.run_fault.specs.Fault.{open_fault};
 ghost use Rattle.capture_run.specs.Copy.{IsCopied, StopsCopy, WritesAccepted, copying_of};
 
 use afdx_frame::{LentFrame, Network};
 use bpf_loader::Program;
 use filter_workers::answer_for;
-use packet_format::PacketFormat;
-use packet_writer::{PacketFault, PacketWriter, head_of};
+use packet_format::{PacketFault, PacketFormat, PacketWriter, head_of};
 use pcap_io::{Ending, Found, OpenFault, OpenRefused, OutSink, ReadFault, TapReader, TapSource};
-use run_outcome::{CAPTURE_FAILED, MAX_FRAMES, Output, WatchFault, WatchRefused, fault_of_open};
+use run_fault::{CAPTURE_FAILED, MAX_FRAMES, Output, WatchFault, WatchRefused, fault_of_open};
 use std::alloc::{AllocError, Global};
 
 /// Writes the frame's packet, if the filter accepts the frame.

@@ -17,8 +17,8 @@ use Rattle.cut_run.specs.declared.fault.CutFault.TheVariants as cut
 use Rattle.command_line.specs.declared.fault.Fault.{Fault}
 use Rattle.command_line.specs.declared.fault.Fault.TheVariants as fault
 use Rattle.command_line.specs.declared.fault.FileOption.TheVariants as file
-use Rattle.run_outcome.specs.declared.fault.Output.TheVariants as output
-use Rattle.run_outcome.specs.declared.fault.WatchFault.TheVariants as watch
+use Rattle.run_fault.specs.declared.fault.Output.TheVariants as output
+use Rattle.run_fault.specs.declared.fault.WatchFault.TheVariants as watch
 
 -- the end of a command that read the recording up to this ending
 abbrev pub exit_at : Ending → Exit

@@ -9,9 +9,9 @@ use Rattle.vl_config.specs.declared.fault.ConfigFault.{ConfigFault}
 use Rattle.vl_config.specs.declared.fault.ConfigFault.TheVariants as config
 use Rattle.pcap_io.specs.declared.layout.HeaderFault.{HeaderFault}
 use Rattle.pcap_io.specs.declared.layout.HeaderFault.TheVariants as header
-use Rattle.run_outcome.specs.declared.fault.WatchFault.{WatchFault}
-use Rattle.run_outcome.specs.declared.fault.WatchFault.TheVariants as watch
-use Rattle.run_outcome.specs.declared.fault.Output.TheVariants as output
+use Rattle.run_fault.specs.declared.fault.WatchFault.{WatchFault}
+use Rattle.run_fault.specs.declared.fault.WatchFault.TheVariants as watch
+use Rattle.run_fault.specs.declared.fault.Output.TheVariants as output
 use Rattle.bpf_text.specs.declared.fault.TextFault.{TextFault}
 use Rattle.bpf_text.specs.declared.fault.TextFault.TheVariants as text
 use Rattle.bpf_asm.specs.declared.fault.AsmFault.{AsmFault}

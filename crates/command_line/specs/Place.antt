@@ -2,10 +2,10 @@
 use Rattle.std.specs.Prelude.{ℕ, Option, Some, None}
 use Rattle.afdx_frame.specs.declared.key.Network.{Network}
 use Rattle.afdx_frame.specs.declared.key.Network.TheVariants as networks
-use Rattle.run_outcome.specs.declared.fault.WatchFault.{WatchFault}
-use Rattle.run_outcome.specs.declared.fault.WatchFault.TheVariants as watch
-use Rattle.run_outcome.specs.declared.fault.Output.{Output}
-use Rattle.run_outcome.specs.declared.fault.Output.TheVariants as output
+use Rattle.run_fault.specs.declared.fault.WatchFault.{WatchFault}
+use Rattle.run_fault.specs.declared.fault.WatchFault.TheVariants as watch
+use Rattle.run_fault.specs.declared.fault.Output.{Output}
+use Rattle.run_fault.specs.declared.fault.Output.TheVariants as output
 use Rattle.cut_run.specs.declared.fault.CutFault.{CutFault}
 use Rattle.cut_run.specs.declared.fault.CutFault.TheVariants as cut
 use Rattle.cut_run.specs.declared.fault.CutSource.{CutSource}

@@ -7,7 +7,7 @@ use crate::summary::Summary;
 use cut_run::{CutEnding, CutFault};
 use ledger_text::LedgerStop;
 use pcap_io::Ending;
-use run_outcome::{Output, WatchFault};
+use run_fault::{Output, WatchFault};
 
 /// The exit status of invalid arguments, after clap's text.
 pub const USAGE: u8 = 2;

@@ -8,7 +8,7 @@ use bpf_text::TextFault;
 use cut_run::CutFault;
 use icd_links::IcdFault;
 use ledger_text::LineFault;
-use run_outcome::WatchFault;
+use run_fault::WatchFault;
 use vl_config::ConfigFault;
 
 /// A file, by the option that names it.

@@ -15,7 +15,7 @@ use cut_run::{CutFault, CutSource};
 use icd_links::IcdFault;
 use ledger_text::{FrameFault, LineFault};
 use pcap_io::HeaderFault;
-use run_outcome::{Output, WatchFault};
+use run_fault::{Output, WatchFault};
 use std::alloc::{AllocError, Global};
 use std::fmt;
 use std::fmt::{Display, Formatter};

@@ -14,7 +14,7 @@ use cut_run::{CutFault, CutSource};
 use icd_links::IcdFault;
 use ledger_text::LineFault;
 use pcap_io::{BadReason, Ending, HeaderFault};
-use run_outcome::{Output, WatchFault};
+use run_fault::{Output, WatchFault};
 use std::fmt;
 use std::fmt::{Display, Formatter};
 use vl_config::{ConfigFault, Key};

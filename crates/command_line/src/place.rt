@@ -6,7 +6,7 @@ use crate::fault::{Fault, FileOption, ManifestFault, ReportFault};
 use afdx_frame::Network;
 use cut_run::{CutFault, CutSource};
 use icd_links::IcdFault;
-use run_outcome::{Output, WatchFault};
+use run_fault::{Output, WatchFault};
 
 fn input_of(network: Network) -> FileOption
     ensures { result ≡ input_of network }

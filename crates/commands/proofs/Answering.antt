@@ -7,11 +7,11 @@ use Rattle.std.specs.List.{after_first, before_first, onto_first, position_or_le
 use Rattle.pcap_io.specs.Device.{CountsFailure}
 use Rattle.bpf_debugger.specs.Debugging.{SessionState}
 use Rattle.commands.specs.Sessions.{Answers, AnswersAll, AnswersSome, AreAnswered, Continues, IsAnswered, Takes, ends_session, lines_of}
-use Rattle.run_outcome.specs.Device.{SinkView}
+use Rattle.run_fault.specs.Device.{SinkView}
 use Rattle.command_line.specs.declared.fault.Fault.{Fault}
 use Rattle.command_line.specs.declared.fault.Fault.TheVariants as fault
 use Rattle.command_line.specs.declared.fault.FileOption.TheVariants as file
-use Rattle.run_outcome.proofs.Written.{prefix_after}
+use Rattle.run_fault.proofs.Written.{prefix_after}
 
 -- ---- the first line of a text
 

@@ -4,7 +4,7 @@ use Rattle.std.proofs.lemmas.List.{map-append, length-map, length-take-le, take-
 use Rattle.bpf_isa.specs.declared.packed.Packed.{Packed}
 use Rattle.commands.specs.Inputs.{AreFilters, IsFilter, IsFilterFault, IsFirstFilterFault}
 use Rattle.command_line.specs.declared.fault.Fault.{Fault}
-use Rattle.run_outcome.proofs.Lists.{drop_next, take_next}
+use Rattle.run_fault.proofs.Lists.{drop_next, take_next}
 
 one_more : (texts : List (List ℕ)) (ps : List (List Packed)) (text : List ℕ) (p : List Packed) → AreFilters texts ps → IsFilter text p → AreFilters (texts ++ text ∷ []) (ps ++ p ∷ [])
 one_more [] [] text p are is = (is, tt)

@@ -8,11 +8,11 @@ use Rattle.bpf_debugger.specs.Debugging.{SessionState, new_session}
 use Rattle.bpf_debugger.specs.declared.fault.DebugFault.TheVariants as debug
 use Rattle.pcap_io.specs.Device.{CountsFailure}
 use Rattle.commands.specs.Sessions.{AnswersAll, AnswersSome, AreAnswered, AreCommands, IsBegun, IsSessionRun, TakesPrefix, frames_line, lines_of}
-use Rattle.run_outcome.specs.Device.{SinkView, SourceView}
+use Rattle.run_fault.specs.Device.{SinkView, SourceView}
 use Rattle.command_line.specs.declared.fault.Fault.{Fault}
 use Rattle.command_line.specs.declared.fault.Fault.TheVariants as fault
 use Rattle.command_line.specs.declared.fault.FileOption.TheVariants as file
-use Rattle.run_outcome.proofs.Written.{prefix_after}
+use Rattle.run_fault.proofs.Written.{prefix_after}
 
 module _ (p : List Packed) (frames : List Frame) (commands commands' : SourceView) (text : List ℕ) (read : AreCommands commands commands' text) where
   pub not_begun : (f : Fault) (sink sink' : SinkView) → IsBegun p frames (Err f) sink sink' → IsSessionRun p frames (Err f) commands commands' sink sink'

@@ -7,11 +7,11 @@ use Rattle.pcap_io.specs.Position.{Opens, Reading, Reads, TakesFrame, after_fram
 use Rattle.pcap_io.specs.declared.position.Position.{Position}
 use Rattle.pcap_io.specs.declared.recording.Ending.{Ending}
 use Rattle.pcap_io.proofs.Parse.{reads_more}
-use Rattle.run_outcome.specs.Recording.{LeavesUnread}
-use Rattle.run_outcome.specs.Recording.{HasReadTap, most_frames}
-use Rattle.run_outcome.specs.Device.{SourceView}
+use Rattle.run_fault.specs.Recording.{LeavesUnread}
+use Rattle.run_fault.specs.Recording.{HasReadTap, most_frames}
+use Rattle.run_fault.specs.Device.{SourceView}
 use Rattle.commands.specs.WholeTap.{Gives, GivesAll, IsTap}
-use Rattle.run_outcome.proofs.Recording.{complete}
+use Rattle.run_fault.proofs.Recording.{complete}
 
 -- one frame more
 pub gives_more : (old : Reading) (frames all : List Frame) (q q' : Position) (left after : Option (List ℕ)) (f : Frame) → Gives old frames q left →

@@ -6,7 +6,7 @@ use Rattle.bpf_isa.specs.declared.packed.Packed.{Packed}
 use Rattle.bpf_asm.specs.Assembly.{IsSourceOf, IsTextFault}
 use Rattle.bpf_asm.specs.declared.fault.AsmFault.TheVariants as asm
 use Rattle.pcap_io.specs.Device.{AppendsPrefix, CountsFailure}
-use Rattle.run_outcome.specs.Device.{Devices}
+use Rattle.run_fault.specs.Device.{Devices}
 use Rattle.command_line.specs.Line.{line_of}
 use Rattle.commands.specs.Text.{IsTextRefusal, IsWholeText}
 use Rattle.commands.specs.declared.text.TextRefusal.{TextRefusal}

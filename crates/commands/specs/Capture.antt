@@ -4,7 +4,7 @@ use Rattle.bpf_isa.specs.declared.packed.Packed.{Packed}
 use Rattle.pcap_io.specs.declared.recording.Ending.{Ending}
 use Rattle.capture_run.specs.Capture.{IsAborted, IsAbortedBy, IsCaptured, IsCapturedBy}
 use Rattle.packet_format.specs.Packets.{Format}
-use Rattle.run_outcome.specs.Device.{Devices}
+use Rattle.run_fault.specs.Device.{Devices}
 use Rattle.commands.specs.Inputs.{IsFilter, IsFilterFault}
 use Rattle.command_line.specs.Line.{line_of}
 use Rattle.command_line.specs.declared.fault.Fault.{Fault}

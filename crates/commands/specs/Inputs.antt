@@ -11,7 +11,7 @@ use Rattle.vl_config.specs.declared.fault.ConfigFault.TheVariants as config
 use Rattle.command_line.specs.declared.fault.Fault.{Fault}
 use Rattle.command_line.specs.declared.fault.Fault.TheVariants as fault
 use Rattle.command_line.specs.declared.fault.FileOption.{FileOption}
-use Rattle.run_outcome.specs.declared.fault.WatchFault.TheVariants as watch
+use Rattle.run_fault.specs.declared.fault.WatchFault.TheVariants as watch
 use Rattle.commands.specs.declared.text.TextRefusal.{TextRefusal}
 use Rattle.commands.specs.declared.text.TextRefusal.TheVariants as refusals
 

@@ -6,18 +6,18 @@ use Rattle.std.specs.Prelude.{codes}
 use Rattle.afdx_frame.specs.declared.key.Network.{Network}
 use Rattle.afdx_frame.specs.declared.key.Network.TheVariants as networks
 use Rattle.vl_config.specs.Document.{VlTable}
-use Rattle.line_selection.specs.LinkList.{IsLinkSetFault, IsRight, IsTakenByOne}
-use Rattle.line_selection.specs.Links.{has_link}
-use Rattle.line_selection.specs.Mask.{IsMaskText}
-use Rattle.line_selection.specs.Selection.{day, until_of_day}
-use Rattle.line_selection.specs.Words.{IsWordFault, items_of, words_named}
-use Rattle.line_selection.specs.declared.link_list.ItemFault.{ItemFault}
-use Rattle.line_selection.specs.declared.link_list.LinkSetFault.TheVariants as links
-use Rattle.line_selection.specs.declared.link_set.LinkSet.{LinkSet}
-use Rattle.line_selection.specs.declared.moment.Moment.{Moment}
-use Rattle.line_selection.specs.declared.moment.Moment.TheVariants as moments
-use Rattle.line_selection.specs.declared.word.Word.{Word}
-use Rattle.line_selection.specs.declared.words.WordFault.TheVariants as words
+use Rattle.ledger_query.specs.LinkList.{IsLinkSetFault, IsRight, IsTakenByOne}
+use Rattle.ledger_query.specs.Links.{has_link}
+use Rattle.ledger_query.specs.Mask.{IsMaskText}
+use Rattle.ledger_query.specs.Selection.{day, until_of_day}
+use Rattle.ledger_query.specs.Words.{IsWordFault, items_of, words_named}
+use Rattle.ledger_query.specs.declared.link_list.ItemFault.{ItemFault}
+use Rattle.ledger_query.specs.declared.link_list.LinkSetFault.TheVariants as links
+use Rattle.ledger_query.specs.declared.link_set.LinkSet.{LinkSet}
+use Rattle.ledger_query.specs.declared.moment.Moment.{Moment}
+use Rattle.ledger_query.specs.declared.moment.Moment.TheVariants as moments
+use Rattle.ledger_query.specs.declared.word.Word.{Word}
+use Rattle.ledger_query.specs.declared.words.WordFault.TheVariants as words
 use Rattle.command_line.specs.Arguments.{CutWords}
 use Rattle.command_line.specs.Moment.{moment_in, span_in}
 use Rattle.command_line.specs.declared.fault.Fault.{Fault}

@@ -17,14 +17,14 @@ use Rattle.pcap_io.specs.Device.{AppendsPrefix, CountsFailure}
 use Rattle.pcap_io.specs.declared.recording.Ending.{Ending}
 use Rattle.commands.specs.Inputs.{IsFilter, IsFilterFault}
 use Rattle.commands.specs.Text.{IsTextRefusal, IsWholeText}
-use Rattle.run_outcome.specs.Device.{SinkView, SourceView}
+use Rattle.run_fault.specs.Device.{SinkView, SourceView}
 use Rattle.commands.specs.WholeTap.{IsTap, IsTapRefusal}
 use Rattle.commands.specs.declared.debug.Answer.{Answer}
 use Rattle.commands.specs.declared.debug.Answer.TheVariants as answer
 use Rattle.command_line.specs.declared.fault.Fault.{Fault}
 use Rattle.command_line.specs.declared.fault.Fault.TheVariants as fault
 use Rattle.command_line.specs.declared.fault.FileOption.TheVariants as file
-use Rattle.run_outcome.specs.declared.fault.WatchFault.{WatchFault}
+use Rattle.run_fault.specs.declared.fault.WatchFault.{WatchFault}
 use Rattle.commands.specs.declared.text.TextRefusal.{TextRefusal}
 use Rattle.commands.specs.declared.text.TextRefusal.TheVariants as refusals
 

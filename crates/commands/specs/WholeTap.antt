@@ -6,12 +6,12 @@ use Rattle.pcap_io.specs.Device.{CountsFailure}
 use Rattle.pcap_io.specs.Position.{LacksBytes, LacksMemory, Reading, Reads, TakesFrame}
 use Rattle.pcap_io.specs.declared.position.Position.{Position}
 use Rattle.pcap_io.specs.declared.recording.Ending.{Ending}
-use Rattle.run_outcome.specs.Recording.{LeavesUnread}
-use Rattle.run_outcome.specs.Recording.{Ends}
-use Rattle.run_outcome.specs.Recording.{FailsAtHeader, HasHeaderFault, HasReadTap, IsReadWhole}
-use Rattle.run_outcome.specs.Device.{SourceView}
-use Rattle.run_outcome.specs.declared.fault.WatchFault.{WatchFault}
-use Rattle.run_outcome.specs.declared.fault.WatchFault.TheVariants as watch
+use Rattle.run_fault.specs.Recording.{LeavesUnread}
+use Rattle.run_fault.specs.Recording.{Ends}
+use Rattle.run_fault.specs.Recording.{FailsAtHeader, HasHeaderFault, HasReadTap, IsReadWhole}
+use Rattle.run_fault.specs.Device.{SourceView}
+use Rattle.run_fault.specs.declared.fault.WatchFault.{WatchFault}
+use Rattle.run_fault.specs.declared.fault.WatchFault.TheVariants as watch
 
 -- ---- the recording
 

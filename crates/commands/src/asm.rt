@@ -3,7 +3,7 @@ ghost use Rattle.std.specs.Prelude.{◌≡◌, ℕ, IfErr, IfOk, List, Option, R
 ghost use Rattle.bpf_asm.specs.Assembly.{IsTextFault};
 ghost use Rattle.command_line.specs.declared.fault.Fault.{Fault};
 ghost use Rattle.commands.specs.Asm.{IsAsmRun, IsAssembledAs, IsTextRan, Prints, text_fault};
-ghost use Rattle.run_outcome.specs.Device.{devices_of};
+ghost use Rattle.run_fault.specs.Device.{devices_of};
 
 use crate::capture::Ran;
 use crate::text::{TextRefusal, read_text};

@@ -2,7 +2,7 @@
 ghost use Rattle.std.specs.Prelude.{Result, option_map, string_bytes};
 ghost use Rattle.pcap_io.specs.declared.recording.Ending.{Ending};
 ghost use Rattle.command_line.specs.declared.fault.Fault.{Fault};
-ghost use Rattle.run_outcome.specs.Device.{devices_of};
+ghost use Rattle.run_fault.specs.Device.{devices_of};
 ghost use Rattle.packet_format.specs.Packets.{format_of};
 ghost use Rattle.commands.specs.Capture.{IsCaptureBy, IsCaptureRun, IsRan};
 
@@ -12,7 +12,7 @@ use capture_run::capture_within;
 use command_line::{Exit, Fault, fault_line};
 use packet_format::PacketFormat;
 use pcap_io::{Ending, OutSink, TapSource};
-use run_outcome::WatchRefused;
+use run_fault::WatchRefused;
 use std::alloc::Global;
 
 /// A capture that has ended, with the devices that it was given.

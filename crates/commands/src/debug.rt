@@ -4,7 +4,7 @@ ghost use Rattle.command_line.specs.declared.fault.Fault.{Fault};
 ghost use Rattle.commands.specs.Asm.{IsTextRan};
 ghost use Rattle.commands.specs.Sessions.{Answers, AnswersCommand, AreAnswered, IsAnswered, IsBegun, IsDebugRun, IsSessionRun};
 ghost use Rattle.commands.specs.Sessions.{commands_fault, debug_devices, ends_session, is_blank, lines_left, lines_of, text_of};
-ghost use Rattle.run_outcome.specs.Device.{sink_at, source_at};
+ghost use Rattle.run_fault.specs.Device.{sink_at, source_at};
 
 use crate::capture::Ran;
 use crate::inputs::filter_of;

@@ -12,7 +12,7 @@ use bpf_isa::read_numeric;
 use bpf_loader::Program;
 use command_line::{Fault, FileOption};
 use pcap_io::TapSource;
-use run_outcome::WatchFault;
+use run_fault::WatchFault;
 use std::alloc::Global;
 use vl_config::Config;
 

@@ -9,7 +9,7 @@ ghost use Rattle.commands.specs.Selections.{AreLinks, IsLinksFault, IsMask, IsMa
 use afdx_frame::{Network, Stamp};
 use command_line::{CutArguments, Fault, MomentText, SelectionOption, read_moment, read_span};
 use cut_run::CutFault;
-use line_selection::{
+use ledger_query::{
     LinkSet, LinkSetFault, Moment, Selection, Word, WordFault, read_mask, read_words, until_of_day,
 };
 use std::alloc::Global;

@@ -2,12 +2,12 @@
 ghost use Rattle.std.specs.Prelude.{◌≡◌, ◌≤◌, IfErr, IfOk};
 ghost use Rattle.pcap_io.specs.Reader.{position_of, reading_of, unread_of};
 ghost use Rattle.pcap_io.specs.declared.recording.Stage.TheVariants.{Going};
-ghost use Rattle.run_outcome.specs.Device.{source_at};
+ghost use Rattle.run_fault.specs.Device.{source_at};
 ghost use Rattle.commands.specs.WholeTap.{GivesAll, IsTap, IsTapRefusal, StopsReading};
 
 use afdx_frame::{Network, TapFrame};
 use pcap_io::{Ending, Item, OpenRefused, ReadFault, TapReader, TapSource};
-use run_outcome::{MAX_FRAMES, WatchFault, fault_of_open};
+use run_fault::{MAX_FRAMES, WatchFault, fault_of_open};
 use std::alloc::Global;
 
 /// A recording in memory.

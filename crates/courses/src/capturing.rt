@@ -5,7 +5,7 @@ use afdx_frame::Network;
 use command_line::{CaptureArguments, Exit, FileOption, Invocation};
 use commands::{CaptureRun, capture_by};
 use pcap_io::WriteSink;
-use pcapng_writer::Interfaces;
+use pcapng::Interfaces;
 use run_outputs::{Ended, create, file_in, format_of, live_output};
 use tap_inputs::{Reading, Refused, Skipped, Taps, end_of, files_of, open};
 

@@ -2,17 +2,17 @@
 use crate::given::text_of;
 use afdx_frame::Network;
 use bpf_loader::Program;
-use check_text::{Answer, FilterAnswer, TapAnswer, json_of, text_of as answer_text, verdict_of};
+use check_answer::{Answer, FilterAnswer, TapAnswer, json_of, text_of as answer_text, verdict_of};
 use command_line::{CheckArguments, Exit, Fault, FileOption, is_standard};
 use commands::filter_of;
-use input_check::{Inputs, Look, Question, Reach, link_questions, questions_of};
-use run_outcome::{MAX_FRAMES, WatchFault};
+use recording_check::{Inputs, Look, Question, Reach, link_questions, questions_of};
+use run_fault::{MAX_FRAMES, WatchFault};
 use run_outputs::Ended;
 use std::alloc::{AllocError, Global};
 use std::fmt::Write;
-use survey_run::{Extent, Pass, Recorded, show_recordings};
 use table_check::{TableFault, table_faults};
 use tap_inputs::{NO_RUN, Refused, Tap, TapFiles, Taps, end_of, open_both, tell_gaps};
+use traffic_survey::{Extent, Pass, Recorded, show_recordings};
 use vl_config::Config;
 
 /// How many frames of each recording are read at most, where they aren't read whole.

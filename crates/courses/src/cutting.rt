@@ -9,10 +9,10 @@ use commands::selection_of;
 use cut_run::{
     CutEnding, CutFault, LinesRun, NeighboursRun, cut_frames, neighbours_of, print_lines,
 };
-use line_selection::{Neighbours, Selection};
+use ledger_query::{Neighbours, Selection};
 use packet_format::PacketFormat;
 use pcap_io::{ReadSource, WriteSink};
-use pcapng_writer::Interfaces;
+use pcapng::Interfaces;
 use run_outputs::{Ended, Seen, create, format_of, live_output};
 use tap_inputs::{
     Blocks, LiveInput, NO_RUN, Reading, Refused, Skipped, TapFiles, Taps, end_of, files_of, open,

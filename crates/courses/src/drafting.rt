@@ -2,12 +2,12 @@
 use crate::given::{MAX_LATE, text_of};
 use command_line::{Exit, Fault, FileOption, LinksArguments};
 use icd_links::IcdLinks;
-use link_draft::{Comparison, DraftFault, LeftOut, Recordings, Sources, draft_of};
 use pcap_io::Ending;
 use run_outputs::Ended;
 use std::io;
-use survey_run::{SurveyRun, survey_recordings};
+use table_draft::{Comparison, DraftFault, LeftOut, Recordings, Sources, draft_of};
 use tap_inputs::{NO_RUN, Refused, Skipped, Taps, end_of, open_both};
+use traffic_survey::{SurveyRun, survey_recordings};
 use vl_config::ConfigFault;
 
 /// The bits that a constant field has set (ARINC 664 Part 7).

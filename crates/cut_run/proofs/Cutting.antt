@@ -7,13 +7,13 @@ use Rattle.std.specs.Io.KnownBytes.{Appends}
 use Rattle.afdx_frame.specs.Frame.{Frame}
 use Rattle.afdx_frame.specs.declared.key.Network.{Network}
 use Rattle.afdx_frame.specs.declared.key.Network.TheVariants.{A, B}
-use Rattle.frame_finder.specs.Finder.{finding_of}
+use Rattle.cut_run.specs.Finder.{finding_of}
 use Rattle.ledger_text.specs.declared.frame.FrameLine.{FrameLine}
-use Rattle.line_selection.specs.Neighbours.{HasAsked, IsChosen}
+use Rattle.ledger_query.specs.Neighbours.{HasAsked, IsChosen}
 use Rattle.packet_format.specs.Packets.{Format}
-use Rattle.packet_writer.specs.Writer.{format_in, has_failed, sink_of}
-use Rattle.run_outcome.specs.Device.{SinkMembers, SinkView, SourceMembers, SourceView}
-use Rattle.run_outcome.specs.Fault.{FailsWhere}
+use Rattle.packet_format.specs.Writer.{format_in, has_failed, sink_of}
+use Rattle.run_fault.specs.Device.{SinkMembers, SinkView, SourceMembers, SourceView}
+use Rattle.run_fault.specs.Fault.{FailsWhere}
 use Rattle.cut_run.specs.Cutting.{HasTaken, IsTakeFault, StopsTaking, TakesMore, WritesPacket, WritesTaken, WritesUpTo}
 use Rattle.cut_run.specs.Faults.{OutputSink, names}
 use Rattle.cut_run.specs.Lines.{AreSpread, Choice, TakesOf, cut_capture, is_read, line_packet, read_lines}

@@ -5,7 +5,7 @@ use Rattle.std.specs.Io.KnownBytes.{Consumes, Keeps, prepend_known}
 use Rattle.afdx_frame.specs.Frame.{Frame}
 use Rattle.afdx_frame.specs.declared.key.Network.{Network}
 use Rattle.afdx_frame.specs.declared.key.Network.TheVariants.{A, B}
-use Rattle.frame_finder.specs.Finder.{finding_of}
+use Rattle.cut_run.specs.Finder.{finding_of}
 use Rattle.ledger_text.specs.Ledger.{EndsAt, HasReadLines, ReadLine, frame_lines, frames_in, has_failed as ledger_failed, left_of, lent_of, number_of, stage_of}
 use Rattle.ledger_text.specs.Lines.{unread_of}
 use Rattle.ledger_text.specs.Reader.{IsBadLine, IsFound, IsReadFault, reading_of, source_of}
@@ -23,9 +23,9 @@ use Rattle.ledger_text.specs.declared.reader.LedgerReader.{LedgerReader}
 use Rattle.ledger_text.specs.declared.reader.LedgerStop.{LedgerStop}
 use Rattle.ledger_text.proofs.Ledgers.{found_complete, found_incomplete, found_line, found_one_more, frame_lines_one_more}
 use Rattle.packet_format.specs.Packets.{Format}
-use Rattle.packet_writer.specs.Writer.{sink_of}
-use Rattle.run_outcome.specs.Device.{SinkMembers, SourceMembers, SourceView}
-use Rattle.run_outcome.specs.Fault.{FailsWhere}
+use Rattle.packet_format.specs.Writer.{sink_of}
+use Rattle.run_fault.specs.Device.{SinkMembers, SourceMembers, SourceView}
+use Rattle.run_fault.specs.Fault.{FailsWhere}
 use Rattle.cut_run.specs.Cut.{CutDevices, HasWritten, IsBadNext, IsLineFault, IsReadAhead, NextSays, ReadsNext, StopsAfter, ledger_fault, place_at, stop_of}
 use Rattle.cut_run.specs.Cutting.{EndsCut, HasCut, HasTaken, IsTakeFault, StopsCut, StopsTaking, TakesMore, WritesUpTo}
 use Rattle.cut_run.specs.Faults.{LedgerSource, names}

@@ -6,21 +6,21 @@ use Rattle.afdx_frame.specs.Frame.{Frame}
 use Rattle.afdx_frame.specs.declared.key.Key.{Key}
 use Rattle.afdx_frame.specs.declared.key.Network.{Network}
 use Rattle.afdx_frame.specs.declared.key.Network.TheVariants.{A, B}
-use Rattle.frame_finder.specs.Finder.{Finding, Finds, HasRead, IsFindFault, LacksFrame as FinderLacks, Opening, StandsAt, any_late, finding_of, most_frames}
-use Rattle.frame_finder.specs.Places.{place_at}
-use Rattle.frame_finder.specs.declared.finder.FindFault.{FindFault}
-use Rattle.frame_finder.specs.declared.finder.FindFault.TheVariants as find
-use Rattle.frame_finder.specs.declared.place.Place.{Place}
+use Rattle.cut_run.specs.Finder.{Finding, Finds, HasRead, IsFindFault, LacksFrame as FinderLacks, Opening, StandsAt, any_late, finding_of, most_frames}
+use Rattle.cut_run.specs.Places.{place_at}
+use Rattle.cut_run.specs.declared.finder.FindFault.{FindFault}
+use Rattle.cut_run.specs.declared.finder.FindFault.TheVariants as find
+use Rattle.cut_run.specs.declared.place.Place.{Place}
 use Rattle.ledger_text.specs.declared.frame.FrameLine.{FrameLine}
 use Rattle.pcap_io.specs.Position.{Reads, TakesAPacket, after_frame, start_at}
 use Rattle.pcap_io.specs.declared.position.Position.{Position}
 use Rattle.pcap_io.specs.declared.recording.Ending.{Ending}
 use Rattle.pcap_io.specs.declared.recording.Stage.{Stage}
 use Rattle.pcap_io.specs.declared.recording.Stage.TheVariants.{Going, Ended}
-use Rattle.run_outcome.specs.Device.{SourceMembers, SourceView}
-use Rattle.run_outcome.specs.Fault.{FailsWhere}
-use Rattle.run_outcome.specs.Recording.{IsRecording}
-use Rattle.run_outcome.proofs.Recording.{complete}
+use Rattle.run_fault.specs.Device.{SourceMembers, SourceView}
+use Rattle.run_fault.specs.Fault.{FailsWhere}
+use Rattle.run_fault.specs.Recording.{IsRecording}
+use Rattle.run_fault.proofs.Recording.{complete}
 use Rattle.cut_run.specs.Faults.{RecordingSource, names}
 use Rattle.cut_run.specs.Lines.{ComesLater, IsFrameOf, key_of_line, last_key, side}
 use Rattle.cut_run.specs.Naming.{FloorWithin, HasNamed, IsNameFault, LacksFrame, Names, ReadsPart, StopsNaming, name_fault, opening_at, view_of}

@@ -6,8 +6,8 @@ use Rattle.pcap_io.specs.Position.{IsOpenFault}
 use Rattle.pcap_io.specs.declared.layout.TheConstants.{FILE_HEADER_LEN}
 use Rattle.pcap_io.specs.declared.reader.OpenFault.{OpenFault}
 use Rattle.pcap_io.specs.declared.reader.OpenFault.TheVariants as opening
-use Rattle.run_outcome.specs.Device.{SinkView, SourceView}
-use Rattle.run_outcome.specs.Recording.{WasOpened}
+use Rattle.run_fault.specs.Device.{SinkView, SourceView}
+use Rattle.run_fault.specs.Recording.{WasOpened}
 use Rattle.cut_run.specs.Cut.{FailsOnly, IsUnopened}
 use Rattle.cut_run.specs.Naming.{open_fault}
 

@@ -8,8 +8,8 @@ use Rattle.afdx_frame.specs.Frame.{key_cmp, network_cmp}
 use Rattle.afdx_frame.specs.declared.key.Key.{Key}
 use Rattle.afdx_frame.specs.declared.key.Network.{Network}
 use Rattle.afdx_frame.specs.declared.key.Network.TheVariants.{A, B}
-use Rattle.frame_finder.specs.Places.{IsAbove, place_at}
-use Rattle.frame_finder.specs.declared.place.Place.{Place}
+use Rattle.cut_run.specs.Places.{IsAbove, place_at}
+use Rattle.cut_run.specs.declared.place.Place.{Place}
 use Rattle.ledger_text.specs.declared.frame.FrameLine.{FrameLine}
 use Rattle.cut_run.specs.Lines.{ComesLater, key_of_line}
 use Rattle.cut_run.specs.Naming.{FloorWithin, rank}

@@ -8,12 +8,12 @@ use Rattle.std.specs.Prelude.{IfErr, MatchResult}
 use Rattle.std.specs.Io.KnownBytes.{Appends}
 use Rattle.afdx_frame.specs.Frame.{Frame}
 use Rattle.afdx_frame.specs.declared.key.Network.TheVariants.{A, B}
-use Rattle.frame_finder.specs.Finder.{finding_of}
+use Rattle.cut_run.specs.Finder.{finding_of}
 use Rattle.ledger_text.specs.declared.frame.FrameLine.{FrameLine}
-use Rattle.line_selection.specs.Neighbours.{HasAsked}
+use Rattle.ledger_query.specs.Neighbours.{HasAsked}
 use Rattle.pcap_io.specs.Device.{Writes}
-use Rattle.run_outcome.specs.Device.{SinkMembers, SourceMembers, SourceView}
-use Rattle.run_outcome.specs.Fault.{FailsWhere}
+use Rattle.run_fault.specs.Device.{SinkMembers, SourceMembers, SourceView}
+use Rattle.run_fault.specs.Fault.{FailsWhere}
 use Rattle.cut_run.specs.Cutting.{IsTakeFault}
 use Rattle.cut_run.specs.Faults.{OutputSink, names}
 use Rattle.cut_run.specs.Lines.{Choice, is_read, read_lines}

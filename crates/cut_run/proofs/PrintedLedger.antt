@@ -5,7 +5,7 @@ use Rattle.std.specs.Io.KnownBytes.{Appends}
 use Rattle.afdx_frame.specs.Frame.{Frame}
 use Rattle.afdx_frame.specs.declared.key.Network.{Network}
 use Rattle.afdx_frame.specs.declared.key.Network.TheVariants.{A, B}
-use Rattle.frame_finder.specs.Finder.{finding_of}
+use Rattle.cut_run.specs.Finder.{finding_of}
 use Rattle.ledger_text.specs.Ledger.{EndsAt, ReadLine, frame_lines, frames_in, has_failed as ledger_failed, left_of, lent_of, number_of, stage_of}
 use Rattle.ledger_text.specs.Lines.{unread_of}
 use Rattle.ledger_text.specs.Reader.{IsFound, IsReadFault, reading_of, source_of}
@@ -19,8 +19,8 @@ use Rattle.ledger_text.specs.declared.order.Stage.{Stage}
 use Rattle.ledger_text.specs.declared.reader.Found.TheVariants as found
 use Rattle.ledger_text.specs.declared.reader.LedgerReader.{LedgerReader}
 use Rattle.ledger_text.proofs.Ledgers.{found_line, found_one_more, frame_lines_one_more}
-use Rattle.run_outcome.specs.Device.{SinkMembers, SinkView, SourceMembers, sink_at, source_at}
-use Rattle.run_outcome.specs.Fault.{FailsWhere}
+use Rattle.run_fault.specs.Device.{SinkMembers, SinkView, SourceMembers, sink_at, source_at}
+use Rattle.run_fault.specs.Fault.{FailsWhere}
 use Rattle.cut_run.specs.Cut.{AreRefused, CutDevices, FailsInLine, FailsOnly, IsLineFault, ReadsNext, ledger_fault, stop_of}
 use Rattle.cut_run.specs.Faults.{LedgerSource, OutputSink, names}
 use Rattle.cut_run.specs.Lines.{Choice, read_lines}

@@ -7,8 +7,8 @@ use Rattle.afdx_frame.specs.Frame.{Frame}
 use Rattle.afdx_frame.specs.declared.bounds.TheConstants.{MAX_SNAPLEN}
 use Rattle.afdx_frame.specs.declared.key.Network.{Network}
 use Rattle.afdx_frame.specs.declared.key.Network.TheVariants.{A, B}
-use Rattle.frame_finder.specs.Finder.{finder_source, finding_of}
-use Rattle.frame_finder.specs.declared.finder.FrameFinder.{FrameFinder}
+use Rattle.cut_run.specs.Finder.{finder_source, finding_of}
+use Rattle.cut_run.specs.declared.finder.FrameFinder.{FrameFinder}
 use Rattle.ledger_text.specs.Ledger.{HasReadLines}
 use Rattle.ledger_text.specs.Lines.{unread_of}
 use Rattle.ledger_text.specs.Reader.{source_of}
@@ -16,9 +16,9 @@ use Rattle.ledger_text.specs.declared.bounds.TheConstants.{BLOCK_LEN}
 use Rattle.ledger_text.specs.declared.order.Stage.TheVariants as stages
 use Rattle.ledger_text.specs.declared.reader.LedgerReader.{LedgerReader}
 use Rattle.packet_format.specs.Packets.{Format, head_by}
-use Rattle.packet_writer.specs.Writer.{sink_of}
-use Rattle.run_outcome.specs.Device.{SinkMembers, SourceMembers, SourceView, source_at}
-use Rattle.run_outcome.specs.Recording.{IsReadPart}
+use Rattle.packet_format.specs.Writer.{sink_of}
+use Rattle.run_fault.specs.Device.{SinkMembers, SourceMembers, SourceView, source_at}
+use Rattle.run_fault.specs.Recording.{IsReadPart}
 use Rattle.cut_run.specs.Cut.{CutDevices, IsCutRun, any_lateness, devices_at}
 use Rattle.cut_run.specs.Cutting.{EndsCut, StopsCut}
 use Rattle.cut_run.specs.Lines.{Choice, cut_capture}

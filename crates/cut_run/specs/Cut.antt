@@ -19,9 +19,9 @@ use Rattle.ledger_text.specs.declared.order.Stage.TheVariants as stages
 use Rattle.ledger_text.specs.declared.reader.LedgerStop.{LedgerStop}
 use Rattle.packet_format.specs.Packets.{Format, head_by}
 use Rattle.pcap_io.specs.Device.{AppendsPrefix}
-use Rattle.run_outcome.specs.Device.{SinkMembers, SinkView, SourceMembers, SourceView, sink_at, source_at}
-use Rattle.run_outcome.specs.Fault.{FailsWhere}
-use Rattle.run_outcome.specs.Recording.{FailsAtHeader, HasHeaderFault, IsReadPart, WasOpened}
+use Rattle.run_fault.specs.Device.{SinkMembers, SinkView, SourceMembers, SourceView, sink_at, source_at}
+use Rattle.run_fault.specs.Fault.{FailsWhere}
+use Rattle.run_fault.specs.Recording.{FailsAtHeader, HasHeaderFault, IsReadPart, WasOpened}
 use Rattle.cut_run.specs.Faults.{LedgerSource, OutputSink, RecordingSource, names}
 use Rattle.cut_run.specs.Lines.{AreFramesOf, AreSpread, Choice, ComesLater, IsTakenNext, Rise, TakesOf, is_read, last_key, read_lines, side, cut_capture, line_packet}
 use Rattle.cut_run.specs.Naming.{LacksFrame, view_of}

@@ -4,7 +4,7 @@ use Rattle.std.specs.Io.KnownBytes.{Appends}
 use Rattle.std.specs.List.{zip}
 use Rattle.afdx_frame.specs.Frame.{Frame}
 use Rattle.afdx_frame.specs.declared.key.Network.TheVariants.{A, B}
-use Rattle.frame_finder.specs.Finder.{finding_of}
+use Rattle.cut_run.specs.Finder.{finding_of}
 use Rattle.ledger_text.specs.Ledger.{EndsAt, HasReadLines, ReadLine, ReadsLines, frame_lines}
 use Rattle.ledger_text.specs.Lines.{unread_of}
 use Rattle.ledger_text.specs.Reader.{source_of}
@@ -13,12 +13,12 @@ use Rattle.ledger_text.specs.declared.frame.FrameLine.{FrameLine}
 use Rattle.ledger_text.specs.declared.order.Stage.{Stage}
 use Rattle.ledger_text.specs.declared.order.Stage.TheVariants as stages
 use Rattle.ledger_text.specs.declared.reader.LedgerReader.{LedgerReader}
-use Rattle.line_selection.specs.Neighbours.{HasAsked, IsChosen}
+use Rattle.ledger_query.specs.Neighbours.{HasAsked, IsChosen}
 use Rattle.packet_format.specs.Packets.{Format}
-use Rattle.packet_writer.specs.Writer.{format_in, has_failed, sink_of}
+use Rattle.packet_format.specs.Writer.{format_in, has_failed, sink_of}
 use Rattle.pcap_io.specs.Device.{AppendsPrefix, CountsFailure}
-use Rattle.run_outcome.specs.Device.{SinkMembers, SinkView, SourceMembers, SourceView}
-use Rattle.run_outcome.specs.Fault.{FailsWhere}
+use Rattle.run_fault.specs.Device.{SinkMembers, SinkView, SourceMembers, SourceView}
+use Rattle.run_fault.specs.Fault.{FailsWhere}
 use Rattle.cut_run.specs.Cut.{CutDevices, HasWritten, IsLineFault, stop_of}
 use Rattle.cut_run.specs.Faults.{LedgerSource, OutputSink, RecordingSource, names}
 use Rattle.cut_run.specs.Lines.{AreFramesOf, AreSpread, Choice, IsTakenNext, Rise, TakesOf, is_read, read_lines, cut_capture, line_packet}

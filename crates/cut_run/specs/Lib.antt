@@ -1,7 +1,10 @@
 pub mod Cut
+pub mod Cutting
 pub mod Faults
+pub mod Finder
 pub mod Lines
 pub mod Naming
-pub mod Printed
 pub mod Noting
-pub mod Cutting
+pub mod Passed
+pub mod Places
+pub mod Printed

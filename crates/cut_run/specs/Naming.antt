@@ -4,19 +4,19 @@ use Rattle.afdx_frame.specs.Frame.{Frame}
 use Rattle.afdx_frame.specs.declared.key.Key.{Key}
 use Rattle.afdx_frame.specs.declared.key.Network.{Network}
 use Rattle.afdx_frame.specs.declared.key.Network.TheVariants.{A, B}
-use Rattle.frame_finder.specs.Finder.{Finding, HasRead, HasReadFrames, Opening, finding_of}
-use Rattle.frame_finder.specs.declared.finder.FindFault.{FindFault}
-use Rattle.frame_finder.specs.declared.finder.FindFault.TheVariants as find
-use Rattle.frame_finder.specs.declared.place.Place.{Place}
+use Rattle.cut_run.specs.Finder.{Finding, HasRead, HasReadFrames, Opening, finding_of}
+use Rattle.cut_run.specs.declared.finder.FindFault.{FindFault}
+use Rattle.cut_run.specs.declared.finder.FindFault.TheVariants as find
+use Rattle.cut_run.specs.declared.place.Place.{Place}
 use Rattle.ledger_text.specs.declared.frame.FrameLine.{FrameLine}
 use Rattle.pcap_io.specs.Position.{TakesAPacket}
 use Rattle.pcap_io.specs.declared.position.Position.{Position}
 use Rattle.pcap_io.specs.declared.reader.OpenFault.{OpenFault}
 use Rattle.pcap_io.specs.declared.reader.OpenFault.TheVariants as opening
 use Rattle.pcap_io.specs.declared.recording.Ending.{Ending}
-use Rattle.run_outcome.specs.Device.{SourceMembers, SourceView}
-use Rattle.run_outcome.specs.Fault.{FailsWhere}
-use Rattle.run_outcome.specs.Recording.{IsRecording}
+use Rattle.run_fault.specs.Device.{SourceMembers, SourceView}
+use Rattle.run_fault.specs.Fault.{FailsWhere}
+use Rattle.run_fault.specs.Recording.{IsRecording}
 use Rattle.cut_run.specs.Lines.{AreFramesOf, ComesLater, Rise, last_key, side}
 use Rattle.cut_run.specs.Faults.{RecordingSource, names}
 use Rattle.cut_run.specs.declared.fault.CutFault.{CutFault}

@@ -9,12 +9,12 @@ use Rattle.ledger_text.specs.declared.order.Stage.{Stage}
 use Rattle.ledger_text.specs.declared.order.Stage.TheVariants as stages
 use Rattle.ledger_text.specs.declared.reader.LedgerReader.{LedgerReader}
 use Rattle.ledger_text.specs.declared.reader.LedgerStop.{LedgerStop}
-use Rattle.line_selection.specs.Neighbours.{Around, HasAsked, HasNoted}
-use Rattle.line_selection.specs.declared.chooser.Chooser.{Chooser}
-use Rattle.line_selection.specs.declared.neighbours.Neighbours.{Neighbours}
-use Rattle.line_selection.specs.declared.selection.Selection.{Selection}
-use Rattle.run_outcome.specs.Device.{SourceMembers, SourceView, source_at}
-use Rattle.run_outcome.specs.Fault.{FailsWhere}
+use Rattle.ledger_query.specs.Neighbours.{Around, HasAsked, HasNoted}
+use Rattle.ledger_query.specs.declared.chooser.Chooser.{Chooser}
+use Rattle.ledger_query.specs.declared.neighbours.Neighbours.{Neighbours}
+use Rattle.ledger_query.specs.declared.selection.Selection.{Selection}
+use Rattle.run_fault.specs.Device.{SourceMembers, SourceView, source_at}
+use Rattle.run_fault.specs.Fault.{FailsWhere}
 use Rattle.cut_run.specs.Cut.{FailsInLine, IsBadNext, StopsAfter}
 use Rattle.cut_run.specs.Faults.{LedgerSource, names}
 use Rattle.cut_run.specs.declared.fault.CutFault.{CutFault}

@@ -5,7 +5,7 @@ use Rattle.afdx_frame.specs.Frame.{Frame}
 use Rattle.afdx_frame.specs.declared.bounds.TheConstants.{MAX_SNAPLEN}
 use Rattle.afdx_frame.specs.declared.key.Network.{Network}
 use Rattle.afdx_frame.specs.declared.key.Network.TheVariants.{A, B}
-use Rattle.frame_finder.specs.Finder.{finder_source, finding_of}
+use Rattle.cut_run.specs.Finder.{finder_source, finding_of}
 use Rattle.ledger_text.specs.Ledger.{EndsAt, HasReadLines, ReadLine, ReadsLines, TakesLine, frame_lines}
 use Rattle.ledger_text.specs.Lines.{unread_of}
 use Rattle.ledger_text.specs.Reader.{source_of}
@@ -16,11 +16,11 @@ use Rattle.ledger_text.specs.declared.order.LedgerLine.TheVariants as lines
 use Rattle.ledger_text.specs.declared.order.Stage.{Stage}
 use Rattle.ledger_text.specs.declared.order.Stage.TheVariants as stages
 use Rattle.ledger_text.specs.declared.reader.LedgerReader.{LedgerReader}
-use Rattle.line_selection.specs.Neighbours.{HasAsked, IsChosen}
+use Rattle.ledger_query.specs.Neighbours.{HasAsked, IsChosen}
 use Rattle.pcap_io.specs.Device.{Writes}
-use Rattle.run_outcome.specs.Device.{SinkMembers, SinkView, SourceMembers, SourceView, sink_at, source_at}
-use Rattle.run_outcome.specs.Fault.{FailsWhere}
-use Rattle.run_outcome.specs.Recording.{IsReadPart}
+use Rattle.run_fault.specs.Device.{SinkMembers, SinkView, SourceMembers, SourceView, sink_at, source_at}
+use Rattle.run_fault.specs.Fault.{FailsWhere}
+use Rattle.run_fault.specs.Recording.{IsReadPart}
 use Rattle.cut_run.specs.Cut.{CutDevices, FailsInLine, IsBadNext, IsLineFault, IsUnopened, StopsAfter, any_lateness, stop_of}
 use Rattle.cut_run.specs.Cutting.{IsTakeFault}
 use Rattle.cut_run.specs.Faults.{LedgerSource, OutputSink, RecordingSource, names}

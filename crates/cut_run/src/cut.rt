@@ -2,14 +2,14 @@
 ghost use Rattle.std.specs.Prelude.{◌≡◌, ◌≤◌, ◌<◌, ◌++◌, ◌∷◌, length, List, Option, Err, OnOk, MatchResult, false, []};
 ghost use Rattle.afdx_frame.specs.Frame.{Frame};
 ghost use Rattle.afdx_frame.specs.declared.bounds.TheConstants.{MAX_SNAPLEN};
-ghost use Rattle.frame_finder.specs.Finder.{finder_source, finding_of};
+ghost use Rattle.cut_run.specs.Finder.{finder_source, finding_of};
 ghost use Rattle.ledger_text.specs.declared.frame.FrameLine.{FrameLine};
 ghost use Rattle.afdx_frame.specs.declared.key.Network.{Network};
 ghost use Rattle.ledger_text.specs.declared.bounds.TheConstants.{BLOCK_LEN, MOST_LINES};
-ghost use Rattle.line_selection.specs.Neighbours.{AreNoted, Around, HasAsked};
+ghost use Rattle.ledger_query.specs.Neighbours.{AreNoted, Around, HasAsked};
 ghost use Rattle.packet_format.specs.Packets.{Format, format_of};
-ghost use Rattle.packet_writer.specs.Writer.{format_in, has_failed, sink_of};
-ghost use Rattle.run_outcome.specs.Device.{SinkView, SourceView};
+ghost use Rattle.packet_format.specs.Writer.{format_in, has_failed, sink_of};
+ghost use Rattle.run_fault.specs.Device.{SinkView, SourceView};
 ghost use Rattle.ledger_text.specs.Ledger.{has_failed as ledger_failed};
 ghost use Rattle.ledger_text.specs.Lines.{unread_of};
 ghost use Rattle.ledger_text.specs.Reader.{source_of};
@@ -21,12 +21,11 @@ use crate::fault::{CutFault, CutSource};
 use crate::observer::LineObserver;
 use crate::recordings::{Recordings, Unopened, is_read};
 use afdx_frame::{Network, TapFrame};
+use ledger_query::{Chooser, Neighbours, Selection};
 use ledger_text::{
     Found, FrameLine, LedgerLine, LedgerReader, LedgerStop, LinesRefused, ReadFault,
 };
-use line_selection::{Chooser, Neighbours, Selection};
-use packet_format::PacketFormat;
-use packet_writer::{PacketFault, PacketWriter, head_of};
+use packet_format::{PacketFault, PacketFormat, PacketWriter, head_of};
 use pcap_io::{OutSink, TapSource};
 use std::alloc::{AllocError, Global};
 

@@ -6,13 +6,17 @@
 
 mod cut;
 mod fault;
+mod finder;
 mod noting;
 mod observer;
+mod passed;
+mod place;
 mod print;
 mod recordings;
 
 pub use cut::{CutEnding, CutRun, cut_frames};
 pub use fault::{CutFault, CutSource};
+pub use finder::{FindFault, FrameFinder};
 pub use noting::{NeighboursRun, neighbours_of};
 pub use observer::{LineObserver, NoObserver};
 pub use print::{LinesRun, print_lines};

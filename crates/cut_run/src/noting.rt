@@ -1,13 +1,13 @@
 //! From a ledger to the neighbours of its selected lines.
 ghost use Rattle.std.specs.Prelude.{◌≡◌, ℕ, MatchResult, [], false};
 ghost use Rattle.ledger_text.specs.Ledger.{has_failed as ledger_failed};
-ghost use Rattle.run_outcome.specs.Device.{SourceView, source_at};
+ghost use Rattle.run_fault.specs.Device.{SourceView, source_at};
 ghost use Rattle.cut_run.specs.Noting.{EndsNoting, HasNotedLines, IsNeighboursRun, StopsNoting};
 
 use crate::cut::{into_ledger, ledger_fault};
 use crate::fault::CutFault;
+use ledger_query::{Chooser, Neighbours, Selection};
 use ledger_text::{Found, LedgerLine, LedgerReader, LinesRefused};
-use line_selection::{Chooser, Neighbours, Selection};
 use pcap_io::TapSource;
 use std::alloc::{AllocError, Global};
 

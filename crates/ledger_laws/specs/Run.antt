@@ -6,7 +6,7 @@ use Rattle.ledger_text.specs.Ledger.{ReadLine, ReadsLines}
 use Rattle.ledger_text.specs.declared.order.Counts.TheVariants as counts
 use Rattle.ledger_text.specs.declared.order.Stage.TheVariants as stages
 use Rattle.pcap_io.specs.declared.recording.Ending.{Ending}
-use Rattle.round_output.specs.Filters.{Making, entries_by, ledger_by}
+use Rattle.round_writer.specs.Filters.{Making, entries_by, ledger_by}
 use Rattle.vl_config.specs.Document.{VlTable}
 use Rattle.ledger_laws.specs.Laws.{IsHeld, IsNamed, packets_of, written_lines}
 

@@ -30,8 +30,8 @@ pub mod Readings
 pub mod RuleSteps
 pub mod SignSteps
 pub mod Spans
-pub mod Tallies
 pub mod TakeSteps
+pub mod Tallies
 pub mod TapSteps
 pub mod WholeCounts
 pub mod WrongSteps

@@ -10,6 +10,8 @@ pub mod Covered
 pub mod Deliveries
 pub mod Extremes
 pub mod Fates
+pub mod FlightNumbers
+pub mod Flights
 pub mod Holding
 pub mod Judged
 pub mod Keeping
@@ -44,4 +46,5 @@ pub mod Standings
 pub mod Sums
 pub mod TapLines
 pub mod Words
+pub mod Worse
 pub mod Wrongs

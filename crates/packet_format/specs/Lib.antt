@@ -1,2 +1,3 @@
 pub mod Comment
 pub mod Packets
+pub mod Writer

@@ -8,8 +8,8 @@ use Rattle.packet_format.specs.Comment.{comment_text}
 use Rattle.packet_format.specs.declared.format.PacketFormat.{PacketFormat}
 use Rattle.packet_format.specs.declared.format.PacketFormat.TheVariants as formats
 use Rattle.pcap_io.specs.Capture.{capture_header, packet_text}
-use Rattle.pcapng_writer.specs.Blocks.{head_bytes, packet_block}
-use Rattle.pcapng_writer.specs.declared.interfaces.Interfaces.{Interfaces}
+use Rattle.pcapng.specs.Blocks.{head_bytes, packet_block}
+use Rattle.pcapng.specs.declared.interfaces.Interfaces.{Interfaces}
 use Rattle.vl_config.specs.Document.{VlTable}
 
 -- a pcap file, or a pcapng file with these interfaces, whose comments have the names of a table's links

@@ -3,12 +3,12 @@ ghost use Rattle.std.specs.Prelude.{◌≡◌, ◌≤◌, ◌++◌, length, IfOk
 ghost use Rattle.std.specs.Option.{option_map};
 ghost use Rattle.packet_format.specs.Comment.{comment_text};
 ghost use Rattle.packet_format.specs.Packets.{format_of, head_by, packet_by};
-ghost use Rattle.pcapng_writer.specs.Comment.{text_of};
+ghost use Rattle.pcapng.specs.Comment.{text_of};
 
 use crate::comment::append_comment;
 use afdx_frame::LentFrame;
 use ledger_text::FrameLine;
-use pcapng_writer::{Comment, Interfaces};
+use pcapng::{Comment, Interfaces};
 use std::alloc::AllocError;
 use vl_config::Config;
 
@@ -39,9 +39,7 @@ impl PacketFormat<'_> {
     {
         match self {
             PacketFormat::Pcap => pcap_io::append_header(bytes),
-            PacketFormat::Pcapng { interfaces, .. } => pcapng_writer::append_head(
-                bytes, interfaces,
-            ),
+            PacketFormat::Pcapng { interfaces, .. } => pcapng::append_head(bytes, interfaces),
         }
     }
 
@@ -70,7 +68,7 @@ impl PacketFormat<'_> {
             PacketFormat::Pcap => pcap_io::append_packet(bytes, frame, keep),
             PacketFormat::Pcapng { interfaces, names } => {
                 let comment = comment_in(text, names, line)?;
-                pcapng_writer::append_packet(bytes, interfaces, frame, keep, comment)
+                pcapng::append_packet(bytes, interfaces, frame, keep, comment)
             }
         }
     }

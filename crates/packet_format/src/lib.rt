@@ -14,6 +14,8 @@
 mod comment;
 mod format;
 mod words;
+mod writer;
 
 pub use comment::append_comment;
 pub use format::PacketFormat;
+pub use writer::{PacketFault, PacketWriter, head_of};

@@ -1,10 +1,16 @@
 pub mod BlockStarts
+pub mod Captures
 pub mod Converting
 pub mod Examples
 pub mod Files
+pub mod Frames
 pub mod GivenBytes
 pub mod Handed
+pub mod Joining
 pub mod OptionFronts
 pub mod Orders
+pub mod PacketBlocks
 pub mod Reading
+pub mod Stepping
 pub mod Times
+pub mod WrittenReading

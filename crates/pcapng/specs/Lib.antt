@@ -1,9 +1,15 @@
 pub mod Block
+pub mod Blocks
+pub mod Captures
+pub mod Comment
 pub mod File
 pub mod Handed
 pub mod Interface
 pub mod Laws
 pub mod Options
 pub mod Packets
+pub mod Parts
 pub mod Section
+pub mod Stepping
 pub mod Text
+pub mod Written

@@ -2,7 +2,7 @@
 
 use crate::recording::push_packet;
 use afdx_frame::{Network, Stamp, TapFrame};
-use frame_finder::{FindFault, FrameFinder};
+use cut_run::{FindFault, FrameFinder};
 use pcap_io::{MemSource, Script};
 use std::alloc::{AllocError, Global};
 use std::process::Abort;

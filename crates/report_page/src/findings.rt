@@ -16,8 +16,10 @@ use afdx_frame::VlId;
 use ledger_report::Sign::{
     Cut, Excess, Foreign, Late, Lost, Oversize, Repeat, Reset, Runt, TooLong,
 };
-use ledger_report::{Interval, LinkReport, Report, STOPPED_LINES, Sign};
-use report_comparison::{Count, LinkComparison, WORSE, Worse, is_new_outside};
+use ledger_report::{
+    Count, Interval, LinkComparison, LinkReport, Report, STOPPED_LINES, Sign, WORSE, Worse,
+    is_new_outside,
+};
 
 /// The most sentences.
 const SENTENCES: usize = 20;

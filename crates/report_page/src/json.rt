@@ -9,9 +9,9 @@ use crate::view::{NETWORKS, SIGNS, View};
 use crate::writer::{Page, Part};
 use afdx_frame::{Network, VlId};
 use ledger_report::{
-    Interval, LinkCounts, LinkReport, NetworkReport, Place, Report, Series, Signs, Totals,
+    COUNTS, Interval, LinkComparison, LinkCounts, LinkNumbers, LinkReport, NetworkReport, Place,
+    Report, Series, Signs, Totals, WORSE, is_new_outside,
 };
-use report_comparison::{COUNTS, LinkComparison, LinkNumbers, WORSE, is_new_outside};
 use run_manifest::Manifest;
 use serde_json::Error;
 use std::alloc::Global;

@@ -9,8 +9,7 @@ use crate::view::{NETWORKS, TROUBLES, View, counts_of, links_word};
 use crate::writer::Page;
 use crate::writer::Part::{Letter, Number, Seconds, Text, Thousandths};
 use afdx_frame::Network;
-use ledger_report::{Interval, LinkReport, Report, Sign};
-use report_comparison::{LinkComparison, WORSE, Worse};
+use ledger_report::{Interval, LinkComparison, LinkReport, Report, Sign, WORSE, Worse};
 use std::alloc::{AllocError, Global};
 use vl_config::Config;
 

@@ -9,9 +9,8 @@ use crate::writer::Part::{
 };
 use crate::writer::{Page, Pair, flag};
 use afdx_frame::Network;
-use ledger_report::LinkReport;
 use ledger_report::Sign::{Alone, Early, Excess, Late, Lost, Out, TooLong};
-use report_comparison::{COUNTS, Count, LinkNumbers, WORSE, Worse};
+use ledger_report::{COUNTS, Count, LinkNumbers, LinkReport, WORSE, Worse};
 
 /// How many links a row of the map has.
 const MAP_COLUMNS: usize = 128;

@@ -6,8 +6,7 @@ use crate::ranks::{LEVELS, Level, Rank, ranks_of};
 use crate::writer::{Pair, Part};
 use afdx_frame::Network;
 use ledger_report::Sign::{self, Alone, Excess, Late, Lost, Out, TooLong};
-use ledger_report::{LinkReport, Place, Report};
-use report_comparison::{LinkComparison, WORSE, comparison_at};
+use ledger_report::{LinkComparison, LinkReport, Place, Report, WORSE, comparison_at};
 use std::alloc::{AllocError, Global};
 use vl_config::{Config, Link};
 

@@ -1,7 +1,7 @@
 //! Opens what commands write.
 use command_line::{Fault, FileOption};
 use packet_format::PacketFormat;
-use pcapng_writer::Interfaces;
+use pcapng::Interfaces;
 use tap_inputs::{Blocks, NO_RUN, Output, SharedBlocks};
 use vl_config::Config;
 

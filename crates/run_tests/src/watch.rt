@@ -23,7 +23,7 @@ use crate::watch::counted::Counted;
 use bpf_loader::Program;
 use filter_workers::RunGate;
 use pcap_io::{Ending, MemSink, MemSource, Script};
-use run_outcome::{WatchFault, WatchRefused};
+use run_fault::{WatchFault, WatchRefused};
 use std::alloc::{AllocError, Global};
 use std::sync::Wait;
 use std::test::Fail;

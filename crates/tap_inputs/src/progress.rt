@@ -3,7 +3,7 @@
 use crate::blocks::LiveInput;
 use crate::recordings::Reading;
 use afdx_frame::Network;
-use input_check::{FORMAT_LEN, Format, format_of};
+use recording_check::{FORMAT_LEN, Format, format_of};
 use run_manifest::{Digesting, Sum};
 use std::fmt::{Display, Formatter};
 use std::io::{IsTerminal, Read};

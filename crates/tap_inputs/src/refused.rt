@@ -1,6 +1,6 @@
 //! Why a command wasn't begun.
 use command_line::{Fault, FileOption};
-use run_outcome::WatchFault;
+use run_fault::WatchFault;
 use std::alloc::AllocError;
 use std::io;
 

@@ -13,10 +13,10 @@ use Rattle.tap_queue.specs.Items.{Gives, frames_in, is_last, is_over}
 use Rattle.tap_queue.specs.declared.item.TapItem.{TapItem}
 use Rattle.tap_queue.specs.declared.item.TapItem.TheVariants as items
 use Rattle.tap_merge.specs.Rings.{EndsWith}
-use Rattle.run_outcome.specs.Fault.{MayFail}
+use Rattle.run_fault.specs.Fault.{MayFail}
 use Rattle.tap_merge.specs.Taps.{HasRead, ReadsPart}
-use Rattle.run_outcome.specs.Recording.{most_frames}
-use Rattle.run_outcome.specs.Device.{SourceView}
+use Rattle.run_fault.specs.Recording.{most_frames}
+use Rattle.run_fault.specs.Device.{SourceView}
 use Rattle.tap_merge.proofs.TwoTaps.{part_of, part_stopped, read_end, read_frame}
 
 -- what a reader has read of a source, once it gave these items

@@ -13,15 +13,15 @@ use Rattle.tap_queue.specs.Ring.{has_lost, late_of, network_of, taken_items}
 use Rattle.tap_queue.specs.declared.end.TapEnd.{TapEnd}
 use Rattle.tap_queue.specs.declared.item.TapItem.{TapItem}
 use Rattle.tap_queue.specs.declared.item.TapItem.TheVariants as items
-use Rattle.run_outcome.specs.Recording.{most_frames}
+use Rattle.run_fault.specs.Recording.{most_frames}
 use Rattle.tap_merge.specs.declared.rings.Rings.{Rings}
 use Rattle.pcap_io.specs.declared.recording.Ending.{Ending}
 use Rattle.ordered_merge.proofs.Following.{follows_cut, follows_end, follows_fetch_a, follows_fetch_b}
 use Rattle.tap_queue.specs.Ring.{SameEnd}
 use Rattle.ordered_merge.specs.Merge.{after_cut, change_tap, cut_frames, fetched, fetched_all}
 use Rattle.tap_queue.specs.Ring.{Looks}
-use Rattle.run_outcome.specs.declared.fault.WatchFault.{WatchFault}
-use Rattle.run_outcome.specs.declared.fault.WatchFault.TheVariants as watch
+use Rattle.run_fault.specs.declared.fault.WatchFault.{WatchFault}
+use Rattle.run_fault.specs.declared.fault.WatchFault.TheVariants as watch
 use Rattle.std.specs.Prelude.{IfSome}
 use Rattle.pcap_io.specs.declared.item.ReadFault.{ReadFault}
 use Rattle.pcap_io.specs.declared.item.ReadFault.TheVariants.{Device}

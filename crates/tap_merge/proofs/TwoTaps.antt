@@ -14,12 +14,12 @@ use Rattle.std.proofs.KnownBytes.{Consumes-nil}
 use Rattle.pcap_io.specs.declared.position.Position.{Position}
 use Rattle.pcap_io.specs.declared.recording.Ending.{Ending}
 use Rattle.pcap_io.specs.declared.recording.Stage.TheVariants.{Going}
-use Rattle.run_outcome.specs.Device.{SourceView}
-use Rattle.run_outcome.specs.Recording.{most_frames}
-use Rattle.run_outcome.specs.Recording.{Ends}
+use Rattle.run_fault.specs.Device.{SourceView}
+use Rattle.run_fault.specs.Recording.{most_frames}
+use Rattle.run_fault.specs.Recording.{Ends}
 use Rattle.tap_merge.specs.Taps.{Agrees, Fits, HasRead, Merges, MergesNot, ReadsPart, SourceFails, turns_of}
-use Rattle.run_outcome.specs.declared.fault.WatchFault.{WatchFault}
-use Rattle.run_outcome.specs.declared.fault.WatchFault.TheVariants as watch
+use Rattle.run_fault.specs.declared.fault.WatchFault.{WatchFault}
+use Rattle.run_fault.specs.declared.fault.WatchFault.TheVariants as watch
 use Rattle.ordered_merge.proofs.Following.{ended_is_safe, follows_end, follows_fetch_a, follows_fetch_b}
 use Rattle.pcap_io.specs.Device.{CountsFailure}
 

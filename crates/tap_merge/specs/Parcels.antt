@@ -4,7 +4,7 @@ use Rattle.pcap_io.specs.declared.reader.TapReader.{TapReader}
 use Rattle.tap_queue.specs.Ring.{put_items}
 use Rattle.tap_queue.specs.declared.feeding.Fed.{Fed}
 use Rattle.tap_queue.specs.declared.ring.TapPut.{TapPut}
-use Rattle.run_outcome.specs.Device.{SourceMembers}
+use Rattle.run_fault.specs.Device.{SourceMembers}
 use Rattle.tap_merge.specs.Reads.{IsReadInto}
 use Rattle.tap_merge.specs.declared.parcel.Parcel.{Parcel}
 use Rattle.tap_merge.specs.declared.parcel.Parcel.TheVariants.{Promised, Delivered}

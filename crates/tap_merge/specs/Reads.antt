@@ -7,7 +7,7 @@ use Rattle.tap_queue.specs.Ring.{Fills, SamePut, put_items, put_of, reader_of}
 use Rattle.tap_queue.specs.declared.feeding.Fed.{Fed}
 use Rattle.tap_queue.specs.declared.item.TapItem.{TapItem}
 use Rattle.tap_queue.specs.declared.ring.TapPut.{TapPut}
-use Rattle.run_outcome.specs.Device.{SourceMembers}
+use Rattle.run_fault.specs.Device.{SourceMembers}
 
 -- a reader gave what was put into the ring, and perhaps more that wasn't put
 abbrev pub IsReadInto : {S : Type 0} → SourceMembers S → TapReader S → TapPut → Fed S → Type 0

@@ -13,9 +13,9 @@ use Rattle.tap_queue.specs.Ring.{SameEnd, has_lost, late_of, network_of, taken_i
 use Rattle.tap_queue.specs.declared.end.TapEnd.{TapEnd}
 use Rattle.tap_queue.specs.declared.item.TapItem.{TapItem}
 use Rattle.tap_queue.specs.declared.item.TapItem.TheVariants as items
-use Rattle.run_outcome.specs.Recording.{most_frames}
-use Rattle.run_outcome.specs.declared.fault.WatchFault.{WatchFault}
-use Rattle.run_outcome.specs.declared.fault.WatchFault.TheVariants as watch
+use Rattle.run_fault.specs.Recording.{most_frames}
+use Rattle.run_fault.specs.declared.fault.WatchFault.{WatchFault}
+use Rattle.run_fault.specs.declared.fault.WatchFault.TheVariants as watch
 use Rattle.tap_merge.specs.declared.rings.Rings.{Rings}
 
 -- ---- one ring

@@ -11,13 +11,13 @@ use Rattle.ordered_merge.specs.Order.{IsOrder}
 use Rattle.pcap_io.specs.declared.position.Position.{Position}
 use Rattle.pcap_io.specs.declared.recording.Ending.{Ending}
 use Rattle.pcap_io.specs.declared.recording.Stage.TheVariants.{Going, Ended}
-use Rattle.run_outcome.specs.Recording.{HasReadTap, most_frames}
-use Rattle.run_outcome.specs.Device.{SourceMembers, SourceView}
-use Rattle.run_outcome.specs.declared.fault.WatchFault.{WatchFault}
-use Rattle.run_outcome.specs.declared.fault.WatchFault.TheVariants as watch
+use Rattle.run_fault.specs.Recording.{HasReadTap, most_frames}
+use Rattle.run_fault.specs.Device.{SourceMembers, SourceView}
+use Rattle.run_fault.specs.declared.fault.WatchFault.{WatchFault}
+use Rattle.run_fault.specs.declared.fault.WatchFault.TheVariants as watch
 use Rattle.tap_merge.specs.declared.taps.Taps.{Taps}
-use Rattle.run_outcome.specs.Recording.{Ends}
-use Rattle.run_outcome.specs.Fault.{Fails, SourceA, SourceB}
+use Rattle.run_fault.specs.Recording.{Ends}
+use Rattle.run_fault.specs.Fault.{Fails, SourceA, SourceB}
 
 -- ---- one tap
 

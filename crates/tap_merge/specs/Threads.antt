@@ -9,14 +9,14 @@ use Rattle.tap_queue.specs.Items.{Gives, is_over}
 use Rattle.tap_queue.specs.Ring.{has_lost, taken_items}
 use Rattle.tap_queue.specs.declared.end.TapEnd.{TapEnd}
 use Rattle.tap_queue.specs.declared.item.TapItem.{TapItem}
-use Rattle.run_outcome.specs.Recording.{LeavesUnread}
+use Rattle.run_fault.specs.Recording.{LeavesUnread}
 use Rattle.tap_merge.specs.Reads.{HasPut, ReadsOn}
 use Rattle.tap_merge.specs.Taps.{HasRead}
 use Rattle.tap_merge.specs.declared.feeding.Feeding.{Feeding}
 use Rattle.tap_merge.specs.declared.tap_thread.TapFeed.{TapFeed}
 use Rattle.tap_merge.specs.declared.tap_thread.TapFeed.TheVariants.{Thread, Local}
-use Rattle.run_outcome.specs.Device.{SourceMembers, SourceView}
-use Rattle.run_outcome.specs.Recording.{most_frames}
+use Rattle.run_fault.specs.Device.{SourceMembers, SourceView}
+use Rattle.run_fault.specs.Recording.{most_frames}
 
 -- a reader that was opened and has read nothing more
 pub record IsStarted (network : Network) (late : ℕ) (before : SourceView) (reading : Reading) : Type 0 where

@@ -11,7 +11,7 @@ use afdx_frame::Network;
 use frame_batch::Round;
 use ordered_merge::Merger;
 use pcap_io::{Ending, ReadFault};
-use run_outcome::WatchFault;
+use run_fault::WatchFault;
 use std::alloc::AllocError;
 use std::num::NonZeroUsize;
 use std::sync::Wait;

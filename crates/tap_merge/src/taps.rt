@@ -4,14 +4,14 @@ ghost use Rattle.std.specs.Option.{option_map_or};
 ghost use Rattle.afdx_frame.specs.Frame.{Frame};
 ghost use Rattle.pcap_io.specs.Reader.{position_of, reading_of, source_of};
 ghost use Rattle.pcap_io.specs.declared.recording.Stage.TheVariants.{Going};
-ghost use Rattle.run_outcome.specs.Device.{SourceView};
+ghost use Rattle.run_fault.specs.Device.{SourceView};
 ghost use Rattle.tap_merge.specs.Taps.{Agrees, Fits, Merges, MergesNot};
 
 use afdx_frame::Network;
 use frame_batch::Round;
 use ordered_merge::Merger;
 use pcap_io::{Ending, Item, OpenRefused, ReadFault, TapReader, TapSource};
-use run_outcome::{MAX_FRAMES, WatchFault, fault_of_open};
+use run_fault::{MAX_FRAMES, WatchFault, fault_of_open};
 use std::alloc::{AllocError, Global};
 use std::num::NonZeroUsize;
 
@@ -74,10 +74,10 @@ pub const ROUND: usize = 1024;
 impl<S: TapSource, T: TapSource> Taps<S, T> {
     ghost use Rattle.ordered_merge.specs.Merge.{new_state};
     ghost use Rattle.pcap_io.specs.Reader.{remaining_of, unread_of};
-    ghost use Rattle.run_outcome.specs.Recording.{LeavesUnread};
+    ghost use Rattle.run_fault.specs.Recording.{LeavesUnread};
     ghost use Rattle.tap_merge.specs.Taps.{Agree, HasEnded, HasMerged, StopsMerging, work_left};
-    ghost use Rattle.run_outcome.specs.Device.{SinkView, source_at};
-    ghost use Rattle.run_outcome.specs.Opening.{AbortsAtOpening, watch_devices};
+    ghost use Rattle.run_fault.specs.Device.{SinkView, source_at};
+    ghost use Rattle.run_fault.specs.Opening.{AbortsAtOpening, watch_devices};
 
     /// Opens the recordings of networks A and B, in this order, which are read in blocks of so many bytes
     /// ([`TapReader::with_block_len`]). A stamp may lie by `late` nanoseconds below the greatest one of its

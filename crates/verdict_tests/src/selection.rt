@@ -5,7 +5,7 @@ mod devices;
 mod link_lists;
 mod neighbours;
 
-use line_selection::Selection;
+use ledger_query::Selection;
 
 /// Every line is taken.
 pub fn everything() -> Selection {

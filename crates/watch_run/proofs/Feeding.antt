@@ -1,6 +1,6 @@
 -- Taps that are read into their rings, a step after the other.
 use Rattle.std.proofs.Common.{◌≡◌, ap, ◌∙◌, refl}
-use Rattle.run_outcome.specs.Device.{SourceMembers}
+use Rattle.run_fault.specs.Device.{SourceMembers}
 use Rattle.watch_run.specs.Feeds.{AreFeeding, KeepFeeding}
 use Rattle.tap_merge.specs.Threads.{promise_of}
 use Rattle.tap_merge.specs.declared.feeding.Feeding.{Feeding}

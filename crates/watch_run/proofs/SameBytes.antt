@@ -11,9 +11,9 @@ use Rattle.pcap_io.specs.declared.recording.Ending.{Ending}
 use Rattle.pcap_io.proofs.Parse.{one_holds}
 use Rattle.ordered_merge.proofs.Following.{one_order}
 use Rattle.ordered_merge.specs.Order.{IsOrder}
-use Rattle.run_outcome.specs.Recording.{IsRecording, most_frames}
+use Rattle.run_fault.specs.Recording.{IsRecording, most_frames}
 use Rattle.verdict_ledger.specs.Tally.{link_counts, totals_of}
-use Rattle.round_output.specs.Filters.{capture_by, entries_by, ledger_by}
+use Rattle.round_writer.specs.Filters.{capture_by, entries_by, ledger_by}
 use Rattle.watch_run.specs.Laws.{SameBytesInSameBytesOut}
 use Rattle.afdx_frame.specs.declared.key.Network.TheVariants.{A, B}
 

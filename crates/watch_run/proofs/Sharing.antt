@@ -1,16 +1,16 @@
 -- Rounds that are shared while the next one is merged.
 use Rattle.std.proofs.Common.{◌≡◌, ◌++◌, ◌+◌, ◌≤◌, ℕ, [], List, Option, None, length, sym, subst}
 use Rattle.ordered_merge.specs.Merge.{safe_frames}
-use Rattle.run_outcome.specs.declared.fault.WatchFault.{WatchFault}
-use Rattle.run_outcome.specs.declared.fault.WatchFault.TheVariants as watch
+use Rattle.run_fault.specs.declared.fault.WatchFault.{WatchFault}
+use Rattle.run_fault.specs.declared.fault.WatchFault.TheVariants as watch
 use Rattle.afdx_frame.specs.Frame.{Frame}
-use Rattle.round_output.specs.Filters.{Making}
+use Rattle.round_writer.specs.Filters.{Making}
 use Rattle.pcap_io.specs.Writer.{sink_of}
-use Rattle.round_output.specs.Outputs.{HasShared, HasWritten, StopsWriting, effect_of, frames_at, outputs_of}
-use Rattle.round_output.specs.declared.outputs.Outputs.{Outputs}
-use Rattle.round_output.specs.declared.shared.JudgedRound.{JudgedRound}
-use Rattle.round_output.proofs.Sharing.{none_shared}
-use Rattle.run_outcome.specs.Device.{SinkMembers, SinkView, sink_at}
+use Rattle.round_writer.specs.Outputs.{HasShared, HasWritten, StopsWriting, effect_of, frames_at, outputs_of}
+use Rattle.round_writer.specs.declared.outputs.Outputs.{Outputs}
+use Rattle.round_writer.specs.declared.shared.JudgedRound.{JudgedRound}
+use Rattle.round_writer.proofs.Sharing.{none_shared}
+use Rattle.run_fault.specs.Device.{SinkMembers, SinkView, sink_at}
 use Rattle.tap_merge.specs.Rings.{HasTaken, WhereFailed}
 use Rattle.tap_merge.specs.declared.rings.Rings.{Rings}
 use Rattle.verdict_ledger.specs.Ledger.{sink_of as ledger_sink, totals_in}

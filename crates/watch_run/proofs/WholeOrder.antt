@@ -19,13 +19,13 @@ use Rattle.pcap_io.specs.declared.layout.TheConstants.{FILE_HEADER_LEN}
 use Rattle.pcap_io.specs.declared.position.Position.{Position}
 use Rattle.pcap_io.specs.declared.recording.Ending.{Ending}
 use Rattle.pcap_io.proofs.Parse.{one_holds, reads_prefix}
-use Rattle.run_outcome.specs.Recording.{IsRecording}
+use Rattle.run_fault.specs.Recording.{IsRecording}
 use Rattle.tap_merge.specs.Taps.{Agree, Agrees, HasMerged, HasRead}
-use Rattle.run_outcome.specs.Device.{SourceMembers, SourceView}
-use Rattle.run_outcome.specs.Recording.{most_frames}
+use Rattle.run_fault.specs.Device.{SourceMembers, SourceView}
+use Rattle.run_fault.specs.Recording.{most_frames}
 use Rattle.tap_merge.specs.declared.taps.Taps.{Taps}
 use Rattle.tap_merge.proofs.TwoTaps.{high_after, in_time, is_ended}
-use Rattle.run_outcome.proofs.Recording.{complete}
+use Rattle.run_fault.proofs.Recording.{complete}
 
 -- ---- a recording's frames are those of a tap
 

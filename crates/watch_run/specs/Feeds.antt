@@ -1,5 +1,5 @@
 -- How both taps of a run are read into their rings.
-use Rattle.run_outcome.specs.Device.{SourceMembers}
+use Rattle.run_fault.specs.Device.{SourceMembers}
 use Rattle.tap_merge.specs.Threads.{FeedsOn, IsFeeding, KeepsFeeding}
 use Rattle.watch_run.specs.declared.running.Feeds.{Feeds}
 

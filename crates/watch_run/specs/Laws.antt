@@ -1,13 +1,13 @@
 -- What is said of any two runs over the same bytes.
 use Rattle.std.specs.Prelude.{◌≡◌, ◌<◌, ℕ, List, Some, slice_index_or}
-use Rattle.round_output.specs.Filters.{Making}
+use Rattle.round_writer.specs.Filters.{Making}
 use Rattle.pcap_io.specs.declared.recording.Ending.{Ending}
 use Rattle.afdx_frame.specs.declared.key.TheConstants.{VL_ID_COUNT}
 use Rattle.verdict_ledger.specs.declared.link_counts.LinkCounts.{LinkCounts}
 use Rattle.verdict_ledger.specs.declared.tally.Tally.{Tally}
 use Rattle.vl_config.specs.Document.{VlTable}
 use Rattle.watch_run.specs.Watch.{IsWatched}
-use Rattle.run_outcome.specs.Opening.{WatchDevices}
+use Rattle.run_fault.specs.Opening.{WatchDevices}
 
 -- Two sets of devices expose the same bytes: both recordings, and what the outputs held.
 pub record HoldSameBytes (one other : WatchDevices) : Type 0 where

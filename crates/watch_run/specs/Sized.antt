@@ -1,12 +1,12 @@
 -- What runs of given sizes come to: what those of the program do.
 use Rattle.std.specs.Prelude.{ℕ, IfSome}
 use Rattle.std.specs.Option.{option_map}
-use Rattle.round_output.specs.Filters.{Making}
+use Rattle.round_writer.specs.Filters.{Making}
 use Rattle.vl_config.specs.Document.{VlTable}
-use Rattle.round_output.specs.Round.{IsWorkerCount}
-use Rattle.run_outcome.specs.Device.{SourceMembers, SinkMembers, sink_at, source_at}
-use Rattle.run_outcome.specs.Opening.{devices_at}
-use Rattle.run_outcome.specs.declared.refused.WatchRefused.{WatchRefused}
+use Rattle.round_writer.specs.Round.{IsWorkerCount}
+use Rattle.run_fault.specs.Device.{SourceMembers, SinkMembers, sink_at, source_at}
+use Rattle.run_fault.specs.Opening.{devices_at}
+use Rattle.run_fault.specs.declared.refused.WatchRefused.{WatchRefused}
 use Rattle.watch_run.specs.Running.{IsRunningAborted}
 use Rattle.watch_run.specs.Watch.{IsWatchAborted, IsWatched}
 use Rattle.watch_run.specs.declared.one_thread.Watched.{Watched}

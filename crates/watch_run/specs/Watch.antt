@@ -3,21 +3,21 @@ use Rattle.std.specs.Prelude.{◌≡◌, ◌⊎◌, ℕ, List, [], ◌∷◌, le
 use Rattle.std.specs.Io.KnownBytes.{Appends}
 use Rattle.afdx_frame.specs.Frame.{Frame}
 use Rattle.afdx_frame.specs.declared.key.Network.TheVariants.{A, B}
-use Rattle.round_output.specs.Filters.{Making, capture_by, entries_by, ledger_by, lines_by}
+use Rattle.round_writer.specs.Filters.{Making, capture_by, entries_by, ledger_by, lines_by}
 use Rattle.ordered_merge.specs.Order.{IsOrder}
 use Rattle.pcap_io.specs.declared.recording.Ending.{Ending}
 use Rattle.verdict_ledger.specs.Ledger.{IsTallyOf}
 use Rattle.verdict_ledger.specs.declared.tally.Tally.{Tally}
 use Rattle.vl_config.specs.Document.{VlTable}
-use Rattle.run_outcome.specs.Recording.{IsRecording}
-use Rattle.run_outcome.specs.declared.fault.WatchFault.{WatchFault}
-use Rattle.run_outcome.specs.declared.fault.Output.TheVariants as output
-use Rattle.run_outcome.specs.declared.fault.WatchFault.TheVariants as watch
-use Rattle.run_outcome.specs.Device.{AppendsSome, SinkView}
-use Rattle.run_outcome.specs.Recording.{IsReadPart, IsReadWhole}
-use Rattle.round_output.specs.Outputs.{HasPackets, HasPacketsFirst}
-use Rattle.round_output.specs.Round.{IsFilterCount}
-use Rattle.run_outcome.specs.Opening.{AbortsAtOpening, FailsOnly, WatchDevices}
+use Rattle.run_fault.specs.Recording.{IsRecording}
+use Rattle.run_fault.specs.declared.fault.WatchFault.{WatchFault}
+use Rattle.run_fault.specs.declared.fault.Output.TheVariants as output
+use Rattle.run_fault.specs.declared.fault.WatchFault.TheVariants as watch
+use Rattle.run_fault.specs.Device.{AppendsSome, SinkView}
+use Rattle.run_fault.specs.Recording.{IsReadPart, IsReadWhole}
+use Rattle.round_writer.specs.Outputs.{HasPackets, HasPacketsFirst}
+use Rattle.round_writer.specs.Round.{IsFilterCount}
+use Rattle.run_fault.specs.Opening.{AbortsAtOpening, FailsOnly, WatchDevices}
 
 -- ---- a whole run
 

@@ -2,7 +2,7 @@
 
 use afdx_frame::Network;
 use filter_workers::RunGate;
-use run_outcome::WatchFault;
+use run_fault::WatchFault;
 use tap_queue::TapGate;
 
 /// Is told how a run on threads gets on. No clause speaks of it.

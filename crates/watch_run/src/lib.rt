@@ -16,6 +16,6 @@ mod threads;
 pub use gate::{OpenGate, RunObserver};
 pub use laws::same_bytes_in_same_bytes_out;
 pub use one_thread::{Watched, sized_watch_whole, watch_whole};
-pub use round_output::{Plan, pcap_has_accepted_frames};
+pub use round_writer::{Plan, pcap_has_accepted_frames};
 pub use sizes::RunSizes;
 pub use threads::{sized_watch, watch};

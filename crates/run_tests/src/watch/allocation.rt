@@ -7,7 +7,7 @@
 use crate::watch::{Given, NO_FAILURE, NOT_FIRST, Ran, Way, devices_by, recording, run_over};
 use bpf_isa::read_numeric;
 use bpf_loader::Program;
-use run_outcome::WatchFault;
+use run_fault::WatchFault;
 use std::alloc::Global;
 use std::process::Abort;
 use std::sync::Wait;

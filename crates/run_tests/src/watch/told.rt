@@ -5,7 +5,7 @@ use crate::watch::{Given, NO_FAILURE, NOT_FIRST, Scripts, Way, recording, run_pa
 use afdx_frame::Network;
 use filter_workers::RunGate;
 use pcap_io::Script;
-use run_outcome::{Output, WatchFault};
+use run_fault::{Output, WatchFault};
 use std::process::Abort;
 use std::sync::atomic::AtomicU64;
 use std::sync::atomic::Ordering::SeqCst;

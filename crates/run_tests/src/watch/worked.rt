@@ -6,7 +6,7 @@ use crate::watch::{
 };
 use afdx_frame::Network;
 use pcap_io::{BadReason, Ending, HeaderFault, Script};
-use run_outcome::WatchFault;
+use run_fault::WatchFault;
 use std::alloc::Global;
 use std::process::Abort;
 use std::sync::Wait;

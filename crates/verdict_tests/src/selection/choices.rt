@@ -2,8 +2,8 @@
 use crate::selection::everything;
 use afdx_frame::{Network, Stamp, VlId};
 use integrity::Integrity;
+use ledger_query::{LinkSet, Moment, Selection, Word, WordFault, matches, read_mask, read_words};
 use ledger_text::FrameLine;
-use line_selection::{LinkSet, Moment, Selection, Word, WordFault, matches, read_mask, read_words};
 use policing::Policing;
 use redundancy::Redundancy;
 use std::process::Abort;

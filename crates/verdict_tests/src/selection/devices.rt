@@ -1,7 +1,7 @@
 //! A ledger that fails between lines, or within one: what its whole lines before say is written.
 
 use cut_run::{CutFault, CutSource, NoObserver, cut_frames, print_lines};
-use line_selection::Selection;
+use ledger_query::Selection;
 use packet_format::PacketFormat;
 use pcap_io::{MemSink, MemSource, Script};
 use std::alloc::{AllocError, Global};

@@ -1,6 +1,6 @@
 //! Sets of links from text.
 use afdx_frame::VlId;
-use line_selection::{ItemFault, LinkSet, LinkSetFault};
+use ledger_query::{ItemFault, LinkSet, LinkSetFault};
 use std::process::Abort;
 use std::test::Fail;
 use vl_config::Config;

@@ -4,8 +4,8 @@
 //! letter, or a plus. What is taken is written beside it, a mark a line.
 use crate::selection::everything;
 use afdx_frame::{Network, Stamp, VlId};
+use ledger_query::{Chooser, Neighbours, Selection};
 use ledger_text::FrameLine;
-use line_selection::{Chooser, Neighbours, Selection};
 use std::process::Abort;
 use std::test::Fail;
 use vl_config::Class;

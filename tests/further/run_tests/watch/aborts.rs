@@ -8,7 +8,7 @@ use afdx_frame::Network;
 use bpf_loader::Program;
 use filter_workers::RunGate;
 use pcap_io::{MemSink, ReadSource, Script};
-use run_outcome::{Output, WatchFault};
+use run_fault::{Output, WatchFault};
 use std::io;
 use std::io::Read;
 use std::process::Abort;

@@ -4,7 +4,7 @@
 use crate::watch::{Given, NO_FAILURE, NOT_FIRST, Ran, Scripts, WIDE, Way, recording, run};
 use afdx_frame::Network;
 use pcap_io::Script;
-use run_outcome::{Output, WatchFault};
+use run_fault::{Output, WatchFault};
 use std::alloc::Global;
 use std::process::Abort;
 use std::sync::Wait;

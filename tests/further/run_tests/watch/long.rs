@@ -5,7 +5,7 @@ use crate::watch::comparing::{Left, leaves_the_same, left_by_one, roomy};
 use crate::watch::{Given, NO_FAILURE, Ran, Scripts, Way, push_packet, recording, run};
 use afdx_frame::Network;
 use pcap_io::{BadReason, Ending, Script};
-use run_outcome::{Output, WatchFault};
+use run_fault::{Output, WatchFault};
 use std::alloc::{AllocError, Global};
 use std::process::Abort;
 use std::sync::Wait;

@@ -5,7 +5,7 @@ use crate::watch::comparing::roomy;
 use crate::watch::{Given, Ran, Scripts, Way, run};
 use afdx_frame::Network;
 use pcap_io::Script;
-use run_outcome::WatchFault;
+use run_fault::WatchFault;
 use std::alloc::{AllocError, Global};
 use std::fmt::Write;
 use std::process::Abort;

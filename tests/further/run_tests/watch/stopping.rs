@@ -4,7 +4,7 @@ use crate::watch::comparing::roomy;
 use crate::watch::long::tap_of;
 use crate::watch::{Given, Ran, Scripts, Way, run};
 use pcap_io::Script;
-use run_outcome::{Output, WatchFault};
+use run_fault::{Output, WatchFault};
 use std::process::Abort;
 use std::sync::Wait;
 use std::test::Fail;

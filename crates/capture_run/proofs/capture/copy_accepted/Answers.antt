@@ -1,6 +1,6 @@
 use Rattle.std.proofs.Common.{◌≡◌, ◌∙◌, [], ◌∷◌, ◌++◌, sym, subst}
 use Rattle.std.proofs.lemmas.Result.{err_from_is_err_and}
-use Rattle.packet_writer.specs.Writer.{format_in, sink_of}
+use Rattle.packet_format.specs.Writer.{format_in, sink_of}
 use Rattle.pcap_io.specs.Position.{Reads, after_frame}
 use Rattle.pcap_io.specs.Reader.{lent_of, position_of, reading_of, remaining_of, unread_of}
 use Rattle.pcap_io.specs.declared.position.Position.{Position}

@@ -1,6 +1,6 @@
 use Rattle.std.proofs.Common.{◌≡◌, ◌≤◌, ◌-◌, List, false}
 use Rattle.afdx_frame.specs.Frame.{Frame}
-use Rattle.packet_writer.specs.Writer.{format_in, has_failed, sink_of}
+use Rattle.packet_format.specs.Writer.{format_in, has_failed, sink_of}
 use Rattle.pcap_io.specs.Reader.{position_of, reading_of, remaining_of, source_of, unread_of}
 use Rattle.pcap_io.specs.declared.recording.Stage.TheVariants.{Going}
 use Rattle.capture_run.specs.Copy.{HasCopied, copying_of}

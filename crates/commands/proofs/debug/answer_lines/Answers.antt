@@ -2,7 +2,7 @@ use Rattle.std.proofs.Common.{[], ap, refl}
 use Rattle.std.proofs.KnownBytes.{Appends-nil}
 use Rattle.std.proofs.lemmas.Result.{err_from_is_err_and}
 use Rattle.commands.specs.Sessions.{lines_left, lines_of}
-use Rattle.run_outcome.specs.Device.{sink_at}
+use Rattle.run_fault.specs.Device.{sink_at}
 use Rattle.commands.proofs.Answering.{all_answered, at_start, last_answered, line_answered, not_answered}
 use Rattle.commands.proofs.debug.answer_lines.Goals as goal
 

@@ -3,7 +3,7 @@ use Rattle.std.proofs.Common.{ℕ, suc, List, length}
 use Rattle.std.specs.Borrow.{Bor}
 use Rattle.std.specs.Option.{option_map_or}
 use Rattle.commands.specs.Sessions.{Takes, lines_left, lines_of}
-use Rattle.run_outcome.specs.Device.{sink_at}
+use Rattle.run_fault.specs.Device.{sink_at}
 use Rattle.commands.proofs.Answering.{GoesOn}
 use Rattle.commands.proofs.debug.answer_lines.Given as goal
 

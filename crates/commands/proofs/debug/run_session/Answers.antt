@@ -1,6 +1,6 @@
 use Rattle.std.proofs.Common.{◌≡◌, string_bytes, sym}
 use Rattle.std.proofs.lemmas.Result.{err_from_is_err_and}
-use Rattle.run_outcome.specs.Device.{sink_at}
+use Rattle.run_fault.specs.Device.{sink_at}
 use Rattle.commands.proofs.SessionRuns.{not_begun, session_run}
 use Rattle.commands.proofs.debug.run_session.Goals as goal
 

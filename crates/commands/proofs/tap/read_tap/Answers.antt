@@ -1,6 +1,6 @@
 use Rattle.std.proofs.Common.{refl}
 use Rattle.pcap_io.specs.Reader.{reading_of, unread_of}
-use Rattle.run_outcome.specs.Device.{source_at}
+use Rattle.run_fault.specs.Device.{source_at}
 use Rattle.commands.proofs.TapReading.{whole_told}
 use Rattle.commands.proofs.tap.read_tap.Goals as goal
 

@@ -1,8 +1,8 @@
 use Rattle.std.proofs.Common.{ℕ, List, [], inl, inr, refl, subst, sym}
 use Rattle.std.specs.Io.KnownBytes.{Appends}
 use Rattle.packet_format.specs.Packets.{format_of}
-use Rattle.packet_writer.specs.Writer.{sink_of}
-use Rattle.run_outcome.specs.Device.{sink_at, source_at}
+use Rattle.packet_format.specs.Writer.{sink_of}
+use Rattle.run_fault.specs.Device.{sink_at, source_at}
 use Rattle.cut_run.specs.Cut.{devices_at}
 use Rattle.cut_run.specs.Lines.{Choice}
 use Rattle.cut_run.proofs.Whole.{empty_capture, reads_nothing, run_of}

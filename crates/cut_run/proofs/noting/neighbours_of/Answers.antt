@@ -1,5 +1,5 @@
 use Rattle.std.proofs.Common.{[], None}
-use Rattle.run_outcome.specs.Device.{source_at}
+use Rattle.run_fault.specs.Device.{source_at}
 use Rattle.cut_run.specs.Noting.{HasNotedLines}
 use Rattle.cut_run.proofs.Whole.{reads_nothing}
 use Rattle.cut_run.proofs.noting.neighbours_of.Goals as goal

@@ -1,7 +1,7 @@
 use Rattle.std.proofs.Common.{◌≡◌, ◌-◌, ℕ, List, [], false}
 use Rattle.ledger_text.specs.Ledger.{ReadLine, has_failed as ledger_failed, number_of}
 use Rattle.ledger_text.specs.declared.bounds.TheConstants.{MOST_LINES}
-use Rattle.run_outcome.specs.Device.{SourceView}
+use Rattle.run_fault.specs.Device.{SourceView}
 use Rattle.cut_run.specs.Noting.{HasNotedLines}
 use Rattle.cut_run.proofs.noting.note_lines.Given as goal
 

@@ -1,12 +1,12 @@
 use Rattle.std.proofs.Common.{inr, [], subst, rules}
 use Rattle.tap_merge.specs.Taps.{HasMerged}
-use Rattle.run_outcome.specs.Device.{sink_at, source_at}
-use Rattle.run_outcome.specs.Opening.{watch_devices}
+use Rattle.run_fault.specs.Device.{sink_at, source_at}
+use Rattle.run_fault.specs.Opening.{watch_devices}
 use Rattle.watch_run.proofs.Returned.{aborted}
-use Rattle.run_outcome.proofs.Results.{with_both, with_ok}
+use Rattle.run_fault.proofs.Results.{with_both, with_ok}
 use Rattle.tap_merge.proofs.TwoTaps.{part_of}
 use Rattle.watch_run.proofs.Watching.{has_begun, none_first, some_filters, stops_by_writing}
-use Rattle.round_output.specs.Filters.{making_of}
+use Rattle.round_writer.specs.Filters.{making_of}
 use Rattle.watch_run.proofs.one_thread.sized_watch_whole.Goals as goal
 
 pub returns-in-Err-begin-clause-aborted : goal.returns-in-Err-begin-clause-aborted

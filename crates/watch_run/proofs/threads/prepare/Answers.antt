@@ -1,15 +1,15 @@
 use Rattle.std.proofs.Common.{inr, [], subst}
 use Rattle.afdx_frame.specs.declared.key.Network.TheVariants.{A, B}
 use Rattle.tap_merge.specs.Taps.{HasMerged}
-use Rattle.run_outcome.specs.Device.{sink_at, source_at}
-use Rattle.run_outcome.specs.Opening.{watch_devices}
-use Rattle.run_outcome.specs.declared.fault.WatchFault.TheVariants.{Memory}
+use Rattle.run_fault.specs.Device.{sink_at, source_at}
+use Rattle.run_fault.specs.Opening.{watch_devices}
+use Rattle.run_fault.specs.declared.fault.WatchFault.TheVariants.{Memory}
 use Rattle.watch_run.proofs.Returned.{aborted}
 use Rattle.watch_run.proofs.Starting.{ready_made, still_opened}
 use Rattle.tap_merge.proofs.TwoTaps.{part_of}
 use Rattle.watch_run.proofs.Watching.{none_first, stops_by_writing}
-use Rattle.round_output.proofs.Writing.{capture_all, first_whole, lines_all}
-use Rattle.round_output.specs.Filters.{making_of}
+use Rattle.round_writer.proofs.Writing.{capture_all, first_whole, lines_all}
+use Rattle.round_writer.specs.Filters.{making_of}
 use Rattle.watch_run.proofs.threads.prepare.Goals as goal
 
 pub returns-in-Err-begin-clause-refused : goal.returns-in-Err-begin-clause-refused

@@ -1,4 +1,4 @@
-use Rattle.run_outcome.specs.Device.{source_at}
+use Rattle.run_fault.specs.Device.{source_at}
 use Rattle.cut_run.proofs.Opening.{refused_b}
 use Rattle.cut_run.proofs.recordings.Recordings.open.Goals as goal
 

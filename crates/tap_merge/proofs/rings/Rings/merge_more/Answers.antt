@@ -1,4 +1,4 @@
-use Rattle.run_outcome.specs.declared.fault.WatchFault.TheVariants.{Read}
+use Rattle.run_fault.specs.declared.fault.WatchFault.TheVariants.{Read}
 use Rattle.tap_merge.proofs.RingItems.{with_fault}
 use Rattle.tap_merge.proofs.rings.Rings.merge_more.Goals as goal
 

@@ -1,7 +1,7 @@
 -- Items were merged.
 use Rattle.std.proofs.Common.{ℕ, ◌<◌, List}
 use Rattle.afdx_frame.specs.Frame.{Frame}
-use Rattle.run_outcome.specs.Device.{SourceView}
+use Rattle.run_fault.specs.Device.{SourceView}
 use Rattle.tap_merge.specs.Taps.{Agree, HasMerged, work_left}
 use Rattle.tap_merge.proofs.taps.Taps.merge_some.Given as goal
 

@@ -1,5 +1,5 @@
 use Rattle.afdx_frame.specs.declared.key.Network.TheVariants.{A, B}
-use Rattle.run_outcome.specs.declared.fault.WatchFault.TheVariants.{RingLost}
+use Rattle.run_fault.specs.declared.fault.WatchFault.TheVariants.{RingLost}
 use Rattle.watch_run.proofs.Aborting.{begun_loses, settled_of}
 use Rattle.watch_run.proofs.Finishing.{err_with, finish_aborts, finishes, lost_at_end, ok_with}
 use Rattle.watch_run.proofs.running.Running.finish.Goals as goal

@@ -1,4 +1,0 @@
-pub mod Finding
-pub mod Keeping
-pub mod Order
-pub mod Sets

@@ -1,3 +1,0 @@
-pub mod Finder
-pub mod Passed
-pub mod Places

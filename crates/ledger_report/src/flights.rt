@@ -1,0 +1,100 @@
+//! A link of two reports.
+
+ghost use Rattle.std.specs.Prelude.{◌≡◌};
+ghost use Rattle.ledger_report.specs.Flights.{comparison_at, count_both, frames_of};
+ghost use Rattle.ledger_report.specs.Flights.{is_new_outside, least_of, numbers_of, skew_of};
+ghost use Rattle.ledger_report.specs.declared.link.LinkReport.{LinkReport};
+ghost use Rattle.ledger_report.specs.declared.signs.Mark.{Mark};
+
+use crate::numbers::LinkNumbers;
+use crate::worse::LinkComparison;
+use crate::{LinkReport, Report, Sign};
+use afdx_frame::VlId;
+
+/// The lines of a link on both networks.
+fn frames_of(link: &LinkReport) -> u64
+    ensures { result ≡ frames_of link.now }
+{
+    link.lanes.a.frames.saturating_add(link.lanes.b.frames)
+}
+
+/// The count of a sign on both networks.
+fn count_both(link: &LinkReport, sign: Sign) -> u64
+    ensures { (none : Mark) → result ≡ count_both none link.now sign }
+{
+    let a = link.lanes.a.signs.of(sign).count;
+    a.saturating_add(link.lanes.b.signs.of(sign).count)
+}
+
+/// The least interval of both networks, where there is one.
+fn least_of(link: &LinkReport) -> Option<u64>
+    ensures { result ≡ least_of link.now }
+{
+    let (a, b) = (&link.lanes.a, &link.lanes.b);
+    if a.intervals == 0 && b.intervals == 0 {
+        None
+    } else {
+        Some(a.least.min(b.least))
+    }
+}
+
+/// The greatest skew of copies and of late deliveries, where there is one.
+fn skew_of(link: &LinkReport) -> Option<u64>
+    ensures { result ≡ skew_of link.now }
+{
+    if link.copies == 0 && link.late_greatest == 0 {
+        None
+    } else {
+        Some(link.skew_greatest.max(link.late_greatest))
+    }
+}
+
+/// The numbers of a link in a flight, where it has a frame.
+fn numbers_of(report: &Report, link: &LinkReport) -> Option<LinkNumbers>
+    ensures { (none : Mark) → result ≡ numbers_of none report.now link.now }
+{
+    let frames = frames_of(link);
+    if frames == 0 {
+        return None;
+    }
+    Some(LinkNumbers {
+        length: report.end.saturating_sub(report.start),
+        frames,
+        copies: link.copies,
+        too_long: count_both(link, Sign::TooLong),
+        excess: count_both(link, Sign::Excess),
+        out: count_both(link, Sign::Out),
+        lost: count_both(link, Sign::Lost),
+        lost_both: link.lost_both,
+        repeat: count_both(link, Sign::Repeat),
+        reset: count_both(link, Sign::Reset),
+        alone: count_both(link, Sign::Alone),
+        late: count_both(link, Sign::Late),
+        least: least_of(link),
+        skew: skew_of(link),
+    })
+}
+
+/// The link at this index of the table in both reports, which are against that table. Nothing
+/// where a report doesn't have it.
+pub fn comparison_at(today: &Report, baseline: &Report, index: usize) -> Option<LinkComparison>
+    ensures { (none : Mark) (no_link : LinkReport)
+        → result ≡ comparison_at none no_link today.now baseline.now index }
+{
+    match (today.links.get(index), baseline.links.get(index)) {
+        (Some(link), Some(before)) => Some(LinkComparison {
+            link: link.id,
+            redundancy: link.redundancy,
+            today: numbers_of(today, link),
+            baseline: numbers_of(baseline, before),
+        }),
+        _ => None,
+    }
+}
+
+/// Does a link outside the table have frames today, and none in the baseline?
+pub fn is_new_outside(today: &Report, baseline: &Report, id: VlId) -> bool
+    ensures { result ≡ is_new_outside today.now baseline.now id.0 }
+{
+    today.outside_link(id).is_some() && baseline.outside_link(id).is_none()
+}

@@ -1,7 +1,0 @@
-use Rattle.std.proofs.Common.{ℕ, ◌<◌, get_or}
-use Rattle.line_selection.specs.Selection.{Says}
-use Rattle.line_selection.specs.declared.word.Word.{Word}
-use Rattle.line_selection.proofs.word.says_one.Given as goal
-
-abbrev pub invariant-loop-word : goal.invariant-loop-word
-invariant-loop-word l = (k : ℕ) (d : Word) → k < l.word-index → Says l.line (get_or l.words k d) → ⊥

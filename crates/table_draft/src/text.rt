@@ -1,0 +1,222 @@
+//! The text of a draft.
+
+ghost use Rattle.std.specs.Prelude.{◌≡◌, ◌<◌};
+
+use crate::estimate::{Estimate, MAX_JITTER_US, needed_by, not_next};
+use crate::known::{Known, bag_ms};
+use afdx_frame::Stamp;
+use jiff::Timestamp;
+use pcap_io::Ending;
+use std::alloc::AllocError;
+use std::fmt;
+use std::fmt::{Display, Formatter};
+use traffic_survey::{Arrivals, Field, LinkSurvey, Recorded, Survey};
+
+/// How a draft begins.
+pub const HEADER: &str = "\
+# A draft of the table of virtual links: what was seen in recordings, and not what was specified.
+# Check each value against the ICD.
+";
+
+/// How a draft begins that a document has a part in.
+pub const ICD_HEADER: &str = "\
+# A draft of the table of virtual links: what an ICD specifies, and what was seen in \
+recordings where it leaves a value out.
+";
+
+/// A length of time in nanoseconds, in three digits that aren't below it.
+#[derive(Clone, Copy)]
+struct About(u64);
+
+impl Display for About {
+    fn fmt<W: fmt::Write>(&self, f: &mut Formatter<W>) -> fmt::Result {
+        let micros = self.0.div_ceil(1000);
+        let step = match micros {
+            0..=999 => 1,
+            1000..=9999 => 10,
+            10_000..=99_999 => 100,
+            _ => 1000,
+        };
+        let micros = micros.div_ceil(step).saturating_mul(step);
+        let (millis, rest) = (micros / 1000, micros % 1000);
+        if millis == 0 {
+            write!(f, "{micros} us")
+        } else if rest == 0 {
+            write!(f, "{millis} ms")
+        } else if rest % 100 == 0 {
+            let tenths = rest / 100;
+            write!(f, "{millis}.{tenths} ms")
+        } else {
+            let hundredths = rest / 10;
+            write!(f, "{millis}.{hundredths:02} ms")
+        }
+    }
+}
+
+/// A time in UTC, as RFC 3339 writes it.
+#[derive(Clone, Copy)]
+struct Moment(Stamp);
+
+impl Display for Moment {
+    fn fmt<W: fmt::Write>(&self, f: &mut Formatter<W>) -> fmt::Result {
+        let nanos = self.0.0;
+        match Timestamp::from_nanosecond(i128::from(nanos)) {
+            Ok(timestamp) => write!(f, "{timestamp}"),
+            Err(_) => write!(f, "{nanos} ns"),
+        }
+    }
+}
+
+/// How a network's recording was read.
+pub fn write_ending(
+    text: &mut String,
+    network: &str,
+    recorded: Option<Recorded>,
+) -> Result<(), AllocError> {
+    match recorded.map(|recorded| recorded.ending) {
+        None => Ok(()),
+        Some(Ending::Clean(frames)) => { write!(text, "# Network {network}: {frames} frames.\n") }
+        Some(Ending::Cut(frames)) => {
+            write!(
+                text,
+                "# Network {network}: {frames} frames, then the recording is truncated.\n"
+            )
+        }
+        Some(Ending::Bad(frames, _)) => {
+            write!(
+                text,
+                "# Network {network}: {frames} frames, then a packet that can't be read.\n"
+            )
+        }
+    }
+}
+
+/// The constant field, and in comments the others.
+pub fn write_constants(text: &mut String, survey: &Survey, main: &Field) -> Result<(), AllocError> {
+    for field in survey.fields() {
+        if field.constant != main.constant {
+            let Field {
+                constant,
+                frames,
+                ..
+            } = field;
+            write!(
+                text,
+                "# Another constant field: {constant}, in {frames} frames.\n"
+            )?;
+        }
+    }
+    let others = survey.others();
+    if others > 0 {
+        write!(text, "# {others} frames have further constant fields.\n")?;
+    }
+    let refused = main.links.refused();
+    if refused > 0 {
+        write!(
+            text,
+            "# {refused} frames are of links beyond the first 4096.\n"
+        )?;
+    }
+    let Field {
+        constant,
+        frames,
+        ..
+    } = main;
+    write!(text, "\nconstant = {constant}  # {frames} frames\n")
+}
+
+/// In comments what was seen of a link, which the draft has with this BAG.
+pub fn write_seen(text: &mut String, link: &LinkSurvey, bag: usize) -> Result<(), AllocError>
+    requires { bag < 8 }
+{
+    write_arrivals(text, "A", &link.a)?;
+    write_arrivals(text, "B", &link.b)?;
+    write_need(text, "A", &link.a, bag)?;
+    write_need(text, "B", &link.b, bag)?;
+    let copies = link.copies.count();
+    write!(text, "# {copies} frames came on both networks.\n")
+}
+
+/// The keys of a link.
+pub fn write_keys(
+    text: &mut String,
+    link: &Known<'_>,
+    drafted: Estimate,
+) -> Result<(), AllocError> {
+    let id = link.id.0;
+    write!(text, "id = {id}\n")?;
+    match link.name() {
+        Some(name) => write!(text, "name = \"{name}\"\n")?,
+        None => write!(text, "name = \"vl_{id}\"\n")?,
+    }
+    let bag = bag_ms(drafted.bag);
+    let Estimate {
+        jitter_us,
+        smax,
+        integrity,
+        redundancy,
+        skew_us,
+        ..
+    } = drafted;
+    write!(text, "bag_ms = {bag}\njitter_us = {jitter_us}\n")?;
+    write!(
+        text,
+        "smax = {smax}\nintegrity = {integrity}\nredundancy = {redundancy}\n"
+    )?;
+    write!(text, "skew_us = {skew_us}\n")
+}
+
+/// What was seen of a link on a network.
+fn write_arrivals(text: &mut String, network: &str, arrivals: &Arrivals) -> Result<(), AllocError> {
+    let frames = arrivals.frames();
+    if frames == 0 {
+        return write!(text, "# {network}: no frame.\n");
+    }
+    let follow = arrivals.numbering().next();
+    let others = not_next(arrivals);
+    write!(
+        text,
+        "# {network}: {frames} frames; of their numbers {follow} follow, {others} don't.\n"
+    )?;
+    let Some(median) = arrivals.gaps().median() else {
+        return Ok(());
+    };
+    let least = arrivals.gaps().least() / 1000;
+    let greatest = arrivals.gaps().greatest() / 1000;
+    // The median's bucket may begin below the least interval.
+    let about = About(median.from.max(arrivals.gaps().least()));
+    write!(
+        text,
+        "# {network}: intervals {least} to {greatest} us, median about {about}.\n"
+    )
+}
+
+/// What jitter the frames of a network need.
+fn write_need(
+    text: &mut String,
+    network: &str,
+    arrivals: &Arrivals,
+    bag: usize,
+) -> Result<(), AllocError>
+    requires { bag < 8 }
+{
+    let need = arrivals.needs().at(bag);
+    let needed = needed_by(arrivals, bag).div_ceil(1000);
+    if needed == 0 {
+        return Ok(());
+    }
+    let at = Moment(need.at());
+    write!(text, "# {network}: largest need {needed} us, at {at}")?;
+    if needed > MAX_JITTER_US {
+        text.push_str(", more than a table allows")?;
+    }
+    match need.all_but(arrivals.frames() / 1000) {
+        Some(below) => {
+            write!(
+                text,
+                "; all but 0.1 per cent of the frames need less than {below} us.\n"
+            )
+        }
+        None => text.push_str(".\n"),
+    }
+}

@@ -1,0 +1,17 @@
+pub mod Buckets
+pub mod Classes
+pub mod Copying
+pub mod Counting
+pub mod Fields
+pub mod Histogram
+pub mod Keeping
+pub mod Linking
+pub mod Numbered
+pub mod Pairing
+pub mod Shortening
+pub mod Showing
+pub mod Surveying
+pub mod Tapping
+pub mod Timing
+pub mod Unkept
+pub mod Windows

@@ -1,0 +1,14 @@
+pub mod Bucket
+pub mod CopyPairs
+pub mod FirstSeen
+pub mod Intervals
+pub mod Jitter
+pub mod Kept
+pub mod LinkFrames
+pub mod NetworkFrames
+pub mod Numbers
+pub mod OneNetwork
+pub mod Pass
+pub mod Reading
+pub mod Short
+pub mod Times
