@@ -17,7 +17,7 @@ from watching import TABLE
 
 SECTION, INTERFACE, OLD_PACKET, SIMPLE, NAMES, STATISTICS, PACKET, CUSTOM = 0x0A0D0D0A, 1, 2, 3, 4, 5, 6, 0xBAD
 NAME, RESOLUTION, OFFSET, COMMENT = 2, 9, 14, 1
-LONGEST_NAME = 64
+MAX_NAME = 64
 MOST_CAPTURED, MOST_BLOCK, MOST_INTERFACES, LAST_SECOND = 262144, 1 << 20, 256, 1 << 32
 # The words of an ending's line: settled here, and nowhere else in these tests.
 REASONS = {
@@ -172,7 +172,7 @@ class Reader:
 
     def name_of(self, number):
         name = self.interfaces[number]["name"]
-        return None if name is None or len(name) > LONGEST_NAME else name
+        return None if name is None or len(name) > MAX_NAME else name
 
     def is_other(self, number):
         """An interface of this section isn't the one of earlier sections, whose numbers say nothing where both have names."""

@@ -16,7 +16,7 @@ CLASSES = ["cut", "runt", "oversize", "foreign", "unconfigured", "toolong"]
 SIGNS = CLASSES + ["excess", "out", "lost", "repeat", "reset", "alone", "late", "early"]
 TROUBLES = ["toolong", "excess", "out", "lost", "late", "alone"]
 OTHER = {"A": "B", "B": "A"}
-SILENT_LINES, MOST_SILENCES, ABSENT_LINES, WINDOW_BAGS, BINS = 64, 1024, 8, 127, 240
+SILENT_LINES, MAX_SILENCES, ABSENT_LINES, WINDOW_BAGS, BINS = 64, 1024, 8, 127, 240
 SECOND, WHOLE = 10**9, 262144
 
 
@@ -120,7 +120,7 @@ class Ledger:
                     usual.append(q.stamp - p.stamp)
                 if q.at - p.at - 1 >= SILENT_LINES or long:
                     found.append({"after": p.ordinal, "from": str(p.stamp), "to": str(q.stamp), "lines": q.at - p.at - 1})
-            self.silences[n], self.more[n] = found[:MOST_SILENCES], max(0, len(found) - MOST_SILENCES)
+            self.silences[n], self.more[n] = found[:MAX_SILENCES], max(0, len(found) - MAX_SILENCES)
             self.usual[n] = max(usual)
         self.silent = {n: {s["after"] for s in self.silences[n]} for n in "AB"}
 

@@ -116,7 +116,7 @@ fn settle<'p>(
     let (outcome, worst, [a, b], capture, ledger) = match run {
         Ok(done) => {
             let [a, b] = done.endings;
-            let totals = *done.tally.totals();
+            let totals = *done.totals();
             (
                 Ok(Summary { a, b, totals }),
                 worst_links(rt.alloc(), config, &done.tally),

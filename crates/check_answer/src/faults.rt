@@ -9,7 +9,7 @@ use toml::Table;
 use vl_config::{FaultyKey, Key};
 
 /// How many faults of a table are told at most: each is looked for in the text.
-pub const MOST_TOLD: usize = 100;
+pub const MAX_TOLD: usize = 100;
 
 /// A fault of the table as it is told.
 #[derive(Drop)]
@@ -118,7 +118,7 @@ pub fn told_faults(
         Err(_) => None,
     };
     let mut list = Vec::new(alloc);
-    for fault in faults.iter().take(MOST_TOLD) {
+    for fault in faults.iter().take(MAX_TOLD) {
         list.push(told(alloc, text, document.as_ref(), fault)?)?;
     }
     Ok(list)

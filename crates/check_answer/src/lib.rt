@@ -11,7 +11,7 @@ mod verdict;
 mod words;
 
 pub use answer::{Answer, FilterAnswer, TapAnswer};
-pub use faults::MOST_TOLD;
+pub use faults::MAX_TOLD;
 pub use json::json_of;
 pub use text::text_of;
 pub use verdict::{Verdict, verdict_of};

@@ -7,12 +7,12 @@ use std::alloc::AllocError;
 use std::fmt::Write;
 
 /// How many links a line names at most.
-const MOST_NAMED: u64 = 20;
+const MAX_NAMED: u64 = 20;
 
 /// How many links more there are than were named.
 fn push_more(out: &mut String, count: u64) -> Result<(), AllocError> {
-    if count > MOST_NAMED {
-        let more = count - MOST_NAMED;
+    if count > MAX_NAMED {
+        let more = count - MAX_NAMED;
         write!(out, " and {more} more")?;
     }
     out.push_str("\n")
@@ -51,11 +51,11 @@ pub fn push_absent(out: &mut String, inputs: &Inputs<'_>) -> Result<(), AllocErr
     let mut named = 0u64;
     for (link, tally) in inputs.links().iter().zip(inputs.tallies()) {
         let is_absent = tally.frames(Network::A) == 0 && tally.frames(Network::B) == 0;
-        if is_absent && named < MOST_NAMED {
+        if is_absent && named < MAX_NAMED {
             let (id, name) = (link.id.0, link.name.as_str());
             write!(out, " {id} {name}")?;
             named = named.saturating_add(1);
-            if named < count.min(MOST_NAMED) {
+            if named < count.min(MAX_NAMED) {
                 out.push_str(",")?;
             }
         }
@@ -74,11 +74,11 @@ pub fn push_unlisted(out: &mut String, inputs: &Inputs<'_>) -> Result<(), AllocE
     let mut named = 0u64;
     for id in 0..=u16::MAX {
         let frames = inputs.unlisted(VlId(id));
-        if frames > 0 && named < MOST_NAMED {
+        if frames > 0 && named < MAX_NAMED {
             let frames = Counted(u64::from(frames), "frame");
             write!(out, " {id} ({frames})")?;
             named = named.saturating_add(1);
-            if named < count.min(MOST_NAMED) {
+            if named < count.min(MAX_NAMED) {
                 out.push_str(",")?;
             }
         }

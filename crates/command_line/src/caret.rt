@@ -132,11 +132,11 @@ pub fn place_at(text: &str, at: usize) -> Option<Place>
 }
 
 /// The longest line that is shown, in bytes: one that a terminal shows on few lines.
-const MOST_SHOWN: usize = 200;
+const MAX_SHOWN: usize = 200;
 
 /// Can the line be shown as it is? A control character would move what stands before the caret, or more.
 fn is_shown(line: &str) -> bool {
-    line.len() <= MOST_SHOWN
+    line.len() <= MAX_SHOWN
         && line
             .as_bytes()
             .iter()

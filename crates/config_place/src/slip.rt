@@ -19,12 +19,12 @@ pub struct Slip {
 }
 
 /// How many bytes of a string are shown.
-const MOST_SHOWN: usize = 64;
+const MAX_SHOWN: usize = 64;
 
 /// A value that is shown as it is: a number, a boolean or a short string.
 fn is_plain(value: &Value) -> bool {
     match value.as_str() {
-        Some(text) => text.len() <= MOST_SHOWN,
+        Some(text) => text.len() <= MAX_SHOWN,
         None => value.is_integer() || value.is_bool(),
     }
 }

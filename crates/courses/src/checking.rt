@@ -1,5 +1,5 @@
 //! Whether a run of `watch` would be sound, told on standard output.
-use crate::given::text_of;
+use crate::given::{MAX_LATE, text_of};
 use afdx_frame::Network;
 use bpf_loader::Program;
 use check_answer::{Answer, FilterAnswer, TapAnswer, json_of, text_of as answer_text, verdict_of};
@@ -17,9 +17,6 @@ use vl_config::Config;
 
 /// How many frames of each recording are read at most, where they aren't read whole.
 const MOST_FRAMES: u64 = 1_000_000;
-
-/// How far a timestamp may lie below an earlier one where no table says so, in nanoseconds.
-const MOST_LATE: u64 = 1_000_000_000;
 
 /// What a pass over the recordings came to.
 #[derive(Clone, Copy)]
@@ -85,7 +82,7 @@ fn read_recordings<'a>(
 ) -> Result<Passed<'a>, Refused> {
     let extent = Extent {
         frames: if given.whole { MAX_FRAMES } else { MOST_FRAMES },
-        late: config.map_or(MOST_LATE, |config| config.late()),
+        late: config.map_or(MAX_LATE, |config| config.late()),
     };
     let (a, b) = open_both(rt, (given.a, given.b), taps, extent.late)?;
     let tap_a = (Network::A, taps.of_network(Network::A));

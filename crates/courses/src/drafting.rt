@@ -7,11 +7,8 @@ use run_outputs::Ended;
 use std::io;
 use table_draft::{Comparison, DraftFault, LeftOut, Recordings, Sources, draft_of};
 use tap_inputs::{NO_RUN, Refused, Skipped, Taps, end_of, open_both};
-use traffic_survey::{SurveyRun, survey_recordings};
+use traffic_survey::{GROUP_BITS, SurveyRun, survey_recordings};
 use vl_config::ConfigFault;
-
-/// The bits that a constant field has set (ARINC 664 Part 7).
-const GROUP_BITS: u32 = 0x0300_0000;
 
 /// The constant field that a text names, in decimal or after `0x` in hexadecimal digits.
 fn constant_of(text: Option<&str>) -> Result<Option<u32>, Fault> {

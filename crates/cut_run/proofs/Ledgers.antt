@@ -9,7 +9,7 @@ use Rattle.cut_run.specs.Finder.{finding_of}
 use Rattle.ledger_text.specs.Ledger.{EndsAt, HasReadLines, ReadLine, frame_lines, frames_in, has_failed as ledger_failed, left_of, lent_of, number_of, stage_of}
 use Rattle.ledger_text.specs.Lines.{unread_of}
 use Rattle.ledger_text.specs.Reader.{IsBadLine, IsFound, IsReadFault, reading_of, source_of}
-use Rattle.ledger_text.specs.declared.bounds.TheConstants.{BLOCK_LEN, MOST_LINES}
+use Rattle.ledger_text.specs.declared.bounds.TheConstants.{BLOCK_LEN, MAX_LINES}
 use Rattle.ledger_text.specs.declared.fault.LineFault.{LineFault}
 use Rattle.ledger_text.specs.declared.fault.LineFault.TheVariants as wrong
 use Rattle.ledger_text.specs.declared.fault.ReadFault.{ReadFault}
@@ -64,7 +64,7 @@ few_frames (r ∷ rs) = omega (arith, length-append (frames_in r.line) (frame_li
 pub few_before : {L : Type 0} (l : SourceMembers L) (bytes : Option (List ℕ)) (failures : ℕ) (rs : List ReadLine) (old new : LedgerReader L) (line : LedgerLine)
     → HasReadLines l bytes failures rs old
     → IsFound (reading_of l.remaining l.failures old) (reading_of l.remaining l.failures new) (lent_of new) (found.Line line)
-    → length (frame_lines rs) < MOST_LINES
+    → length (frame_lines rs) < MAX_LINES
 few_before l bytes failures rs old new line h is = omega (arith, few_frames rs, h.number, is.1.3)
 
 -- ---- the next line

@@ -5,7 +5,7 @@ ghost use Rattle.afdx_frame.specs.declared.bounds.TheConstants.{MAX_SNAPLEN};
 ghost use Rattle.cut_run.specs.Finder.{finder_source, finding_of};
 ghost use Rattle.ledger_text.specs.declared.frame.FrameLine.{FrameLine};
 ghost use Rattle.afdx_frame.specs.declared.key.Network.{Network};
-ghost use Rattle.ledger_text.specs.declared.bounds.TheConstants.{BLOCK_LEN, MOST_LINES};
+ghost use Rattle.ledger_text.specs.declared.bounds.TheConstants.{BLOCK_LEN, MAX_LINES};
 ghost use Rattle.ledger_query.specs.Neighbours.{AreNoted, Around, HasAsked};
 ghost use Rattle.packet_format.specs.Packets.{Format, format_of};
 ghost use Rattle.packet_format.specs.Writer.{format_in, has_failed, sink_of};
@@ -97,7 +97,7 @@ impl<S: TapSource, T: TapSource, W: OutSink> Taking<'_, S, T, W> {
         requires { has_failed self.old.output ≡ false }
         ensures recordings { self.new.recordings ≡ self.old.recordings }
         ensures written { (format : Format) (around : Option Around) (skips : Option Network)
-            (before : List FrameLine) → length before < MOST_LINES → format_in self.old.output ≡ format
+            (before : List FrameLine) → length before < MAX_LINES → format_in self.old.output ≡ format
             → HasAsked selection.now around before self.old.chooser
             → HasAsked selection.now around (before ++ line.now ∷ []) self.new.chooser
             × WritesTaken W.OutSink format
@@ -123,7 +123,7 @@ impl<S: TapSource, T: TapSource, W: OutSink> Taking<'_, S, T, W> {
     fn pass_over<O: LineObserver>(&mut self, observer: &O, selection: &Selection, line: &FrameLine)
         ensures recordings { self.new.recordings ≡ self.old.recordings }
         ensures output { self.new.output ≡ self.old.output }
-        ensures asked { (around : Option Around) (before : List FrameLine) → length before < MOST_LINES
+        ensures asked { (around : Option Around) (before : List FrameLine) → length before < MAX_LINES
             → HasAsked selection.now around before self.old.chooser
             → HasAsked selection.now around (before ++ line.now ∷ []) self.new.chooser }
     {
@@ -147,7 +147,7 @@ impl<S: TapSource, T: TapSource, W: OutSink> Taking<'_, S, T, W> {
         requires { has_failed self.old.output ≡ false }
         ensures cut { (format : Format) (around : Option Around) (a b : SourceView) (output : SinkView)
             (vs : List FrameLine) (fs : List Frame) (taken : List (FrameLine × Frame))
-            (frames_a frames_b : List Frame) → length vs < MOST_LINES
+            (frames_a frames_b : List Frame) → length vs < MAX_LINES
             → (let choice : Choice = record { selection = selection.now; around = around; skips = skips } in
             HasTaken S.TapSource T.TapSource W.OutSink format choice a b output vs fs taken
             frames_a frames_b self.old

@@ -2,7 +2,7 @@
 ghost use Rattle.std.specs.Prelude.{◌≡◌, ◌≢◌, ◌<◌, ◌++◌, ◌∷◌, [], ℕ, false, length, List, Option, IfErr, MatchResult};
 ghost use Rattle.afdx_frame.specs.declared.key.Network.{Network};
 ghost use Rattle.ledger_text.specs.Ledger.{has_failed as ledger_failed};
-ghost use Rattle.ledger_text.specs.declared.bounds.TheConstants.{MOST_LINES};
+ghost use Rattle.ledger_text.specs.declared.bounds.TheConstants.{MAX_LINES};
 ghost use Rattle.ledger_text.specs.declared.frame.FrameLine.{FrameLine};
 ghost use Rattle.ledger_query.specs.Neighbours.{AreNoted, Around, HasAsked};
 ghost use Rattle.pcap_io.specs.Device.{Writes};
@@ -89,7 +89,7 @@ impl<S: TapSource, T: TapSource, W: OutSink> Printing<S, T, W> {
     ) -> Result<(), CutFault>
         ensures recordings { self.new.recordings ≡ self.old.recordings }
         ensures written { (around : Option Around) (skips : Option Network) (before : List FrameLine)
-            → length before < MOST_LINES → HasAsked selection.now around before self.old.chooser
+            → length before < MAX_LINES → HasAsked selection.now around before self.old.chooser
             → HasAsked selection.now around (before ++ line.now ∷ []) self.new.chooser
             × PrintsTaken W.OutSink (record { selection = selection.now; around = around; skips = skips })
             before line.now text.now result self.old self.new }
@@ -110,7 +110,7 @@ impl<S: TapSource, T: TapSource, W: OutSink> Printing<S, T, W> {
     fn pass_over<O: LineObserver>(&mut self, observer: &O, selection: &Selection, line: &FrameLine)
         ensures recordings { self.new.recordings ≡ self.old.recordings }
         ensures output { self.new.output ≡ self.old.output }
-        ensures asked { (around : Option Around) (before : List FrameLine) → length before < MOST_LINES
+        ensures asked { (around : Option Around) (before : List FrameLine) → length before < MAX_LINES
             → HasAsked selection.now around before self.old.chooser
             → HasAsked selection.now around (before ++ line.now ∷ []) self.new.chooser }
     {
@@ -133,7 +133,7 @@ impl<S: TapSource, T: TapSource, W: OutSink> Printing<S, T, W> {
         text: &[u8],
     ) -> Result<(), CutFault>
         ensures { (around : Option Around) (before : LineDevices) (vs : List FrameLine)
-            (texts printed : List (List ℕ)) → length vs < MOST_LINES
+            (texts printed : List (List ℕ)) → length vs < MAX_LINES
             → (let choice : Choice = record { selection = selection.now; around = around; skips = skips } in
             HasPrintedLines S.TapSource T.TapSource W.OutSink choice before vs texts printed self.old
             → MatchResult result

@@ -16,7 +16,7 @@ use Rattle.ledger_text.specs.Newlines.{NoNewline, is_newline}
 use Rattle.ledger_text.specs.Order.{IsCounts, IsLineAt, IsLineFaultAt, counts_word}
 use Rattle.ledger_text.specs.Places.{has_total, stage_after}
 use Rattle.ledger_text.specs.Reader.{IsBadLine, IsFound, Reading, last_of}
-use Rattle.ledger_text.specs.declared.bounds.TheConstants.{BLOCK_LEN, MOST_LINES}
+use Rattle.ledger_text.specs.declared.bounds.TheConstants.{BLOCK_LEN, MAX_LINES}
 use Rattle.ledger_text.specs.declared.fault.LineFault.{LineFault}
 use Rattle.ledger_text.specs.declared.fault.LineFault.TheVariants as faults
 use Rattle.ledger_text.specs.declared.frame.FrameLine.{FrameLine}
@@ -217,7 +217,7 @@ part_refused stage bytes [] total some (last, none) = omega (arith, some, ap len
 part_refused stage bytes (r ∷ others) total some (mid, takes, more) = total_is_last stage r.text r.line total takes.stands
 
 pub none_refused : (old new : Reading) (bytes line : List ℕ) (others : List ReadLine) (fault : LineFault) → old.left ≡ Some bytes
-    → AreLeft old.stage bytes others → old.number < MOST_LINES → IsBadLine old new line fault → ⊥
+    → AreLeft old.stage bytes others → old.number < MAX_LINES → IsBadLine old new line fault → ⊥
 none_refused old new bytes line others faults.Newline is reads few (total, (one, some, short, gone, end)) =
     part_refused old.stage bytes others total (subst (λ (l : List ℕ). 0 < length l) (sym (consumed_all old.left new.left bytes line is gone end)) some) reads
 none_refused old new bytes line others faults.Long is reads few (one, long, gone) =

@@ -6,7 +6,7 @@ use Rattle.ledger_text.specs.FrameText.{IsFrameLine, IsMaskOf, shown}
 use Rattle.ledger_text.specs.Ledger.{ReadLine, ReadsLines}
 use Rattle.ledger_text.specs.Reader.{IsBadLine, IsFound, Reading}
 use Rattle.ledger_text.specs.Reads.{Below}
-use Rattle.ledger_text.specs.declared.bounds.TheConstants.{MOST_LINES}
+use Rattle.ledger_text.specs.declared.bounds.TheConstants.{MAX_LINES}
 use Rattle.ledger_text.specs.declared.fault.LineFault.{LineFault}
 use Rattle.ledger_text.specs.declared.order.Counts.TheVariants as counts
 use Rattle.ledger_text.specs.declared.order.LedgerLine.{LedgerLine}
@@ -94,7 +94,7 @@ ReadsFirstLines = (stage here end : Stage) (bytes : List ℕ) (left : Option (Li
 -- Where whole lines up to `total` are left, a reader refuses none of them, unless it has read as many as it may.
 abbrev pub NoLineIsRefused : Type 0
 NoLineIsRefused = (old new : Reading) (bytes line : List ℕ) (others : List ReadLine) (fault : LineFault) → old.left ≡ Some bytes
-    → ReadsLines old.stage (Some bytes) others (stages.Counts counts.Total) (Some []) → old.number < MOST_LINES → IsBadLine old new line fault → ⊥
+    → ReadsLines old.stage (Some bytes) others (stages.Counts counts.Total) (Some []) → old.number < MAX_LINES → IsBadLine old new line fault → ⊥
 
 -- And it finds no end before they are read.
 abbrev pub NoEndIsFoundBefore : Type 0

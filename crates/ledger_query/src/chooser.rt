@@ -1,6 +1,6 @@
 //! Which lines of a ledger are taken.
 ghost use Rattle.std.specs.Prelude.{◌++◌, ◌∷◌, [], ◌<◌, ◌↔◌, IsTrue, List, Option, length};
-ghost use Rattle.ledger_text.specs.declared.bounds.TheConstants.{MOST_LINES};
+ghost use Rattle.ledger_text.specs.declared.bounds.TheConstants.{MAX_LINES};
 ghost use Rattle.ledger_text.specs.declared.frame.FrameLine.{FrameLine};
 ghost use Rattle.ledger_query.specs.Neighbours.{AreNoted, Around, HasAsked, IsChosen};
 ghost use Rattle.ledger_query.specs.declared.selection.Selection.{Selection};
@@ -36,7 +36,7 @@ impl Chooser {
     /// neighbours were noted.
     #[inline]
     pub fn takes(&mut self, selection: &Selection, line: &FrameLine) -> bool
-        ensures { (around : Option Around) (before : List FrameLine) → length before < MOST_LINES
+        ensures { (around : Option Around) (before : List FrameLine) → length before < MAX_LINES
             → HasAsked selection.now around before self.old
             → (IsTrue result ↔ IsChosen selection.now around before line.now)
             × HasAsked selection.now around (before ++ line.now ∷ []) self.new }

@@ -25,7 +25,7 @@ pub use link_set::LinkSet;
 pub use mask::read_mask;
 pub use moment::{Moment, until_of_day};
 pub use neighbours::Neighbours;
-pub use pattern::{LONGEST_NAME, matches};
+pub use pattern::{MAX_NAME, matches};
 pub use selection::Selection;
 pub use word::Word;
 pub use words::{WordFault, read_words};

@@ -1,6 +1,6 @@
 //! The selected lines of a link, and which of its lines are near them.
 ghost use Rattle.std.specs.Prelude.{◌≡◌, ◌<◌, ◌+◌, ◌↔◌, [], MatchResult, IsTrue, true, false};
-ghost use Rattle.ledger_text.specs.declared.bounds.TheConstants.{MOST_LINES};
+ghost use Rattle.ledger_text.specs.declared.bounds.TheConstants.{MAX_LINES};
 ghost use Rattle.ledger_query.specs.Runs.{AllBefore, AreApart, Covers, HasAdded, StandsAt};
 
 use std::alloc::{AllocError, Global};
@@ -61,7 +61,7 @@ impl LinkRuns {
     /// Notes the link's next line, and whether it is selected.
     #[inline]
     pub(crate) fn note(&mut self, around: u32, selected: bool) -> Result<(), AllocError>
-        ensures noted { self.old.noted < MOST_LINES → MatchResult result
+        ensures noted { self.old.noted < MAX_LINES → MatchResult result
             (λ _. self.new.noted ≡ self.old.noted + 1) (λ _. self.new.noted ≡ self.old.noted) }
         ensures added { selected ≡ true → AreApart self.old.runs.items
             → AllBefore self.old.runs.items self.old.noted →
@@ -80,11 +80,11 @@ impl LinkRuns {
     /// Is the link's next line near a selected one?
     #[inline]
     pub(crate) fn is_near(&mut self, around: u32) -> bool
-        ensures near { self.old.asked < MOST_LINES → AreApart self.old.runs.items
+        ensures near { self.old.asked < MAX_LINES → AreApart self.old.runs.items
             → StandsAt around self.old.runs.items self.old.asked self.old.next
             → (IsTrue result ↔ Covers around self.old.runs.items self.old.asked)
             × StandsAt around self.old.runs.items self.new.asked self.new.next }
-        ensures asked { self.old.asked < MOST_LINES → self.new.asked ≡ self.old.asked + 1 }
+        ensures asked { self.old.asked < MAX_LINES → self.new.asked ≡ self.old.asked + 1 }
         ensures same { self.new.runs ≡ self.old.runs }
     {
         let around = u64::from(around);

@@ -23,7 +23,7 @@ pub struct Neighbours {
 impl Neighbours {
     ghost use Rattle.std.specs.Prelude.{◌++◌, ◌∷◌, [], ◌<◌, ◌↔◌, IfOk, IsTrue, List, MatchResult};
     ghost use Rattle.std.specs.Prelude.{length};
-    ghost use Rattle.ledger_text.specs.declared.bounds.TheConstants.{MOST_LINES};
+    ghost use Rattle.ledger_text.specs.declared.bounds.TheConstants.{MAX_LINES};
     ghost use Rattle.ledger_text.specs.declared.frame.FrameLine.{FrameLine};
     ghost use Rattle.ledger_query.specs.Lines.{IsSelected, count_of};
     ghost use Rattle.ledger_query.specs.Neighbours.{Around, HasAskedLinks, HasNoted, IsNear};
@@ -46,7 +46,7 @@ impl Neighbours {
     /// isn't noted then.
     #[inline]
     pub fn note(&mut self, line: &FrameLine, selected: bool) -> Result<(), AllocError>
-        ensures { (selection : Selection) (lines : List FrameLine) → length lines < MOST_LINES
+        ensures { (selection : Selection) (lines : List FrameLine) → length lines < MAX_LINES
             → HasNoted selection (record { count = self.old.around; lines = lines }) self.old
             → (IsTrue selected ↔ IsSelected selection lines line.now)
             → MatchResult result
@@ -63,7 +63,7 @@ impl Neighbours {
     /// Notes the ledger's next line, which is of this link.
     #[inline]
     fn note_link(&mut self, id: VlId, selected: bool) -> Result<(), AllocError>
-        ensures { (selection : Selection) (lines : List FrameLine) (v : FrameLine) → length lines < MOST_LINES
+        ensures { (selection : Selection) (lines : List FrameLine) (v : FrameLine) → length lines < MAX_LINES
             → HasNoted selection (record { count = self.old.around; lines = lines }) self.old
             → v.link ≡ Some id
             → (IsTrue selected ↔ IsSelected selection lines v)
@@ -79,7 +79,7 @@ impl Neighbours {
     #[inline]
     pub(crate) fn is_near(&mut self, id: VlId) -> bool
         ensures { (selection : Selection) (around : Around) (before : List FrameLine) (v : FrameLine)
-            → length before < MOST_LINES
+            → length before < MAX_LINES
             → HasAskedLinks selection around before self.old
             → v.link ≡ Some id
             → (IsTrue result ↔ IsNear selection around id.0 (count_of id.0 before))

@@ -4,7 +4,7 @@ ghost use Rattle.std.specs.Prelude.{slice_index, slice_index_or};
 ghost use Rattle.ledger_query.specs.Pattern.{IsMatch};
 
 /// The most letters of a link's name.
-pub const LONGEST_NAME: usize = 32;
+pub const MAX_NAME: usize = 32;
 
 /// A table of a name's places, the place after its last letter among them.
 const PLACES: usize = 33;
@@ -40,7 +40,7 @@ fn before_star(name: &[u8], from: &mut [bool])
 /// Is there a text for each star of the pattern such that it is the name? No memory is taken, and the time
 /// is that of the pattern's length times the name's.
 pub fn matches(pattern: &[u8], name: &[u8]) -> bool
-    requires { length name.now ≤ LONGEST_NAME }
+    requires { length name.now ≤ MAX_NAME }
     ensures { IsTrue result ↔ IsMatch pattern.now name.now }
 {
     let mut from = [false; PLACES];

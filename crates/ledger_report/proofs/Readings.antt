@@ -9,7 +9,7 @@ use Rattle.ledger_text.specs.declared.order.Stage.{Stage}
 use Rattle.ledger_text.specs.Ledger.{EndsAt, HasReadLines, ReadLine, frame_lines, frames_in, has_failed as ledger_failed, left_of, lent_of, stage_of}
 use Rattle.ledger_text.specs.Lines.{unread_of}
 use Rattle.ledger_text.specs.Reader.{IsFound, reading_of, source_of}
-use Rattle.ledger_text.specs.declared.bounds.TheConstants.{MOST_LINES}
+use Rattle.ledger_text.specs.declared.bounds.TheConstants.{MAX_LINES}
 use Rattle.ledger_text.specs.declared.frame.FrameLine.{FrameLine}
 use Rattle.ledger_text.specs.declared.order.LedgerLine.{LedgerLine}
 use Rattle.ledger_text.specs.declared.reader.LedgerReader.{LedgerReader}
@@ -78,16 +78,16 @@ few_frames (r ∷ rs) = omega (arith, length-append (frames_in r.line) (frame_li
 pub few_before : {S : Type 0} (s : SourceMembers S) (bytes : Option (List ℕ)) (failures : ℕ) (rs : List ReadLine) (old new : LedgerReader S) (line : LedgerLine)
     → HasReadLines s bytes failures rs old
     → IsFound (reading_of s.remaining s.failures old) (reading_of s.remaining s.failures new) (lent_of new) (found.Line line)
-    → length (frame_lines rs) < MOST_LINES
+    → length (frame_lines rs) < MAX_LINES
 few_before s bytes failures rs old new line h is = omega (arith, few_frames rs, h.number, is.1.3)
 
-pub few_lines : (rs : List ReadLine) → length (frame_lines rs) < MOST_LINES → length (reverse (frame_lines rs)) < MOST_LINES
+pub few_lines : (rs : List ReadLine) → length (frame_lines rs) < MAX_LINES → length (reverse (frame_lines rs)) < MAX_LINES
 few_lines rs few = omega (arith, few, length-reverse (frame_lines rs))
 
 abbrev pub frame_noted : {S : Type 0} (s : SourceMembers S) (bytes : Option (List ℕ)) (failures : ℕ) (links : List VirtualLink) (rs : List ReadLine)
     (old new : LedgerReader S) (was now : FrameCounts) (before after : Statistics) (counted : CountsLines) (v : FrameLine) → HasNoted s bytes failures links rs old was before counted
     → IsFound (reading_of s.remaining s.failures old) (reading_of s.remaining s.failures new) (lent_of new) (found.Line (lines.Frame v)) → ledger_failed new ≡ false
-    → length (frame_lines rs) < MOST_LINES → AreCountsOf (frame_lines rs ++ v ∷ []) now → IsAccountOf links (v ∷ reverse (frame_lines rs)) after
+    → length (frame_lines rs) < MAX_LINES → AreCountsOf (frame_lines rs ++ v ∷ []) now → IsAccountOf links (v ∷ reverse (frame_lines rs)) after
     → HasSpan (v ∷ reverse (frame_lines rs)) after → AreEach HoldsAlone links (v ∷ reverse (frame_lines rs)) after.links.items
     → HasSignsOf links (v ∷ reverse (frame_lines rs)) after
     → IsNoting s bytes failures links new now after counted
@@ -132,7 +132,7 @@ other_noted s bytes failures links rs old new counts statistics was now line non
     )
 
 -- a link's deliveries are some of the ledger's lines
-pub few_delivered : (links : List VirtualLink) (lines : List FrameLine) (reports : List LinkReport) → AreLinksOf links lines reports → length lines ≤ MOST_LINES →
+pub few_delivered : (links : List VirtualLink) (lines : List FrameLine) (reports : List LinkReport) → AreLinksOf links lines reports → length lines ≤ MAX_LINES →
     (i : ℕ) (report : LinkReport) → i < length reports → (get_or reports i report).deliveries < 2 ^ 62
 few_delivered links lines reports are few i report within =
     let below : i < length links = omega (arith, within, are.count) in
@@ -187,7 +187,7 @@ abbrev pub tells_ledger : (bytes : Option (List ℕ)) (links : List VirtualLink)
     → TellsLedger bytes links (report_of counts new counted stop)
 tells_ledger bytes links counts old new counted stop keeps kept gain alone losses on_a on_b h =
     let lines = reverse (frame_lines h.rs) in
-    let few : length lines ≤ MOST_LINES = omega (arith, h.few, length-reverse (frame_lines h.rs)) in
+    let few : length lines ≤ MAX_LINES = omega (arith, h.few, length-reverse (frame_lines h.rs)) in
     let told_met : AreEach HasMet links lines new.links.items =
     λ i link report within. (
     let at : i < length old.links.items = omega (arith, within, h.account.links_are.count) in

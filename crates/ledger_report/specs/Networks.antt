@@ -8,7 +8,7 @@ use Rattle.ledger_report.specs.Silences.{kept_silences, latest_stamp, lines_sinc
 use Rattle.ledger_report.specs.Standings.{frames_on}
 use Rattle.ledger_report.specs.Sums.{saturated, total_of}
 use Rattle.ledger_report.specs.Words.{is_on}
-use Rattle.ledger_report.specs.declared.bounds.TheConstants.{MOST_SILENCES}
+use Rattle.ledger_report.specs.declared.bounds.TheConstants.{MAX_SILENCES}
 use Rattle.ledger_report.specs.declared.network.NetworkReport.{NetworkReport}
 
 -- the bytes of a line, where they are known, with the 24 that a frame takes on the wire beside them
@@ -18,7 +18,7 @@ wire_bytes line = option_map_or (λ kept. kept + 24) line.kept 0
 -- the first 1024 silences, and how many more there are
 pub record HasSilences (network : Network) (lines : List FrameLine) (report : NetworkReport) : Type 0 where
   pub kept : report.silences.items ≡ kept_silences network lines
-  pub more : report.more_silences ≡ length (silences network lines) - MOST_SILENCES
+  pub more : report.more_silences ≡ length (silences network lines) - MAX_SILENCES
 
 -- the network's numbers are those of these lines
 pub record IsNetworkOf (network : Network) (lines : List FrameLine) (report : NetworkReport) : Type 0 where

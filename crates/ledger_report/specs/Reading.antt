@@ -5,7 +5,7 @@ use Rattle.pcap_io.specs.declared.device.TapSource.{Ghosts as SourceMembers}
 use Rattle.afdx_frame.specs.declared.key.TheConstants.{VL_ID_COUNT}
 use Rattle.vl_config.specs.Link.{VirtualLink}
 use Rattle.ledger_text.specs.Ledger.{EndsAt, HasReadLines, ReadLine, ReadsLines, frame_lines}
-use Rattle.ledger_text.specs.declared.bounds.TheConstants.{MOST_LINES}
+use Rattle.ledger_text.specs.declared.bounds.TheConstants.{MAX_LINES}
 use Rattle.ledger_text.specs.declared.order.Stage.{Stage}
 use Rattle.ledger_text.specs.declared.order.Stage.TheVariants as stages
 use Rattle.ledger_text.specs.declared.reader.LedgerReader.{LedgerReader}
@@ -69,7 +69,7 @@ pub record HasRead (bytes : Option (List ℕ)) (links : List VirtualLink) (stop 
   pub alone : AreEach HoldsAlone links (reverse (frame_lines rs)) statistics.links.items
   pub signs : HasSignsOf links (reverse (frame_lines rs)) statistics
   pub counted_are : HasCounted links (reverse rs) counted
-  pub few : length (frame_lines rs) ≤ MOST_LINES
+  pub few : length (frame_lines rs) ≤ MAX_LINES
 
 -- These lines of the ledger were read and noted.
 pub record HasNoted {S : Type 0} (s : SourceMembers S) (bytes : Option (List ℕ)) (failures : ℕ) (links : List VirtualLink) (rs : List ReadLine)
@@ -81,7 +81,7 @@ pub record HasNoted {S : Type 0} (s : SourceMembers S) (bytes : Option (List ℕ
   pub alone : AreEach HoldsAlone links (reverse (frame_lines rs)) statistics.links.items
   pub signs : HasSignsOf links (reverse (frame_lines rs)) statistics
   pub counted_are : HasCounted links (reverse rs) counted
-  pub few : length (frame_lines rs) ≤ MOST_LINES
+  pub few : length (frame_lines rs) ≤ MAX_LINES
 
 -- ---- the report of a reading
 

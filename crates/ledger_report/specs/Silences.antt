@@ -7,7 +7,7 @@ use Rattle.afdx_frame.specs.declared.key.Network.{Network}
 use Rattle.ledger_text.specs.declared.frame.FrameLine.{FrameLine}
 use Rattle.ledger_report.specs.Standings.{Standing, frames_on, standings}
 use Rattle.ledger_report.specs.Words.{is_on}
-use Rattle.ledger_report.specs.declared.bounds.TheConstants.{LONG_TIME, LONG_TIMES, MOST_SILENCES, SILENT_LINES}
+use Rattle.ledger_report.specs.declared.bounds.TheConstants.{LONG_TIME, LONG_TIMES, MAX_SILENCES, SILENT_LINES}
 use Rattle.ledger_report.specs.declared.network.Silence.{Silence}
 
 -- how many lines of the other network stand after the network's latest
@@ -62,4 +62,4 @@ silences network lines = filter_map (silence_at network) (standings lines)
 
 -- the first 1024 of them, the oldest first: those that a report keeps, and that its numbers rest on
 abbrev pub kept_silences : Network → List FrameLine → List Silence
-kept_silences network lines = take MOST_SILENCES (reverse (silences network lines))
+kept_silences network lines = take MAX_SILENCES (reverse (silences network lines))

@@ -1,9 +1,9 @@
 //! The thresholds and bounds of a report.
 ghost use Rattle.std.specs.Prelude.{◌≡◌, ◌^◌};
 ghost use Rattle.ledger_report.specs.declared.bounds.TheConstants.{BINS, FIRST_WIDTH, NUMBERS};
-ghost use Rattle.ledger_report.specs.declared.bounds.TheConstants.{LONG_TIME, LONG_TIMES, MOST_SILENCES, SILENT_LINES};
+ghost use Rattle.ledger_report.specs.declared.bounds.TheConstants.{LONG_TIME, LONG_TIMES, MAX_SILENCES, SILENT_LINES};
 ghost use Rattle.ledger_report.specs.declared.bounds.TheConstants.{ABSENT_LINES, STOPPED_LINES};
-ghost use Rattle.ledger_report.specs.declared.bounds.TheConstants.{CYCLE, MOST_DISTANCE, WINDOW_BAGS};
+ghost use Rattle.ledger_report.specs.declared.bounds.TheConstants.{CYCLE, MAX_DISTANCE, WINDOW_BAGS};
 
 /// How many bins a series has.
 pub const BINS: usize = 240;
@@ -16,7 +16,7 @@ pub const LONG_TIME: u64 = 1_000_000_000;
 /// where it is so many times as long as those before it.
 pub const LONG_TIMES: u64 = 8;
 /// How many silences of a network are kept.
-pub const MOST_SILENCES: usize = 1024;
+pub const MAX_SILENCES: usize = 1024;
 /// A link is absent from a network where so many of its lines in a row are of the other.
 pub const ABSENT_LINES: u64 = 8;
 /// A link has stopped on a network where so many of its lines on the other follow.
@@ -28,7 +28,7 @@ pub const NUMBERS: usize = 256;
 /// The numbers go from 255 to 1, so so many follow each other.
 pub const CYCLE: u8 = 255;
 /// The greatest distance of two numbers that says that frames are missing between them.
-pub const MOST_DISTANCE: u8 = 128;
+pub const MAX_DISTANCE: u8 = 128;
 
 /// Each bound is the number that docs/REPORT.md states: of bins, silences, the window and the distance under
 /// "Terms", of `lost` under "Numbers of a lane", of absences and stops under "Numbers of a link".
@@ -38,11 +38,11 @@ pub fn bounds_are_documented()
     ensures silent { SILENT_LINES ≡ 64 }
     ensures long { LONG_TIME ≡ 10 ^ 9 }
     ensures times { LONG_TIMES ≡ 8 }
-    ensures silences { MOST_SILENCES ≡ 1024 }
+    ensures silences { MAX_SILENCES ≡ 1024 }
     ensures absent { ABSENT_LINES ≡ 8 }
     ensures stopped { STOPPED_LINES ≡ 32 }
     ensures window { WINDOW_BAGS ≡ 127 }
     ensures numbers { NUMBERS ≡ 256 }
     ensures cycle { CYCLE ≡ 255 }
-    ensures distance { MOST_DISTANCE ≡ 128 }
+    ensures distance { MAX_DISTANCE ≡ 128 }
 {}

@@ -1,7 +1,7 @@
 //! How many lines say what: all of them, those of each network and those of each link of the table.
 
 ghost use Rattle.std.specs.Prelude.{◌≡◌, ◌<◌, List, [], ◌∷◌, ◌++◌, ℕ, length, slice_index, IfOk};
-ghost use Rattle.ledger_text.specs.declared.bounds.TheConstants.{MOST_LINES};
+ghost use Rattle.ledger_text.specs.declared.bounds.TheConstants.{MAX_LINES};
 ghost use Rattle.ledger_text.specs.declared.frame.FrameLine.{FrameLine};
 ghost use Rattle.ledger_report.specs.Words.{counts_of, filter_count, is_on, network_counts};
 ghost use Rattle.verdict_ledger.specs.declared.bounds.TheConstants.{MAX_FILTERS};
@@ -71,7 +71,7 @@ impl FrameCounts {
     /// Counts one more line, of no more than a ledger may have.
     #[inline]
     pub(crate) fn count(&mut self, line: &FrameLine)
-        ensures { (lines : List FrameLine) → length lines < MOST_LINES → AreCountsOf lines self.old
+        ensures { (lines : List FrameLine) → length lines < MAX_LINES → AreCountsOf lines self.old
             → AreCountsOf (lines ++ line.now ∷ []) self.new }
     {
         self.tally
@@ -84,7 +84,7 @@ impl FrameCounts {
 /// Counts one more line, where it is on this network.
 #[inline]
 fn count_on(counts: &mut Totals, network: Network, line: &FrameLine)
-    ensures { (lines : List FrameLine) → length lines < MOST_LINES
+    ensures { (lines : List FrameLine) → length lines < MAX_LINES
         → counts.old ≡ network_counts lines network
         → counts.new ≡ network_counts (lines ++ line.now ∷ []) network }
 {

@@ -44,7 +44,7 @@ pub struct TapEnding {
 }
 
 /// The longest reason that is taken.
-const LONGEST_REASON: usize = 32;
+const MAX_REASON: usize = 32;
 
 /// Which lines of counts stood so far.
 #[derive(Drop)]
@@ -273,7 +273,7 @@ fn reason_of(alloc: Global, rest: &[u8], end: TapEnd) -> Result<Option<String>, 
         (TapEnd::Clean | TapEnd::Cut, []) => rest,
         _ => return Ok(None),
     };
-    if reason.len() > LONGEST_REASON || !reason.iter().all(u8::is_ascii_lowercase) {
+    if reason.len() > MAX_REASON || !reason.iter().all(u8::is_ascii_lowercase) {
         return Ok(None);
     }
     match str::from_utf8(reason) {

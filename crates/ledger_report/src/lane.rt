@@ -10,7 +10,7 @@ ghost use Rattle.ledger_report.specs.Numbering.{IsPlain, counted_numbering, miss
 ghost use Rattle.ledger_report.specs.LaneLines.{is_out_after_silence, is_rule};
 ghost use Rattle.ledger_report.specs.declared.signs.Sign.TheVariants as signs;
 
-use crate::bounds::{CYCLE, MOST_DISTANCE, NUMBERS};
+use crate::bounds::{CYCLE, MAX_DISTANCE, NUMBERS};
 use crate::moment::{Moment, Place};
 use crate::network::NetworkReport;
 use crate::series::{Merge, Series};
@@ -119,7 +119,7 @@ fn following(number: u8) -> u8
 fn is_loss(distance: u8) -> bool
     ensures { result ≡ is_loss distance }
 {
-    2 <= distance && distance <= MOST_DISTANCE
+    2 <= distance && distance <= MAX_DISTANCE
 }
 
 /// Is it `out`, right after a silence?

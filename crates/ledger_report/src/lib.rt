@@ -34,7 +34,7 @@ mod worse;
 
 pub use absence::Absence;
 pub use bounds::{
-    ABSENT_LINES, BINS, FIRST_WIDTH, LONG_TIME, LONG_TIMES, MOST_SILENCES, SILENT_LINES,
+    ABSENT_LINES, BINS, FIRST_WIDTH, LONG_TIME, LONG_TIMES, MAX_SILENCES, SILENT_LINES,
     STOPPED_LINES, WINDOW_BAGS, bounds_are_documented,
 };
 pub use counts::FrameCounts;

@@ -2,7 +2,7 @@
 
 ghost use Rattle.std.specs.Prelude.{◌≡◌, ◌+◌, ◌==◌, ◌&&◌, ◌||◌, ◌-◌, ◌<◌, List, ◌∷◌, if◌then◌else◌, length, nat_le, nat_lt, true, false, IfOk, OnOk};
 ghost use Rattle.afdx_frame.specs.declared.key.Network.{Network};
-ghost use Rattle.ledger_text.specs.declared.bounds.TheConstants.{MOST_LINES};
+ghost use Rattle.ledger_text.specs.declared.bounds.TheConstants.{MAX_LINES};
 ghost use Rattle.ledger_text.specs.declared.frame.FrameLine.{FrameLine};
 ghost use Rattle.std.specs.Option.{option_map_or};
 ghost use Rattle.ledger_report.specs.Sums.{saturated};
@@ -11,7 +11,7 @@ ghost use Rattle.ledger_report.specs.Words.{is_on};
 ghost use Rattle.ledger_report.specs.Silences.{is_long, usual_with};
 ghost use Rattle.ledger_report.specs.declared.bounds.TheConstants.{SILENT_LINES};
 
-use crate::bounds::{LONG_TIME, LONG_TIMES, MOST_SILENCES, SILENT_LINES};
+use crate::bounds::{LONG_TIME, LONG_TIMES, MAX_SILENCES, SILENT_LINES};
 use crate::lane::Lane;
 use crate::moment::Moment;
 use crate::series::{Merge, Series};
@@ -103,7 +103,7 @@ impl NetworkReport {
     #[inline]
     pub(crate) fn pass(&mut self)
         ensures line { (network : Network) (line : FrameLine) (lines : List FrameLine)
-            → length lines < MOST_LINES
+            → length lines < MAX_LINES
             → is_on network line ≡ false → IsNetworkOf network lines self.old
             → IsNetworkOf network (line ∷ lines) self.new }
         ensures signs { self.new.signs ≡ self.old.signs }
@@ -140,7 +140,7 @@ impl NetworkReport {
     /// Notes that the network has been silent, if it has, up to this line.
     fn end_silence(&mut self, stamp: u64) -> Result<(), AllocError>
         ensures silences { OnOk result ((network : Network) (line : FrameLine) (lines : List FrameLine)
-            → length lines < MOST_LINES → is_on network line ≡ true → line.stamp.0 ≡ stamp
+            → length lines < MAX_LINES → is_on network line ≡ true → line.stamp.0 ≡ stamp
             → IsNetworkOf network lines self.old → HasSilences network (line ∷ lines) self.new) }
         ensures rest { OnOk result (self.new ≡ record self.old {
           silences = self.new.silences;
@@ -150,7 +150,7 @@ impl NetworkReport {
         if !self.is_silent(stamp) {
             return Ok(());
         }
-        if self.silences.len() >= MOST_SILENCES {
+        if self.silences.len() >= MAX_SILENCES {
             self.more_silences = self.more_silences.saturating_add(1);
             return Ok(());
         }
@@ -167,7 +167,7 @@ impl NetworkReport {
     #[inline]
     pub(crate) fn note(&mut self, at: &Moment, kept: Option<u32>) -> Result<(), AllocError>
         ensures line { OnOk result ((network : Network) (line : FrameLine) (lines : List FrameLine)
-            → length lines < MOST_LINES → is_on network line ≡ true → line.stamp.0 ≡ at.now.place.stamp
+            → length lines < MAX_LINES → is_on network line ≡ true → line.stamp.0 ≡ at.now.place.stamp
             → line.kept ≡ kept → IsNetworkOf network lines self.old
             → IsNetworkOf network (line ∷ lines) self.new) }
         ensures signs { OnOk result (self.new.signs ≡ self.old.signs) }

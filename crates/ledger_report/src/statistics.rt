@@ -7,7 +7,7 @@ ghost use Rattle.vl_config.specs.Link.{VirtualLink};
 ghost use Rattle.vl_config.specs.declared.class.Class.TheVariants as class;
 ghost use Rattle.verdict_ledger.specs.Tally.{is_class};
 ghost use Rattle.ledger_text.specs.FrameText.{IsFrameLine};
-ghost use Rattle.ledger_text.specs.declared.bounds.TheConstants.{MOST_LINES};
+ghost use Rattle.ledger_text.specs.declared.bounds.TheConstants.{MAX_LINES};
 ghost use Rattle.ledger_text.specs.declared.frame.FrameLine.{FrameLine};
 ghost use Rattle.ledger_report.specs.Holding.{EndAlone, HoldsAlone};
 ghost use Rattle.ledger_report.specs.Keeping.{KeepsLinks, KeepsNetworks};
@@ -132,10 +132,10 @@ fn note_on(
     line: &FrameLine,
     at: &Moment,
 ) -> Result<(), AllocError>
-    ensures own { OnOk result ((network : Network) (lines : List FrameLine) → length lines < MOST_LINES
+    ensures own { OnOk result ((network : Network) (lines : List FrameLine) → length lines < MAX_LINES
         → is_on network line.now ≡ true → at.now.place ≡ place_of line.now → IsNetworkOf network lines own.old
         → IsNetworkOf network (line.now ∷ lines) own.new) }
-    ensures other { OnOk result ((network : Network) (lines : List FrameLine) → length lines < MOST_LINES
+    ensures other { OnOk result ((network : Network) (lines : List FrameLine) → length lines < MAX_LINES
         → is_on network line.now ≡ false → IsNetworkOf network lines other.old
         → IsNetworkOf network (line.now ∷ lines) other.new) }
     ensures own_rules { OnOk result ((network : Network) (lines : List FrameLine)
@@ -294,19 +294,19 @@ impl Statistics {
     pub(crate) fn note(&mut self, line: &FrameLine) -> Result<(), Refusal>
         ensures latest { OnOk result (held_key self.new ≡ Some (key_of line.now)) }
         ensures wrong { (links : List VirtualLink) (lines : List FrameLine) → IsFrameLine line.now
-            → length lines < MOST_LINES → IsAccountOf links lines self.old
+            → length lines < MAX_LINES → IsAccountOf links lines self.old
             → held_key self.old ≡ latest_key lines → TellsWrong (wrong_of links lines line.now) result }
         ensures account { OnOk result ((links : List VirtualLink) (lines : List FrameLine)
-            → IsFrameLine line.now → length lines < MOST_LINES → IsAccountOf links lines self.old
+            → IsFrameLine line.now → length lines < MAX_LINES → IsAccountOf links lines self.old
             → IsAccountOf links (line.now ∷ lines) self.new) }
         ensures span { OnOk result ((lines : List FrameLine) → HasSpan lines self.old
             → HasSpan (line.now ∷ lines) self.new) }
         ensures alone { OnOk result ((links : List VirtualLink) (lines : List FrameLine)
-            → IsFrameLine line.now → length lines < MOST_LINES → IsAccountOf links lines self.old
+            → IsFrameLine line.now → length lines < MAX_LINES → IsAccountOf links lines self.old
             → AreEach HoldsAlone links lines self.old.links.items
             → AreEach HoldsAlone links (line.now ∷ lines) self.new.links.items) }
         ensures signs { OnOk result ((links : List VirtualLink) (lines : List FrameLine)
-            → IsFrameLine line.now → length lines < MOST_LINES → IsAccountOf links lines self.old
+            → IsFrameLine line.now → length lines < MAX_LINES → IsAccountOf links lines self.old
             → HasSignsOf links lines self.old → HasSignsOf links (line.now ∷ lines) self.new) }
     {
         let place = Place {
@@ -333,7 +333,7 @@ impl Statistics {
     /// Notes the line for both networks.
     #[inline]
     fn note_networks(&mut self, line: &FrameLine, at: &Moment) -> Result<(), AllocError>
-        ensures networks { OnOk result ((lines : List FrameLine) → length lines < MOST_LINES
+        ensures networks { OnOk result ((lines : List FrameLine) → length lines < MAX_LINES
             → IsMomentOf line.now at.now → AreNetworksOf lines self.old.networks
             → AreNetworksOf (line.now ∷ lines) self.new.networks) }
         ensures rules { OnOk result ((lines : List FrameLine) → IsMomentOf line.now at.now
@@ -373,7 +373,7 @@ impl Statistics {
             → AreLinksOf links lines self.old.links.items → IsIndexOf links self.old.index.items
             → TellsWrong (later_wrong links lines line.now) result }
         ensures account { OnOk result ((links : List VirtualLink) (lines : List FrameLine)
-            → IsFrameLine line.now → length lines < MOST_LINES → IsMomentOf line.now at.now
+            → IsFrameLine line.now → length lines < MAX_LINES → IsMomentOf line.now at.now
             → line.now.link ≡ Some id → line.now.sequence ≡ Some number
             → AreNetworksOf (line.now ∷ lines) self.old.networks → AreLinksOf links lines self.old.links.items
             → IsIndexOf links self.old.index.items → AreBalanced self.old.links.items
@@ -388,7 +388,7 @@ impl Statistics {
             → AreEach HoldsAlone links lines self.old.links.items
             → AreEach HoldsAlone links (line.now ∷ lines) self.new.links.items) }
         ensures losses { OnOk result ((links : List VirtualLink) (lines : List FrameLine)
-            → IsFrameLine line.now → length lines < MOST_LINES → IsMomentOf line.now at.now
+            → IsFrameLine line.now → length lines < MAX_LINES → IsMomentOf line.now at.now
             → line.now.link ≡ Some id → line.now.sequence ≡ Some number
             → AreNetworksOf (line.now ∷ lines) self.old.networks → AreLinksOf links lines self.old.links.items
             → IsIndexOf links self.old.index.items → AreEach HasLosses links lines self.old.links.items
@@ -414,7 +414,7 @@ impl Statistics {
     /// Notes a frame of a link outside the table.
     fn note_outside(&mut self, id: VlId, at: &Moment) -> Result<(), AllocError>
         ensures rest { self.new ≡ record self.old { outside = self.new.outside } }
-        ensures line { OnOk result ((line : FrameLine) (lines : List FrameLine) → length lines < MOST_LINES
+        ensures line { OnOk result ((line : FrameLine) (lines : List FrameLine) → length lines < MAX_LINES
             → is_class class.Unconfigured line.verdict.class ≡ true → line.link ≡ Some id
             → IsMomentOf line at.now → IsOutsideOf lines self.old.outside.items
             → IsOutsideOf (line ∷ lines) self.new.outside.items) }

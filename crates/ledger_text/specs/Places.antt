@@ -6,7 +6,7 @@ use Rattle.ledger_text.specs.declared.order.Stage.{Stage}
 use Rattle.ledger_text.specs.declared.order.Stage.TheVariants as stages
 use Rattle.ledger_text.specs.declared.order.LedgerLine.{LedgerLine}
 use Rattle.ledger_text.specs.declared.order.LedgerLine.TheVariants as lines
-use Rattle.ledger_text.specs.declared.bounds.TheConstants.{MOST_LINES}
+use Rattle.ledger_text.specs.declared.bounds.TheConstants.{MAX_LINES}
 use Rattle.ledger_text.specs.declared.fault.LineFault.{LineFault}
 use Rattle.ledger_text.specs.declared.fault.LineFault.TheVariants as wrong
 use Rattle.ledger_text.specs.declared.fault.ReadFault.{ReadFault}
@@ -40,14 +40,14 @@ IsUnended stage number other = ⊥
 -- the line is what is found at a place, and the next place is that after it
 abbrev pub IsRead : Stage → ℕ → List ℕ → Stage → ℕ → Found → Type 0
 IsRead stage number line stage2 number2 (found.Line read) =
-    IsLineAt stage line read × (stage2 ≡ stage_after read) × (number2 ≡ number + 1) × (number < MOST_LINES)
+    IsLineAt stage line read × (stage2 ≡ stage_after read) × (number2 ≡ number + 1) × (number < MAX_LINES)
 IsRead stage number line stage2 number2 found.Complete = ⊥
 IsRead stage number line stage2 number2 (found.Incomplete stop) = ⊥
 
 -- As many lines stand before the line as a ledger may have; or it is none that stands at its place.
 abbrev pub IsLineRefused : Stage → ℕ → List ℕ → LineFault → Type 0
-IsLineRefused stage number line wrong.TooMany = number ≡ MOST_LINES
-IsLineRefused stage number line fault = (number < MOST_LINES) × IsLineFaultAt stage line fault
+IsLineRefused stage number line wrong.TooMany = number ≡ MAX_LINES
+IsLineRefused stage number line fault = (number < MAX_LINES) × IsLineFaultAt stage line fault
 
 -- the line is refused, and the fault has its number
 abbrev pub IsReadRefused : Stage → ℕ → List ℕ → ReadFault → Type 0

@@ -66,7 +66,7 @@ pub enum LineFault {
     /// The line and its newline have no room in a block of [`BLOCK_LEN`](crate::BLOCK_LEN) bytes.
     #[error("too long")]
     Long,
-    /// [`MOST_LINES`](crate::MOST_LINES) stand before the line.
+    /// [`MAX_LINES`](crate::MAX_LINES) stand before the line.
     #[error("too many lines")]
     TooMany,
 }

@@ -32,7 +32,7 @@ mod order;
 mod reader;
 mod words;
 
-pub use bounds::{BLOCK_LEN, MOST_LINES, bounds_are_documented};
+pub use bounds::{BLOCK_LEN, MAX_LINES, bounds_are_documented};
 pub use fault::{FrameFault, LineFault, ReadFault};
 pub use frame::{FrameLine, read_frame};
 pub use laws::{entries_read_back, line_reads_one_way};

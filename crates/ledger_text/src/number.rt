@@ -7,7 +7,7 @@ ghost use Rattle.ledger_text.specs.Numbers.{IsPlain};
 ghost use Rattle.ledger_text.specs.Reads.{Reads, Below};
 
 /// The most digits of a number that is read: any such number is below 2^64.
-const MOST_DIGITS: usize = 19;
+const MAX_DIGITS: usize = 19;
 
 /// The value of at most 19 decimal digits.
 #[inline]
@@ -36,7 +36,7 @@ fn are_digits(bytes: &[u8]) -> bool
 fn is_plain(field: &[u8]) -> bool
     ensures { IsTrue result ↔ IsPlain field.now }
 {
-    if field.is_empty() || field.len() > MOST_DIGITS {
+    if field.is_empty() || field.len() > MAX_DIGITS {
         return false;
     }
     if field[0] == b'0' && field.len() > 1 {

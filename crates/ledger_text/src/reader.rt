@@ -1,9 +1,9 @@
 //! Reads a ledger line by line.
 ghost use Rattle.std.specs.Prelude.{◌≡◌, ◌≤◌};
 ghost use Rattle.ledger_text.specs.Places.{stage_after};
-ghost use Rattle.ledger_text.specs.declared.bounds.TheConstants.{MOST_LINES};
+ghost use Rattle.ledger_text.specs.declared.bounds.TheConstants.{MAX_LINES};
 
-use crate::bounds::MOST_LINES;
+use crate::bounds::MAX_LINES;
 use crate::fault::{LineFault, ReadFault};
 use crate::lines::{LineFound, LineSource, LinesRefused};
 use crate::order::{Counts, LedgerLine, Stage, read_line};
@@ -49,7 +49,7 @@ pub struct LedgerReader<S> {
     /// How many lines were read.
     number: u64,
     failed: bool,
-    ghost few: { number ≤ MOST_LINES },
+    ghost few: { number ≤ MAX_LINES },
 }
 
 impl<S: TapSource> LedgerReader<S> {
@@ -128,7 +128,7 @@ impl<S: TapSource> LedgerReader<S> {
             × (self.new.number ≡ self.old.number)) }
         ensures lines { self.new.lines ≡ self.old.lines }
     {
-        if self.number == MOST_LINES {
+        if self.number == MAX_LINES {
             return Err(self.fault(LineFault::TooMany));
         }
         match read_line(self.stage, self.lines.line()) {

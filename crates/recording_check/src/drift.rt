@@ -28,7 +28,7 @@ const LEAST_TIME: u64 = 1_000_000_000;
 const LEAST_DRIFT: u64 = 10_000_000;
 
 /// The greatest drift, in parts in 10^12: no clock drifts faster.
-const MOST_DRIFT: u64 = 1_000_000_000;
+const MAX_DRIFT: u64 = 1_000_000_000;
 
 /// So many links at least tell a drift.
 const LEAST_LINKS: usize = 4;
@@ -52,7 +52,7 @@ fn rate_of(first: Meeting, last: Meeting) -> Option<Meeting> {
         a: parts_of(on_a, on_b),
         b: parts_of(on_b, on_a),
     };
-    if on_a < LEAST_TIME || on_b < LEAST_TIME || rate.a.max(rate.b) > MOST_DRIFT {
+    if on_a < LEAST_TIME || on_b < LEAST_TIME || rate.a.max(rate.b) > MAX_DRIFT {
         None
     } else {
         Some(rate)

@@ -1,8 +1,9 @@
 //! What a look at the first frames of two recordings says of the inputs of a run of `watch`: whether they
 //! belong together, and to the table.
 //!
-//! [`Inputs`] is shown the frames of both recordings in order (by `traffic_survey::show_recordings`), and counts:
-//! memory is bounded by the links of the table, some 10 KB each. [`questions_of`] then asks what looks wrong.
+//! [`Inputs`] is shown the frames of both recordings in order (by `traffic_survey::show_recordings`), and
+//! counts: memory is bounded by the links of the table, some 10 KB each. [`questions_of`] then asks what
+//! looks wrong.
 #![tactic(auto)]
 
 mod checksum;

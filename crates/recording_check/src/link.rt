@@ -71,7 +71,8 @@ pub struct LinkTally {
 
 impl LinkTally {
     ghost use Rattle.traffic_survey.specs.CopyPairs.{SeenFrame};
-    ghost use Rattle.recording_check.specs.Tallies.{CountsFrames, CountsTally, counted_on, meeting_of, starts_on};
+    ghost use Rattle.recording_check.specs.Tallies.{CountsFrames, CountsTally};
+    ghost use Rattle.recording_check.specs.Tallies.{counted_on, meeting_of, starts_on};
 
     /// Of no frame. A copy comes at most so many nanoseconds after the first frame.
     pub fn new(skew: u64) -> LinkTally

@@ -21,7 +21,7 @@ pub struct Drift {
 /// The least and the greatest drift, in parts in 10^12, as of the question of `check`.
 const LEAST_DRIFT: u64 = 10_000_000;
 
-const MOST_DRIFT: u64 = 1_000_000_000;
+const MAX_DRIFT: u64 = 1_000_000_000;
 
 /// So many links at least tell a drift.
 const LEAST_LINKS: u64 = 4;
@@ -100,7 +100,7 @@ fn rate_of(marks: &[Mark], first: Mark, last: Mark, time: u64) -> Option<Rate> {
     let moved = first.level.abs_diff(last.level);
     let parts = share(moved, 1_000_000_000_000, time);
     let is_on = |mark: &Mark| mark.level.abs_diff(line_at(first, last, mark.bin)) <= moved / 4;
-    if (LEAST_DRIFT..=MOST_DRIFT).contains(&parts) && marks.iter().all(is_on) {
+    if (LEAST_DRIFT..=MAX_DRIFT).contains(&parts) && marks.iter().all(is_on) {
         Some(Rate { faster, parts })
     } else {
         None

@@ -21,7 +21,7 @@ const NOT_APART: u64 = 31 << 26;
 /// A link's rate is known where its longest time but three is at most so many times the usual one.
 const REGULAR: u64 = 2;
 /// A network pauses as a habit where it is silent for long more often.
-const MOST_PAUSES: usize = 8;
+const MAX_PAUSES: usize = 8;
 
 /// A time.
 pub fn between(from: u64, to: u64) -> Interval {
@@ -92,7 +92,7 @@ fn is_pause(silence: &Silence) -> bool {
 /// Is it silent by its length so often that this is a habit of it?
 fn pauses_often(side: &NetworkReport) -> bool {
     let pauses = side.silences.iter().filter(|one| is_pause(one));
-    pauses.count() > MOST_PAUSES
+    pauses.count() > MAX_PAUSES
 }
 
 /// Is this silence told?

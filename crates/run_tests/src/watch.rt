@@ -117,7 +117,7 @@ impl Ran {
                 outcome: Ok(Counts {
                     a: watched.endings[0],
                     b: watched.endings[1],
-                    totals: *watched.tally.totals(),
+                    totals: *watched.totals(),
                 }),
                 a: Some(watched.a),
                 b: Some(watched.b),

@@ -10,7 +10,7 @@ use std::io;
 const LONGEST: u64 = 1_000_000_000;
 
 /// How many gaps are told at most.
-const MOST_TOLD: u32 = 8;
+const MAX_TOLD: u32 = 8;
 
 /// For how long nothing was recorded after a file, if the next one may be read again.
 fn gap_after(rt: &HostRuntime, tap: &Tap, end: &TapEnd, number: usize) -> Option<u64> {
@@ -31,7 +31,7 @@ pub fn tell_gaps(rt: &HostRuntime, network: Network, tap: &Tap, end: &TapEnd) ->
         let Some(gap) = gap_after(rt, tap, end, number).filter(|gap| *gap > LONGEST) else {
             continue;
         };
-        if told == MOST_TOLD {
+        if told == MAX_TOLD {
             return eprintln!(rt; "afdxmon: note: network {letter} has more gaps between its files");
         }
         let after = tap.path_at(number).unwrap_or("");

@@ -194,7 +194,7 @@ impl Taps {
 const LOOKED_AT: usize = 4096;
 
 /// How many files are listed at most.
-const MOST_LISTED: usize = 32;
+const MAX_LISTED: usize = 32;
 
 /// The timestamp of the first frame of a reader that has given none.
 fn first_of<S: TapSource + Drop>(rt: &HostRuntime, reader: TapReader<S>) -> Option<u64> {
@@ -359,11 +359,11 @@ impl Tap {
     fn by_time(&self, rt: &HostRuntime, mut firsts: Vec<(u64, usize)>) -> Option<String> {
         firsts.sort().ok()?;
         let mut listed = String::from_str(rt.alloc(), "by time they are").ok()?;
-        for (_, number) in firsts.iter().take(MOST_LISTED) {
+        for (_, number) in firsts.iter().take(MAX_LISTED) {
             let path = self.path_at(*number)?;
             write!(listed, " {path}").ok()?;
         }
-        let more = firsts.len().saturating_sub(MOST_LISTED);
+        let more = firsts.len().saturating_sub(MAX_LISTED);
         if more > 0 {
             write!(listed, " and {more} more").ok()?;
         }

@@ -10,7 +10,7 @@ use afdx_frame::{Network, Stamp};
 const MAX_SKEW: u64 = 1_000_000_000;
 /// How many frames of the other network may have come since the first copy: half of a cycle of the 255
 /// numbers.
-const MOST_SINCE: u64 = 127;
+const MAX_SINCE: u64 = 127;
 
 /// The frame that came last with a sequence number.
 #[derive(Clone, Copy)]
@@ -149,7 +149,7 @@ fn skew_of(
     let arrival = latest?;
     let skew = stamp.0.saturating_sub(arrival.stamp.0);
     let since = others.saturating_sub(arrival.index);
-    if arrival.network != network && skew <= most && since <= MOST_SINCE + 1 {
+    if arrival.network != network && skew <= most && since <= MAX_SINCE + 1 {
         Some(skew)
     } else {
         None

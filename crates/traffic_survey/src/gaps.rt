@@ -7,7 +7,7 @@ ghost use Rattle.traffic_survey.specs.Intervals.{CountsGaps, CountsUnits, IsBuck
 /// The unit of the histogram in nanoseconds, some two microseconds.
 const UNIT: u64 = 2048;
 /// Gaps of so many units, 2^30 ns, or more stand in one bucket, the last.
-const MOST_UNITS: u64 = 1 << 19;
+const MAX_UNITS: u64 = 1 << 19;
 /// The buckets: 64 of one unit, 32 for each further power of 2, and the last.
 const BUCKETS: usize = 481;
 
@@ -120,7 +120,7 @@ fn index_of(units: u64) -> usize
     ensures few { result < 481 }
     ensures within { IsTrue (is_within result units) }
 {
-    if units >= MOST_UNITS {
+    if units >= MAX_UNITS {
         return BUCKETS - 1;
     }
     let Bucket { shift, part } = bucket_of(units);

@@ -33,4 +33,4 @@ pub use numbering::Numbering;
 pub use observer::Observer;
 pub use recorded::{Extent, Recorded, Span};
 pub use run::{Pass, SurveyRun, show_recordings, survey_recordings};
-pub use survey::{Field, MAX_CONSTANTS, Survey};
+pub use survey::{Field, GROUP_BITS, MAX_CONSTANTS, Survey};

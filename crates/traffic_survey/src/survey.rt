@@ -13,7 +13,7 @@ use std::alloc::{AllocError, Global};
 pub const MAX_CONSTANTS: usize = 8;
 
 /// The bits that a constant field has set: a group address, locally administered (IEEE 802.3).
-pub(crate) const GROUP_BITS: u32 = 0x0300_0000;
+pub const GROUP_BITS: u32 = 0x0300_0000;
 /// An Ethernet frame's lengths without its frame check sequence, in bytes (IEEE 802.3).
 const LEAST_LENGTH: u32 = 60;
 

@@ -23,7 +23,7 @@ use run_fault::{WatchFault, WatchRefused};
 use std::alloc::Global;
 use std::num::NonZeroUsize;
 use tap_merge::{Taps, Unopened};
-use verdict_ledger::Tally;
+use verdict_ledger::{Tally, Totals};
 use vl_config::Config;
 
 /// A whole analysis of two recordings, with the devices that it was given.
@@ -41,6 +41,15 @@ pub struct Watched<S, T, W, L> {
     pub capture: W,
     /// The sink of the ledger.
     pub ledger: L,
+}
+
+impl<S, T, W, L> Watched<S, T, W, L> {
+    /// The counts of all frames.
+    pub fn totals(&self) -> &Totals
+        ensures { result.now ≡ self.now.tally.totals }
+    {
+        self.tally.totals()
+    }
 }
 
 /// Reads, judges, filters and writes all frames, a round of at most `round_len` at a time.

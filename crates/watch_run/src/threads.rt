@@ -135,7 +135,8 @@ fn prepare<S: TapSource, T: TapSource, W: OutSink, L: OutSink>(
 ) -> Result<Ready<S, T, W, L>, WatchRefused<S, T, W, L>>
     requires number { IsFilterCount (length plan.now.programs.now) }
     ensures new { IfOk result AreNew }
-    ensures ready { IfOk result (IsReady S.TapSource T.TapSource W.OutSink L.OutSink (making_of plan.now) config.now
+    ensures ready { IfOk result (IsReady S.TapSource T.TapSource W.OutSink L.OutSink
+        (making_of plan.now) config.now
         (devices_at S.TapSource T.TapSource W.OutSink L.OutSink a b capture ledger)) }
     ensures refused { IfErr result (λ refused. IfSome refused.a (λ a'. IfSome refused.b (λ b'.
         IsNotBegun (making_of plan.now) config.now refused.fault

@@ -20,7 +20,7 @@ use std::thread::{Scope, Threads};
 pub const MAX_WORKERS: u32 = 8;
 
 /// How many rounds a worker can be asked for before it has come to the first.
-const MOST_JOBS: usize = 4;
+const MAX_JOBS: usize = 4;
 
 /// Workers that wait for rounds. Contracts see the task, how many threads share a round, and the most items
 /// of a chunk.
@@ -58,7 +58,7 @@ fn start_worker<'s, E, R: Wait + Sync, T: Task + 's>(
     rt: &'s R,
     alloc: Global,
 ) -> Option<Worker<T>> {
-    let (jobs, ring) = RingBuffer::new(alloc, MOST_JOBS).ok()?;
+    let (jobs, ring) = RingBuffer::new(alloc, MAX_JOBS).ok()?;
     let bells = Arc::new(alloc, Bells::new()).ok()?;
     let station: Station<T> = Station {
         jobs: ring,

@@ -2,7 +2,7 @@ use Rattle.std.proofs.Common.{◌≡◌, ◌-◌, List, [], Option, false}
 use Rattle.afdx_frame.specs.Frame.{Frame}
 use Rattle.ledger_text.specs.Ledger.{ReadLine, has_failed as ledger_failed, number_of}
 use Rattle.ledger_text.specs.declared.frame.FrameLine.{FrameLine}
-use Rattle.ledger_text.specs.declared.bounds.TheConstants.{MOST_LINES}
+use Rattle.ledger_text.specs.declared.bounds.TheConstants.{MAX_LINES}
 use Rattle.ledger_query.specs.Neighbours.{Around}
 use Rattle.packet_format.specs.Packets.{Format}
 use Rattle.packet_format.specs.Writer.{has_failed}
@@ -23,4 +23,4 @@ invariant-loop-line g l =
     }
 
 abbrev pub decreases-loop-line : goal.decreases-loop-line
-decreases-loop-line g l = MOST_LINES - number_of l.ledger
+decreases-loop-line g l = MAX_LINES - number_of l.ledger

@@ -1,6 +1,6 @@
 use Rattle.std.proofs.Common.{◌≡◌, ◌-◌, ℕ, List, [], false}
 use Rattle.ledger_text.specs.Ledger.{ReadLine, has_failed as ledger_failed, number_of}
-use Rattle.ledger_text.specs.declared.bounds.TheConstants.{MOST_LINES}
+use Rattle.ledger_text.specs.declared.bounds.TheConstants.{MAX_LINES}
 use Rattle.run_fault.specs.Device.{SourceView}
 use Rattle.cut_run.specs.Noting.{HasNotedLines}
 use Rattle.cut_run.proofs.noting.note_lines.Given as goal
@@ -15,4 +15,4 @@ invariant-loop-line g l =
     }
 
 abbrev pub decreases-loop-line : goal.decreases-loop-line
-decreases-loop-line g l = MOST_LINES - number_of l.ledger
+decreases-loop-line g l = MAX_LINES - number_of l.ledger

@@ -1,6 +1,6 @@
 use Rattle.std.proofs.Common.{◌≡◌, ◌-◌, ℕ, List, [], Option, false}
 use Rattle.ledger_text.specs.Ledger.{ReadLine, has_failed as ledger_failed, number_of}
-use Rattle.ledger_text.specs.declared.bounds.TheConstants.{MOST_LINES}
+use Rattle.ledger_text.specs.declared.bounds.TheConstants.{MAX_LINES}
 use Rattle.ledger_query.specs.Neighbours.{Around}
 use Rattle.cut_run.specs.Printed.{HasPrintedLedger, LineDevices}
 use Rattle.cut_run.proofs.print.print_all.Given as goal
@@ -17,4 +17,4 @@ invariant-loop-line g l =
     }
 
 abbrev pub decreases-loop-line : goal.decreases-loop-line
-decreases-loop-line g l = MOST_LINES - number_of l.ledger
+decreases-loop-line g l = MAX_LINES - number_of l.ledger

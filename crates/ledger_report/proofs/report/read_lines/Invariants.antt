@@ -1,7 +1,7 @@
 use Rattle.std.proofs.Common.{◌≡◌, ◌-◌, ℕ, List, Option, [], false}
 use Rattle.vl_config.specs.Link.{VirtualLink}
 use Rattle.ledger_text.specs.Ledger.{ReadLine, has_failed as ledger_failed, number_of}
-use Rattle.ledger_text.specs.declared.bounds.TheConstants.{MOST_LINES}
+use Rattle.ledger_text.specs.declared.bounds.TheConstants.{MAX_LINES}
 use Rattle.ledger_report.specs.Judged.{HasJudged}
 use Rattle.ledger_report.specs.Reading.{HasNoted}
 use Rattle.vl_config.specs.Document.{VlTable}
@@ -25,4 +25,4 @@ invariant-loop-frame g l =
     }
 
 abbrev pub decreases-loop-frame : goal.decreases-loop-frame
-decreases-loop-frame g l = MOST_LINES - number_of l.ledger
+decreases-loop-frame g l = MAX_LINES - number_of l.ledger

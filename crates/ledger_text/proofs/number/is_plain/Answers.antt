@@ -11,7 +11,7 @@ returns c =
       λ t. record {
         digits = all_digits field (sym c.are_digits.ensures ∙ t);
         some = some;
-        few = c.if-field-gt-MOST_DIGITS.false;
+        few = c.if-field-gt-MAX_DIGITS.false;
         leading = lead;
       },
       λ p. c.are_digits.ensures ∙ digits_all field p.digits,

@@ -3,9 +3,9 @@ use Rattle.std.proofs.Common.{◌*◌, ◌+◌, arith}
 use Rattle.traffic_survey.proofs.Histogram.{end_by_shift, start_by_shift, start_last, within_from}
 use Rattle.traffic_survey.proofs.gaps.index_of.Goals as goal
 
-pub returns-then-units-ge-MOST_UNITS-clause-within : goal.returns-then-units-ge-MOST_UNITS-clause-within
-returns-then-units-ge-MOST_UNITS-clause-within c =
-    within_from 480 c.args.units (record { from = rw start_last c.if-units-ge-MOST_UNITS.true; to = λ less. absurd (omega (arith, less)) })
+pub returns-then-units-ge-MAX_UNITS-clause-within : goal.returns-then-units-ge-MAX_UNITS-clause-within
+returns-then-units-ge-MAX_UNITS-clause-within c =
+    within_from 480 c.args.units (record { from = rw start_last c.if-units-ge-MAX_UNITS.true; to = λ less. absurd (omega (arith, less)) })
 
 pub returns-clause-within : goal.returns-clause-within
 returns-clause-within c =

@@ -3,7 +3,7 @@ use Rattle.ledger_query.specs.Lines.{count_of}
 use Rattle.ledger_query.specs.Neighbours.{HasAskedLink}
 use Rattle.ledger_query.specs.Runs.{Covers, StandsAt}
 use Rattle.ledger_query.specs.declared.link_runs.LinkRuns.{LinkRuns}
-use Rattle.ledger_text.specs.declared.bounds.TheConstants.{MOST_LINES}
+use Rattle.ledger_text.specs.declared.bounds.TheConstants.{MAX_LINES}
 use Rattle.ledger_query.proofs.Nearness.{asked_other, asked_own, count_few, of_other, of_own, table_set}
 use Rattle.ledger_query.proofs.neighbours.Neighbours.is_near.Goals as goal
 
@@ -17,7 +17,7 @@ returns c = λ selection around before v few h own.
     let link : HasAskedLink selection around before id old =
     subst (λ (n : ℕ). HasAskedLink selection around before n old) c.from.ensures
     (subst (λ (l : LinkRuns). HasAskedLink selection around before c.from.result l) (sym c.index_mut.ensures.value) (h.links c.from.result old fits)) in
-    let asked : old.asked < MOST_LINES = omega (arith, link.asked, count_few id before MOST_LINES few) in
+    let asked : old.asked < MAX_LINES = omega (arith, link.asked, count_few id before MAX_LINES few) in
     let near = c.is_near.ensures.near asked link.apart (subst (λ (n : ℕ). StandsAt n old.runs.items old.asked old.next) (sym same) link.stands) in
     let stands = subst (λ (n : ℕ). StandsAt n old.runs.items new.asked new.next) same near.1 in
     let covers = link.covers (count_of id before) in (

@@ -1,7 +1,7 @@
 use Rattle.std.proofs.Common.{◌<◌, ◌++◌, ◌∷◌, [], ℕ, Result, Ok, Err, arith, refl, subst, sym}
 use Rattle.std.specs.Prelude.{MatchResult}
 use Rattle.std.specs.declared.alloc.AllocError.{AllocError}
-use Rattle.ledger_text.specs.declared.bounds.TheConstants.{MOST_LINES}
+use Rattle.ledger_text.specs.declared.bounds.TheConstants.{MAX_LINES}
 use Rattle.ledger_query.specs.Neighbours.{HasNotedLink}
 use Rattle.ledger_query.specs.declared.link_runs.LinkRuns.{LinkRuns}
 use Rattle.ledger_query.proofs.Nearness.{around_of, count_few, note_left, noted_other, of_other, of_own, table_set}
@@ -23,7 +23,7 @@ returns c = λ selection lines v few h own is.
     let link : HasNotedLink selection (around_of count lines) id old =
     subst (λ (n : ℕ). HasNotedLink selection (around_of count lines) n old) c.from.ensures
     (subst (λ (l : LinkRuns). HasNotedLink selection (around_of count lines) c.from.result l) (sym c.index_mut.ensures.value) (h.links c.from.result old fits)) in
-    let noted : old.noted < MOST_LINES = omega (arith, link.noted, count_few id lines MOST_LINES few) in
+    let noted : old.noted < MAX_LINES = omega (arith, link.noted, count_few id lines MAX_LINES few) in
     let left = note_left selection count lines v id c.args.selected c.note.result old new (of_own v c.args.id own) is link
     (c.note.ensures.noted noted) c.note.ensures.added c.note.ensures.passed c.note.ensures.same in
     in_both c.note.result
