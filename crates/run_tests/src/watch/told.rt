@@ -1,5 +1,5 @@
-//! What is told of a run on threads: each frame, as it is judged and as it is filtered, and each tap once, and
-//! a fault that ends it once.
+//! What is told of a run on threads: each frame, as it is judged and as it is filtered, and each tap once,
+//! and a fault that ends it once.
 
 use crate::watch::{Given, NO_FAILURE, NOT_FIRST, Scripts, Way, recording, run_past};
 use afdx_frame::Network;
