@@ -17,7 +17,6 @@
 #![tactic(auto)]
 
 mod block;
-mod captures;
 mod choice;
 mod comment;
 mod converter;
@@ -28,13 +27,13 @@ mod laws;
 mod options;
 mod packet;
 mod parts;
+mod read_back;
 mod section;
 mod source;
 mod text;
 mod written;
 
 pub use block::MAX_BLOCK_LEN;
-pub use captures::{written_capture_is_given, written_capture_is_read};
 pub use choice::{Choice, InterfaceName, MAX_NAME_LEN};
 pub use comment::{Comment, MAX_COMMENT_LEN};
 pub use head::append_head;
@@ -42,6 +41,7 @@ pub use interface::{Interface, Offset, Resolution};
 pub use interfaces::Interfaces;
 pub use laws::{block_is_read_first, bounds_are_documented, file_is_read, header_fault_is_told};
 pub use packet::append_packet;
+pub use read_back::{written_capture_is_given, written_capture_is_read};
 pub use section::MAX_INTERFACES;
 pub use source::{RecordingSource, Refused};
 pub use text::{FILE_HEADER_LEN, PACKET_HEADER_LEN, file_header, packet_header, reason_header};

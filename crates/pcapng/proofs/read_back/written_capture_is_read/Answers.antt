@@ -1,5 +1,5 @@
 use Rattle.pcapng.proofs.Frames.{capture_read, network_read}
-use Rattle.pcapng.proofs.captures.written_capture_is_read.Goals as goal
+use Rattle.pcapng.proofs.read_back.written_capture_is_read.Goals as goal
 
 pub returns-clause-one : goal.returns-clause-one
 returns-clause-one c = capture_read
