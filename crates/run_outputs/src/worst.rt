@@ -30,7 +30,8 @@ impl Discards<'_> {
 /// `301 engine_1 (10 excess, 3 out)`.
 impl Display for Discards<'_> {
     fn fmt<W: fmt::Write>(&self, f: &mut Formatter<W>) -> fmt::Result {
-        let (id, name, counts) = (self.link.id.0, &self.link.name, self.counts);
+        let link: &Link = self.link;
+        let (id, name, counts) = (link.id.0, &link.name, self.counts);
         write!(f, "{id} {name}")?;
         let mut before = " (";
         for (count, word) in [
