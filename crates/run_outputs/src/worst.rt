@@ -27,23 +27,29 @@ impl Discards<'_> {
     }
 }
 
+/// Writes a count and its word after the text before them, unless it is 0. Gives the text before the next.
+fn write_count<W: fmt::Write>(
+    f: &mut Formatter<W>,
+    before: &'static str,
+    count: u64,
+    word: &'static str,
+) -> Result<&'static str, fmt::Error> {
+    if count == 0 {
+        return Ok(before);
+    }
+    write!(f, "{before}{count} {word}")?;
+    Ok(", ")
+}
+
 /// `301 engine_1 (10 excess, 3 out)`.
 impl Display for Discards<'_> {
     fn fmt<W: fmt::Write>(&self, f: &mut Formatter<W>) -> fmt::Result {
         let link: &Link = self.link;
         let (id, name, counts) = (link.id.0, &link.name, self.counts);
         write!(f, "{id} {name}")?;
-        let mut before = " (";
-        for (count, word) in [
-            (counts.toolong, Class::TooLong.word()),
-            (counts.excess, Policing::Excess.word()),
-            (counts.out, Integrity::Out.word()),
-        ] {
-            if count > 0 {
-                write!(f, "{before}{count} {word}")?;
-                before = ", ";
-            }
-        }
+        let next = write_count(f, " (", counts.toolong, Class::TooLong.word())?;
+        let next = write_count(f, next, counts.excess, Policing::Excess.word())?;
+        write_count(f, next, counts.out, Integrity::Out.word())?;
         f.write_str(")")
     }
 }
