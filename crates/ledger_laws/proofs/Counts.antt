@@ -10,7 +10,7 @@ use Rattle.ledger_text.specs.Order.{IsCounts, counts_word}
 use Rattle.ledger_text.specs.declared.bounds.TheConstants.{BLOCK_LEN}
 use Rattle.ledger_text.specs.declared.order.Counts.{Counts}
 use Rattle.ledger_text.specs.declared.order.Counts.TheVariants.{Link, Filter, Tap, Total}
-use Rattle.pcap_io.specs.Word.{reason_word}
+use Rattle.pcap_io.specs.Word.{frames_before, reason_word}
 use Rattle.pcap_io.specs.declared.recording.BadReason.{BadReason}
 use Rattle.pcap_io.specs.declared.recording.BadReason.TheVariants as reason
 use Rattle.pcap_io.specs.declared.recording.Ending.{Ending}
@@ -22,7 +22,7 @@ use Rattle.verdict_ledger.specs.Tally.{counts_of, is_entry_of, link_counts, tota
 use Rattle.verdict_ledger.specs.Text.{classes_text, count_field, ending_text, filter_line, judged_text, link_line, number_field, tap_line, total_line, word_field}
 use Rattle.vl_config.specs.Link.{VirtualLink, is_name, is_name_byte}
 use Rattle.ledger_laws.proofs.Texts.{IsPart, is_plain, join_parts, letter_part, number_part, word_part}
-use Rattle.ledger_laws.specs.Laws.{IsNamed, packets_of}
+use Rattle.ledger_laws.specs.Laws.{IsNamed}
 
 -- the bytes are a text of at most so many, and a newline
 pub record IsEnded (most : ℕ) (bytes : List ℕ) : Type 0 where
@@ -165,13 +165,13 @@ reason_part reason.NextFile = word_part 20 _ refl refl
 wider : (xs : List ℕ) → IsPart 35 xs → IsPart 56 xs
 wider xs p = record { plain = p.plain; few = omega (arith, p.few) }
 
-ending_part : (e : Ending) → packets_of e < 2 ^ 64 → IsPart 56 (ending_text e)
+ending_part : (e : Ending) → frames_before e < 2 ^ 64 → IsPart 56 (ending_text e)
 ending_part (ending.Clean n) few = wider _ (field (codes " clean") n (word_part 14 _ refl refl) few)
 ending_part (ending.Cut n) few = wider _ (field (codes " cut") n (word_part 14 _ refl refl) few)
 ending_part (ending.Bad n reason) few =
     join_parts 35 21 _ _ (field (codes " bad") n (word_part 14 _ refl refl) few) (spaced 20 (reason_word reason) (reason_part reason))
 
-pub tap_is_counts : (network : Network) (e : Ending) → packets_of e < 2 ^ 64 → IsCountsLine Tap (tap_line network e)
+pub tap_is_counts : (network : Network) (e : Ending) → frames_before e < 2 ^ 64 → IsCountsLine Tap (tap_line network e)
 unfolding tap_line
 tap_is_counts network e few =
     begins Tap 1 56 (network_letter network) _ (letter_part network) (more 56 0 _ _ (ending_part e few) newline) refl

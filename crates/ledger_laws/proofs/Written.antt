@@ -23,7 +23,8 @@ use Rattle.vl_config.specs.Document.{VlTable}
 use Rattle.vl_config.specs.Link.{VirtualLink}
 use Rattle.ledger_laws.proofs.Counts.{AreFew, IsCountsLine, filter_is_counts, filters_few, filters_taken, link_is_counts, tap_is_counts, total_is_counts}
 use Rattle.ledger_laws.proofs.Texts.{frame_part, is_plain, no_newline}
-use Rattle.ledger_laws.specs.Laws.{AreWritable, IsNamed, packets_of, written_lines}
+use Rattle.pcap_io.specs.Word.{frames_before}
+use Rattle.ledger_laws.specs.Laws.{AreWritable, IsNamed, written_lines}
 
 -- the bytes are lines that say this, the first of which stands here, up to that of all frames
 abbrev Whole : Stage → List ℕ → List LedgerLine → Type 0
@@ -63,8 +64,8 @@ counts_before stage kind bytes rest said may line whole =
 abbrev last_lines : List LedgerLine
 last_lines = lines.Counts counts.Tap ∷ lines.Counts counts.Tap ∷ lines.Counts counts.Total ∷ []
 
-taps_and_total : (stage : Stage) (entries : List Entry) (a b : Ending) → permits stage counts.Tap ≡ true → length entries < 2 ^ 64 → packets_of a < 2 ^ 64
-    → packets_of b < 2 ^ 64 → Whole stage (tap_line A a ++ (tap_line B b ++ total_line (totals_of entries))) last_lines
+taps_and_total : (stage : Stage) (entries : List Entry) (a b : Ending) → permits stage counts.Tap ≡ true → length entries < 2 ^ 64 → frames_before a < 2 ^ 64
+    → frames_before b < 2 ^ 64 → Whole stage (tap_line A a ++ (tap_line B b ++ total_line (totals_of entries))) last_lines
 taps_and_total stage entries a b may few few_a few_b =
     let none : Whole (stages.Counts counts.Total) [] [] = ([], refl, (refl, refl)) in
     let total = total_line (totals_of entries) in
@@ -118,13 +119,13 @@ links_before stage entries (link ∷ links) rest said may few named ends =
 
 -- ---- the frames before them, and the head
 
-frames_before : (entries : List Entry) (rest : List ℕ) (said : List LedgerLine) → AllByRecursion (λ e. IsFrameLine (shown e)) entries → Whole stages.Frames rest said
+frame_lines_before : (entries : List Entry) (rest : List ℕ) (said : List LedgerLine) → AllByRecursion (λ e. IsFrameLine (shown e)) entries → Whole stages.Frames rest said
     → Whole stages.Frames (lines_text entries ++ rest) (map (λ e. lines.Frame (shown e)) entries ++ said)
-frames_before [] rest said h whole = whole
-frames_before (e ∷ entries) rest said h whole =
+frame_lines_before [] rest said h whole = whole
+frame_lines_before (e ∷ entries) rest said h whole =
     let text = join_with_byte 32 (frame_fields (shown e)) in
     let part = frame_part (shown e) h.0 in
-    let others : Whole stages.Frames (lines_text entries ++ rest) (map (λ e. lines.Frame (shown e)) entries ++ said) = frames_before entries rest said h.1 whole in
+    let others : Whole stages.Frames (lines_text entries ++ rest) (map (λ e. lines.Frame (shown e)) entries ++ said) = frame_lines_before entries rest said h.1 whole in
     subst (λ (l : List ℕ). Whole stages.Frames l (lines.Frame (shown e) ∷ (map (λ e. lines.Frame (shown e)) entries ++ said)))
     (sym (append_assoc (line_text e) (lines_text entries) rest))
     (line_before stages.Frames text (line_text e) (lines_text entries ++ rest) (lines.Frame (shown e)) _ (entry_text e) part.plain (omega (arith, part.few))
@@ -142,4 +143,4 @@ written vl_table filters entries a b h =
     let after_links = λ (stage : Stage) (may : permits stage counts.Filter ≡ true).
     filters_before stage 0 accepted _ may (filters_few filters entries h.few) (omega (arith, filters_taken filters entries)) ends in
     let after_frames = links_before stages.Frames entries vl_table.links (end_text (totals_of entries) filters a b) _ refl h.few h.named after_links in
-    head_before _ _ (frames_before entries (rest_text vl_table filters entries a b) _ h.shown after_frames)
+    head_before _ _ (frame_lines_before entries (rest_text vl_table filters entries a b) _ h.shown after_frames)

@@ -1,4 +1,4 @@
--- A ledger that is written is read back whole.
+-- A ledger that is written is read back whole (this project's format, version 2).
 use Rattle.std.specs.Prelude.{◌≡◌, ℕ, ◌^◌, ◌<◌, IsTrue, List, [], ◌∷◌, ◌++◌, length, map, take, Option, Some, IfSome}
 use Rattle.std.specs.List.{AllByRecursion}
 use Rattle.afdx_frame.specs.Frame.{Frame, IsFrame}
@@ -16,8 +16,8 @@ use Rattle.ledger_text.specs.declared.order.Stage.TheVariants as stages
 use Rattle.ledger_text.specs.declared.reader.Found.TheVariants as found
 use Rattle.ledger_text.specs.declared.reader.LedgerStop.{LedgerStop}
 use Rattle.pcap_io.specs.Bytes.{IsBytes}
+use Rattle.pcap_io.specs.Word.{frames_before}
 use Rattle.pcap_io.specs.declared.recording.Ending.{Ending}
-use Rattle.pcap_io.specs.declared.recording.Ending.TheVariants as ending
 use Rattle.verdict_ledger.specs.Entry.{Entry, entries_of}
 use Rattle.verdict_ledger.specs.Tally.{totals_of}
 use Rattle.verdict_ledger.specs.Text.{ledger_text}
@@ -32,19 +32,13 @@ pub record IsNamed (link : VirtualLink) : Type 0 where
   pub id : link.id.0 < 2 ^ 16
   pub name : IsTrue (is_name link.name)
 
--- how many packets an ending counts
-abbrev pub packets_of : Ending → ℕ
-packets_of (ending.Clean n) = n
-packets_of (ending.Cut n) = n
-packets_of (ending.Bad n reason) = n
-
 -- The line of each entry reads as what it shows, each link has a name, and no count has more than 64 bits.
 pub record AreWritable (links : List VirtualLink) (entries : List Entry) (a b : Ending) : Type 0 where
   pub shown : AllByRecursion (λ e. IsFrameLine (shown e)) entries
   pub named : AllByRecursion IsNamed links
   pub few : length entries < 2 ^ 64
-  pub few_a : packets_of a < 2 ^ 64
-  pub few_b : packets_of b < 2 ^ 64
+  pub few_a : frames_before a < 2 ^ 64
+  pub few_b : frames_before b < 2 ^ 64
 
 -- ---- what its lines say
 

@@ -1,4 +1,4 @@
--- The ledger of a run is read back whole.
+-- The ledger of a run is read back whole (this project's format, version 2).
 use Rattle.std.specs.Prelude.{◌≡◌, ◌^◌, ◌<◌, ◌≤◌, List, [], length, map, Some}
 use Rattle.std.specs.List.{AllByRecursion}
 use Rattle.afdx_frame.specs.Frame.{Frame}
@@ -8,7 +8,8 @@ use Rattle.ledger_text.specs.declared.order.Stage.TheVariants as stages
 use Rattle.pcap_io.specs.declared.recording.Ending.{Ending}
 use Rattle.round_writer.specs.Filters.{Making, entries_by, ledger_by}
 use Rattle.vl_config.specs.Document.{VlTable}
-use Rattle.ledger_laws.specs.Laws.{IsHeld, IsNamed, packets_of, written_lines}
+use Rattle.pcap_io.specs.Word.{frames_before}
+use Rattle.ledger_laws.specs.Laws.{IsHeld, IsNamed, written_lines}
 
 -- What a run has: at most eight filters, a table whose links have names, frames of recordings, and how these end.
 pub record IsRun (ps : Making) (vl_table : VlTable) (frames : List Frame) (a b : Ending) : Type 0 where
@@ -16,8 +17,8 @@ pub record IsRun (ps : Making) (vl_table : VlTable) (frames : List Frame) (a b :
   pub named : AllByRecursion IsNamed vl_table.links
   pub held : AllByRecursion IsHeld frames
   pub few : length frames < 2 ^ 64
-  pub few_a : packets_of a < 2 ^ 64
-  pub few_b : packets_of b < 2 ^ 64
+  pub few_a : frames_before a < 2 ^ 64
+  pub few_b : frames_before b < 2 ^ 64
 
 -- Its ledger is lines that say what became of each frame, and the counts, and nothing more.
 abbrev pub RunLedgerIsRead : Type 0
