@@ -1,4 +1,4 @@
--- The run of a filter on a frame as one list: the start state, each state by the specified step from the one before, and the return
+-- The run of a filter on a frame as one list (this project's profile): the start state, each state by the specified step from the one before, and the return
 -- value at its end.
 use Rattle.std.specs.Prelude.{◌≡◌, ℕ, zero, suc, ◌-◌, List, [], ◌∷◌, ◌++◌, length, map, Option, Some, None}
 use Rattle.afdx_frame.specs.Frame.{Frame}

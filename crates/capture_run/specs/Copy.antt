@@ -1,4 +1,4 @@
--- What a copy does of the packets after a recording's file header: what it read, what it wrote, and why it stopped.
+-- What a copy does of the packets after a recording's file header (this project's profile): what it read, what it wrote, and why it stopped.
 use Rattle.std.specs.Prelude.{◌≡◌, ◌⊎◌, ℕ, ◌≤◌, ◌<◌, List, [], ◌∷◌, ◌++◌, length, take, Option, Some, Result, Ok, Err, IfSome}
 use Rattle.std.specs.Io.KnownBytes.{Appends}
 use Rattle.afdx_frame.specs.Frame.{Frame}

@@ -1,4 +1,4 @@
--- Where a byte stands in a text, as a person is shown it.
+-- Where a byte stands in a text, as a person is shown it (this project's profile).
 use Rattle.std.specs.Prelude.{ℕ, ◌≡◌, ◌+◌, ◌-◌, Bool, not, ◌&&◌, ◌||◌, ◌==◌, nat_lt, nat_le, if◌then◌else◌, List, filter, map, length, take, drop, reverse}
 use Rattle.std.specs.List.{prefix_len, slice_range}
 use Rattle.command_line.specs.declared.caret.Place.{Place}

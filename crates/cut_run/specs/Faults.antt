@@ -1,4 +1,4 @@
--- Which device a fault of a cut names.
+-- Which device a fault of a cut names (this project's profile).
 use Rattle.std.specs.Prelude.{Bool, true, false}
 use Rattle.afdx_frame.specs.declared.key.Network.{Network}
 use Rattle.afdx_frame.specs.declared.key.Network.TheVariants.{A, B}

@@ -1,4 +1,4 @@
--- Both recordings as lines of a ledger have named their frames.
+-- Both recordings as lines of a ledger have named their frames (this project's profile).
 use Rattle.std.specs.Prelude.{◌≡◌, ◌≢◌, ◌⊎◌, ℕ, ◌-◌, ◌^◌, ◌≤◌, List, [], ◌∷◌, ◌++◌, length, slice_get, Option, None, Some, IfSome, ⊤}
 use Rattle.afdx_frame.specs.Frame.{Frame}
 use Rattle.afdx_frame.specs.declared.key.Key.{Key}

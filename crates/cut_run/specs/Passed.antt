@@ -1,4 +1,4 @@
--- The frames that were passed, by their places, and what becomes of them.
+-- The frames that were passed, by their places, and what becomes of them (this project's profile).
 use Rattle.std.specs.Prelude.{◌≡◌, ℕ, List, Option, None, Some, slice_get}
 use Rattle.std.specs.BTreeMap.{BTreeMap, get}
 use Rattle.afdx_frame.specs.Frame.{Frame}

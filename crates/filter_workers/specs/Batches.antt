@@ -1,4 +1,4 @@
--- What a worker of a round hands back.
+-- What a worker of a round hands back (this project's profile).
 use Rattle.std.specs.Prelude.{◌≡◌, ℕ, ◌+◌, ◌^◌, ◌<◌, ◌≤◌, true, List, [], ◌∷◌, ◌++◌, length, map, Some, slice_get, slice_set, All}
 use Rattle.afdx_frame.specs.Frame.{Frame}
 use Rattle.bpf_isa.specs.declared.packed.Packed.{Packed}

@@ -1,4 +1,4 @@
--- The rule of a desk's table: what is so between any two steps of its threads, however they run.
+-- The rule of a desk's table (this project's profile): what is so between any two steps of its threads, however they run.
 use Rattle.std.specs.Prelude.{◌≡◌, ℕ, ◌+◌, ◌-◌, ◌/◌, ◌<◌, ◌≤◌, ◌==◌, min, Bool, true, false, ◌||◌, if◌then◌else◌, nat_lt, List, [], ◌∷◌, ◌++◌, length, slice_index, All}
 use mathlib.Core.Option.{some}
 use lib.ListN.{get_elem?}

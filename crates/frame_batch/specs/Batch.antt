@@ -1,4 +1,4 @@
--- Frames that stand in one block: a record says where each stands, and what is known of it without its bytes.
+-- Frames that stand in one block (this project's profile): a record says where each stands, and what is known of it without its bytes.
 use Rattle.std.specs.Prelude.{ℕ, ◌≤◌, List, [], length, map, slice_range, Option, Some, None}
 use Rattle.std.specs.List.{AllByRecursion}
 use Rattle.afdx_frame.specs.Facts.{AreFactsOf}

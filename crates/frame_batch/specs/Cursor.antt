@@ -1,4 +1,4 @@
--- A place among the frames of batches.
+-- A place among the frames of batches (this project's profile).
 use Rattle.std.specs.Prelude.{ℕ, List, drop}
 use Rattle.afdx_frame.specs.Frame.{Frame}
 use Rattle.frame_batch.specs.Queue.{IsBlockOf, queue_frames}

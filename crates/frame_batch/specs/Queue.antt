@@ -1,4 +1,4 @@
--- Batches that wait, one after another.
+-- Batches that wait, one after another (this project's profile).
 use Rattle.std.specs.Prelude.{ℕ, List, length, slice_get, Option, Some, None, Bool, nat_lt, ⊤}
 use Rattle.std.specs.List.{flat_map}
 use Rattle.std.specs.Option.{ForSome, option_map_or}

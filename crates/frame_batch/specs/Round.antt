@@ -1,4 +1,4 @@
--- Frames of several blocks, in the order in which they are judged.
+-- Frames of several blocks, in the order in which they are judged (this project's profile).
 use Rattle.std.specs.Prelude.{◌≡◌, ℕ, ◌<◌, List, [], length, map, get_or}
 use Rattle.afdx_frame.specs.Frame.{Frame}
 use Rattle.frame_batch.specs.Batch.{IsRecordOf, record_frame}

@@ -1,4 +1,4 @@
--- The links that a whole document specifies, by its rows.
+-- The links that a whole document specifies, by its rows (this project's profile).
 use Rattle.std.specs.Prelude.{◌≡◌, ℕ, Bool, true, false, ◌==◌, List, [], ◌∷◌, length, Option, Some, ◌++◌, IsPermutation}
 use Rattle.std.specs.List.{list_all, IsDistinct}
 use Rattle.std.specs.List.Sorted.{IsNonDecreasingBy}

@@ -1,4 +1,4 @@
--- Where a document is wrong.
+-- Where a document is wrong (this project's profile).
 use Rattle.std.specs.Prelude.{ℕ, Option, Some, None}
 use Rattle.icd_links.specs.declared.fault.IcdFault.{IcdFault}
 use Rattle.icd_links.specs.declared.fault.IcdFault.TheVariants as icd

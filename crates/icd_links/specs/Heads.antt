@@ -1,4 +1,4 @@
--- Which column of a document is which key's, by the heads of its first row.
+-- Which column of a document is which key's, by the heads of its first row (this project's profile).
 use Rattle.std.specs.Prelude.{◌≡◌, ℕ, Bool, true, false, List, ◌∷◌, ◌++◌, length, Option, Some, None}
 use Rattle.std.specs.List.{list_any}
 use Rattle.std.specs.Str.{str_eq_ignore_ascii_case, trim}

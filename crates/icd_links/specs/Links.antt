@@ -1,4 +1,4 @@
--- What one row of a document specifies of a link, by the places of its columns.
+-- What one row of a document specifies of a link, by the places of its columns (this project's profile).
 use Rattle.std.specs.Prelude.{◌≡◌, ℕ, Bool, true, false, List, [], Option, Some, None, is_none, option_map, string_bytes, if◌then◌else◌}
 use Rattle.std.specs.Str.{trim}
 use Rattle.csv.specs.Records.{field_at}

@@ -1,4 +1,4 @@
--- What a report holds of a link's deliveries that the other network didn't bring, while lines come, and what each step does to it.
+-- What a report holds of a link's deliveries that the other network didn't bring, while lines come, and what each step does to it (this project's profile).
 use Rattle.std.specs.Prelude.{◌≡◌, ℕ, ◌<◌, ◌==◌, Bool, true, false, ◌&&◌, List, ◌∷◌, ◌++◌, length, map, slice_index_or, Option, Some, None, is_some, if◌then◌else◌}
 use Rattle.std.specs.Option.{option_and_then, option_map}
 use Rattle.afdx_frame.specs.declared.key.Network.{Network}

@@ -1,4 +1,4 @@
--- What each line of a lane says against the one before it. Times are in nanoseconds.
+-- What each line of a lane says against the one before it (this project's profile). Times are in nanoseconds.
 use Rattle.std.specs.Prelude.{ℕ, suc, zero, ◌+◌, ◌-◌, ◌==◌, Bool, false, ◌&&◌, nat_lt, Option, Some, None, is_some, if◌then◌else◌}
 use Rattle.std.specs.Option.{option_map_or, option_and_then}
 use Rattle.ledger_report.specs.Marks.{sign_index}

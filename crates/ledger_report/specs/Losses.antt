@@ -1,4 +1,4 @@
--- What a link holds of the numbers that are lost on its networks, and what each step does to it. Times are in nanoseconds.
+-- What a link holds of the numbers that are lost on its networks, and what each step does to it (this project's profile). Times are in nanoseconds.
 use Rattle.std.specs.Prelude.{◌≡◌, ℕ, ◌+◌, ◌-◌, ◌<◌, Bool, ◌&&◌, false, nat_le, nat_lt, List, [], length, slice_index_or, slice_set, Option, Some, None, if◌then◌else◌}
 use Rattle.std.specs.Option.{option_map_or}
 use Rattle.afdx_frame.specs.declared.key.Network.{Network}

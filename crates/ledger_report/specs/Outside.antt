@@ -1,4 +1,4 @@
--- The links outside the table.
+-- The links outside the table (this project's profile).
 use Rattle.std.specs.Prelude.{ℕ, nat_lt, List, slice_index_or, Option, Some, None, if◌then◌else◌}
 use Rattle.afdx_frame.specs.declared.key.Network.TheVariants.{A}
 use Rattle.ledger_report.specs.declared.report.OutsideLink.{OutsideLink}

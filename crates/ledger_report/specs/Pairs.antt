@@ -1,4 +1,4 @@
--- What a report holds of a link's deliveries, and what each step does to it. Times are in nanoseconds.
+-- What a report holds of a link's deliveries, and what each step does to it (this project's profile). Times are in nanoseconds.
 use Rattle.std.specs.Prelude.{◌≡◌, ℕ, zero, suc, ◌+◌, ◌-◌, ◌*◌, ◌==◌, max, Bool, true, false, not, ◌&&◌, nat_le, List, slice_index_or, Option, Some, None, is_some, if◌then◌else◌}
 use Rattle.std.specs.Option.{option_map, option_map_or}
 use Rattle.afdx_frame.specs.declared.key.Network.{Network}

@@ -1,4 +1,4 @@
--- The line of a frame as its fields, and what is wrong with a line that is none.
+-- The line of a frame as its fields, and what is wrong with a line that is none (this project's profile).
 use Rattle.std.specs.Prelude.{◌≡◌, ℕ, suc, ◌^◌, ◌<◌, List, [], ◌∷◌, None, decimal, IfSome, is_some, nat_lt, Option, Result, Ok, Err, if◌then◌else◌}
 use Rattle.afdx_frame.specs.View.{link_of, sequence_of}
 use Rattle.afdx_frame.specs.declared.key.VlId.{VlId}

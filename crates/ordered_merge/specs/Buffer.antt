@@ -1,4 +1,4 @@
--- The pending frames of one tap: a queue of those that came in order, and a list in order of those that came late.
+-- The pending frames of one tap (this project's profile): a queue of those that came in order, and a list in order of those that came late.
 use Rattle.std.specs.Prelude.{◌≡◌, ℕ, ◌+◌, ◌^◌, ◌<◌, Bool, false, List, [], ◌∷◌, nat_lt, ◌-◌, length, slice_get, Result, Ok, Err, ⊤}
 use Rattle.std.specs.List.{AllByRecursion}
 use Rattle.std.specs.Option.{option_map_or}

@@ -1,4 +1,4 @@
--- The frames of both taps are copied in their one order.
+-- The frames of both taps are copied in their one order (this project's profile).
 use Rattle.std.specs.Prelude.{◌≡◌, ℕ, ◌-◌, ◌<◌, ◌≤◌, ◌++◌, List, drop, length, take}
 use Rattle.afdx_frame.specs.Frame.{Frame}
 use Rattle.frame_batch.specs.Round.{DraftState, draft_frames}

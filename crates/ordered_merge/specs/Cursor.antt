@@ -1,4 +1,4 @@
--- A place among the pending frames of one tap.
+-- A place among the pending frames of one tap (this project's profile).
 use Rattle.std.specs.Prelude.{List, drop}
 use Rattle.afdx_frame.specs.Frame.{Frame}
 use Rattle.frame_batch.specs.Cursor.{IsAmong, cursor_left}

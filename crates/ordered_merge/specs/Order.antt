@@ -1,4 +1,4 @@
--- The one order of both taps' frames.
+-- The one order of both taps' frames (this project's profile).
 use Rattle.std.specs.Prelude.{◌≡◌, Bool, true, false, cond, List, [], ◌∷◌, ◌++◌, ⊤}
 use Rattle.std.specs.List.{AllByRecursion}
 use Rattle.std.specs.List.Sorted.{IsPermutation}

@@ -1,4 +1,4 @@
--- Frames that a reader gives together, by what as many calls give that each go on to the next item.
+-- Frames that a reader gives together, by what as many calls give that each go on to the next item (this project's profile).
 use Rattle.std.specs.Prelude.{◌≡◌, ℕ, ◌<◌, ◌≤◌, max, List, [], ◌∷◌, ◌++◌, length, Result, Ok, Err, ⊤}
 use Rattle.afdx_frame.specs.Frame.{Frame}
 use Rattle.afdx_frame.specs.FrameBytes.{block_bytes}

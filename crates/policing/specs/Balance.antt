@@ -1,4 +1,4 @@
--- What an account knows after a list of frames.
+-- What an account knows after a list of frames (ARINC 664 P7).
 use Rattle.std.specs.Prelude.{◌≡◌, ℕ, ◌+◌, ◌-◌, ◌*◌, ◌≤◌, ◌⊎◌, min, List, [], ◌∷◌, Option, Some, None, unwrap_or}
 use Rattle.vl_config.specs.Link.{VirtualLink}
 use Rattle.policing.specs.Windows.{Entry, cap_of, credit, charges}

@@ -1,4 +1,4 @@
--- What was counted of two recordings whose frames were shown, the newest first.
+-- What was counted of two recordings whose frames were shown, the newest first (this project's profile).
 use Rattle.std.specs.Prelude.{◌≡◌, List, map, filter}
 use Rattle.afdx_frame.specs.Frame.{Frame}
 use Rattle.afdx_frame.specs.declared.key.Network.{Network}

@@ -1,4 +1,4 @@
--- How the frames of a file are counted.
+-- How the frames of a file are counted (this project's profile).
 use Rattle.std.specs.Prelude.{◌≡◌, ℕ, ◌+◌, ◌-◌, ◌*◌, ◌^◌, max, min, List, Option, Some, None}
 use Rattle.pcap_io.specs.declared.layout.Layout.{Layout}
 use Rattle.pcap_io.specs.declared.packet_header.PacketHeader.{PacketHeader}

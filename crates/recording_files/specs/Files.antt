@@ -1,4 +1,4 @@
--- A recording of one file or of several, as a source.
+-- A recording of one file or of several, as a source (this project's profile).
 use Rattle.std.specs.Prelude.{ℕ, List, Option, IfSome}
 use Rattle.pcap_io.specs.Bytes.{IsBytes, known_bytes-are_bytes}
 use Rattle.recording_files.specs.Handed.{known_of, remaining_of}

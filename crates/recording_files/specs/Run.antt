@@ -1,4 +1,4 @@
--- Packets that are given as they stand in their file.
+-- Packets that are given as they stand in their file (this project's profile).
 use Rattle.std.specs.Prelude.{◌≡◌, ℕ, ◌≤◌, List, [], ◌∷◌, length, take, flat_map}
 use Rattle.pcap_io.specs.Layout.{nanoseconds_of}
 use Rattle.pcap_io.specs.Recording.{IsGood, Packet, high_after, packet_bytes, stamp_of}

@@ -1,4 +1,4 @@
--- The outputs of a run, round by round.
+-- The outputs of a run, round by round (this project's profile).
 use Rattle.std.specs.Prelude.{◌≡◌, ◌⊎◌, ℕ, List, [], ◌++◌, length, take, IfSome, Option, ⊤}
 use Rattle.std.specs.Option.{option_map_or}
 use Rattle.std.specs.Io.KnownBytes.{Appends}

@@ -1,4 +1,4 @@
--- A round as workers share it, in chunks.
+-- A round as workers share it, in chunks (this project's profile).
 use Rattle.std.specs.Prelude.{◌≡◌, ℕ, true, List, length, slice_range}
 use Rattle.afdx_frame.specs.Frame.{Frame}
 use Rattle.round_writer.specs.Filters.{Making}

@@ -1,4 +1,4 @@
--- What a draft says of a link, over the list of the link's frames on both networks, the newest first.
+-- What a draft says of a link, over the list of the link's frames on both networks, the newest first (this project's profile).
 use Rattle.std.specs.Prelude.{◌≡◌, List, max, min, slice_index, if◌then◌else◌}
 use Rattle.std.specs.Int.{div_ceil}
 use Rattle.afdx_frame.specs.declared.key.Network.TheVariants.{A, B}

@@ -372,10 +372,6 @@ pub all_cut : (m : MergerState) (most : ℕ) → 0 < most → m.a.ended ≡ true
 all_cut m zero less a b none = absurd (omega (arith, less))
 all_cut m (suc most) less a b none = take_none most m.pending (ap (take (suc most)) (sym (ended_is_safe m a b)) ∙ none)
 
-pub no_frames : (n : ℕ) (l : List Frame) → (n == 0) ≡ true → n ≡ length l → l ≡ []
-no_frames n [] e is = refl
-no_frames n (f ∷ l) e is = (let none : n ≡ 0 = eqb-true n 0 e in absurd (omega (arith, none, is)))
-
 -- where no frame was cut, none was safe, and none is
 pub none_safe : (m : MergerState) (most : ℕ) → 0 < most → cut_frames m most ≡ [] → safe_frames (after_cut m most) ≡ []
 none_safe m zero less none = absurd (omega (arith, less))

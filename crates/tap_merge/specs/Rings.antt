@@ -1,4 +1,4 @@
--- Two recordings as their items come over rings, and are merged.
+-- Two recordings as their items come over rings, and are merged (this project's profile).
 use Rattle.std.specs.Prelude.{IfSome, ◌≡◌, ◌⊎◌, ℕ, ◌≤◌, true, false, List, [], ◌∷◌, ◌++◌, length, Option, Some, None, ⊤}
 use Rattle.std.specs.List.{AllByRecursion}
 use Rattle.std.specs.Option.{ForSome}

@@ -1,4 +1,4 @@
--- Two recordings as they are read and merged.
+-- Two recordings as they are read and merged (this project's profile).
 use Rattle.std.specs.Prelude.{◌≡◌, ◌⊎◌, ℕ, ◌+◌, ◌*◌, ◌-◌, true, false, List, ◌++◌, length, Option, Some, None, is_some, unwrap_or}
 use Rattle.afdx_frame.specs.Frame.{Frame}
 use Rattle.afdx_frame.specs.declared.key.Network.{Network}

@@ -1,4 +1,4 @@
--- Batches of items, which go through a ring one after another.
+-- Batches of items, which go through a ring one after another (this project's profile).
 use Rattle.std.specs.Prelude.{◌≡◌, ◌⊎◌, ℕ, ◌-◌, false, List, ◌++◌, length, take, Option}
 use Rattle.std.specs.List.{flat_map}
 use Rattle.afdx_frame.specs.declared.key.Network.{Network}

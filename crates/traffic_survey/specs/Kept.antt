@@ -1,4 +1,4 @@
--- A pass in which frames wait without some of their bytes.
+-- A pass in which frames wait without some of their bytes (this project's profile).
 use Rattle.std.specs.Prelude.{◌≡◌, ◌⊎◌, ℕ, List, map}
 use Rattle.afdx_frame.specs.Frame.{Frame}
 use Rattle.afdx_frame.specs.declared.key.Network.TheVariants.{A, B}

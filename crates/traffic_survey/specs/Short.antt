@@ -1,4 +1,4 @@
--- What of a frame waits until it is shown: all but some of its bytes.
+-- What of a frame waits until it is shown (this project's profile): all but some of its bytes.
 use Rattle.std.specs.Prelude.{ℕ, ◌-◌, List, ◌++◌, [], length, take, drop, if◌then◌else◌}
 use Rattle.afdx_frame.specs.Frame.{Frame, frame_with}
 use Rattle.traffic_survey.specs.NetworkFrames.{is_ethernet}

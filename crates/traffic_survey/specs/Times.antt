@@ -1,4 +1,4 @@
--- What the timestamps of a recording's frames say. They stand in the order of the recording.
+-- What the timestamps of a recording's frames say (this project's profile). They stand in the order of the recording.
 use Rattle.std.specs.Prelude.{◌≡◌, ◌⊎◌, ℕ, ◌+◌, ◌<◌, ◌≤◌, List, [], length, map, slice_index, Option, Some, None}
 use Rattle.afdx_frame.specs.Frame.{Frame}
 use Rattle.traffic_survey.specs.declared.recorded.Span.{Span}

@@ -1,4 +1,4 @@
--- A line's entry: a frame, its verdict, and what the filters say of it.
+-- A line's entry (this project's profile): a frame, its verdict, and what the filters say of it.
 use Rattle.std.specs.Prelude.{ℕ, List, [], ◌∷◌, Option}
 use Rattle.afdx_frame.specs.Frame.{Frame}
 use Rattle.vl_judge.specs.Judgement.{Judgement}

@@ -1,4 +1,4 @@
--- The counts of a ledger: each counts the entries of one word.
+-- The counts of a ledger (this project's profile): each counts the entries of one word.
 use Rattle.std.specs.Prelude.{ℕ, ◌/◌, ◌%◌, ◌^◌, ◌==◌, Bool, true, false, ◌&&◌, List, [], ◌∷◌, length, filter, map, count_by, is_some}
 use Rattle.afdx_frame.specs.declared.key.VlId.{VlId}
 use Rattle.vl_config.specs.Class.{is_on_a_link}

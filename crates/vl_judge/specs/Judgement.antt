@@ -1,4 +1,4 @@
--- The verdict of a frame, and which judgements reach it.
+-- The verdict of a frame, and which judgements reach it (ARINC 664 P7).
 use Rattle.std.specs.Prelude.{◌≡◌, Bool, true, false, Option, Some, None, is_some, if◌then◌else◌}
 use Rattle.std.specs.Option.{option_map_or}
 use Rattle.vl_config.specs.declared.class.Class.{Class}

@@ -1,4 +1,4 @@
--- How a round is cut into chunks, and the batches of its chunks.
+-- How a round is cut into chunks, and the batches of its chunks (this project's profile).
 use Rattle.std.specs.Prelude.{◌≡◌, ℕ, ◌+◌, ◌*◌, ◌/◌, ◌<◌, min, max, List, [], ◌∷◌}
 use Rattle.std.specs.Int.{div_ceil}
 use Rattle.filter_workers.specs.Seats.{DeskId}

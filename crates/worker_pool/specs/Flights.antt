@@ -1,4 +1,4 @@
--- A round that workers are at.
+-- A round that workers are at (this project's profile).
 use Rattle.std.specs.Prelude.{◌≡◌, ℕ, Some}
 use Rattle.std.specs.Option.{option_map_or}
 use Rattle.rtrb.specs.Ring.{received}

@@ -1,4 +1,4 @@
--- A round of frames, which workers answer, and the workers.
+-- A round of frames, which workers answer, and the workers (this project's profile).
 use Rattle.std.specs.Prelude.{ℕ, ◌+◌, Bool, true, false, nat_lt, List, [], ◌∷◌, length, replicate, Option, Some, None, if◌then◌else◌, slice_set}
 use Rattle.std.specs.List.{list_all}
 use Rattle.std.specs.Option.{is_some}

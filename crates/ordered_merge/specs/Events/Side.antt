@@ -1,4 +1,4 @@
--- One tap's side of the core: the frames that it didn't put yet, and its ring.
+-- One tap's side of the core (this project's profile): the frames that it didn't put yet, and its ring.
 use Rattle.std.specs.Prelude.{◌≡◌, ℕ, Bool, true, false, nat_lt, List, [], ◌∷◌, ◌++◌, length, Option, Some, None, if◌then◌else◌}
 use Rattle.std.specs.Option.{MatchOption}
 use Rattle.afdx_frame.specs.Frame.{Frame}

@@ -1,4 +1,4 @@
--- The core's state, and what each event does to it.
+-- The core's state, and what each event does to it (this project's profile).
 use Rattle.std.specs.Prelude.{◌≡◌, ℕ, ◌&&◌, List, [], ◌∷◌, ◌++◌, length, replicate, Option, Some, None, if◌then◌else◌, slice_get, slice_set}
 use Rattle.std.specs.List.{list_all}
 use Rattle.std.specs.Option.{option_map}
