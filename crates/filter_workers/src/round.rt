@@ -1,4 +1,5 @@
-//! A round on threads. It ends with every worker joined, so no thread reads a frame after it.
+//! A round on threads of its own. It ends with every worker joined, so no thread reads a frame after it. No
+//! program runs it: the rounds of `afdxmon` go to a pool's workers.
 ghost use Rattle.std.specs.Prelude.{◌≡◌, ◌^◌, ◌<◌, ◌≤◌, IfErr, IfOk, IfSome, IsSome, length, max, min, All};
 ghost use Rattle.filter_workers.specs.Batches.{CanShare, IsBatch, scattered};
 ghost use Rattle.filter_workers.specs.Filters.{decisions_by};
