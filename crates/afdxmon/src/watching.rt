@@ -19,8 +19,8 @@ use std::sync::atomic::AtomicBool;
 use std::thread;
 use std::thread::Threads;
 use tap_inputs::{
-    Blocks, Output, Pauses, Progress, Reading, Refused, Skipped, TapEnd, TapFiles, Taps, end_of,
-    files_of, open_tap,
+    Blocks, OutputStream, Pauses, Progress, Reading, Refused, Skipped, TapEnd, TapFiles, Taps,
+    end_of, files_of, open_tap,
 };
 use vl_config::Config;
 
@@ -68,7 +68,7 @@ fn open_outputs(
     refuse_shared(rt, Invocation::Watch(*given), taps)?;
     let capture = match given.capture {
         Some(path) => create_hashed(rt, path, FileOption::Capture, given.digest)?,
-        None => blocks_of(rt, Output::Nowhere, false)?,
+        None => blocks_of(rt, OutputStream::Nowhere, false)?,
     };
     let ledger = create_hashed(rt, given.ledger, FileOption::Ledger, given.digest)?;
     let manifest = match given.manifest {

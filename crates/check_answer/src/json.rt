@@ -3,7 +3,7 @@
 use crate::answer::{Answer, FilterAnswer, TapAnswer};
 use crate::faults::{ToldFault, told_faults};
 use crate::verdict::verdict_of;
-use crate::words::{Asked, Moment, format_words, question_word};
+use crate::words::{Asked, Utc, format_words, question_word};
 use afdx_frame::{Network, VlId};
 use command_line::{Fault, reason_words};
 use pcap_io::Ending;
@@ -118,7 +118,7 @@ fn decimal(alloc: Global, number: u64) -> Result<String, AllocError> {
 
 fn utc(alloc: Global, stamp: u64) -> Result<String, AllocError> {
     let mut out = String::new(alloc);
-    let moment = Moment(stamp);
+    let moment = Utc(stamp);
     write!(out, "{moment}")?;
     Ok(out)
 }

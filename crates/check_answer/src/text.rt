@@ -4,7 +4,7 @@ use crate::answer::{Answer, FilterAnswer, TapAnswer};
 use crate::faults::{ToldFault, told_faults};
 use crate::lines::{push_absent, push_unlisted};
 use crate::verdict::verdict_of;
-use crate::words::{Asked, Counted, Moment, format_words};
+use crate::words::{Asked, Counted, Utc, format_words};
 use command_line::{Fault, reason_words};
 use pcap_io::Ending;
 use recording_check::Overlap;
@@ -96,7 +96,7 @@ fn push_tap(out: &mut String, network: &str, tap: &TapAnswer<'_>) -> Result<(), 
     let frames = Counted(tap.recorded.ending.frames(), "frame");
     write!(out, "network {network}: {name}: {format}; {frames}")?;
     if let Some(span) = tap.recorded.span {
-        let (least, greatest) = (Moment(span.least), Moment(span.greatest));
+        let (least, greatest) = (Utc(span.least), Utc(span.greatest));
         write!(out, ", {least} to {greatest}")?;
     }
     push_ending(out, tap)?;

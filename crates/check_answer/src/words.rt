@@ -36,9 +36,9 @@ pub fn format_words(format: Option<Format>) -> &'static str {
 
 /// A timestamp in nanoseconds since 1970, as RFC 3339 writes it in UTC.
 #[derive(Clone, Copy)]
-pub struct Moment(pub u64);
+pub struct Utc(pub u64);
 
-impl Display for Moment {
+impl Display for Utc {
     fn fmt<W: fmt::Write>(&self, f: &mut Formatter<W>) -> fmt::Result {
         let nanos = self.0;
         match Timestamp::from_nanosecond(i128::from(nanos)) {

@@ -36,11 +36,11 @@ fn line_fault(line: u64, wrong: WrongLine) -> ReportFault {
 }
 
 /// Why there is no report.
-fn fault_of(fault: ledger_report::ReportFault) -> ReportFault {
+fn fault_of(fault: ledger_report::NoReport) -> ReportFault {
     match fault {
-        ledger_report::ReportFault::Line { line, wrong } => line_fault(line, wrong),
-        ledger_report::ReportFault::Read => ReportFault::Read,
-        ledger_report::ReportFault::Memory => ReportFault::Memory,
+        ledger_report::NoReport::Line { line, wrong } => line_fault(line, wrong),
+        ledger_report::NoReport::Read => ReportFault::Read,
+        ledger_report::NoReport::Memory => ReportFault::Memory,
     }
 }
 

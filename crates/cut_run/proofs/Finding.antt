@@ -20,12 +20,12 @@ use Rattle.pcap_io.proofs.Parse.{reads_more}
 use Rattle.cut_run.specs.Places.{IsAbove, IsBelow, place_of}
 use Rattle.cut_run.specs.Passed.{AreKept, Forgets, KeepsLater, Takes, passed_at}
 use Rattle.cut_run.specs.Finder.{FailsToAllocate, Finding, Finds, FindsNone, HasRead, HasReadFrames, IsFindFault, IsOnWay, Opening, StandsAt, any_late, fault_of, most_frames}
-use Rattle.cut_run.specs.declared.place.Place.{Place}
+use Rattle.cut_run.specs.declared.place.SearchPlace.{SearchPlace}
 use Rattle.cut_run.specs.declared.finder.FindFault.TheVariants as faults
 use Rattle.cut_run.proofs.FinderOrder.{not_itself, same_place}
 use Rattle.cut_run.proofs.Sets.{AreNumbered, at_place, get_last, get_more, kept_after, kept_ahead, kept_more}
 
-pub kept_none : (m : BTreeMap Place Frame) → m.entries ≡ [] → AreKept [] None m
+pub kept_none : (m : BTreeMap SearchPlace Frame) → m.entries ≡ [] → AreKept [] None m
 kept_none m e = record {
   read = λ q f h. (let none : passed_at m q ≡ None = ap (lookup (is_at _)) e in cc);
   all = λ n f h a. cc;
@@ -97,7 +97,7 @@ one_more_by o fs old new unread f call (inl h) =
     same_most p q before after [] (same, left) = ap (λ (x : Position). x.most) (sym same)
     same_most p q before after (f ∷ fs) (mid, taken, rest) = same_most (after_frame p f.stamp) q mid after fs rest
 
-module _ (o : Opening) (frames : List Frame) (place : Place) (now : Finding) (way : IsOnWay o frames place now) (ahead : now.next ≤ place.number)
+module _ (o : Opening) (frames : List Frame) (place : SearchPlace) (now : Finding) (way : IsOnWay o frames place now) (ahead : now.next ≤ place.number)
     (new : Reading) (unread : List ℕ) where
   abbrev fs : List Frame
   fs = frames ++ way.more
@@ -109,7 +109,7 @@ module _ (o : Opening) (frames : List Frame) (place : Place) (now : Finding) (wa
   before = (let c = way.read.counted in omega arith)
 
   -- where the next frame was read, and those kept are up to date
-  pub read_more : (f : Frame) (passed : BTreeMap Place Frame) (n : ℕ) → n ≡ f.number → (later : Finding) → Called now.reading new unread (Ok (items.Frame f)) → KeepsLater place f now.passed passed
+  pub read_more : (f : Frame) (passed : BTreeMap SearchPlace Frame) (n : ℕ) → n ≡ f.number → (later : Finding) → Called now.reading new unread (Ok (items.Frame f)) → KeepsLater place f now.passed passed
       → later ≡ record { reading = new; unread = unread; passed = passed; next = n + 1; failed = now.failed }
       → HasRead o (frames ++ (way.more ++ f ∷ [])) (Some place) later
   read_more f passed n is later call keeps same =
@@ -135,21 +135,21 @@ module _ (o : Opening) (frames : List Frame) (place : Place) (now : Finding) (wa
   finds f n is later call same stands =
       let one = one_more_by o fs now.reading new unread f call stood in
       let number : f.number ≡ length fs = one.number in
-      let at : place.number ≡ f.number = ap (λ (x : Place). x.number) (sym same) in
+      let at : place.number ≡ f.number = ap (λ (x : SearchPlace). x.number) (sym same) in
       let size : length (fs ++ f ∷ []) ≡ length fs + 1 = length-append fs (f ∷ []) in
       let first : length fs ≡ length frames + length way.more = length-append frames way.more in
       let list : fs ++ f ∷ [] ≡ frames ++ (way.more ++ f ∷ []) = append_assoc frames way.more (f ∷ []) in
       let whole : length (fs ++ f ∷ []) ≡ length (frames ++ (way.more ++ f ∷ [])) = ap length list in
       record {
         more = way.more ++ f ∷ [];
-        read = read_more f now.passed n is later call (λ b. absurd (not_itself place (subst (λ (x : Place). IsBelow place x) same b)), λ q d. refl) stands;
+        read = read_more f now.passed n is later call (λ b. absurd (not_itself place (subst (λ (x : SearchPlace). IsBelow place x) same b)), λ q d. refl) stands;
         is_of = same;
         is_at = ap (λ (l : List Frame). slice_get l place.number) (sym list) ∙ ap (slice_get (fs ++ f ∷ [])) (at ∙ number) ∙ get_last fs f;
         no_more = omega arith;
       }
 
   -- another frame was read
-  pub goes_on : (f : Frame) (passed : BTreeMap Place Frame) (n : ℕ) → n ≡ f.number → (later : Finding) → Called now.reading new unread (Ok (items.Frame f)) → KeepsLater place f now.passed passed
+  pub goes_on : (f : Frame) (passed : BTreeMap SearchPlace Frame) (n : ℕ) → n ≡ f.number → (later : Finding) → Called now.reading new unread (Ok (items.Frame f)) → KeepsLater place f now.passed passed
       → (place_of f ≡ place → ⊥) → later ≡ record { reading = new; unread = unread; passed = passed; next = n + 1; failed = now.failed } → IsOnWay o frames place later
   goes_on f passed n is later call keeps apart stands =
       let one = one_more_by o fs now.reading new unread f call stood in
@@ -275,7 +275,7 @@ module _ (o : Opening) (frames : List Frame) (place : Place) (now : Finding) (wa
       takes_none (Some b) = ([], omega arith, refl)
 
 -- all up to the index was read
-pub all_read : (o : Opening) (frames : List Frame) (place : Place) (now : Finding) → IsOnWay o frames place now → place.number < now.next → FindsNone o frames place now
+pub all_read : (o : Opening) (frames : List Frame) (place : SearchPlace) (now : Finding) → IsOnWay o frames place now → place.number < now.next → FindsNone o frames place now
 all_read o frames place now way past =
     let size = way.read.counted in
     let few = way.few in
@@ -294,7 +294,7 @@ all_read o frames place now way past =
         (let is = slice_get-get_or (g ∷ l) place.number g within in (get_or (g ∷ l) place.number g, is, other (get_or (g ∷ l) place.number g) is))
 
 -- no frame was read yet
-pub sets_out : (o : Opening) (frames : List Frame) (place : Place) (now : Finding) → HasRead o frames (Some place) now → length frames ≤ place.number → IsOnWay o frames place now
+pub sets_out : (o : Opening) (frames : List Frame) (place : SearchPlace) (now : Finding) → HasRead o frames (Some place) now → length frames ≤ place.number → IsOnWay o frames place now
 sets_out o frames place now h ahead =
     let same : frames ≡ frames ++ [] = sym (append-nil frames) in
     let size : length frames ≡ length (frames ++ []) = ap length same in
@@ -311,7 +311,7 @@ none_means None e = refl
 none_means (Some x) e = cc
 
 -- the same finder that keeps other frames, after a call for this place
-kept_now : (o : Opening) (frames : List Frame) (floor : Option Place) (place : Place) (old : Finding) (passed : BTreeMap Place Frame) → HasRead o frames floor old
+kept_now : (o : Opening) (frames : List Frame) (floor : Option SearchPlace) (place : SearchPlace) (old : Finding) (passed : BTreeMap SearchPlace Frame) → HasRead o frames floor old
     → AreKept frames (Some place) passed → HasRead o frames (Some place) (record old { passed = passed })
 kept_now o frames floor place old passed h kept = record {
   position = h.position;
@@ -325,12 +325,12 @@ kept_now o frames floor place old passed h kept = record {
 }
 
 -- the index wasn't read yet
-pub reads_ahead : (o : Opening) (frames : List Frame) (floor : Option Place) (place : Place) (old : Finding) (mid : BTreeMap Place Frame) → HasRead o frames floor old
+pub reads_ahead : (o : Opening) (frames : List Frame) (floor : Option SearchPlace) (place : SearchPlace) (old : Finding) (mid : BTreeMap SearchPlace Frame) → HasRead o frames floor old
     → IsAbove floor place → Forgets place old.passed mid → old.next ≤ place.number → HasRead o frames (Some place) (record old { passed = mid })
 reads_ahead o frames floor place old mid h above forgets ahead =
     (let c = h.counted in kept_now o frames floor place old mid h (kept_ahead frames floor place old.passed mid above h.kept forgets (omega arith)))
 
-module _ (o : Opening) (frames : List Frame) (floor : Option Place) (place : Place) (old : Finding) (mid new : BTreeMap Place Frame) (h : HasRead o frames floor old)
+module _ (o : Opening) (frames : List Frame) (floor : Option SearchPlace) (place : SearchPlace) (old : Finding) (mid new : BTreeMap SearchPlace Frame) (h : HasRead o frames floor old)
     (above : IsAbove floor place) (forgets : Forgets place old.passed mid) (takes : Takes place mid new) (past : place.number < old.next) where
   same : frames ≡ frames ++ []
   same = sym (append-nil frames)
@@ -368,9 +368,9 @@ module _ (o : Opening) (frames : List Frame) (floor : Option Place) (place : Pla
       apart f is s =
           let number : f.number ≡ place.number = numbered o frames h.position h.left h.read place.number f is in
           let at : place_of f ≡ place = same_place (place_of f) place s number in
-          let kept : passed_at old.passed (place_of f) ≡ Some f = h.kept.all place.number f is (subst (λ (x : Place). IsAbove floor x) (sym at) above) in
+          let kept : passed_at old.passed (place_of f) ≡ Some f = h.kept.all place.number f is (subst (λ (x : SearchPlace). IsAbove floor x) (sym at) above) in
           let none : passed_at old.passed place ≡ None = sym (e ∙ at_place frames floor place old.passed mid above h.kept forgets) in
-          let some : passed_at old.passed place ≡ Some f = subst (λ (x : Place). passed_at old.passed x ≡ Some f) at kept in
+          let some : passed_at old.passed place ≡ Some f = subst (λ (x : SearchPlace). passed_at old.passed x ≡ Some f) at kept in
           absurd (cc)
 
       there : (l : List Frame) → l ≡ frames ++ [] → place.number < length l → ((f : Frame) → slice_get l place.number ≡ Some f → f.stamp ≢ place.stamp.0)

@@ -17,8 +17,8 @@ use Rattle.ledger_text.specs.declared.fault.ReadFault.TheVariants as read
 use Rattle.ledger_text.specs.declared.frame.FrameLine.{FrameLine}
 use Rattle.ledger_text.specs.declared.order.LedgerLine.{LedgerLine}
 use Rattle.ledger_text.specs.declared.order.LedgerLine.TheVariants as lines
-use Rattle.ledger_text.specs.declared.order.Stage.{Stage}
-use Rattle.ledger_text.specs.declared.reader.Found.TheVariants as found
+use Rattle.ledger_text.specs.declared.order.LedgerStage.{LedgerStage}
+use Rattle.ledger_text.specs.declared.reader.FoundLine.TheVariants as found
 use Rattle.ledger_text.specs.declared.reader.LedgerReader.{LedgerReader}
 use Rattle.ledger_text.specs.declared.reader.LedgerStop.{LedgerStop}
 use Rattle.ledger_text.proofs.Ledgers.{found_complete, found_incomplete, found_line, found_one_more, frame_lines_one_more}
@@ -160,7 +160,7 @@ stops_after l old new v is few = (lent_of new, left_of l new, found_line l old n
 -- ---- a line that stops the cut
 
 -- what a line's fault says of the ledger
-pub line_fault : (skips : Option Network) (fault : CutFault) (before : CutDevices) (rs : List ReadLine) (stage : Stage) (left rest : Option (List ℕ)) (fa fb : List Frame) (n : ℕ)
+pub line_fault : (skips : Option Network) (fault : CutFault) (before : CutDevices) (rs : List ReadLine) (stage : LedgerStage) (left rest : Option (List ℕ)) (fa fb : List Frame) (n : ℕ)
     (v : FrameLine) → n ≡ length rs + 1 → ReadsNext skips stage left rest v → IsTakeFault fault n before.a before.b (read_lines skips (frame_lines rs)) v fa fb
     → IsLineFault skips fault before rs stage left rest fa fb
 line_fault skips (faults.Ledger k f) before rs stage left rest fa fb n v count says why = absurd why
@@ -186,7 +186,7 @@ ledger_well (faults.Read (source.Recording B)) n a b vs v fa fb x y why same = s
 ledger_well faults.Write n a b vs v fa fb x y why same = same
 ledger_well faults.Memory n a b vs v fa fb x y why same = same
 
-written_at : (format : Format) (choice : Choice) (fault : CutFault) (rs : List ReadLine) (stage : Stage) (left : Option (List ℕ)) (fa fb : List Frame) (taken : List (FrameLine × Frame)) (v : FrameLine)
+written_at : (format : Format) (choice : Choice) (fault : CutFault) (rs : List ReadLine) (stage : LedgerStage) (left : Option (List ℕ)) (fa fb : List Frame) (taken : List (FrameLine × Frame)) (v : FrameLine)
     (bytes now : Option (List ℕ)) → NextSays stage left v → WritesUpTo format choice fault fa fb (frame_lines rs) v taken bytes now
     → HasWritten format choice fault rs stage left fa fb taken bytes now
 written_at format choice (faults.Ledger k f) rs stage left fa fb taken v bytes now says wrote = wrote
@@ -233,7 +233,7 @@ frame_stops l s t w format choice before rs fs taken fa fb old new was now v fau
 
 -- ---- a line that is none of a ledger
 
-bad_at : (stage : Stage) (n m : ℕ) (left rest : Option (List ℕ)) (text : List ℕ) (x y : ℕ) (stage2 : Stage) (n2 : ℕ) (fault : LineFault) → n ≡ m
+bad_at : (stage : LedgerStage) (n m : ℕ) (left rest : Option (List ℕ)) (text : List ℕ) (x y : ℕ) (stage2 : LedgerStage) (n2 : ℕ) (fault : LineFault) → n ≡ m
     → IsBadLine (record { stage = stage; number = n; left = left; failures = x }) (record { stage = stage2; number = n2; left = rest; failures = y }) text fault
     → IsBadLine (place_at stage m left) (place_at stage m rest) text fault
 bad_at stage n m left rest text x y stage2 n2 wrong.Newline same h = h

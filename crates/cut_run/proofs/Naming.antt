@@ -10,7 +10,7 @@ use Rattle.cut_run.specs.Finder.{Finding, Finds, HasRead, IsFindFault, LacksFram
 use Rattle.cut_run.specs.Places.{place_at}
 use Rattle.cut_run.specs.declared.finder.FindFault.{FindFault}
 use Rattle.cut_run.specs.declared.finder.FindFault.TheVariants as find
-use Rattle.cut_run.specs.declared.place.Place.{Place}
+use Rattle.cut_run.specs.declared.place.SearchPlace.{SearchPlace}
 use Rattle.ledger_text.specs.declared.frame.FrameLine.{FrameLine}
 use Rattle.pcap_io.specs.Position.{Reads, TakesAPacket, after_frame, start_at}
 use Rattle.pcap_io.specs.declared.position.Position.{Position}
@@ -41,7 +41,7 @@ when_err r P Q e is h = rw is at h
 
 -- both recordings were read so far, and have the line's frame
 named_one : {S T : Type 0} (s : SourceMembers S) (t : SourceMembers T) (a b : SourceView) (vs : List FrameLine) (fs fa fb ga gb : List Frame) (old new : Recordings S T)
-    (v : FrameLine) (f : Frame) (floor_a floor_b : Option Place) → HasNamed s t a b vs fs fa fb old → ComesLater (last_key vs) v
+    (v : FrameLine) (f : Frame) (floor_a floor_b : Option SearchPlace) → HasNamed s t a b vs fs fa fb old → ComesLater (last_key vs) v
     → HasRead (opening_at A a) ga floor_a (finding_of s.remaining s.failures new.a) → HasRead (opening_at B b) gb floor_b (finding_of t.remaining t.failures new.b)
     → FloorWithin A floor_a (Some (key_of_line v)) → FloorWithin B floor_b (Some (key_of_line v)) → Widens fa ga → Widens fb gb → IsFrameOf ga gb v f
     → new.last ≡ Some (key_of_line v) → Names s t a b vs fs v f new
@@ -79,7 +79,7 @@ named_a s t a b vs fs fa fb old new v f h is later found same last =
     named_one s t a b vs fs fa fb (fa ++ found.more) fb old new v f (Some (place_at v.stamp.0 v.number)) h.floor_b h later found.read
     (subst (λ x. HasRead (opening_at B b) fb h.floor_b (finding_of t.remaining t.failures x)) (sym same) h.read_b) (floor_at A v is)
     (within_more B h.floor_b (last_key vs) v h.within_b later) (widens_by fa found.more) (widens_none fb)
-    (frame_at A (fa ++ found.more) fb v f is found.is_at (ap (λ (q : Place). q.stamp.0) found.is_of)) last
+    (frame_at A (fa ++ found.more) fb v f is found.is_at (ap (λ (q : SearchPlace). q.stamp.0) found.is_of)) last
 
 pub named_b : {S T : Type 0} (s : SourceMembers S) (t : SourceMembers T) (a b : SourceView) (vs : List FrameLine) (fs fa fb : List Frame) (old new : Recordings S T)
     (v : FrameLine) (f : Frame) → HasNamed s t a b vs fs fa fb old → v.network ≡ B → ComesLater (last_key vs) v
@@ -89,7 +89,7 @@ named_b s t a b vs fs fa fb old new v f h is later found same last =
     named_one s t a b vs fs fa fb fa (fb ++ found.more) old new v f h.floor_a (Some (place_at v.stamp.0 v.number)) h later
     (subst (λ x. HasRead (opening_at A a) fa h.floor_a (finding_of s.remaining s.failures x)) (sym same) h.read_a) found.read
     (within_more A h.floor_a (last_key vs) v h.within_a later) (floor_at B v is) (widens_none fa) (widens_by fb found.more)
-    (frame_at B fa (fb ++ found.more) v f is found.is_at (ap (λ (q : Place). q.stamp.0) found.is_of)) last
+    (frame_at B fa (fb ++ found.more) v f is found.is_at (ap (λ (q : SearchPlace). q.stamp.0) found.is_of)) last
 
 -- ---- it wasn't
 
@@ -105,7 +105,7 @@ gone_at : (position : Position) (left : Option (List ℕ)) (o : Opening) (frames
 gone_at position left o frames now (inl (here, same)) = none_taken left now.reading.remaining same
 gone_at position left o frames now (inr (ending, ended)) = ended.gone
 
-pub part_read : (o : Opening) (frames : List Frame) (floor : Option Place) (now : Finding) → HasRead o frames floor now → ReadsPart o frames now
+pub part_read : (o : Opening) (frames : List Frame) (floor : Option SearchPlace) (now : Finding) → HasRead o frames floor now → ReadsPart o frames now
 part_read o frames floor now h = record { position = h.position; left = h.left; read = h.read; gone = gone_at h.position h.left o frames now h.stands }
 
 -- frames don't end a recording
@@ -116,7 +116,7 @@ reads_stage p q before after (f ∷ fs) (mid, taken, more) = reads_stage (after_
 going_ended : (stage : Stage) (ending : Ending) → stage ≡ Going → stage ≡ Ended ending → ⊥
 going_ended stage ending e f = cc
 
-lacks_at : (network : Network) (view : SourceView) (frames : List Frame) (v : FrameLine) (now : Finding) (floor : Option Place) → v.network ≡ network
+lacks_at : (network : Network) (view : SourceView) (frames : List Frame) (v : FrameLine) (now : Finding) (floor : Option SearchPlace) → v.network ≡ network
     → HasRead (opening_at network view) frames floor now → FinderLacks frames (place_at v.stamp.0 v.number) now → LacksFrame view frames v
 lacks_at network view frames v now floor is h (inl (f, got, other)) = inl (f, got, other)
 lacks_at network view frames v now floor is h (inr (beyond, (ending, stage))) = elim h.stands [

@@ -9,7 +9,7 @@ use Rattle.afdx_frame.specs.declared.key.Key.{Key}
 use Rattle.afdx_frame.specs.declared.key.Network.{Network}
 use Rattle.afdx_frame.specs.declared.key.Network.TheVariants.{A, B}
 use Rattle.cut_run.specs.Places.{IsAbove, place_at}
-use Rattle.cut_run.specs.declared.place.Place.{Place}
+use Rattle.cut_run.specs.declared.place.SearchPlace.{SearchPlace}
 use Rattle.ledger_text.specs.declared.frame.FrameLine.{FrameLine}
 use Rattle.cut_run.specs.Lines.{ComesLater, key_of_line}
 use Rattle.cut_run.specs.Naming.{FloorWithin, rank}
@@ -45,7 +45,7 @@ below k l e =
     (ranked k.number l.number (nat_cmp k.number l.number) refl) e
 
 -- a line that comes later names a frame above those that were named of its network
-pub above : (floor : Option Place) (last : Option Key) (v : FrameLine) → FloorWithin v.network floor last → ComesLater last v
+pub above : (floor : Option SearchPlace) (last : Option Key) (v : FrameLine) → FloorWithin v.network floor last → ComesLater last v
     → IsAbove floor (place_at v.stamp.0 v.number)
 above None last v within later = tt
 above (Some p) None v within later = absurd within
@@ -64,7 +64,7 @@ above (Some p) (Some k) v within later =
     )
 
 -- what was named stays within the lines
-pub within_more : (network : Network) (floor : Option Place) (last : Option Key) (v : FrameLine) → FloorWithin network floor last → ComesLater last v
+pub within_more : (network : Network) (floor : Option SearchPlace) (last : Option Key) (v : FrameLine) → FloorWithin network floor last → ComesLater last v
     → FloorWithin network floor (Some (key_of_line v))
 within_more network None last v within later = tt
 within_more network (Some p) None v within later = absurd within

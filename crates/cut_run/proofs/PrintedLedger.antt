@@ -15,8 +15,8 @@ use Rattle.ledger_text.specs.declared.fault.ReadFault.TheVariants as read
 use Rattle.ledger_text.specs.declared.frame.FrameLine.{FrameLine}
 use Rattle.ledger_text.specs.declared.order.LedgerLine.{LedgerLine}
 use Rattle.ledger_text.specs.declared.order.LedgerLine.TheVariants as lines
-use Rattle.ledger_text.specs.declared.order.Stage.{Stage}
-use Rattle.ledger_text.specs.declared.reader.Found.TheVariants as found
+use Rattle.ledger_text.specs.declared.order.LedgerStage.{LedgerStage}
+use Rattle.ledger_text.specs.declared.reader.FoundLine.TheVariants as found
 use Rattle.ledger_text.specs.declared.reader.LedgerReader.{LedgerReader}
 use Rattle.ledger_text.proofs.Ledgers.{found_line, found_one_more, frame_lines_one_more}
 use Rattle.run_fault.specs.Device.{SinkMembers, SinkView, SourceMembers, sink_at, source_at}
@@ -129,12 +129,12 @@ ends_printing l s t w choice before rs printed old new printing e at same h = λ
 -- ---- a line that stops the run
 
 -- what a fault at a line says of the recordings and the ledger
-record Stopped (skips : Option Network) (fault : CutFault) (before : LineDevices) (was now : Option Sources) (rs : List ReadLine) (stage : Stage) (left rest : Option (List ℕ)) (x y : ℕ) : Type 0 where
+record Stopped (skips : Option Network) (fault : CutFault) (before : LineDevices) (was now : Option Sources) (rs : List ReadLine) (stage : LedgerStage) (left rest : Option (List ℕ)) (x y : ℕ) : Type 0 where
   checked : AreCheckedUpTo skips fault before was now rs stage left rest
   recordings : SourcesFailOnly fault was now
   ledger : FailsWhere (names fault LedgerSource) x y
 
-stopped : {S T : Type 0} (s : SourceMembers S) (t : SourceMembers T) (skips : Option Network) (before : LineDevices) (was : Option Sources) (rs : List ReadLine) (stage : Stage) (left rest : Option (List ℕ))
+stopped : {S T : Type 0} (s : SourceMembers S) (t : SourceMembers T) (skips : Option Network) (before : LineDevices) (was : Option Sources) (rs : List ReadLine) (stage : LedgerStage) (left rest : Option (List ℕ))
     (v : FrameLine) (n : ℕ) (fault : CutFault) (recordings : Option (Recordings S T)) (sources : Option (S × T)) (x y : ℕ) → n ≡ length rs + 1 → ReadsNext skips stage left rest v
     → StopsChecking s t was (read_lines skips (frame_lines rs)) v n fault recordings → GivesBack s t recordings sources → y ≡ x
     → Stopped skips fault before was (sources_at s t sources) rs stage left rest x y
@@ -161,7 +161,7 @@ stopped s t skips before (Some b) rs stage left rest v n fault (Some r) (Some z)
   ledger = ledger_well fault n b.a b.b (read_lines skips (frame_lines rs)) v stops.frames_a stops.frames_b x y stops.why same;
 }
 
-printed_at : (choice : Choice) (fault : CutFault) (rs : List ReadLine) (stage : Stage) (left : Option (List ℕ)) (v : FrameLine) (text : List ℕ)
+printed_at : (choice : Choice) (fault : CutFault) (rs : List ReadLine) (stage : LedgerStage) (left : Option (List ℕ)) (v : FrameLine) (text : List ℕ)
     (printed : List (List ℕ)) (bytes now : Option (List ℕ)) → NextIs stage left text v → PrintsUpTo choice fault (frame_lines rs) v text printed bytes now
     → HasPrinted choice fault rs stage left printed bytes now
 printed_at choice (faults.Ledger k f) rs stage left v text printed bytes now says wrote = wrote
@@ -210,7 +210,7 @@ well_bad k f None (Some n) vs h = absurd h
 well_bad k f (Some b) None vs h = absurd h
 well_bad k f (Some b) (Some n) vs h = (h.4, h.5)
 
-checked_to : (skips : Option Network) (fault : CutFault) (before : LineDevices) (was now : Option Sources) (rs : List ReadLine) (stage : Stage) (left rest : Option (List ℕ))
+checked_to : (skips : Option Network) (fault : CutFault) (before : LineDevices) (was now : Option Sources) (rs : List ReadLine) (stage : LedgerStage) (left rest : Option (List ℕ))
     → AreChecked was now (read_lines skips (frame_lines rs)) → IsLoneFault fault rs stage left rest
     → ((b : Sources) (fa fb : List Frame) → IsLineFault skips fault (cut_devices before b) rs stage left rest fa fb) → AreCheckedUpTo skips fault before was now rs stage left rest
 checked_to skips fault before None None rs stage left rest h lone why = lone

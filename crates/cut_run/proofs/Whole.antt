@@ -13,7 +13,7 @@ use Rattle.ledger_text.specs.Ledger.{HasReadLines}
 use Rattle.ledger_text.specs.Lines.{unread_of}
 use Rattle.ledger_text.specs.Reader.{source_of}
 use Rattle.ledger_text.specs.declared.bounds.TheConstants.{BLOCK_LEN}
-use Rattle.ledger_text.specs.declared.order.Stage.TheVariants as stages
+use Rattle.ledger_text.specs.declared.order.LedgerStage.TheVariants as stages
 use Rattle.ledger_text.specs.declared.reader.LedgerReader.{LedgerReader}
 use Rattle.packet_format.specs.Packets.{Format, head_by}
 use Rattle.packet_format.specs.Writer.{sink_of}

@@ -14,8 +14,8 @@ use Rattle.ledger_text.specs.declared.fault.ReadFault.{ReadFault}
 use Rattle.ledger_text.specs.declared.fault.ReadFault.TheVariants as read
 use Rattle.ledger_text.specs.declared.frame.FrameLine.{FrameLine}
 use Rattle.ledger_text.specs.declared.order.LedgerLine.TheVariants as lines
-use Rattle.ledger_text.specs.declared.order.Stage.{Stage}
-use Rattle.ledger_text.specs.declared.order.Stage.TheVariants as stages
+use Rattle.ledger_text.specs.declared.order.LedgerStage.{LedgerStage}
+use Rattle.ledger_text.specs.declared.order.LedgerStage.TheVariants as stages
 use Rattle.ledger_text.specs.declared.reader.LedgerStop.{LedgerStop}
 use Rattle.packet_format.specs.Packets.{Format, head_by}
 use Rattle.pcap_io.specs.Device.{AppendsPrefix}
@@ -46,7 +46,7 @@ abbrev pub any_lateness : ℕ
 any_lateness = 2 ^ 64 - 1
 
 -- where a reader of a ledger stands after so many lines
-abbrev pub place_at : Stage → ℕ → Option (List ℕ) → Reading
+abbrev pub place_at : LedgerStage → ℕ → Option (List ℕ) → Reading
 place_at stage number left = record { stage = stage; number = number; left = left; failures = 0 }
 
 -- where a ledger ends that isn't complete
@@ -58,7 +58,7 @@ stop_of (ending.Incomplete stop) = Some stop
 
 -- These lines of the ledger were read, and of both recordings these frames, among which each line of a frame finds its own, unless it is passed
 -- over: they come later one by one, and the frames stand as they were recorded.
-pub record HasFound (skips : Option Network) (before after : CutDevices) (rs : List ReadLine) (stage : Stage) (left : Option (List ℕ)) (frames_a frames_b frames : List Frame) : Type 0 where
+pub record HasFound (skips : Option Network) (before after : CutDevices) (rs : List ReadLine) (stage : LedgerStage) (left : Option (List ℕ)) (frames_a frames_b frames : List Frame) : Type 0 where
   pub lines : ReadsLines stages.Head before.ledger.remaining rs stage left
   pub read_a : IsReadPart A any_lateness before.a after.a frames_a
   pub read_b : IsReadPart B any_lateness before.b after.b frames_b
@@ -83,7 +83,7 @@ pub record NoFailures (before after : CutDevices) : Type 0 where
 -- The ledger was read to its end, and the output has the capture of the lines that are taken, with their frames.
 pub record IsCut (format : Format) (choice : Choice) (e : CutEnding) (before after : CutDevices) : Type 0 where
   pub rs : List ReadLine
-  pub stage : Stage
+  pub stage : LedgerStage
   pub left : Option (List ℕ)
   pub frames_a : List Frame
   pub frames_b : List Frame
@@ -131,7 +131,7 @@ AreRefused fault a b a_after b_after =
 -- ---- a cut that was aborted at a line
 
 -- the next line of the ledger is that of a frame, and says this
-abbrev pub NextSays : Stage → Option (List ℕ) → FrameLine → Type 0
+abbrev pub NextSays : LedgerStage → Option (List ℕ) → FrameLine → Type 0
 NextSays stage left v = (text : List ℕ) × (rest : Option (List ℕ)) × TakesLine stage left rest (record { text = text; line = lines.Frame v })
 
 -- A source still gives what is left, but for what was read ahead of it, which is no more than a block.
@@ -139,7 +139,7 @@ abbrev pub IsReadAhead : Option (List ℕ) → Option (List ℕ) → Type 0
 IsReadAhead left rest = (unread : List ℕ) × (length unread ≤ BLOCK_LEN) × Consumes left rest unread
 
 -- the line after these, the n-th, is none of a ledger, and what the source still gives stands after it
-abbrev pub IsBadNext : ℕ → LineFault → List ReadLine → Stage → Option (List ℕ) → Option (List ℕ) → Type 0
+abbrev pub IsBadNext : ℕ → LineFault → List ReadLine → LedgerStage → Option (List ℕ) → Option (List ℕ) → Type 0
 IsBadNext n fault rs stage left rest =
     (n ≡ length rs + 1) × ((text : List ℕ) × (after : Option (List ℕ))
     × IsBadLine (place_at stage (length rs) left) (place_at stage (length rs) after) text fault × IsReadAhead after rest)
@@ -150,16 +150,16 @@ abbrev pub FailsInLine : Option (List ℕ) → Option (List ℕ) → Type 0
 FailsInLine left rest = (unread : List ℕ) × NoNewline unread × (length unread ≤ BLOCK_LEN) × Consumes left rest unread
 
 -- the next line of the ledger is that of a frame, and says this, and what the source still gives stands after it
-abbrev pub StopsAfter : Stage → Option (List ℕ) → Option (List ℕ) → FrameLine → Type 0
+abbrev pub StopsAfter : LedgerStage → Option (List ℕ) → Option (List ℕ) → FrameLine → Type 0
 StopsAfter stage left rest v =
     (text : List ℕ) × (after : Option (List ℕ)) × TakesLine stage left after (record { text = text; line = lines.Frame v }) × IsReadAhead after rest
 
 -- and it is looked up
-abbrev pub ReadsNext : Option Network → Stage → Option (List ℕ) → Option (List ℕ) → FrameLine → Type 0
+abbrev pub ReadsNext : Option Network → LedgerStage → Option (List ℕ) → Option (List ℕ) → FrameLine → Type 0
 ReadsNext skips stage left rest v = StopsAfter stage left rest v × (is_read skips v.network ≡ true)
 
 -- What the fault says of the line after these, of which each frame was found; `rest` is what the ledger's source still gives.
-abbrev pub IsLineFault : Option Network → CutFault → CutDevices → List ReadLine → Stage → Option (List ℕ) → Option (List ℕ) → List Frame → List Frame → Type 0
+abbrev pub IsLineFault : Option Network → CutFault → CutDevices → List ReadLine → LedgerStage → Option (List ℕ) → Option (List ℕ) → List Frame → List Frame → Type 0
 IsLineFault skips (faults.Ledger n fault) before rs stage left rest frames_a frames_b = IsBadNext n fault rs stage left rest
 IsLineFault skips (faults.Order n) before rs stage left rest frames_a frames_b =
     (n ≡ length rs + 1)
@@ -176,7 +176,7 @@ IsLineFault skips (faults.Header network fault) before rs stage left rest frames
 
 -- The output has the whole capture of what was taken. Where the sink failed, the next line is taken too, and a prefix of its frame's packet
 -- follows.
-abbrev pub HasWritten : Format → Choice → CutFault → List ReadLine → Stage → Option (List ℕ) → List Frame → List Frame → List (FrameLine × Frame) → Option (List ℕ) → Option (List ℕ)
+abbrev pub HasWritten : Format → Choice → CutFault → List ReadLine → LedgerStage → Option (List ℕ) → List Frame → List Frame → List (FrameLine × Frame) → Option (List ℕ) → Option (List ℕ)
     → Type 0
 HasWritten format choice faults.Write rs stage left frames_a frames_b taken before after =
     (v : FrameLine) × (f : Frame) × (part : ℕ) × NextSays stage left v × IsTakenNext choice frames_a frames_b (frame_lines rs) v f
@@ -187,7 +187,7 @@ HasWritten format choice fault rs stage left frames_a frames_b taken before afte
 -- The cut was aborted at the line after these.
 pub record StopsAtLine (format : Format) (choice : Choice) (fault : CutFault) (before after : CutDevices) : Type 0 where
   pub rs : List ReadLine
-  pub stage : Stage
+  pub stage : LedgerStage
   pub left : Option (List ℕ)
   pub frames_a : List Frame
   pub frames_b : List Frame

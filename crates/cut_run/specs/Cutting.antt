@@ -10,8 +10,8 @@ use Rattle.ledger_text.specs.Lines.{unread_of}
 use Rattle.ledger_text.specs.Reader.{source_of}
 use Rattle.ledger_text.specs.declared.bounds.TheConstants.{BLOCK_LEN}
 use Rattle.ledger_text.specs.declared.frame.FrameLine.{FrameLine}
-use Rattle.ledger_text.specs.declared.order.Stage.{Stage}
-use Rattle.ledger_text.specs.declared.order.Stage.TheVariants as stages
+use Rattle.ledger_text.specs.declared.order.LedgerStage.{LedgerStage}
+use Rattle.ledger_text.specs.declared.order.LedgerStage.TheVariants as stages
 use Rattle.ledger_text.specs.declared.reader.LedgerReader.{LedgerReader}
 use Rattle.ledger_query.specs.Neighbours.{HasAsked, IsChosen}
 use Rattle.packet_format.specs.Packets.{Format}
@@ -107,7 +107,7 @@ pub record HasCut {L S T W : Type 0} (l : SourceMembers L) (s : SourceMembers S)
 pub record EndsCut {L S T W : Type 0} (l : SourceMembers L) (s : SourceMembers S) (t : SourceMembers T) (w : SinkMembers W) (format : Format) (choice : Choice)
     (e : CutEnding) (before : CutDevices) (ledger : LedgerReader L) (taking : Taking S T W) : Type 0 where
   pub rs : List ReadLine
-  pub stage : Stage
+  pub stage : LedgerStage
   pub left : Option (List ℕ)
   pub fs : List Frame
   pub taken : List (FrameLine × Frame)
@@ -122,7 +122,7 @@ pub record EndsCut {L S T W : Type 0} (l : SourceMembers L) (s : SourceMembers S
 pub record StopsCut {L S T W : Type 0} (l : SourceMembers L) (s : SourceMembers S) (t : SourceMembers T) (w : SinkMembers W) (format : Format) (choice : Choice)
     (fault : CutFault) (before : CutDevices) (ledger : LedgerReader L) (taking : Taking S T W) : Type 0 where
   pub rs : List ReadLine
-  pub stage : Stage
+  pub stage : LedgerStage
   pub left : Option (List ℕ)
   pub fs : List Frame
   pub taken : List (FrameLine × Frame)

@@ -14,7 +14,7 @@ use Rattle.pcap_io.specs.declared.item.ReadFault.{ReadFault}
 use Rattle.pcap_io.specs.declared.item.ReadFault.TheVariants as reads
 use Rattle.cut_run.specs.Places.{IsBelow, place_of}
 use Rattle.cut_run.specs.Passed.{AreKept}
-use Rattle.cut_run.specs.declared.place.Place.{Place}
+use Rattle.cut_run.specs.declared.place.SearchPlace.{SearchPlace}
 use Rattle.cut_run.specs.declared.finder.FrameFinder.{FrameFinder}
 use Rattle.cut_run.specs.declared.finder.FindFault.{FindFault}
 use Rattle.cut_run.specs.declared.finder.FindFault.TheVariants as faults
@@ -43,7 +43,7 @@ pub record Finding : Type 0 where
   -- what was read ahead
   pub unread : List ℕ
   -- the frames that were passed and are kept
-  pub passed : BTreeMap Place Frame
+  pub passed : BTreeMap SearchPlace Frame
   -- the index of the next frame that is read
   pub next : ℕ
   pub failed : Bool
@@ -84,7 +84,7 @@ StandsAt position left now =
 
 -- The finder has read these frames of the recording, and no more. The last that was asked for is `floor`, and what may still be asked for of
 -- the frames is kept.
-pub record HasRead (o : Opening) (frames : List Frame) (floor : Option Place) (now : Finding) : Type 0 where
+pub record HasRead (o : Opening) (frames : List Frame) (floor : Option SearchPlace) (now : Finding) : Type 0 where
   pub position : Position
   pub left : Option (List ℕ)
   pub read : HasReadFrames o frames position left
@@ -97,7 +97,7 @@ pub record HasRead (o : Opening) (frames : List Frame) (floor : Option Place) (n
 -- ---- what a call says
 
 -- The frame of this place was found. No more was read than up to it.
-pub record Finds (o : Opening) (frames : List Frame) (place : Place) (f : Frame) (now : Finding) : Type 0 where
+pub record Finds (o : Opening) (frames : List Frame) (place : SearchPlace) (f : Frame) (now : Finding) : Type 0 where
   pub more : List Frame
   pub read : HasRead o (frames ++ more) (Some place) now
   pub is_of : place_of f ≡ place
@@ -105,20 +105,20 @@ pub record Finds (o : Opening) (frames : List Frame) (place : Place) (f : Frame)
   pub no_more : length (frames ++ more) ≡ max (length frames) (place.number + 1)
 
 -- the frame of this index has another timestamp, or the recording ends before it
-abbrev pub LacksFrame : List Frame → Place → Finding → Type 0
+abbrev pub LacksFrame : List Frame → SearchPlace → Finding → Type 0
 LacksFrame frames place now =
     ((f : Frame) × (slice_get frames place.number ≡ Some f) × (f.stamp ≢ place.stamp.0))
     ⊎ ((length frames ≤ place.number) × ((ending : Ending) × (now.reading.position.stage ≡ Ended ending)))
 
 -- No frame is of this place. No more was read than up to its index.
-pub record FindsNone (o : Opening) (frames : List Frame) (place : Place) (now : Finding) : Type 0 where
+pub record FindsNone (o : Opening) (frames : List Frame) (place : SearchPlace) (now : Finding) : Type 0 where
   pub more : List Frame
   pub read : HasRead o (frames ++ more) (Some place) now
   pub lacks : LacksFrame (frames ++ more) place now
   pub no_more : length (frames ++ more) ≤ max (length frames) (place.number + 1)
 
 -- The source failed after these frames, before it gave the next packet whole. The frame that was asked for wasn't read.
-pub record FailsToRead (o : Opening) (frames : List Frame) (place : Place) (now : Finding) : Type 0 where
+pub record FailsToRead (o : Opening) (frames : List Frame) (place : SearchPlace) (now : Finding) : Type 0 where
   pub more : List Frame
   pub position : Position
   pub left : Option (List ℕ)
@@ -129,7 +129,7 @@ pub record FailsToRead (o : Opening) (frames : List Frame) (place : Place) (now 
   pub failure : CountsFailure o.failures now.reading.failures
 
 -- There was no memory for the packet after these frames, or to keep the last of them, which may still be asked for.
-pub record FailsToAllocate (o : Opening) (frames : List Frame) (place : Place) (now : Finding) : Type 0 where
+pub record FailsToAllocate (o : Opening) (frames : List Frame) (place : SearchPlace) (now : Finding) : Type 0 where
   pub more : List Frame
   pub position : Position
   pub left : Option (List ℕ)
@@ -140,14 +140,14 @@ pub record FailsToAllocate (o : Opening) (frames : List Frame) (place : Place) (
   pub no_failure : now.reading.failures ≡ o.failures
 
 -- why a frame wasn't found, and what stands then
-abbrev pub IsFindFault : Opening → List Frame → Place → Finding → FindFault → Type 0
+abbrev pub IsFindFault : Opening → List Frame → SearchPlace → Finding → FindFault → Type 0
 IsFindFault o frames place now faults.Absent = FindsNone o frames place now
 IsFindFault o frames place now faults.Device = FailsToRead o frames place now
 IsFindFault o frames place now faults.Memory = FailsToAllocate o frames place now
 IsFindFault o frames place now faults.Failed = ⊥
 
 -- The finder has read on so far, and no frame that it read is of the place.
-pub record IsOnWay (o : Opening) (frames : List Frame) (place : Place) (now : Finding) : Type 0 where
+pub record IsOnWay (o : Opening) (frames : List Frame) (place : SearchPlace) (now : Finding) : Type 0 where
   pub more : List Frame
   pub read : HasRead o (frames ++ more) (Some place) now
   pub few : length (frames ++ more) ≤ place.number + 1

@@ -7,7 +7,7 @@ use Rattle.afdx_frame.specs.declared.key.Network.TheVariants.{A, B}
 use Rattle.cut_run.specs.Finder.{Finding, HasRead, HasReadFrames, Opening, finding_of}
 use Rattle.cut_run.specs.declared.finder.FindFault.{FindFault}
 use Rattle.cut_run.specs.declared.finder.FindFault.TheVariants as find
-use Rattle.cut_run.specs.declared.place.Place.{Place}
+use Rattle.cut_run.specs.declared.place.SearchPlace.{SearchPlace}
 use Rattle.ledger_text.specs.declared.frame.FrameLine.{FrameLine}
 use Rattle.pcap_io.specs.Position.{TakesAPacket}
 use Rattle.pcap_io.specs.declared.position.Position.{Position}
@@ -30,7 +30,7 @@ rank A = 0
 rank B = 1
 
 -- the last frame of a network that was asked for stands no later than the last line
-abbrev pub FloorWithin : Network → Option Place → Option Key → Type 0
+abbrev pub FloorWithin : Network → Option SearchPlace → Option Key → Type 0
 FloorWithin network None last = ⊤
 FloorWithin network (Some p) None = ⊥
 FloorWithin network (Some p) (Some k) =
@@ -43,8 +43,8 @@ opening_at network view = record { network = network; remaining = view.remaining
 -- Both recordings were opened on these sources. These lines have named these frames, of those that were read.
 pub record HasNamed {S T : Type 0} (s : SourceMembers S) (t : SourceMembers T) (a b : SourceView) (vs : List FrameLine) (fs frames_a frames_b : List Frame)
     (recordings : Recordings S T) : Type 0 where
-  pub floor_a : Option Place
-  pub floor_b : Option Place
+  pub floor_a : Option SearchPlace
+  pub floor_b : Option SearchPlace
   pub read_a : HasRead (opening_at A a) frames_a floor_a (finding_of s.remaining s.failures recordings.a)
   pub read_b : HasRead (opening_at B b) frames_b floor_b (finding_of t.remaining t.failures recordings.b)
   pub within_a : FloorWithin A floor_a (last_key vs)

@@ -5,8 +5,8 @@ use Rattle.ledger_text.specs.Lines.{unread_of}
 use Rattle.ledger_text.specs.Reader.{source_of}
 use Rattle.ledger_text.specs.declared.bounds.TheConstants.{BLOCK_LEN}
 use Rattle.ledger_text.specs.declared.frame.FrameLine.{FrameLine}
-use Rattle.ledger_text.specs.declared.order.Stage.{Stage}
-use Rattle.ledger_text.specs.declared.order.Stage.TheVariants as stages
+use Rattle.ledger_text.specs.declared.order.LedgerStage.{LedgerStage}
+use Rattle.ledger_text.specs.declared.order.LedgerStage.TheVariants as stages
 use Rattle.ledger_text.specs.declared.reader.LedgerReader.{LedgerReader}
 use Rattle.ledger_text.specs.declared.reader.LedgerStop.{LedgerStop}
 use Rattle.ledger_query.specs.Neighbours.{Around, HasAsked, HasNoted}
@@ -28,7 +28,7 @@ around_lines count rs = record { count = count; lines = frame_lines rs }
 -- All lines of the ledger were read, and those of frames were noted.
 pub record NotesLines (selection : Selection) (count : ℕ) (before after : SourceView) (neighbours : Neighbours) : Type 0 where
   pub rs : List ReadLine
-  pub stage : Stage
+  pub stage : LedgerStage
   pub left : Option (List ℕ)
   pub lines : ReadsLines stages.Head before.remaining rs stage left
   pub ends : (stop : Option LedgerStop) × EndsAt rs stage left stop
@@ -36,7 +36,7 @@ pub record NotesLines (selection : Selection) (count : ℕ) (before after : Sour
   pub no_failure : after.failures ≡ before.failures
 
 -- what the fault says of the line after these; there may be no memory before the first line, or at the line of a frame
-abbrev pub IsNoteFault : CutFault → List ReadLine → Stage → Option (List ℕ) → Option (List ℕ) → Type 0
+abbrev pub IsNoteFault : CutFault → List ReadLine → LedgerStage → Option (List ℕ) → Option (List ℕ) → Type 0
 IsNoteFault (faults.Ledger n fault) rs stage left rest = IsBadNext n fault rs stage left rest
 IsNoteFault (faults.Read source.Ledger) rs stage left rest = FailsInLine left rest
 IsNoteFault faults.Memory rs stage left rest = ((rs ≡ []) × (rest ≡ left)) ⊎ ((v : FrameLine) × StopsAfter stage left rest v)
@@ -45,7 +45,7 @@ IsNoteFault fault rs stage left rest = ⊥
 -- The run was aborted at the line after these.
 pub record AbortsNoting (fault : CutFault) (before after : SourceView) : Type 0 where
   pub rs : List ReadLine
-  pub stage : Stage
+  pub stage : LedgerStage
   pub left : Option (List ℕ)
   pub lines : ReadsLines stages.Head before.remaining rs stage left
   pub why : IsNoteFault fault rs stage left after.remaining

@@ -13,8 +13,8 @@ use Rattle.ledger_text.specs.declared.bounds.TheConstants.{BLOCK_LEN}
 use Rattle.ledger_text.specs.declared.frame.FrameLine.{FrameLine}
 use Rattle.ledger_text.specs.declared.order.LedgerLine.{LedgerLine}
 use Rattle.ledger_text.specs.declared.order.LedgerLine.TheVariants as lines
-use Rattle.ledger_text.specs.declared.order.Stage.{Stage}
-use Rattle.ledger_text.specs.declared.order.Stage.TheVariants as stages
+use Rattle.ledger_text.specs.declared.order.LedgerStage.{LedgerStage}
+use Rattle.ledger_text.specs.declared.order.LedgerStage.TheVariants as stages
 use Rattle.ledger_text.specs.declared.reader.LedgerReader.{LedgerReader}
 use Rattle.ledger_query.specs.Neighbours.{HasAsked, IsChosen}
 use Rattle.pcap_io.specs.Device.{Writes}
@@ -52,7 +52,7 @@ abbrev pub frame_texts : List ReadLine → List (List ℕ)
 frame_texts rs = flat_map (λ r. text_in r.line r.text) rs
 
 -- the next line of the ledger is that of a frame, has this text and says this
-abbrev pub NextIs : Stage → Option (List ℕ) → List ℕ → FrameLine → Type 0
+abbrev pub NextIs : LedgerStage → Option (List ℕ) → List ℕ → FrameLine → Type 0
 NextIs stage left text v = (rest : Option (List ℕ)) × TakesLine stage left rest (record { text = text; line = lines.Frame v })
 
 -- ---- the devices
@@ -101,7 +101,7 @@ AreChecked before after vs = ⊥
 -- over aren't checked.
 pub record ArePrinted (choice : Choice) (e : CutEnding) (before after : LineDevices) : Type 0 where
   pub rs : List ReadLine
-  pub stage : Stage
+  pub stage : LedgerStage
   pub left : Option (List ℕ)
   pub printed : List (List ℕ)
   pub lines : ReadsLines stages.Head before.ledger.remaining rs stage left
@@ -121,14 +121,14 @@ StopsBefore fault before after (Some was) (Some now) = (fault ≢ faults.Write) 
 StopsBefore fault before after was now = ⊥
 
 -- what a fault says of the line after these, if there are no recordings
-abbrev pub IsLoneFault : CutFault → List ReadLine → Stage → Option (List ℕ) → Option (List ℕ) → Type 0
+abbrev pub IsLoneFault : CutFault → List ReadLine → LedgerStage → Option (List ℕ) → Option (List ℕ) → Type 0
 IsLoneFault (faults.Ledger n fault) rs stage left rest = IsBadNext n fault rs stage left rest
 IsLoneFault (faults.Read source.Ledger) rs stage left rest = FailsInLine left rest
 IsLoneFault faults.Write rs stage left rest = (v : FrameLine) × StopsAfter stage left rest v
 IsLoneFault fault rs stage left rest = ⊥
 
 -- The lines before were checked, if there are recordings, and why the next one isn't printed.
-abbrev pub AreCheckedUpTo : Option Network → CutFault → LineDevices → Option Sources → Option Sources → List ReadLine → Stage → Option (List ℕ)
+abbrev pub AreCheckedUpTo : Option Network → CutFault → LineDevices → Option Sources → Option Sources → List ReadLine → LedgerStage → Option (List ℕ)
     → Option (List ℕ) → Type 0
 AreCheckedUpTo skips fault before None None rs stage left rest = IsLoneFault fault rs stage left rest
 AreCheckedUpTo skips fault before (Some was) (Some now) rs stage left rest =
@@ -138,7 +138,7 @@ AreCheckedUpTo skips fault before (Some was) (Some now) rs stage left rest =
 AreCheckedUpTo skips fault before was now rs stage left rest = ⊥
 
 -- The output has the lines that are taken. Where the sink failed, the next line is taken too, and a prefix of it follows.
-abbrev pub HasPrinted : Choice → CutFault → List ReadLine → Stage → Option (List ℕ) → List (List ℕ) → Option (List ℕ) → Option (List ℕ) → Type 0
+abbrev pub HasPrinted : Choice → CutFault → List ReadLine → LedgerStage → Option (List ℕ) → List (List ℕ) → Option (List ℕ) → Option (List ℕ) → Type 0
 HasPrinted choice faults.Write rs stage left printed before after =
     (v : FrameLine) × (text : List ℕ) × (part : ℕ) × NextIs stage left text v × Chooses choice (frame_lines rs) v
     × (part < length (whole_line text)) × Appends before after (whole_lines printed ++ take part (whole_line text))
@@ -147,7 +147,7 @@ HasPrinted choice fault rs stage left printed before after = Appends before afte
 -- The run was aborted at the line after these.
 pub record StopsPrinting (choice : Choice) (fault : CutFault) (before after : LineDevices) : Type 0 where
   pub rs : List ReadLine
-  pub stage : Stage
+  pub stage : LedgerStage
   pub left : Option (List ℕ)
   pub printed : List (List ℕ)
   pub lines : ReadsLines stages.Head before.ledger.remaining rs stage left

@@ -23,7 +23,7 @@ use crate::recordings::{Recordings, Unopened, is_read};
 use afdx_frame::{Network, TapFrame};
 use ledger_query::{Chooser, Neighbours, Selection};
 use ledger_text::{
-    Found, FrameLine, LedgerLine, LedgerReader, LedgerStop, LinesRefused, ReadFault,
+    FoundLine, FrameLine, LedgerLine, LedgerReader, LedgerStop, LinesRefused, ReadFault,
 };
 use packet_format::{PacketFault, PacketFormat, PacketWriter, head_of};
 use pcap_io::{OutSink, TapSource};
@@ -211,13 +211,13 @@ fn cut_lines<L: TapSource, S: TapSource, T: TapSource, W: OutSink, O: LineObserv
 {
     loop {
         match ledger.advance() {
-            Ok(Found::Line(LedgerLine::Frame(line))) => {
+            Ok(FoundLine::Line(LedgerLine::Frame(line))) => {
                 taking.cut_line(alloc, observer, selection, skips, &line, ledger.number())?;
             }
-            Ok(Found::Line(LedgerLine::Head)) => {}
-            Ok(Found::Line(LedgerLine::Counts(_))) => {}
-            Ok(Found::Complete) => return Ok(CutEnding::Complete),
-            Ok(Found::Incomplete(stop)) => return Ok(CutEnding::Incomplete(stop)),
+            Ok(FoundLine::Line(LedgerLine::Head)) => {}
+            Ok(FoundLine::Line(LedgerLine::Counts(_))) => {}
+            Ok(FoundLine::Complete) => return Ok(CutEnding::Complete),
+            Ok(FoundLine::Incomplete(stop)) => return Ok(CutEnding::Incomplete(stop)),
             Err(fault) => return Err(ledger_fault(fault)),
         }
     }

@@ -9,10 +9,10 @@ ghost use Rattle.pcap_io.specs.declared.layout.TheConstants.{FILE_HEADER_LEN};
 ghost use Rattle.pcap_io.specs.declared.reader.OpenFault.TheVariants as opening;
 ghost use Rattle.cut_run.specs.Finder.{Finds, HasRead, IsFindFault, Opening, fault_of, finder_source, finding_of, opening_of};
 ghost use Rattle.cut_run.specs.Places.{IsAbove, place_at};
-ghost use Rattle.cut_run.specs.declared.place.Place.{Place};
+ghost use Rattle.cut_run.specs.declared.place.SearchPlace.{SearchPlace};
 
 use crate::passed::{forget_below, keep_later, take_at};
-use crate::place::{Place, is_of};
+use crate::place::{SearchPlace, is_of};
 use afdx_frame::{Network, Stamp, TapFrame};
 use pcap_io::{Item, OpenRefused, ReadFault, TapReader, TapSource};
 use std::alloc::Global;
@@ -46,7 +46,7 @@ pub enum FindFault {
 #[derive(Drop)]
 pub struct FrameFinder<S> {
     reader: TapReader<S>,
-    passed: BTreeMap<Place, TapFrame>,
+    passed: BTreeMap<SearchPlace, TapFrame>,
     /// The index of the next frame that is read.
     next: u64,
     /// The source failed, or there was no memory for a frame.
@@ -99,7 +99,7 @@ impl<S: TapSource> FrameFinder<S> {
     }
 
     /// Reads on to the frame at the place, and keeps those that may still be asked for.
-    fn read_to(&mut self, alloc: Global, place: Place) -> Result<TapFrame, FindFault>
+    fn read_to(&mut self, alloc: Global, place: SearchPlace) -> Result<TapFrame, FindFault>
         ensures found { (o : Opening) (frames : List Frame)
             → HasRead o frames (Some place) (finding_of S.remaining S.failures self.old)
             → length frames ≤ place.number
@@ -138,7 +138,7 @@ impl<S: TapSource> FrameFinder<S> {
     /// timestamps go back. After `Device` and `Memory` each later call returns `Failed`.
     #[inline]
     pub fn find(&mut self, alloc: Global, stamp: Stamp, number: u64) -> Result<TapFrame, FindFault>
-        ensures found { (o : Opening) (frames : List Frame) (floor : Option Place)
+        ensures found { (o : Opening) (frames : List Frame) (floor : Option SearchPlace)
             → HasRead o frames floor (finding_of S.remaining S.failures self.old)
             → IsAbove floor (place_at stamp.0 number)
             → MatchResult result
@@ -152,7 +152,7 @@ impl<S: TapSource> FrameFinder<S> {
         if self.failed {
             return Err(FindFault::Failed);
         }
-        let place = Place { stamp, number };
+        let place = SearchPlace { stamp, number };
         forget_below(&mut self.passed, place);
         if number < self.next {
             return take_at(&mut self.passed, place).ok_or(FindFault::Absent);

@@ -7,7 +7,7 @@ ghost use Rattle.cut_run.specs.Noting.{EndsNoting, HasNotedLines, IsNeighboursRu
 use crate::cut::{into_ledger, ledger_fault};
 use crate::fault::CutFault;
 use ledger_query::{Chooser, Neighbours, Selection};
-use ledger_text::{Found, LedgerLine, LedgerReader, LinesRefused};
+use ledger_text::{FoundLine, LedgerLine, LedgerReader, LinesRefused};
 use pcap_io::TapSource;
 use std::alloc::{AllocError, Global};
 
@@ -36,17 +36,17 @@ fn note_lines<L: TapSource>(
 {
     loop {
         match ledger.advance() {
-            Ok(Found::Line(LedgerLine::Frame(line))) => {
+            Ok(FoundLine::Line(LedgerLine::Frame(line))) => {
                 let selected = chooser.takes(selection, &line);
                 match neighbours.note(&line, selected) {
                     Ok(()) => {}
                     Err(AllocError) => return Err(CutFault::Memory),
                 }
             }
-            Ok(Found::Line(LedgerLine::Head)) => {}
-            Ok(Found::Line(LedgerLine::Counts(_))) => {}
-            Ok(Found::Complete) => return Ok(()),
-            Ok(Found::Incomplete(_)) => return Ok(()),
+            Ok(FoundLine::Line(LedgerLine::Head)) => {}
+            Ok(FoundLine::Line(LedgerLine::Counts(_))) => {}
+            Ok(FoundLine::Complete) => return Ok(()),
+            Ok(FoundLine::Incomplete(_)) => return Ok(()),
             Err(fault) => return Err(ledger_fault(fault)),
         }
     }

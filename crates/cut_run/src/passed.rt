@@ -2,17 +2,17 @@
 ghost use Rattle.std.specs.Prelude.{◌≡◌, IsOk, IsTrue, IsSome, ◌↔◌, OnOk, OnErr, None, true, false};
 ghost use Rattle.cut_run.specs.Places.{IsBelow, place_of};
 ghost use Rattle.cut_run.specs.Passed.{Forgets, KeepsLater, Takes, passed_at};
-ghost use Rattle.cut_run.specs.declared.place.Place.{Place};
+ghost use Rattle.cut_run.specs.declared.place.SearchPlace.{SearchPlace};
 
-use crate::place::{Place, is_below, place_order};
+use crate::place::{SearchPlace, is_below, place_order};
 use afdx_frame::TapFrame;
 use std::collections::BTreeMap;
 
 /// Whether a frame was passed that is below the place.
 #[inline(always)]
-fn has_below(passed: &BTreeMap<Place, TapFrame>, place: Place) -> bool
-    ensures below { result ≡ true → (q : Place) × IsSome (passed_at passed.now q) × IsBelow q place }
-    ensures none { result ≡ false → (q : Place) → IsSome (passed_at passed.now q) → IsBelow q place → ⊥ }
+fn has_below(passed: &BTreeMap<SearchPlace, TapFrame>, place: SearchPlace) -> bool
+    ensures below { result ≡ true → (q : SearchPlace) × IsSome (passed_at passed.now q) × IsBelow q place }
+    ensures none { result ≡ false → (q : SearchPlace) → IsSome (passed_at passed.now q) → IsBelow q place → ⊥ }
 {
     place_order();
     match passed.first_key_value() {
@@ -23,7 +23,7 @@ fn has_below(passed: &BTreeMap<Place, TapFrame>, place: Place) -> bool
 
 /// Drops the frames below the place.
 #[inline]
-pub(crate) fn forget_below(passed: &mut BTreeMap<Place, TapFrame>, place: Place)
+pub(crate) fn forget_below(passed: &mut BTreeMap<SearchPlace, TapFrame>, place: SearchPlace)
     ensures { Forgets place passed.old passed.new }
 {
     place_order();
@@ -33,7 +33,10 @@ pub(crate) fn forget_below(passed: &mut BTreeMap<Place, TapFrame>, place: Place)
 }
 
 /// Takes out the frame at the place.
-pub(crate) fn take_at(passed: &mut BTreeMap<Place, TapFrame>, place: Place) -> Option<TapFrame>
+pub(crate) fn take_at(
+    passed: &mut BTreeMap<SearchPlace, TapFrame>,
+    place: SearchPlace,
+) -> Option<TapFrame>
     ensures found { result ≡ passed_at passed.old place }
     ensures taken { Takes place passed.old passed.new }
 {
@@ -43,15 +46,15 @@ pub(crate) fn take_at(passed: &mut BTreeMap<Place, TapFrame>, place: Place) -> O
 
 /// Keeps a frame, if it is later than the place. None: there was no memory to keep it.
 pub(crate) fn keep_later(
-    passed: &mut BTreeMap<Place, TapFrame>,
-    place: Place,
+    passed: &mut BTreeMap<SearchPlace, TapFrame>,
+    place: SearchPlace,
     frame: TapFrame,
 ) -> Option<()>
     ensures kept { IsSome result → KeepsLater place frame passed.old passed.new }
     ensures refused { result ≡ None → IsBelow place (place_of frame) }
 {
     place_order();
-    let at = Place::of(&frame);
+    let at = SearchPlace::of(&frame);
     if !is_below(place, at) {
         return Some(());
     }

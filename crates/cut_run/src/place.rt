@@ -1,24 +1,24 @@
 //! The order in which frames are asked for.
 ghost use Rattle.std.specs.Prelude.{◌≡◌, true};
 ghost use Rattle.cut_run.specs.Places.{is_below, place_cmp, place_of};
-ghost use Rattle.cut_run.specs.declared.place.Place.{Place};
+ghost use Rattle.cut_run.specs.declared.place.SearchPlace.{SearchPlace};
 
 use afdx_frame::{Stamp, TapFrame};
 
 /// The place of a frame in the order of its recording's timestamps: by timestamp, then by index.
 #[derive(Clone, Copy, Debug, PartialEq, Eq, PartialOrd, Ord)]
-pub(crate) struct Place {
+pub(crate) struct SearchPlace {
     pub(crate) stamp: Stamp,
     pub(crate) number: u64,
 }
 
-impl Place {
+impl SearchPlace {
     /// The frame's place.
     #[inline(always)]
-    pub(crate) fn of(frame: &TapFrame) -> Place
+    pub(crate) fn of(frame: &TapFrame) -> SearchPlace
         ensures { result ≡ place_of frame.now }
     {
-        Place {
+        SearchPlace {
             stamp: frame.stamp(),
             number: frame.number(),
         }
@@ -27,12 +27,12 @@ impl Place {
 
 /// What `Ord` says of places: the timestamp decides, then the index.
 pub(crate) fn place_order()
-    ensures { (p q : Place) → ⟦<Place as Ord>⟧.cmp p q ≡ place_cmp p q }
+    ensures { (p q : SearchPlace) → ⟦<SearchPlace as Ord>⟧.cmp p q ≡ place_cmp p q }
 {}
 
 /// Whether the first place is below the second.
 #[inline(always)]
-pub(crate) fn is_below(first: Place, second: Place) -> bool
+pub(crate) fn is_below(first: SearchPlace, second: SearchPlace) -> bool
     ensures { result ≡ is_below first second }
 {
     place_order();
@@ -41,7 +41,7 @@ pub(crate) fn is_below(first: Place, second: Place) -> bool
 
 /// Whether the frame is of the place.
 #[inline(always)]
-pub(crate) fn is_of(frame: &TapFrame, place: Place) -> bool
+pub(crate) fn is_of(frame: &TapFrame, place: SearchPlace) -> bool
     ensures same { result ≡ true → place_of frame.now ≡ place }
     ensures other { place_of frame.now ≡ place → result ≡ true }
 {

@@ -18,7 +18,7 @@ use crate::observer::LineObserver;
 use crate::recordings::{Recordings, Unopened, is_read};
 use afdx_frame::Network;
 use ledger_query::{Chooser, Neighbours, Selection};
-use ledger_text::{Found, FrameLine, LedgerLine, LedgerReader, LinesRefused};
+use ledger_text::{FoundLine, FrameLine, LedgerLine, LedgerReader, LinesRefused};
 use pcap_io::{DeviceFault, OutSink, TapSource, write_all};
 use std::alloc::Global;
 
@@ -187,7 +187,7 @@ fn print_all<L: TapSource, S: TapSource, T: TapSource, W: OutSink, O: LineObserv
 {
     loop {
         match ledger.advance() {
-            Ok(Found::Line(LedgerLine::Frame(line))) => {
+            Ok(FoundLine::Line(LedgerLine::Frame(line))) => {
                 printing.print_line(
                     alloc,
                     observer,
@@ -198,10 +198,10 @@ fn print_all<L: TapSource, S: TapSource, T: TapSource, W: OutSink, O: LineObserv
                     ledger.line(),
                 )?;
             }
-            Ok(Found::Line(LedgerLine::Head)) => {}
-            Ok(Found::Line(LedgerLine::Counts(_))) => {}
-            Ok(Found::Complete) => return Ok(CutEnding::Complete),
-            Ok(Found::Incomplete(stop)) => return Ok(CutEnding::Incomplete(stop)),
+            Ok(FoundLine::Line(LedgerLine::Head)) => {}
+            Ok(FoundLine::Line(LedgerLine::Counts(_))) => {}
+            Ok(FoundLine::Complete) => return Ok(CutEnding::Complete),
+            Ok(FoundLine::Incomplete(stop)) => return Ok(CutEnding::Incomplete(stop)),
             Err(fault) => return Err(ledger_fault(fault)),
         }
     }

@@ -7,7 +7,7 @@ use Rattle.filter_workers.specs.Filters.{accepts_bit, answer_by, answer_for, mas
 use Rattle.ledger_text.specs.Ledger.{ReadLine, ReadsLines}
 use Rattle.ledger_text.specs.Reads.{Below}
 use Rattle.ledger_text.specs.declared.order.Counts.TheVariants as counts
-use Rattle.ledger_text.specs.declared.order.Stage.TheVariants as stages
+use Rattle.ledger_text.specs.declared.order.LedgerStage.TheVariants as stages
 use Rattle.pcap_io.specs.declared.recording.Ending.{Ending}
 use Rattle.round_writer.specs.Filters.{Making, entries_by, keep_by, keep_of, ledger_by}
 use Rattle.verdict_ledger.specs.Entry.{entries_of, entry_with}

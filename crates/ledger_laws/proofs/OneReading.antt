@@ -24,9 +24,9 @@ use Rattle.ledger_text.specs.declared.order.Counts.{Counts}
 use Rattle.ledger_text.specs.declared.order.Counts.TheVariants as counts
 use Rattle.ledger_text.specs.declared.order.LedgerLine.{LedgerLine}
 use Rattle.ledger_text.specs.declared.order.LedgerLine.TheVariants as lines
-use Rattle.ledger_text.specs.declared.order.Stage.{Stage}
-use Rattle.ledger_text.specs.declared.order.Stage.TheVariants as stages
-use Rattle.ledger_text.specs.declared.reader.Found.TheVariants as found
+use Rattle.ledger_text.specs.declared.order.LedgerStage.{LedgerStage}
+use Rattle.ledger_text.specs.declared.order.LedgerStage.TheVariants as stages
+use Rattle.ledger_text.specs.declared.reader.FoundLine.TheVariants as found
 use Rattle.ledger_text.specs.declared.reader.LedgerStop.{LedgerStop}
 
 -- ---- the text of a line
@@ -86,7 +86,7 @@ frame_is_no_counts text v kind is counted =
 one_frame : (text : List ℕ) (v w : FrameLine) → IsFrameText text v → IsFrameText text w → v ≡ w
 one_frame text v w p q = one_line v w p.values q.values (sym p.fields ∙ q.fields)
 
-one_said : (stage : Stage) (text : List ℕ) (l k : LedgerLine) → IsLineAt stage text l → IsLineAt stage text k → l ≡ k
+one_said : (stage : LedgerStage) (text : List ℕ) (l k : LedgerLine) → IsLineAt stage text l → IsLineAt stage text k → l ≡ k
 one_said stages.Head text lines.Head lines.Head p q = refl
 one_said stages.Frames text (lines.Frame v) (lines.Frame w) p q = ap lines.Frame (one_frame text v w p q)
 one_said stages.Frames text (lines.Frame v) (lines.Counts k) p q = absurd (frame_is_no_counts text v k p q)
@@ -108,11 +108,11 @@ make text line = record { text = text; line = line }
 same_line : (r q : ReadLine) → r.text ≡ q.text → r.line ≡ q.line → q ≡ r
 same_line r q text line = let same : make q.text q.line ≡ make r.text r.line = cc in same
 
-pub first_lines : (stage here end : Stage) (bytes : List ℕ) (left : Option (List ℕ)) (rs all : List ReadLine)
+pub first_lines : (stage here end : LedgerStage) (bytes : List ℕ) (left : Option (List ℕ)) (rs all : List ReadLine)
     → ReadsLines stage (Some bytes) rs here left → ReadsLines stage (Some bytes) all end (Some [])
     → (others : List ReadLine) × (all ≡ rs ++ others) × ReadsLines here left others end (Some [])
 first_lines stage here end bytes left [] all (same, left_is) h =
-    (all, refl, subst (λ (x : Option (List ℕ)). ReadsLines here x all end (Some [])) left_is (subst (λ (x : Stage). ReadsLines x (Some bytes) all end (Some [])) same h))
+    (all, refl, subst (λ (x : Option (List ℕ)). ReadsLines here x all end (Some [])) left_is (subst (λ (x : LedgerStage). ReadsLines x (Some bytes) all end (Some [])) same h))
 first_lines stage here end bytes left (r ∷ rs) all (None, takes, more) h = absurd takes.gone
 first_lines stage here end bytes left (r ∷ rs) [] (Some m, takes, more) (same, none) =
     let empty : bytes ≡ [] = cc in
@@ -136,7 +136,7 @@ agrees_itself zero fields = tt
 agrees_itself (suc n) [] = refl
 agrees_itself (suc n) (field ∷ fields) = (refl, agrees_itself n fields)
 
-not_wrong : (stage : Stage) (line : List ℕ) (said : LedgerLine) (fault : LineFault) → IsLineAt stage line said → IsLineFaultAt stage line fault → ⊥
+not_wrong : (stage : LedgerStage) (line : List ℕ) (said : LedgerLine) (fault : LineFault) → IsLineAt stage line said → IsLineFaultAt stage line fault → ⊥
 not_wrong stages.Head line lines.Head faults.Head p q = q p
 not_wrong stages.Frames line (lines.Frame v) (faults.Frame fault) p q =
     q.0.departs v p.values (subst (λ (fields : List (List ℕ)). Agrees (suc (fields_before fault)) (frame_fields v) fields) (sym p.fields) (agrees_itself (suc (fields_before fault)) (frame_fields v)))
@@ -161,7 +161,7 @@ ends_before (x ∷ line) after (y ∷ text) rest h e =
     let others : line ++ after ≡ (text ++ 10 ∷ []) ++ rest = cc in
     omega (arith, ends_before line after text rest (step x line (is_newline x) refl h).1 others)
 
-total_is_last : (stage : Stage) (text : List ℕ) (line : LedgerLine) → has_total stage ≡ true → IsLineAt stage text line → ⊥
+total_is_last : (stage : LedgerStage) (text : List ℕ) (line : LedgerLine) → has_total stage ≡ true → IsLineAt stage text line → ⊥
 total_is_last stages.Head text line h p = false≢true h
 total_is_last stages.Frames text line h p = false≢true h
 total_is_last (stages.Counts counts.Link) text line h p = false≢true h
@@ -192,10 +192,10 @@ at_end None bytes e h = absurd (none_is_no bytes e)
 at_end (Some ys) bytes e h = same_bytes ys bytes e ∙ h
 
 -- whole lines are left
-abbrev AreLeft : Stage → List ℕ → List ReadLine → Type 0
+abbrev AreLeft : LedgerStage → List ℕ → List ReadLine → Type 0
 AreLeft stage bytes others = ReadsLines stage (Some bytes) others (stages.Counts counts.Total) (Some [])
 
-line_refused : (stage : Stage) (bytes line rest : List ℕ) (others : List ReadLine) (fault : LineFault) → NoNewline line → bytes ≡ (line ++ 10 ∷ []) ++ rest
+line_refused : (stage : LedgerStage) (bytes line rest : List ℕ) (others : List ReadLine) (fault : LineFault) → NoNewline line → bytes ≡ (line ++ 10 ∷ []) ++ rest
     → AreLeft stage bytes others → IsLineFaultAt stage line fault → ⊥
 line_refused stage bytes line rest [] fault one is (last, none) bad =
     let empty = same_bytes bytes [] none in
@@ -205,14 +205,14 @@ line_refused stage bytes line rest (r ∷ others) fault one is (Some m, takes, m
     let same = same_text r.text line m rest takes.one one (sym takes.gone ∙ is) in
     not_wrong stage line r.line fault (subst (λ (x : List ℕ). IsLineAt stage x r.line) same.0 takes.stands) bad
 
-long_refused : (stage : Stage) (bytes line rest : List ℕ) (others : List ReadLine) → NoNewline line → length line ≡ BLOCK_LEN → bytes ≡ line ++ rest
+long_refused : (stage : LedgerStage) (bytes line rest : List ℕ) (others : List ReadLine) → NoNewline line → length line ≡ BLOCK_LEN → bytes ≡ line ++ rest
     → AreLeft stage bytes others → ⊥
 long_refused stage bytes line rest [] one long is (last, none) = omega (arith, ap length (same_bytes bytes [] none ∙ is), length-append line rest, long)
 long_refused stage bytes line rest (r ∷ others) one long is (None, takes, more) = takes.gone
 long_refused stage bytes line rest (r ∷ others) one long is (Some m, takes, more) =
     omega (arith, ends_before line rest r.text m one (sym is ∙ takes.gone), takes.short, long)
 
-part_refused : (stage : Stage) (bytes : List ℕ) (others : List ReadLine) → has_total stage ≡ true → 0 < length bytes → AreLeft stage bytes others → ⊥
+part_refused : (stage : LedgerStage) (bytes : List ℕ) (others : List ReadLine) → has_total stage ≡ true → 0 < length bytes → AreLeft stage bytes others → ⊥
 part_refused stage bytes [] total some (last, none) = omega (arith, some, ap length (same_bytes bytes [] none))
 part_refused stage bytes (r ∷ others) total some (mid, takes, more) = total_is_last stage r.text r.line total takes.stands
 
@@ -236,7 +236,7 @@ none_refused old new bytes line others faults.Order is reads few ((one, short, g
 
 -- ---- no end is found before
 
-not_ended : (stage : Stage) (bytes : List ℕ) (others : List ReadLine) → has_total stage ≡ false → NoNewline bytes → AreLeft stage bytes others → ⊥
+not_ended : (stage : LedgerStage) (bytes : List ℕ) (others : List ReadLine) → has_total stage ≡ false → NoNewline bytes → AreLeft stage bytes others → ⊥
 not_ended stage bytes [] without one (last, none) = true≢false (sym (ap has_total last) ∙ without)
 not_ended stage bytes (r ∷ others) without one (None, takes, more) = takes.gone
 not_ended stage bytes (r ∷ others) without one (Some m, takes, more) =

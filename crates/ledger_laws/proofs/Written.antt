@@ -13,8 +13,8 @@ use Rattle.ledger_text.specs.declared.order.Counts.{Counts}
 use Rattle.ledger_text.specs.declared.order.Counts.TheVariants as counts
 use Rattle.ledger_text.specs.declared.order.LedgerLine.{LedgerLine}
 use Rattle.ledger_text.specs.declared.order.LedgerLine.TheVariants as lines
-use Rattle.ledger_text.specs.declared.order.Stage.{Stage}
-use Rattle.ledger_text.specs.declared.order.Stage.TheVariants as stages
+use Rattle.ledger_text.specs.declared.order.LedgerStage.{LedgerStage}
+use Rattle.ledger_text.specs.declared.order.LedgerStage.TheVariants as stages
 use Rattle.pcap_io.specs.declared.recording.Ending.{Ending}
 use Rattle.verdict_ledger.specs.Entry.{Entry}
 use Rattle.verdict_ledger.specs.Tally.{link_counts, totals_of}
@@ -27,12 +27,12 @@ use Rattle.pcap_io.specs.Word.{frames_before}
 use Rattle.ledger_laws.specs.Laws.{AreWritable, IsNamed, written_lines}
 
 -- the bytes are lines that say this, the first of which stands here, up to that of all frames
-abbrev Whole : Stage → List ℕ → List LedgerLine → Type 0
+abbrev Whole : LedgerStage → List ℕ → List LedgerLine → Type 0
 Whole stage bytes said =
     (rs : List ReadLine) × (map (λ r. r.line) rs ≡ said) × ReadsLines stage (Some bytes) rs (stages.Counts counts.Total) (Some [])
 
 -- one line more before them
-line_before : (stage : Stage) (text bytes rest : List ℕ) (line : LedgerLine) (said : List LedgerLine) → bytes ≡ text ++ 10 ∷ [] → is_plain text ≡ true
+line_before : (stage : LedgerStage) (text bytes rest : List ℕ) (line : LedgerLine) (said : List LedgerLine) → bytes ≡ text ++ 10 ∷ [] → is_plain text ≡ true
     → length text < BLOCK_LEN → IsLineAt stage text line → Whole (stage_after line) rest said → Whole stage (bytes ++ rest) (line ∷ said)
 line_before stage text bytes rest line said is plain short stands (rs, same, reads) =
     let first : TakesLine stage (Some (bytes ++ rest)) (Some rest) (record { text = text; line = line }) = record {
@@ -44,17 +44,17 @@ line_before stage text bytes rest line said is plain short stands (rs, same, rea
     (record { text = text; line = line } ∷ rs, ap (λ (l : List LedgerLine). line ∷ l) same, (Some rest, first, reads))
 
 -- a line of counts may stand there
-abbrev permits : Stage → Counts → Bool
+abbrev permits : LedgerStage → Counts → Bool
 permits stages.Head kind = false
 permits stages.Frames kind = true
 permits (stages.Counts last) kind = may_follow last kind
 
-stands_there : (stage : Stage) (kind : Counts) (text : List ℕ) → permits stage kind ≡ true → IsCounts text kind → IsLineAt stage text (lines.Counts kind)
+stands_there : (stage : LedgerStage) (kind : Counts) (text : List ℕ) → permits stage kind ≡ true → IsCounts text kind → IsLineAt stage text (lines.Counts kind)
 stands_there stages.Head kind text h is = absurd (false≢true h)
 stands_there stages.Frames kind text h is = is
 stands_there (stages.Counts last) kind text h is = (is, h)
 
-counts_before : (stage : Stage) (kind : Counts) (bytes rest : List ℕ) (said : List LedgerLine) → permits stage kind ≡ true → IsCountsLine kind bytes
+counts_before : (stage : LedgerStage) (kind : Counts) (bytes rest : List ℕ) (said : List LedgerLine) → permits stage kind ≡ true → IsCountsLine kind bytes
     → Whole (stages.Counts kind) rest said → Whole stage (bytes ++ rest) (lines.Counts kind ∷ said)
 counts_before stage kind bytes rest said may line whole =
     line_before stage line.text bytes rest (lines.Counts kind) said line.is line.plain line.short (stands_there stage kind line.text may line.stands) whole
@@ -64,7 +64,7 @@ counts_before stage kind bytes rest said may line whole =
 abbrev last_lines : List LedgerLine
 last_lines = lines.Counts counts.Tap ∷ lines.Counts counts.Tap ∷ lines.Counts counts.Total ∷ []
 
-taps_and_total : (stage : Stage) (entries : List Entry) (a b : Ending) → permits stage counts.Tap ≡ true → length entries < 2 ^ 64 → frames_before a < 2 ^ 64
+taps_and_total : (stage : LedgerStage) (entries : List Entry) (a b : Ending) → permits stage counts.Tap ≡ true → length entries < 2 ^ 64 → frames_before a < 2 ^ 64
     → frames_before b < 2 ^ 64 → Whole stage (tap_line A a ++ (tap_line B b ++ total_line (totals_of entries))) last_lines
 taps_and_total stage entries a b may few few_a few_b =
     let none : Whole (stages.Counts counts.Total) [] [] = ([], refl, (refl, refl)) in
@@ -78,7 +78,7 @@ taps_and_total stage entries a b may few few_a few_b =
 
 -- ---- the filters and the links before them
 
-taps_follow : (stage : Stage) → permits stage counts.Filter ≡ true → permits stage counts.Tap ≡ true
+taps_follow : (stage : LedgerStage) → permits stage counts.Filter ≡ true → permits stage counts.Tap ≡ true
 taps_follow stages.Head h = absurd (false≢true h)
 taps_follow stages.Frames h = refl
 taps_follow (stages.Counts counts.Link) h = refl
@@ -86,7 +86,7 @@ taps_follow (stages.Counts counts.Filter) h = refl
 taps_follow (stages.Counts counts.Tap) h = refl
 taps_follow (stages.Counts counts.Total) h = absurd (false≢true h)
 
-filters_follow : (stage : Stage) → permits stage counts.Link ≡ true → permits stage counts.Filter ≡ true
+filters_follow : (stage : LedgerStage) → permits stage counts.Link ≡ true → permits stage counts.Filter ≡ true
 filters_follow stages.Head h = absurd (false≢true h)
 filters_follow stages.Frames h = refl
 filters_follow (stages.Counts counts.Link) h = refl
@@ -94,8 +94,8 @@ filters_follow (stages.Counts counts.Filter) h = absurd (false≢true h)
 filters_follow (stages.Counts counts.Tap) h = absurd (false≢true h)
 filters_follow (stages.Counts counts.Total) h = absurd (false≢true h)
 
-filters_before : (stage : Stage) (filter : ℕ) (accepted : List ℕ) (rest : List ℕ) → permits stage counts.Filter ≡ true → AreFew accepted
-    → filter + length accepted < 2 ^ 64 → ((after : Stage) → permits after counts.Tap ≡ true → Whole after rest last_lines)
+filters_before : (stage : LedgerStage) (filter : ℕ) (accepted : List ℕ) (rest : List ℕ) → permits stage counts.Filter ≡ true → AreFew accepted
+    → filter + length accepted < 2 ^ 64 → ((after : LedgerStage) → permits after counts.Tap ≡ true → Whole after rest last_lines)
     → Whole stage (filter_lines filter accepted ++ rest) (map (λ n. lines.Counts counts.Filter) accepted ++ last_lines)
 filters_before stage filter [] rest may few below ends = ends stage (taps_follow stage may)
 filters_before stage filter (n ∷ accepted) rest may few below ends =
@@ -105,8 +105,8 @@ filters_before stage filter (n ∷ accepted) rest may few below ends =
     (sym (append_assoc (filter_line filter n) (filter_lines (filter + 1) accepted) rest))
     (counts_before stage counts.Filter (filter_line filter n) (filter_lines (filter + 1) accepted ++ rest) _ may (filter_is_counts filter n (omega (arith, below)) few.0) others)
 
-links_before : (stage : Stage) (entries : List Entry) (links : List VirtualLink) (rest : List ℕ) (said : List LedgerLine) → permits stage counts.Link ≡ true
-    → length entries < 2 ^ 64 → AllByRecursion IsNamed links → ((after : Stage) → permits after counts.Filter ≡ true → Whole after rest said)
+links_before : (stage : LedgerStage) (entries : List Entry) (links : List VirtualLink) (rest : List ℕ) (said : List LedgerLine) → permits stage counts.Link ≡ true
+    → length entries < 2 ^ 64 → AllByRecursion IsNamed links → ((after : LedgerStage) → permits after counts.Filter ≡ true → Whole after rest said)
     → Whole stage (link_lines (link_counts entries) links ++ rest) (map (λ link. lines.Counts counts.Link) links ++ said)
 links_before stage entries [] rest said may few named ends = ends stage (filters_follow stage may)
 links_before stage entries (link ∷ links) rest said may few named ends =
@@ -139,8 +139,8 @@ pub written : (vl_table : VlTable) (filters : ℕ) (entries : List Entry) (a b :
     → Whole stages.Head (ledger_text vl_table filters entries a b) (written_lines vl_table filters entries)
 written vl_table filters entries a b h =
     let accepted = take filters (totals_of entries).filters in
-    let ends = λ (stage : Stage) (may : permits stage counts.Tap ≡ true). taps_and_total stage entries a b may h.few h.few_a h.few_b in
-    let after_links = λ (stage : Stage) (may : permits stage counts.Filter ≡ true).
+    let ends = λ (stage : LedgerStage) (may : permits stage counts.Tap ≡ true). taps_and_total stage entries a b may h.few h.few_a h.few_b in
+    let after_links = λ (stage : LedgerStage) (may : permits stage counts.Filter ≡ true).
     filters_before stage 0 accepted _ may (filters_few filters entries h.few) (omega (arith, filters_taken filters entries)) ends in
     let after_frames = links_before stages.Frames entries vl_table.links (end_text (totals_of entries) filters a b) _ refl h.few h.named after_links in
     head_before _ _ (frame_lines_before entries (rest_text vl_table filters entries a b) _ h.shown after_frames)

@@ -11,9 +11,9 @@ use Rattle.ledger_text.specs.declared.fault.LineFault.{LineFault}
 use Rattle.ledger_text.specs.declared.order.Counts.TheVariants as counts
 use Rattle.ledger_text.specs.declared.order.LedgerLine.{LedgerLine}
 use Rattle.ledger_text.specs.declared.order.LedgerLine.TheVariants as lines
-use Rattle.ledger_text.specs.declared.order.Stage.{Stage}
-use Rattle.ledger_text.specs.declared.order.Stage.TheVariants as stages
-use Rattle.ledger_text.specs.declared.reader.Found.TheVariants as found
+use Rattle.ledger_text.specs.declared.order.LedgerStage.{LedgerStage}
+use Rattle.ledger_text.specs.declared.order.LedgerStage.TheVariants as stages
+use Rattle.ledger_text.specs.declared.reader.FoundLine.TheVariants as found
 use Rattle.ledger_text.specs.declared.reader.LedgerStop.{LedgerStop}
 use Rattle.pcap_io.specs.Bytes.{IsBytes}
 use Rattle.pcap_io.specs.Word.{frames_before}
@@ -81,7 +81,7 @@ VerdictsAreShown = (vl_table : VlTable) (frames : List Frame) (keeps : List (Opt
 
 -- Where bytes are whole lines, those that were read of them are the first, and the others are left.
 abbrev pub ReadsFirstLines : Type 0
-ReadsFirstLines = (stage here end : Stage) (bytes : List ℕ) (left : Option (List ℕ)) (rs all : List ReadLine)
+ReadsFirstLines = (stage here end : LedgerStage) (bytes : List ℕ) (left : Option (List ℕ)) (rs all : List ReadLine)
     → ReadsLines stage (Some bytes) rs here left → ReadsLines stage (Some bytes) all end (Some [])
     → (others : List ReadLine) × (all ≡ rs ++ others) × ReadsLines here left others end (Some [])
 

@@ -4,7 +4,7 @@ use Rattle.std.specs.List.{AllByRecursion}
 use Rattle.afdx_frame.specs.Frame.{Frame}
 use Rattle.ledger_text.specs.Ledger.{ReadLine, ReadsLines}
 use Rattle.ledger_text.specs.declared.order.Counts.TheVariants as counts
-use Rattle.ledger_text.specs.declared.order.Stage.TheVariants as stages
+use Rattle.ledger_text.specs.declared.order.LedgerStage.TheVariants as stages
 use Rattle.pcap_io.specs.declared.recording.Ending.{Ending}
 use Rattle.round_writer.specs.Filters.{Making, entries_by, ledger_by}
 use Rattle.vl_config.specs.Document.{VlTable}

@@ -25,9 +25,9 @@ use Rattle.ledger_report.specs.Noting.{AreNetworksOf, IsAccountOf, IsIndexOf, Is
 use Rattle.ledger_report.specs.OutsideLines.{IsOutsideOf}
 use Rattle.ledger_report.specs.Words.{is_of_id, is_seen, is_seen_of}
 use Rattle.ledger_report.specs.declared.link.LinkReport.{LinkReport}
-use Rattle.ledger_report.specs.declared.moment.Moment.{Moment}
+use Rattle.ledger_report.specs.declared.moment.LinePlace.{LinePlace}
 use Rattle.ledger_report.specs.declared.network.NetworkReport.{NetworkReport}
-use Rattle.ledger_report.specs.declared.sides.Sides.{Sides}
+use Rattle.ledger_report.specs.declared.per_network.PerNetwork.{PerNetwork}
 use Rattle.ledger_report.specs.declared.statistics.Statistics.{Statistics}
 use Rattle.ledger_report.proofs.Distances.{by_test}
 use Rattle.ledger_report.proofs.LinkSteps.{keeps_link, link_more, link_other, met_other, met_own}
@@ -139,7 +139,7 @@ links_set links line lines reports index id place new is at within of_link own h
 
 -- ---- the whole account
 
-account_from : (links : List VirtualLink) (lines : List FrameLine) (after : Statistics) (networks : Sides NetworkReport) (reports : List LinkReport) (index : List ℕ) →
+account_from : (links : List VirtualLink) (lines : List FrameLine) (after : Statistics) (networks : PerNetwork NetworkReport) (reports : List LinkReport) (index : List ℕ) →
     after.networks ≡ networks → after.links.items ≡ reports → after.index.items ≡ index →
     AreNetworksOf lines networks → AreLinksOf links lines reports → IsIndexOf links index → AreBalanced reports → AreEach CountsMet links lines reports →
     IsOutsideOf lines after.outside.items → IsAccountOf links lines after
@@ -197,7 +197,7 @@ balanced_set reports place new within now h = λ i report below. by_test (i == p
     (h i report (omega (arith, below, length-set reports place new))))
 
 -- what a line's note does to its link
-pub record NotesLink (line : FrameLine) (number : ℕ) (at : Moment) (before networks : Sides NetworkReport) (old new : LinkReport) : Type 0 where
+pub record NotesLink (line : FrameLine) (number : ℕ) (at : LinePlace) (before networks : PerNetwork NetworkReport) (old new : LinkReport) : Type 0 where
   pub lanes : NotesLane (seen_line (side_of at.network old.lanes) (side_of at.network before) line number at) old new
   pub deliveries : old.deliveries + 1 < 2 ^ 64 → new.deliveries ≡ old.deliveries + one_where (is_deliver line)
   pub copies : NotesCopy line number at old new
@@ -207,8 +207,8 @@ pub record NotesLink (line : FrameLine) (number : ℕ) (at : Moment) (before net
   pub keeps : KeepsNetworks before networks
 
 -- a line of the table's link at this place
-pub account_more : (links : List VirtualLink) (line : FrameLine) (lines : List FrameLine) (s after : Statistics) (id : VlId) (number : ℕ) (at : Moment) (place : ℕ)
-    (old new : LinkReport) (networks : Sides NetworkReport) → length lines < 2 ^ 34 → IsFrameLine line → IsMomentOf line at → line.link ≡ Some id →
+pub account_more : (links : List VirtualLink) (line : FrameLine) (lines : List FrameLine) (s after : Statistics) (id : VlId) (number : ℕ) (at : LinePlace) (place : ℕ)
+    (old new : LinkReport) (networks : PerNetwork NetworkReport) → length lines < 2 ^ 34 → IsFrameLine line → IsMomentOf line at → line.link ≡ Some id →
     line.sequence ≡ Some number → is_class Unconfigured line.verdict.class ≡ false → AreNetworksOf (line ∷ lines) s.networks → AreLinksOf links lines s.links.items →
     IsIndexOf links s.index.items → AreBalanced s.links.items → AreEach CountsMet links lines s.links.items → place ≡ get_or s.index.items id.0 65535 → place < length s.links.items →
     old ≡ get_or s.links.items place old → NotesLink line number at s.networks networks old new →

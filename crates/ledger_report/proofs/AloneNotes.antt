@@ -28,16 +28,16 @@ use Rattle.ledger_report.specs.Standings.{Standing, frames_on}
 use Rattle.ledger_report.specs.Sums.{saturated}
 use Rattle.afdx_frame.specs.Frame.{other_network}
 use Rattle.ledger_report.specs.Words.{is_seen_of, rule_of}
-use Rattle.ledger_report.specs.declared.lane.Lane.{Lane}
+use Rattle.ledger_report.specs.declared.lane.LaneReport.{LaneReport}
 use Rattle.ledger_report.specs.declared.link.LinkReport.{LinkReport}
-use Rattle.ledger_report.specs.declared.moment.Moment.{Moment}
+use Rattle.ledger_report.specs.declared.moment.LinePlace.{LinePlace}
 use Rattle.ledger_report.specs.declared.network.NetworkReport.{NetworkReport}
 use Rattle.ledger_report.specs.declared.pairing.Delivery.{Delivery}
 use Rattle.ledger_report.specs.declared.pairing.Pairing.{Pairing}
-use Rattle.ledger_report.specs.declared.sides.Sides.{Sides}
-use Rattle.ledger_report.specs.declared.signs.Mark.{Mark}
-use Rattle.ledger_report.specs.declared.signs.Sign.{Sign}
-use Rattle.ledger_report.specs.declared.signs.Sign.TheVariants.{Alone}
+use Rattle.ledger_report.specs.declared.per_network.PerNetwork.{PerNetwork}
+use Rattle.ledger_report.specs.declared.anomalies.AnomalyTally.{AnomalyTally}
+use Rattle.ledger_report.specs.declared.anomalies.Anomaly.{Anomaly}
+use Rattle.ledger_report.specs.declared.anomalies.Anomaly.TheVariants.{Alone}
 use Rattle.ledger_report.proofs.AloneSteps.{amounts_at, has_kept}
 use Rattle.ledger_report.proofs.FateCounts.{deliver_some, judged_none}
 use Rattle.ledger_report.proofs.FateLines.{comes_late_same, delivers_it}
@@ -75,7 +75,7 @@ before_none : (rules : PairingRules) (line : FrameLine) (lines : List FrameLine)
 before_none rules line lines pairing off h n =
     h n ∙ ap (λ (o : Option Standing). option_map lines_before o) (sym (latest_stays rules n line lines (off n)))
 
-still_held : (rules : PairingRules) (network : Network) (line : FrameLine) (lines : List FrameLine) (old new : Lane) →
+still_held : (rules : PairingRules) (network : Network) (line : FrameLine) (lines : List FrameLine) (old new : LaneReport) →
     delivers rules.id (number_of line) line ≡ false →
     KeepsMissed old new → HasMissed (missed_before rules network lines) old →
     HasMissed (missed_before rules network (line ∷ lines)) new
@@ -98,8 +98,8 @@ alone_other row line lines report off h = record {
 
 -- ---- a line of the link
 
-pub alone_more : (row : Row) (line : FrameLine) (lines : List FrameLine) (number : ℕ) (at : Moment)
-    (networks : Sides NetworkReport)
+pub alone_more : (row : Row) (line : FrameLine) (lines : List FrameLine) (number : ℕ) (at : LinePlace)
+    (networks : PerNetwork NetworkReport)
     (old new : LinkReport) →
     is_seen_of row.id line ≡ true → line.sequence ≡ Some number → IsMomentOf line at → IsFrameLine line → HaveLines (line ∷ lines) networks →
     NotesMissed line number at networks old new → IsLinkOf row lines old →
@@ -142,7 +142,7 @@ alone_more row line lines number at networks old new seen sequence moment reache
     }
       where
         quiet : (is_some (rule_of line) && old.redundancy) ≡ false
-        quiet = ap (λ (o : Option Sign). is_some o && old.redundancy) (judged_none line reached (deliver_some line.verdict.redundancy on))
+        quiet = ap (λ (o : Option Anomaly). is_some o && old.redundancy) (judged_none line reached (deliver_some line.verdict.redundancy on))
 
         pairing : mid.pairing ≡ old.pairing
         pairing = subst (λ (b : Bool). DiscardsWhere b number at (saturated (old.bag * 127)) old.pairing mid.pairing) quiet notes.discards
@@ -168,7 +168,7 @@ alone_more row line lines number at networks old new seen sequence moment reache
             ∙ ap (λ (d : Bool). if d && not (is_late rules number (line ∷ lines)) then open_on rules n number lines else None) own_delivered
             ∙ ap (λ (l : Bool). if not l then open_on rules n number lines else None) same)
 
-        lane_now : (n : Network) (twin : NetworkReport) (was between now : Lane) → IsNetworkOf (other_network n) (line ∷ lines) twin →
+        lane_now : (n : Network) (twin : NetworkReport) (was between now : LaneReport) → IsNetworkOf (other_network n) (line ∷ lines) twin →
             KeepsMissed was between →
             LaneSettles n twin (settled_by_next number at mid) between now →
             HasMissed (missed_before rules n lines) was →
@@ -229,7 +229,7 @@ below_more f None xs ys = refl
 below_more f (Some x) xs ys = refl
 
 -- the latest delivery of one more number is settled
-pub one_below : (number : ℕ) (networks : Sides NetworkReport) (first old new : LinkReport) →
+pub one_below : (number : ℕ) (networks : PerNetwork NetworkReport) (first old new : LinkReport) →
     old.pairing ≡ first.pairing →
     SettlesBelow number networks first old → Settles (open_held old.pairing number) networks old.lanes new.lanes →
     SettlesBelow (number + 1) networks first new
@@ -245,7 +245,7 @@ one_below number networks first old new same before settles row lines are is h =
     here : Settles (open_held first.pairing number) networks old.lanes new.lanes
     here = subst (λ (p : Pairing). Settles (open_held p number) networks old.lanes new.lanes) same settles
 
-    lane_now : (n : Network) (twin : NetworkReport) (was now : Lane) → IsNetworkOf (other_network n) lines twin →
+    lane_now : (n : Network) (twin : NetworkReport) (was now : LaneReport) → IsNetworkOf (other_network n) lines twin →
         LaneSettles n twin (open_held first.pairing number) was now →
         HasMissed (missed_below rules n lines number) was →
         HasMissed (map (missed_by n lines) (cons_option (open_on rules n number lines) (open_below rules n lines number)) ++ missed_before rules n lines) now
@@ -257,18 +257,18 @@ one_below number networks first old new same before settles row lines are is h =
         (stands_in row.id number lines) step)
 
 -- none of them yet
-pub none_below : (networks : Sides NetworkReport) (report : LinkReport) → SettlesBelow 0 networks report report
+pub none_below : (networks : PerNetwork NetworkReport) (report : LinkReport) → SettlesBelow 0 networks report report
 unfolding open_below
 none_below networks report row lines are is h = record { a = h.a; b = h.b }
 
 -- what the lanes have then
-pub ends_alone : (networks : Sides NetworkReport) (first settled new : LinkReport) →
+pub ends_alone : (networks : PerNetwork NetworkReport) (first settled new : LinkReport) →
     SettlesBelow 256 networks first settled → new.lanes ≡ settled.lanes → EndsAlone networks first new
 ends_alone networks first settled new all same row lines are is h =
     let held = all row lines are is h in
-    subst (λ (lanes : Sides Lane). LanesAreAlone row lines (record new { lanes = lanes })) (sym same) (record { a = held.a; b = held.b })
+    subst (λ (lanes : PerNetwork LaneReport). LanesAreAlone row lines (record new { lanes = lanes })) (sym same) (record { a = held.a; b = held.b })
 
-alone_counted : (missed : List Missed) (lane : Lane) (none : Mark) → HasMissed missed lane →
+alone_counted : (missed : List Missed) (lane : LaneReport) (none : AnomalyTally) → HasMissed missed lane →
     (mark_at lane.signs Alone none).count ≡ saturated (length (alone_of missed))
 alone_counted missed lane none h =
     (h.alone none).count ∙ ap (λ n. saturated n) (amounts_at (map (λ (m : Missed). place_of m.delivery.line) (alone_of missed))
@@ -279,7 +279,7 @@ pub all_alone : (row : Row) (lines : List FrameLine) (report : LinkReport) → l
     IsLinkOf row lines report → SumsLanes report →
     HasOpen row lines report → LanesAreAlone row lines report → HasAlone row lines report
 all_alone row lines report few is sums opened lanes =
-    let none : Mark = record { count = 0; first = None; last = None; bins = report.skews.a } in
+    let none : AnomalyTally = record { count = 0; first = None; last = None; bins = report.skews.a } in
     let small = count_by-le-length (λ (l : FrameLine). is_seen_of row.id l && is_deliver l) lines in
     let a = alone_counted (missed_on (pairing_rules row) A lines) report.lanes.a none lanes.a in
     let b = alone_counted (missed_on (pairing_rules row) B lines) report.lanes.b none lanes.b in

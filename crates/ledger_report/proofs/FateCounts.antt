@@ -29,11 +29,11 @@ use Rattle.ledger_report.specs.Standings.{Standing, standings}
 use Rattle.ledger_report.specs.Sums.{greatest_of}
 use Rattle.ledger_report.specs.Words.{class_rule, is_same_network, rule_of}
 use Rattle.ledger_report.specs.declared.link.LinkReport.{LinkReport}
-use Rattle.ledger_report.specs.declared.moment.Place.{Place}
+use Rattle.ledger_report.specs.declared.moment.FramePlace.{FramePlace}
 use Rattle.ledger_report.specs.declared.pairing.Delivery.{Delivery}
 use Rattle.ledger_report.specs.declared.pairing.Fate.{Fate}
 use Rattle.ledger_report.specs.declared.pairing.Fate.TheVariants.{Open, Late, Paired, Met}
-use Rattle.ledger_report.specs.declared.signs.Sign.TheVariants as signs
+use Rattle.ledger_report.specs.declared.anomalies.Anomaly.TheVariants as signs
 
 -- ---- plain tests
 
@@ -168,14 +168,14 @@ but_met old new kept = ap (λ (f : FateNumbers). record f { met = new.fates.met 
 -- ---- late deliveries among the lanes' signs
 
 -- the hits of a lane, with that of one more line
-abbrev pub hits_with : Bool → Place → List Hit → List Hit
+abbrev pub hits_with : Bool → FramePlace → List Hit → List Hit
 hits_with late place hits = cons_option (if late then Some (record { place = place; amount = 1 }) else None) hits
 
-pub record BothHave (late : Bool) (network : Network) (place : Place) (xs ys : List Hit) (report : LinkReport) : Type 0 where
+pub record BothHave (late : Bool) (network : Network) (place : FramePlace) (xs ys : List Hit) (report : LinkReport) : Type 0 where
   pub on_a : HasHits report.lanes.a.signs signs.Late (hits_with (late && is_same_network A network) place xs)
   pub on_b : HasHits report.lanes.b.signs signs.Late (hits_with (late && is_same_network B network) place ys)
 
-pub late_gained : (late : Bool) (network : Network) (place : Place) (xs ys : List Hit) (old new : LinkReport) → GainsLateWhere late network place old.lanes new.lanes →
+pub late_gained : (late : Bool) (network : Network) (place : FramePlace) (xs ys : List Hit) (old new : LinkReport) → GainsLateWhere late network place old.lanes new.lanes →
     HasHits old.lanes.a.signs signs.Late xs → HasHits old.lanes.b.signs signs.Late ys → BothHave late network place xs ys new
 late_gained true A place xs ys old new (a, b) on_a on_b = record { on_a = a xs on_a; on_b = b ys on_b }
 late_gained true B place xs ys old new (a, b) on_a on_b = record { on_a = a xs on_a; on_b = b ys on_b }

@@ -21,13 +21,13 @@ use Rattle.ledger_report.specs.Sums.{greatest_of, saturated}
 use Rattle.afdx_frame.specs.Frame.{other_network}
 use Rattle.ledger_report.specs.Words.{is_on, is_same_network, is_seen_of, rule_of}
 use Rattle.ledger_report.specs.declared.link.LinkReport.{LinkReport}
-use Rattle.ledger_report.specs.declared.moment.Moment.{Moment}
-use Rattle.ledger_report.specs.declared.moment.Place.{Place}
+use Rattle.ledger_report.specs.declared.moment.LinePlace.{LinePlace}
+use Rattle.ledger_report.specs.declared.moment.FramePlace.{FramePlace}
 use Rattle.ledger_report.specs.declared.pairing.Fate.{Fate}
 use Rattle.ledger_report.specs.declared.pairing.Fate.TheVariants.{Open, Met}
 use Rattle.ledger_report.specs.declared.pairing.Pairing.{Pairing}
-use Rattle.ledger_report.specs.declared.signs.Sign.{Sign}
-use Rattle.ledger_report.specs.declared.signs.Sign.TheVariants as signs
+use Rattle.ledger_report.specs.declared.anomalies.Anomaly.{Anomaly}
+use Rattle.ledger_report.specs.declared.anomalies.Anomaly.TheVariants as signs
 use Rattle.ledger_report.proofs.FateCounts.{HasEach, and_true, counts_discarded, hits_with, counted_one, few_standings, spot_held, latest_line, greatest_where, judged_none, deliver_some, copy_some, deliver_alone, keeps_fates, but_met, late_gained, count_same, count_moved, count_none, fate_known, one_fate, met_ends, paired_ends, late_ends, so_far_paired, so_far_late}
 use Rattle.ledger_report.proofs.FateSteps.{eq_swap, known_delivered, known_met, known_paired, known_quiet, late_own, latest_stays}
 use Rattle.ledger_report.proofs.KeepSteps.{keeps_late_on}
@@ -114,13 +114,13 @@ module _ (rules : PairingRules) (line : FrameLine) (lines : List FrameLine) (num
   paired_own undelivered says off = known_paired rules number line lines (delivers_own ∙ undelivered) (copies_own ∙ says) (kept_where off number)
 
   -- a discarded line
-  takes_discarded : (at : Moment) (window : ℕ) (old new : Pairing) → at.network ≡ line.network → at.place ≡ place_of line → window ≡ rules.window →
+  takes_discarded : (at : LinePlace) (window : ℕ) (old new : Pairing) → at.network ≡ line.network → at.place ≡ place_of line → window ≡ rules.window →
       is_deliver line ≡ false → is_copy line ≡ false → counts_discarded rules line ≡ true → Discards number at window old new →
       HasKnown rules lines old → HasKnown rules (line ∷ lines) new
   takes_discarded at window old new network place same undelivered other on takes h = record {
     held = held_more old new (option_map (met_by at.network at.place.stamp window) (held_of old number)) takes.held
         (ap (λ (s : Network). option_map (met_by s at.place.stamp window) (held_of old number)) network
-        ∙ ap (λ (p : Place). option_map (met_by line.network p.stamp window) (held_of old number)) place
+        ∙ ap (λ (p : FramePlace). option_map (met_by line.network p.stamp window) (held_of old number)) place
         ∙ ap (λ n. option_map (met_by line.network line.stamp.0 n) (held_of old number)) same
         ∙ ap (λ (o : Option Known). option_map (met_by line.network line.stamp.0 rules.window) o) (h.held number)
         ∙ sym (known_met rules number line lines (delivers_own ∙ undelivered) (copies_own ∙ other)
@@ -128,7 +128,7 @@ module _ (rules : PairingRules) (line : FrameLine) (lines : List FrameLine) (num
         h.held;
     gone = λ n side. takes.gone n side
         ∙ ap (λ (s : Network). if (n == number) && is_same_network side s then Some at.place.stamp else gone_in old n side) network
-        ∙ ap (λ (p : Place). if (n == number) && is_on side line then Some p.stamp else gone_in old n side) place
+        ∙ ap (λ (p : FramePlace). if (n == number) && is_on side line then Some p.stamp else gone_in old n side) place
         ∙ ap (λ (o : Option ℕ). if (n == number) && is_on side line then Some line.stamp.0 else o) (h.gone n side)
         ∙ sym (gone_taken on n side);
   }
@@ -148,16 +148,16 @@ module _ (rules : PairingRules) (line : FrameLine) (lines : List FrameLine) (num
   abbrev late_now : Bool
   late_now = option_map_or (awaits line.network line.stamp.0 rules.window) (known_of rules number lines) false
 
-  pub comes_late_same : (at : Moment) (report : LinkReport) → at.network ≡ line.network → at.place ≡ place_of line → window_in report ≡ rules.window →
+  pub comes_late_same : (at : LinePlace) (report : LinkReport) → at.network ≡ line.network → at.place ≡ place_of line → window_in report ≡ rules.window →
       HasKnown rules lines report.pairing → comes_late number at report ≡ late_now
   comes_late_same at report network place same h =
       ap (λ (s : Network). option_map_or (awaits s at.place.stamp (window_in report)) (held_of report.pairing number) false) network
-      ∙ ap (λ (p : Place). option_map_or (awaits line.network p.stamp (window_in report)) (held_of report.pairing number) false) place
+      ∙ ap (λ (p : FramePlace). option_map_or (awaits line.network p.stamp (window_in report)) (held_of report.pairing number) false) place
       ∙ ap (λ n. option_map_or (awaits line.network line.stamp.0 n) (held_of report.pairing number) false) same
       ∙ ap (λ (o : Option Known). option_map_or (awaits line.network line.stamp.0 rules.window) o false) (h.held number)
 
   -- a delivery
-  takes_delivery : (at : Moment) (old new : LinkReport) → at.network ≡ line.network → at.place ≡ place_of line → window_in old ≡ rules.window →
+  takes_delivery : (at : LinePlace) (old new : LinkReport) → at.network ≡ line.network → at.place ≡ place_of line → window_in old ≡ rules.window →
       is_deliver line ≡ true → counts_discarded rules line ≡ false → Changes number (Some (known_after number at old)) old.pairing new.pairing →
       KeepsGone old.pairing new.pairing → HasKnown rules lines old.pairing → HasKnown rules (line ∷ lines) new.pairing
   takes_delivery at old new network place same says off changes kept h = record {
@@ -165,7 +165,7 @@ module _ (rules : PairingRules) (line : FrameLine) (lines : List FrameLine) (num
         (ap (λ (b : Bool). known_with at.network at.place b (is_gone_by at.place.stamp (window_in old) (gone_in old.pairing number (other_network at.network))))
         (comes_late_same at old network place same h)
         ∙ ap (λ (s : Network). known_with s at.place late_now (is_gone_by at.place.stamp (window_in old) (gone_in old.pairing number (other_network s)))) network
-        ∙ ap (λ (p : Place). known_with line.network p late_now (is_gone_by p.stamp (window_in old) (gone_in old.pairing number (other_network line.network)))) place
+        ∙ ap (λ (p : FramePlace). known_with line.network p late_now (is_gone_by p.stamp (window_in old) (gone_in old.pairing number (other_network line.network)))) place
         ∙ ap (λ n. known_with line.network (place_of line) late_now (is_gone_by line.stamp.0 n (gone_in old.pairing number (other_network line.network)))) same
         ∙ ap (λ (o : Option ℕ). known_with line.network (place_of line) late_now (is_gone_by line.stamp.0 rules.window o)) (h.gone number (other_network line.network))
         ∙ sym (known_delivered rules number line lines (delivers_own ∙ says)))
@@ -173,7 +173,7 @@ module _ (rules : PairingRules) (line : FrameLine) (lines : List FrameLine) (num
     gone = λ n side. kept n side ∙ h.gone n side ∙ sym (gone_kept off n side);
   }
     where
-      known_with : Network → Place → Bool → Bool → Option Known
+      known_with : Network → FramePlace → Bool → Bool → Option Known
       known_with side place late gone = Some (record { spot = record { network = side; place = place }; fate = fate_so_far late gone })
 
   -- ---- what is counted
@@ -356,10 +356,10 @@ module _ (rules : PairingRules) (line : FrameLine) (lines : List FrameLine) (num
   )
 
   -- how much later it comes
-  skew_same : (at : Moment) (report : LinkReport) → at.place ≡ place_of line → HasKnown rules lines report.pairing →
+  skew_same : (at : LinePlace) (report : LinkReport) → at.place ≡ place_of line → HasKnown rules lines report.pairing →
       skew_in report number at.place.stamp ≡ skew_after rules.id line lines
   skew_same at report place h =
-      ap (λ (p : Place). p.stamp - option_map_or (λ (s : Spot). s.place.stamp) (spot_at report.pairing number) 0) place
+      ap (λ (p : FramePlace). p.stamp - option_map_or (λ (s : Spot). s.place.stamp) (spot_at report.pairing number) 0) place
       ∙ ap (λ n. line.stamp.0 - n) (
       spot_held (get_or report.pairing.deliveries.items number None)
       ∙ ap (λ (o : Option Known). option_map_or (λ (k : Known). k.spot.place.stamp) o 0) (h.held number)
@@ -450,7 +450,7 @@ module _ (rules : PairingRules) (line : FrameLine) (lines : List FrameLine) (num
       }
 
   -- a delivery
-  fates_delivery : (at : Moment) (old new : LinkReport) → length lines < 2 ^ 34 → number < 256 → at.network ≡ line.network → at.place ≡ place_of line →
+  fates_delivery : (at : LinePlace) (old new : LinkReport) → length lines < 2 ^ 34 → number < 256 → at.network ≡ line.network → at.place ≡ place_of line →
       window_in old ≡ rules.window → is_deliver line ≡ true → is_copy line ≡ false → counts_discarded rules line ≡ false → TakesDelivery number at old new →
       GainsLateWhere (comes_late number at old) at.network at.place old.lanes new.lanes →
       HasFatesOf rules lines old → HasFatesOf rules (line ∷ lines) new
@@ -464,7 +464,7 @@ module _ (rules : PairingRules) (line : FrameLine) (lines : List FrameLine) (num
       let first_moved : new.fates.first ≡ old.fates.first + one_where (comes_late number at old) =
       ap (λ (f : FateNumbers). f.first) takes.numbers ∙ counted_one (comes_late number at old) old.fates.first (omega (arith, h.first, late_few, few)) in
       let gained : GainsLateWhere late_now line.network (place_of line) old.lanes new.lanes =
-      subst (λ (p : Place). GainsLateWhere late_now line.network p old.lanes new.lanes) place
+      subst (λ (p : FramePlace). GainsLateWhere late_now line.network p old.lanes new.lanes) place
       (subst (λ (n : Network). GainsLateWhere late_now n at.place old.lanes new.lanes) network
       (subst (λ (b : Bool). GainsLateWhere b at.network at.place old.lanes new.lanes) late gains)) in
       let have = late_gained late_now line.network (place_of line) (late_hits rules A lines) (late_hits rules B lines) old new gained h.late_on_a h.late_on_b in
@@ -503,7 +503,7 @@ module _ (rules : PairingRules) (line : FrameLine) (lines : List FrameLine) (num
         late_on_b = subst (HasHits new.lanes.b.signs signs.Late) (hits_now B) have.on_b;
       }
 
-  pub fates_more : (at : Moment) (old new : LinkReport) → length lines < 2 ^ 34 → at.network ≡ line.network → at.place ≡ place_of line →
+  pub fates_more : (at : LinePlace) (old new : LinkReport) → length lines < 2 ^ 34 → at.network ≡ line.network → at.place ≡ place_of line →
       window_in old ≡ rules.window → old.redundancy ≡ rules.redundancy → IsFrameLine line → NotesFates line number at old new →
       HasFatesOf rules lines old → HasFatesOf rules (line ∷ lines) new
   fates_more at old new few network place window redundancy is notes h = by_word (is_deliver line) (is_copy line) refl refl notes.word
@@ -525,7 +525,7 @@ module _ (rules : PairingRules) (line : FrameLine) (lines : List FrameLine) (num
       before off = keeps_fates rules lines old mid (discards false off) (but_met old mid notes.numbers) notes.signs h
 
       plain : is_some line.verdict.redundancy ≡ true → counts_discarded rules line ≡ false
-      plain judged = ap (λ (o : Option Sign). is_some o && rules.redundancy) (judged_none line is judged)
+      plain judged = ap (λ (o : Option Anomaly). is_some o && rules.redundancy) (judged_none line is judged)
 
       by_rule : (b : Bool) → counts_discarded rules line ≡ b → is_deliver line ≡ false → is_copy line ≡ false → HasKnown rules (line ∷ lines) mid.pairing
       by_rule true on undelivered other = takes_discarded at (window_in old) old.pairing mid.pairing network place window undelivered other on (discards true on) h.known
@@ -550,7 +550,7 @@ module _ (rules : PairingRules) (line : FrameLine) (lines : List FrameLine) (num
           within (by_still (counts_discarded rules line) refl undelivered other) h
 
   -- a delivery settles the one of its number before
-  pub settled_own : (at : Moment) (old new : LinkReport) → length lines < 2 ^ 34 → old.redundancy ≡ rules.redundancy → IsFrameLine line →
+  pub settled_own : (at : LinePlace) (old new : LinkReport) → length lines < 2 ^ 34 → old.redundancy ≡ rules.redundancy → IsFrameLine line →
       NotesFates line number at old new → HasFatesOf rules lines old → old.fates.met ≡ settled_count ends_met rules lines → new.fates.met ≡ settled_count ends_met rules (line ∷ lines)
   settled_own at old new few redundancy is notes h same = by_word (is_deliver line) (is_copy line) refl refl notes.word
     where
@@ -568,7 +568,7 @@ module _ (rules : PairingRules) (line : FrameLine) (lines : List FrameLine) (num
       by_word : (d c : Bool) → is_deliver line ≡ d → is_copy line ≡ c → NotesWordWhere d c number at mid new → new.fates.met ≡ settled_count ends_met rules (line ∷ lines)
       by_word true c says copy (takes, gains) =
           let off : counts_discarded rules line ≡ false =
-          ap (λ (o : Option Sign). is_some o && rules.redundancy) (judged_none line is (deliver_some line.verdict.redundancy says)) in
+          ap (λ (o : Option Anomaly). is_some o && rules.redundancy) (judged_none line is (deliver_some line.verdict.redundancy says)) in
           let pairing : mid.pairing ≡ old.pairing = subst (λ (b : Bool). DiscardsWhere b number at (window_in old) old.pairing mid.pairing)
           (ap (λ (r : Bool). is_some (rule_of line) && r) redundancy ∙ off) notes.discards in
           let one : one_where (is_held ends_met mid.pairing number) ≡ one_where (is_deliver line && met_now) =

@@ -12,10 +12,10 @@ use Rattle.ledger_report.specs.Noting.{seen_line}
 use Rattle.ledger_report.specs.Pairs.{CountsLate, DiscardsWhere, FateNumbers, GainsLateWhere, KeepsFates, KeepsLate, MeetsOf, NotesFates, NotesWordWhere, PairsCopy, SettlesBefore, awaits, comes_late, counted_where, fate_numbers, held_of, is_held, known_in, met_with, paired, window_in, with_fate, with_late}
 use Rattle.ledger_report.specs.Sums.{saturated}
 use Rattle.ledger_report.specs.Words.{rule_of}
-use Rattle.ledger_report.specs.declared.lane.Lane.{Lane}
+use Rattle.ledger_report.specs.declared.lane.LaneReport.{LaneReport}
 use Rattle.ledger_report.specs.declared.lane.LaneLine.{LaneLine}
 use Rattle.ledger_report.specs.declared.link.LinkReport.{LinkReport}
-use Rattle.ledger_report.specs.declared.moment.Moment.{Moment}
+use Rattle.ledger_report.specs.declared.moment.LinePlace.{LinePlace}
 use Rattle.ledger_report.specs.declared.network.NetworkReport.{NetworkReport}
 use Rattle.ledger_report.specs.declared.pairing.Delivery.{Delivery}
 use Rattle.ledger_report.specs.declared.pairing.Fate.{Fate}
@@ -24,7 +24,7 @@ use Rattle.ledger_report.specs.declared.pairing.Pairing.{Pairing}
 use Rattle.ledger_report.proofs.KeepSteps.{keeps_late_none}
 
 -- a line as its lane takes it is discarded as it stands
-pub notes_discards : (line : FrameLine) (number : ℕ) (at : Moment) (lane : Lane) (network : NetworkReport) (seen : LaneLine)
+pub notes_discards : (line : FrameLine) (number : ℕ) (at : LinePlace) (lane : LaneReport) (network : NetworkReport) (seen : LaneLine)
     (old numbered mid : LinkReport) → seen ≡ seen_line lane network line number at → row_in numbered ≡ row_in old → numbered.pairing ≡ old.pairing →
     DiscardsWhere (is_some seen.rule && numbered.redundancy) seen.number seen.at (window_in numbered) numbered.pairing mid.pairing →
     DiscardsWhere (is_some (rule_of line) && old.redundancy) number at (window_in old) old.pairing mid.pairing
@@ -34,7 +34,7 @@ notes_discards line number at lane network seen old numbered mid same row pairin
     (subst (λ (l : LaneLine). DiscardsWhere (is_some l.rule && numbered.redundancy) l.number l.at (window_in numbered) numbered.pairing mid.pairing) same discards))
 
 -- the line is taken, and then its word
-pub notes_fates : (line : FrameLine) (number : ℕ) (at : Moment) (word : Option Redundancy) (old mid new : LinkReport) → line.verdict.redundancy ≡ word →
+pub notes_fates : (line : FrameLine) (number : ℕ) (at : LinePlace) (word : Option Redundancy) (old mid new : LinkReport) → line.verdict.redundancy ≡ word →
     row_in mid ≡ row_in old → KeepsFates old mid → KeepsLate old mid →
     DiscardsWhere (is_some (rule_of line) && old.redundancy) number at (window_in old) old.pairing mid.pairing →
     NotesWordWhere (option_map_or says_deliver word false) (option_map_or says_copy word false) number at mid new →
@@ -77,7 +77,7 @@ pairs_again number report known is again =
 -- ---- the delivery before
 
 -- the counts once it is settled, with what is held of its number
-abbrev settled_with : Moment → LinkReport → Option Delivery → Bool → Bool → FateNumbers
+abbrev settled_with : LinePlace → LinkReport → Option Delivery → Bool → Bool → FateNumbers
 settled_with at old o late met = record {
   paired = old.fates.paired;
   late = counted_where late old.fates.late;
@@ -86,12 +86,12 @@ settled_with at old o late met = record {
   late_greatest = if late then max old.late_greatest (at.place.stamp - option_map_or (λ (s : Spot). s.place.stamp) (option_map spot_in o) 0) else old.late_greatest;
 }
 
-abbrev settled_at : Moment → LinkReport → Option Delivery → FateNumbers
+abbrev settled_at : LinePlace → LinkReport → Option Delivery → FateNumbers
 settled_at at old o = settled_with at old o
     (option_map_or (awaits at.network at.place.stamp (window_in old)) (option_map known_in o) false)
     (option_map_or (λ (k : Known). ends_met k.fate) (option_map known_in o) false)
 
-pub settles_none : (number : ℕ) (at : Moment) (old : LinkReport) → get_or old.pairing.deliveries.items number None ≡ None →
+pub settles_none : (number : ℕ) (at : LinePlace) (old : LinkReport) → get_or old.pairing.deliveries.items number None ≡ None →
     SettlesBefore number at old old
 settles_none number at old none = sym (ap (settled_at at old) none)
 
@@ -105,23 +105,23 @@ open_pends known rest awaited = at known.fate (and_parts (is_open known.fate) re
     at Met is = sym is
 
 -- how the lanes' signs are told whether it comes late
-comes_with : Moment → LinkReport → Option Delivery → Bool
+comes_with : LinePlace → LinkReport → Option Delivery → Bool
 comes_with at old o = option_map_or (awaits at.network at.place.stamp (window_in old)) (option_map known_in o) false
 
-pub late_none : (number : ℕ) (at : Moment) (old : LinkReport) → get_or old.pairing.deliveries.items number None ≡ None →
+pub late_none : (number : ℕ) (at : LinePlace) (old : LinkReport) → get_or old.pairing.deliveries.items number None ≡ None →
     GainsLateWhere (comes_late number at old) at.network at.place old.lanes old.lanes
 unfolding comes_with
 late_none number at old none =
     subst (λ (b : Bool). GainsLateWhere b at.network at.place old.lanes old.lanes) (sym (ap (comes_with at old) none)) (keeps_late_none old)
 
-pub late_where : (late : Bool) (number : ℕ) (at : Moment) (old new : LinkReport) (before : Delivery) → get_or old.pairing.deliveries.items number None ≡ Some before →
+pub late_where : (late : Bool) (number : ℕ) (at : LinePlace) (old new : LinkReport) (before : Delivery) → get_or old.pairing.deliveries.items number None ≡ Some before →
     awaits at.network at.place.stamp (window_in old) (known_in before) ≡ late → GainsLateWhere late at.network at.place old.lanes new.lanes →
     GainsLateWhere (comes_late number at old) at.network at.place old.lanes new.lanes
 unfolding comes_with
 late_where late number at old new before is awaited gains =
     subst (λ (b : Bool). GainsLateWhere b at.network at.place old.lanes new.lanes) (sym (ap (comes_with at old) is ∙ awaited)) gains
 
-pub settles_late : (number : ℕ) (at : Moment) (old new : LinkReport) (before : Delivery) (skew : ℕ) → get_or old.pairing.deliveries.items number None ≡ Some before →
+pub settles_late : (number : ℕ) (at : LinePlace) (old new : LinkReport) (before : Delivery) (skew : ℕ) → get_or old.pairing.deliveries.items number None ≡ Some before →
     awaits at.network at.place.stamp (window_in old) (known_in before) ≡ true → skew ≡ at.place.stamp - before.place.stamp →
     CountsLate skew old new → SettlesBefore number at old new
 settles_late number at old new before skew is awaited same late =
@@ -130,7 +130,7 @@ settles_late number at old new before skew is awaited same late =
     ∙ ap (λ (b : Bool). settled_with at old (Some before) b (ends_met before.fate)) awaited
     ∙ ap (λ (b : Bool). settled_with at old (Some before) true b) (open_pends (known_in before) _ awaited))
 
-pub settles_other : (number : ℕ) (at : Moment) (old new : LinkReport) (before : Delivery) → get_or old.pairing.deliveries.items number None ≡ Some before →
+pub settles_other : (number : ℕ) (at : LinePlace) (old new : LinkReport) (before : Delivery) → get_or old.pairing.deliveries.items number None ≡ Some before →
     awaits at.network at.place.stamp (window_in old) (known_in before) ≡ false → MeetsOf (counted_where (ends_met before.fate) old.fates.met) old new →
     SettlesBefore number at old new
 settles_other number at old new before is awaited met =

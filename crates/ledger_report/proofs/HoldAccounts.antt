@@ -16,9 +16,9 @@ use Rattle.ledger_report.specs.Noting.{AreNetworksOf, IsIndexOf, IsMomentOf}
 use Rattle.ledger_report.specs.Settling.{HaveFates}
 use Rattle.ledger_report.specs.Words.{is_of_id, is_seen, is_seen_of}
 use Rattle.ledger_report.specs.declared.link.LinkReport.{LinkReport}
-use Rattle.ledger_report.specs.declared.moment.Moment.{Moment}
+use Rattle.ledger_report.specs.declared.moment.LinePlace.{LinePlace}
 use Rattle.ledger_report.specs.declared.network.NetworkReport.{NetworkReport}
-use Rattle.ledger_report.specs.declared.sides.Sides.{Sides}
+use Rattle.ledger_report.specs.declared.per_network.PerNetwork.{PerNetwork}
 use Rattle.ledger_report.specs.declared.statistics.Statistics.{Statistics}
 use Rattle.ledger_report.proofs.AccountSteps.{addressed, each_set_of, is_of_link, keeps_links, seen_where, unseen_where}
 use Rattle.ledger_report.proofs.AloneNotes.{all_alone, alone_more, alone_other}
@@ -82,8 +82,8 @@ alone_outside links line lines reports id is of_link other h =
 
 pub alone_set : (links : List VirtualLink) (line : FrameLine) (lines : List FrameLine)
     (reports : List LinkReport) (index : List ℕ)
-    (networks : Sides NetworkReport) (id : VlId)
-    (number : ℕ) (at : Moment) (place : ℕ) (old new : LinkReport) → IsFrameLine line → IsMomentOf line at → line.link ≡ Some id →
+    (networks : PerNetwork NetworkReport) (id : VlId)
+    (number : ℕ) (at : LinePlace) (place : ℕ) (old new : LinkReport) → IsFrameLine line → IsMomentOf line at → line.link ≡ Some id →
     line.sequence ≡ Some number →
     is_class Unconfigured line.verdict.class ≡ false → AreNetworksOf (line ∷ lines) networks → AreLinksOf links lines reports → IsIndexOf links index →
     place ≡ get_or index id.0 65535 → place < length reports → old ≡ get_or reports place old →

@@ -10,57 +10,57 @@ use Rattle.ledger_report.specs.Links.{row_in}
 use Rattle.ledger_report.specs.Marks.{KeepsOthers}
 use Rattle.ledger_report.specs.Pairs.{DiscardsWhere, awaits, known_in, window_in}
 use Rattle.ledger_report.specs.Words.{rule_of}
-use Rattle.ledger_report.specs.declared.lane.Lane.{Lane}
+use Rattle.ledger_report.specs.declared.lane.LaneReport.{LaneReport}
 use Rattle.ledger_report.specs.declared.link.LinkReport.{LinkReport}
-use Rattle.ledger_report.specs.declared.moment.Moment.{Moment}
+use Rattle.ledger_report.specs.declared.moment.LinePlace.{LinePlace}
 use Rattle.ledger_report.specs.declared.network.NetworkReport.{NetworkReport}
 use Rattle.ledger_report.specs.declared.pairing.Delivery.{Delivery}
 use Rattle.ledger_report.specs.declared.pairing.Pairing.{Pairing}
-use Rattle.ledger_report.specs.declared.sides.Sides.{Sides}
-use Rattle.ledger_report.specs.declared.signs.Sign.TheVariants.{Alone, Late}
-use Rattle.ledger_report.specs.declared.signs.Signs.{Signs}
+use Rattle.ledger_report.specs.declared.per_network.PerNetwork.{PerNetwork}
+use Rattle.ledger_report.specs.declared.anomalies.Anomaly.TheVariants.{Alone, Late}
+use Rattle.ledger_report.specs.declared.anomalies.Anomalies.{Anomalies}
 use Rattle.ledger_report.proofs.AloneSteps.{missed_kept}
 
 -- ---- what stays
 
-pub keeps_missed_none : (lane : Lane) → KeepsMissed lane lane
+pub keeps_missed_none : (lane : LaneReport) → KeepsMissed lane lane
 keeps_missed_none lane = record { alone = λ hits has. has; uncovered = refl }
 
-pub keeps_missed_on : (old mid new : Lane) → KeepsMissed old mid → KeepsMissed mid new → KeepsMissed old new
+pub keeps_missed_on : (old mid new : LaneReport) → KeepsMissed old mid → KeepsMissed mid new → KeepsMissed old new
 keeps_missed_on old mid new first second =
     record { alone = λ hits has. second.alone hits (first.alone hits has); uncovered = second.uncovered ∙ first.uncovered }
 
-pub keeps_places_none : (lanes : Sides Lane) → KeepsPlaces lanes lanes
+pub keeps_places_none : (lanes : PerNetwork LaneReport) → KeepsPlaces lanes lanes
 keeps_places_none lanes = (keeps_missed_none lanes.a, keeps_missed_none lanes.b)
 
-pub keeps_places_on : (old mid new : Sides Lane) → KeepsPlaces old mid → KeepsPlaces mid new → KeepsPlaces old new
+pub keeps_places_on : (old mid new : PerNetwork LaneReport) → KeepsPlaces old mid → KeepsPlaces mid new → KeepsPlaces old new
 keeps_places_on old mid new (a, b) (a2, b2) = (keeps_missed_on old.a mid.a new.a a a2, keeps_missed_on old.b mid.b new.b b b2)
 
 -- a late delivery
-pub keeps_missed_late : (lane : Lane) (signs : Signs) → KeepsOthers Late lane.signs signs → KeepsMissed lane (record lane { signs = signs })
+pub keeps_missed_late : (lane : LaneReport) (signs : Anomalies) → KeepsOthers Late lane.signs signs → KeepsMissed lane (record lane { signs = signs })
 keeps_missed_late lane signs others = missed_kept lane (record lane { signs = signs }) (λ none. others Alone none refl) refl
 
 -- ---- a delivery that is settled
 
 -- by what is held of a number
-pub settles_held : (number : ℕ) (pairing : Pairing) (held : Option Delivery) (networks : Sides NetworkReport) (old new : Sides Lane) →
+pub settles_held : (number : ℕ) (pairing : Pairing) (held : Option Delivery) (networks : PerNetwork NetworkReport) (old new : PerNetwork LaneReport) →
     slice_index_or pairing.deliveries.items number None ≡ held → Settles (option_and_then open_in held) networks old new →
     Settles (open_held pairing number) networks old new
 settles_held number pairing held networks old new is settles =
     subst (λ (o : Option Delivery). Settles (option_and_then open_in o) networks old new) (sym is) settles
 
 -- by a delivery of its number
-abbrev next_of : Moment → LinkReport → Option Delivery → Option Delivery
+abbrev next_of : LinePlace → LinkReport → Option Delivery → Option Delivery
 next_of at report o =
     if option_map_or (awaits at.network at.place.stamp (window_in report)) (option_map known_in o) false then None else option_and_then open_in o
 
-pub settles_none_next : (number : ℕ) (at : Moment) (old : LinkReport) (networks : Sides NetworkReport) (new : Sides Lane) →
+pub settles_none_next : (number : ℕ) (at : LinePlace) (old : LinkReport) (networks : PerNetwork NetworkReport) (new : PerNetwork LaneReport) →
     slice_index_or old.pairing.deliveries.items number None ≡ None → KeepsPlaces old.lanes new →
     Settles (settled_by_next number at old) networks old.lanes new
 settles_none_next number at old networks new none keeps =
     subst (λ (o : Option Delivery). Settles o networks old.lanes new) (sym (ap (next_of at old) none)) keeps
 
-pub settles_next : (late : Bool) (number : ℕ) (at : Moment) (old : LinkReport) (networks : Sides NetworkReport) (new : Sides Lane)
+pub settles_next : (late : Bool) (number : ℕ) (at : LinePlace) (old : LinkReport) (networks : PerNetwork NetworkReport) (new : PerNetwork LaneReport)
     (before : Delivery) →
     slice_index_or old.pairing.deliveries.items number None ≡ Some before →
     awaits at.network at.place.stamp (window_in old) (known_in before) ≡ late →
@@ -74,7 +74,7 @@ settles_next late number at old networks new before is awaited settles =
 
 -- ---- a line
 
-pub notes_missed : (line : FrameLine) (number : ℕ) (at : Moment) (word : Option Redundancy) (networks : Sides NetworkReport)
+pub notes_missed : (line : FrameLine) (number : ℕ) (at : LinePlace) (word : Option Redundancy) (networks : PerNetwork NetworkReport)
     (old mid new : LinkReport) → line.verdict.redundancy ≡ word → row_in mid ≡ row_in old → KeepsPlaces old.lanes mid.lanes →
     DiscardsWhere (is_some (rule_of line) && old.redundancy) number at (window_in old) old.pairing mid.pairing →
     KeepsBefore old.pairing mid.pairing → SettlesWhere (option_map_or says_deliver word false) number at networks mid new →

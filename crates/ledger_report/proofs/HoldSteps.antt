@@ -19,8 +19,8 @@ use Rattle.ledger_report.specs.Pairs.{known_in}
 use Rattle.ledger_report.specs.Standings.{Standing, frames_on}
 use Rattle.afdx_frame.specs.Frame.{other_network}
 use Rattle.ledger_report.specs.Words.{is_on, is_same_network}
-use Rattle.ledger_report.specs.declared.lane.Lane.{Lane}
-use Rattle.ledger_report.specs.declared.moment.Place.{Place}
+use Rattle.ledger_report.specs.declared.lane.LaneReport.{LaneReport}
+use Rattle.ledger_report.specs.declared.moment.FramePlace.{FramePlace}
 use Rattle.ledger_report.specs.declared.network.NetworkReport.{NetworkReport}
 use Rattle.ledger_report.specs.declared.pairing.Delivery.{Delivery}
 use Rattle.ledger_report.proofs.AloneSteps.{has_kept, has_taken}
@@ -52,7 +52,7 @@ abbrev pub StandsIn : List FrameLine → Standing → Type 0
 StandsIn lines standing = (later : List FrameLine) × (later ++ (standing.line ∷ standing.before) ≡ lines)
 
 module _ (rules : PairingRules) (network : Network) (number : ℕ) (before lines : List FrameLine) (missed : List Missed) (twin : NetworkReport)
-    (old new : Lane) (are : IsNetworkOf (other_network network) lines twin) (h : HasMissed missed old) where
+    (old new : LaneReport) (are : IsNetworkOf (other_network network) lines twin) (h : HasMissed missed old) where
   -- of the network, and open
   one_taken : (delivery : Delivery) (standing : Standing) → delivery.place ≡ place_of standing.line →
       frames_on (other_network network) (standing.line ∷ standing.before) ≡ delivery.before → StandsIn lines standing →
@@ -62,7 +62,7 @@ module _ (rules : PairingRules) (network : Network) (number : ℕ) (before lines
       (subst (λ (ls : List FrameLine). IsNetworkOf (other_network network) ls twin) (sym whole) are) count in
       has_taken missed standing (covers_place (other_network network) lines standing) old new
       (subst (λ (b : Bool). TakesOpen b (place_of standing.line) old new) (sym (covers_at (other_network network) lines later standing whole))
-      (subst (λ (p : Place). TakesOpen (is_covered (other_network network) later (standing.line ∷ standing.before)) p old new) spot taken)) h
+      (subst (λ (p : FramePlace). TakesOpen (is_covered (other_network network) later (standing.line ∷ standing.before)) p old new) spot taken)) h
 
   one_settled : (delivery : Delivery) (standing : Standing) → known_in delivery ≡ known_at rules number before standing →
       delivery.before ≡ lines_before standing →

@@ -19,9 +19,9 @@ use Rattle.ledger_text.specs.declared.order.Counts.{Counts as Kind}
 use Rattle.ledger_text.specs.declared.order.Counts.TheVariants as kinds
 use Rattle.ledger_text.specs.declared.order.LedgerLine.{LedgerLine}
 use Rattle.ledger_text.specs.declared.order.LedgerLine.TheVariants as lines
-use Rattle.ledger_text.specs.declared.order.Stage.{Stage}
-use Rattle.ledger_text.specs.declared.order.Stage.TheVariants as stages
-use Rattle.ledger_text.specs.declared.reader.Found.TheVariants as found
+use Rattle.ledger_text.specs.declared.order.LedgerStage.{LedgerStage}
+use Rattle.ledger_text.specs.declared.order.LedgerStage.TheVariants as stages
+use Rattle.ledger_text.specs.declared.reader.FoundLine.TheVariants as found
 use Rattle.ledger_text.specs.declared.reader.LedgerReader.{LedgerReader}
 use Rattle.ledger_text.proofs.Ledgers.{found_line, frame_lines_one_more}
 use Rattle.ledger_report.specs.CountsLines.{HasCounted, filters_told, links_told}
@@ -36,11 +36,11 @@ use Rattle.ledger_report.specs.declared.counts_lines.CountsLines.{CountsLines}
 use Rattle.ledger_report.specs.declared.counts_lines.TapEnding.{TapEnding}
 use Rattle.ledger_report.specs.declared.fault.Refusal.{Refusal}
 use Rattle.ledger_report.specs.declared.fault.Refusal.TheVariants as refusals
-use Rattle.ledger_report.specs.declared.fault.ReportFault.{ReportFault}
-use Rattle.ledger_report.specs.declared.fault.ReportFault.TheVariants as told
+use Rattle.ledger_report.specs.declared.fault.NoReport.{NoReport}
+use Rattle.ledger_report.specs.declared.fault.NoReport.TheVariants as told
 use Rattle.ledger_report.specs.declared.fault.WrongLine.{WrongLine}
 use Rattle.ledger_report.specs.declared.fault.WrongLine.TheVariants as wrongs
-use Rattle.ledger_report.specs.declared.sides.Sides.{Sides}
+use Rattle.ledger_report.specs.declared.per_network.PerNetwork.{PerNetwork}
 use Rattle.ledger_report.specs.declared.statistics.Statistics.{Statistics}
 
 abbrev line_of : List ℕ → LedgerLine → ReadLine
@@ -101,13 +101,13 @@ is_known network frames text None is = absurd is
 is_known network frames text (Some ending) is = refl
 
 -- so many lines `tap` stood
-taps_count : (taps : List Tap) (endings : Sides (Option TapEnding)) → HasEndings taps endings → taps_in endings ≡ length taps
+taps_count : (taps : List Tap) (endings : PerNetwork (Option TapEnding)) → HasEndings taps endings → taps_in endings ≡ length taps
 taps_count [] endings (a, b) = rw (b, a) refl
 taps_count (a ∷ []) endings (is, b) = rw (b, is_known A (tap_frames a.frames A) a.text endings.a is) refl
 taps_count (b ∷ a ∷ []) endings (first, second) = rw (is_known B (tap_frames b.frames B) b.text endings.b second) refl
 taps_count (c ∷ b ∷ a ∷ taps) endings is = absurd is
 
-endings_where : (taps : List Tap) (tap : Tap) (old new : Sides (Option TapEnding)) → HasEndings taps old → length taps < 2
+endings_where : (taps : List Tap) (tap : Tap) (old new : PerNetwork (Option TapEnding)) → HasEndings taps old → length taps < 2
     → TakesEnding (tap_network (length taps)) (tap_frames tap.frames (tap_network (length taps))) tap.text old new → HasEndings (tap ∷ taps) new
 endings_where [] tap old new h few (is, same) = (is, ap (λ (o : Option TapEnding). is_some o) same ∙ h.1)
 endings_where (a ∷ []) tap old new h few (is, same) =
@@ -115,15 +115,15 @@ endings_where (a ∷ []) tap old new h few (is, same) =
 endings_where (b ∷ a ∷ taps) tap old new h few is = absurd (omega (arith, few))
 
 -- those of the lines with one more line of counts
-endings_more : (rs : List ReadLine) (kind : Kind) (text : List ℕ) (table : VlTable) (old new : Sides (Option TapEnding))
+endings_more : (rs : List ReadLine) (kind : Kind) (text : List ℕ) (table : VlTable) (old new : PerNetwork (Option TapEnding))
     → HasEndings (taps_of (reverse rs)) old
     → IsRightCounts table (reverse rs) kind text → MovesEndings (frame_lines rs) kind text old new
     → HasEndings (taps_of (line_of text (lines.Counts kind) ∷ reverse rs)) new
-endings_more rs kinds.Link text table old new h right moves = subst (λ (e : Sides (Option TapEnding)). HasEndings (taps_of (reverse rs)) e)
+endings_more rs kinds.Link text table old new h right moves = subst (λ (e : PerNetwork (Option TapEnding)). HasEndings (taps_of (reverse rs)) e)
     (sym moves) h
-endings_more rs kinds.Filter text table old new h right moves = subst (λ (e : Sides (Option TapEnding)). HasEndings (taps_of (reverse rs)) e)
+endings_more rs kinds.Filter text table old new h right moves = subst (λ (e : PerNetwork (Option TapEnding)). HasEndings (taps_of (reverse rs)) e)
     (sym moves) h
-endings_more rs kinds.Total text table old new h right moves = subst (λ (e : Sides (Option TapEnding)). HasEndings (taps_of (reverse rs)) e)
+endings_more rs kinds.Total text table old new h right moves = subst (λ (e : PerNetwork (Option TapEnding)). HasEndings (taps_of (reverse rs)) e)
     (sym moves) h
 endings_more rs kinds.Tap text table old new h right moves =
     let count = taps_count (taps_of (reverse rs)) old h in
@@ -285,7 +285,7 @@ module _ {S : Type 0} (s : SourceMembers S) (bytes : Option (List ℕ)) (failure
 
 -- ---- a line that is none of a ledger, or a source that fails
 
-bad_at : (stage : Stage) (n m : ℕ) (left rest : Option (List ℕ)) (text : List ℕ) (x y : ℕ) (stage2 : Stage) (n2 : ℕ) (fault : LineFault) → n ≡ m
+bad_at : (stage : LedgerStage) (n m : ℕ) (left rest : Option (List ℕ)) (text : List ℕ) (x y : ℕ) (stage2 : LedgerStage) (n2 : ℕ) (fault : LineFault) → n ≡ m
     → IsBadLine (record { stage = stage; number = n; left = left; failures = x })
     (record { stage = stage2; number = n2; left = rest; failures = y }) text fault
     → IsBadLine (place_at stage m left) (place_at stage m rest) text fault
@@ -349,7 +349,7 @@ no_memory table source = record {
   failures = refl;
 }
 
-pub handed_on : {T : Type 0} (P : ReportFault → Type 0) (fault : ReportFault) (result : Result T ReportFault) → IsErrAnd result (λ e. e ≡ fault)
+pub handed_on : {T : Type 0} (P : NoReport → Type 0) (fault : NoReport) (result : Result T NoReport) → IsErrAnd result (λ e. e ≡ fault)
     → P fault → IfErr result P
 handed_on P fault (Ok report) is h = tt
 handed_on P fault (Err e) is h = subst P (sym is) h

@@ -3,16 +3,16 @@ use Rattle.std.proofs.Common.{◌≡◌, ◌∙◌, List, length, get_or, refl, 
 use Rattle.ledger_report.specs.Keeping.{KeepsAccount, KeepsLane, KeepsLink, KeepsNetworks, KeepsReport}
 use Rattle.ledger_report.specs.Pairs.{FateNumbers, KeepsLate}
 use Rattle.ledger_report.specs.Settling.{AccountsSame, KeepBalance, KeepsCounts}
-use Rattle.ledger_report.specs.declared.lane.Lane.{Lane}
+use Rattle.ledger_report.specs.declared.lane.LaneReport.{LaneReport}
 use Rattle.ledger_report.specs.declared.link.LinkReport.{LinkReport}
 use Rattle.ledger_report.specs.declared.network.NetworkReport.{NetworkReport}
-use Rattle.ledger_report.specs.declared.sides.Sides.{Sides}
+use Rattle.ledger_report.specs.declared.per_network.PerNetwork.{PerNetwork}
 use Rattle.ledger_report.specs.declared.statistics.Statistics.{Statistics}
 
-pub keeps_networks_on : (old mid new : Sides NetworkReport) → KeepsNetworks old mid → KeepsNetworks mid new → KeepsNetworks old new
+pub keeps_networks_on : (old mid new : PerNetwork NetworkReport) → KeepsNetworks old mid → KeepsNetworks mid new → KeepsNetworks old new
 keeps_networks_on old mid new (a, b) (a2, b2) = (a2 ∙ a, b2 ∙ b)
 
-pub keeps_lane_on : (old mid new : Lane) → KeepsLane old mid → KeepsLane mid new → KeepsLane old new
+pub keeps_lane_on : (old mid new : LaneReport) → KeepsLane old mid → KeepsLane mid new → KeepsLane old new
 keeps_lane_on old mid new (is, marks, room) (is2, marks2, room2) =
     (is2 ∙ is, λ sign own none. marks2 sign own none ∙ marks sign own none, λ before. room2 (room before))
 

@@ -26,20 +26,20 @@ use Rattle.ledger_report.specs.Places.{IsMarkOf}
 use Rattle.ledger_report.specs.Standings.{Standing, standings}
 use Rattle.ledger_report.specs.Sums.{greatest_of, saturated, total_of}
 use Rattle.ledger_report.specs.Words.{is_on, is_same_network, is_seen_of, rule_of}
-use Rattle.ledger_report.specs.declared.lane.Lane.{Lane}
+use Rattle.ledger_report.specs.declared.lane.LaneReport.{LaneReport}
 use Rattle.ledger_report.specs.declared.lane.LaneLine.{LaneLine}
 use Rattle.ledger_report.specs.declared.lane.LaneRules.{LaneRules}
 use Rattle.ledger_report.specs.declared.link.LinkReport.{LinkReport}
-use Rattle.ledger_report.specs.declared.moment.Moment.{Moment}
-use Rattle.ledger_report.specs.declared.moment.Place.{Place}
+use Rattle.ledger_report.specs.declared.moment.LinePlace.{LinePlace}
+use Rattle.ledger_report.specs.declared.moment.FramePlace.{FramePlace}
 use Rattle.ledger_report.specs.declared.pairing.Pairing.{Pairing}
 use Rattle.ledger_report.specs.declared.network.NetworkReport.{NetworkReport}
 use Rattle.ledger_report.specs.declared.network.Silence.{Silence}
-use Rattle.ledger_report.specs.declared.signs.Mark.{Mark}
-use Rattle.ledger_report.specs.declared.signs.Sign.{Sign}
-use Rattle.ledger_report.specs.declared.signs.Sign.TheVariants.{Cut, Runt, Oversize, Foreign, Unconfigured, TooLong, Excess, Out, Lost, Repeat, Reset, Alone, Late, Early}
-use Rattle.ledger_report.specs.declared.signs.Signs.{Signs}
-use Rattle.ledger_report.specs.declared.sides.Sides.{Sides}
+use Rattle.ledger_report.specs.declared.anomalies.AnomalyTally.{AnomalyTally}
+use Rattle.ledger_report.specs.declared.anomalies.Anomaly.{Anomaly}
+use Rattle.ledger_report.specs.declared.anomalies.Anomaly.TheVariants.{Cut, Runt, Oversize, Foreign, Unconfigured, TooLong, Excess, Out, Lost, Repeat, Reset, Alone, Late, Early}
+use Rattle.ledger_report.specs.declared.anomalies.Anomalies.{Anomalies}
+use Rattle.ledger_report.specs.declared.per_network.PerNetwork.{PerNetwork}
 use Rattle.ledger_report.proofs.FateCounts.{keeps_fates}
 use Rattle.ledger_report.proofs.FateLines.{fates_more, fates_other, settled_other, settled_own}
 use Rattle.ledger_report.proofs.FateSteps.{eq_swap}
@@ -48,14 +48,14 @@ use Rattle.ledger_report.proofs.NetworkSteps.{count_cons, frames_own}
 
 -- ---- what stays
 
-pub mark_same : (old new : Mark) (hits : List Hit) → tally_of new ≡ tally_of old → IsMarkOf hits old → IsMarkOf hits new
+pub mark_same : (old new : AnomalyTally) (hits : List Hit) → tally_of new ≡ tally_of old → IsMarkOf hits old → IsMarkOf hits new
 mark_same old new hits same is = record {
   count = ap (λ (t : Tally). t.count) same ∙ is.count;
-  first = subst (λ (p : Option Place). IsFirst p hits) (sym (ap (λ (t : Tally). t.first) same)) is.first;
-  last = subst (λ (p : Option Place). IsLast p hits) (sym (ap (λ (t : Tally). t.last) same)) is.last;
+  first = subst (λ (p : Option FramePlace). IsFirst p hits) (sym (ap (λ (t : Tally). t.first) same)) is.first;
+  last = subst (λ (p : Option FramePlace). IsLast p hits) (sym (ap (λ (t : Tally). t.last) same)) is.last;
 }
 
-pub keeps_lane : (rules : LaneRules) (lines : List LaneLine) (old new : Lane) → KeepsLane old new → StandsAfter rules lines old → StandsAfter rules lines new
+pub keeps_lane : (rules : LaneRules) (lines : List LaneLine) (old new : LaneReport) → KeepsLane old new → StandsAfter rules lines old → StandsAfter rules lines new
 keeps_lane rules lines old new (is, marks, room) h = record {
   frames = ap (λ (l : LaneNumbers). l.frames) is ∙ h.frames;
   bytes = ap (λ (l : LaneNumbers). l.bytes) is ∙ h.bytes;
@@ -222,7 +222,7 @@ found-passes p (x ∷ xs) = at (p x) refl (found-passes p xs)
     at false is so_far = so_far
 
 -- the lane's latest line, if it has one
-silent_same : (network : Network) (found : Option Standing) (ls : List LaneLine) (id : ℕ) (rules : LaneRules) (lane : Lane) (silences : List Silence) →
+silent_same : (network : Network) (found : Option Standing) (ls : List LaneLine) (id : ℕ) (rules : LaneRules) (lane : LaneReport) (silences : List Silence) →
     newest ls ≡ option_map (lane_line id network) found → IfSome found (λ s. is_lane_line id network s.line ≡ true) → StandsAfter rules ls lane →
     (nat_lt 0 lane.frames && is_silent_since lane.ordinal silences)
     ≡ (nat_lt 0 (option_map_or (ordinal_of network) found 0) && is_silent_since (option_map_or (ordinal_of network) found 0) silences)
@@ -239,7 +239,7 @@ silent_same network (Some s) (l ∷ ls) id rules lane silences same passes h =
     let ordinal : lane.ordinal ≡ ordinal_of network s = h.ordinal ∙ ap (λ (o : Option LaneLine). option_map_or (λ (x : LaneLine). x.ordinal) o 0) same in
     rw (one, two, ordinal) refl
 
-signs_rebinned : (rules : LaneRules) (line : LaneLine) (network : Network) (bin : ℕ) (lines : List LaneLine) (signs : Signs) (sign : Sign) → IsLaneSign sign →
+signs_rebinned : (rules : LaneRules) (line : LaneLine) (network : Network) (bin : ℕ) (lines : List LaneLine) (signs : Anomalies) (sign : Anomaly) → IsLaneSign sign →
     HasHits signs sign (hits rules sign (line ∷ lines)) →
     HasHits signs sign (hits rules sign (record line { at = record { network = network; place = line.at.place; bin = bin } } ∷ lines))
 signs_rebinned rules line network bin lines signs Cut own has = has
@@ -263,7 +263,7 @@ first_rebinned line other [] first same is = is ∙ sym same
 first_rebinned line other (before ∷ lines) first same is = is
 
 -- a lane's numbers don't rest on the bins of its lines
-rebinned : (rules : LaneRules) (line : LaneLine) (network : Network) (bin : ℕ) (lines : List LaneLine) (lane : Lane) → StandsAfter rules (line ∷ lines) lane →
+rebinned : (rules : LaneRules) (line : LaneLine) (network : Network) (bin : ℕ) (lines : List LaneLine) (lane : LaneReport) → StandsAfter rules (line ∷ lines) lane →
     StandsAfter rules (record line { at = record { network = network; place = line.at.place; bin = bin } } ∷ lines) lane
 rebinned rules line network bin lines lane h = record {
   frames = h.frames;
@@ -282,7 +282,7 @@ rebinned rules line network bin lines lane h = record {
   signs = λ sign own. signs_rebinned rules line network bin lines lane.signs sign own (h.signs sign own);
 }
 
-abbrev taken : FrameLine → Moment → ℕ → ℕ → Bool → LaneLine
+abbrev taken : FrameLine → LinePlace → ℕ → ℕ → Bool → LaneLine
 taken line at ordinal number after = record {
   at = at;
   ordinal = ordinal;
@@ -293,7 +293,7 @@ taken line at ordinal number after = record {
 }
 
 -- whether a line stands after a silence
-pub seen_after : (id : ℕ) (network : Network) (line : FrameLine) (lines : List FrameLine) (lane : Lane) (rules : LaneRules) (report : NetworkReport) →
+pub seen_after : (id : ℕ) (network : Network) (line : FrameLine) (lines : List FrameLine) (lane : LaneReport) (rules : LaneRules) (report : NetworkReport) →
     IsNetworkOf network (line ∷ lines) report → StandsAfter rules (lane_lines id network lines) lane →
     (nat_lt 0 lane.frames && is_silent_since lane.ordinal report.silences.items) ≡ is_after_silence id network (record { line = line; before = lines })
 seen_after id network line lines lane rules report is h =
@@ -303,7 +303,7 @@ seen_after id network line lines lane rules report is h =
     ∙ ap (λ (xs : List Silence). nat_lt 0 (latest_ordinal id network lines) && is_silent_since (latest_ordinal id network lines) xs) is.silences.kept
 
 -- a line as its lane takes it, but for its bin and the network that its moment names
-pub seen_same : (row : Row) (network : Network) (line : FrameLine) (lines : List FrameLine) (number : ℕ) (at : Moment) (old : Lane)
+pub seen_same : (row : Row) (network : Network) (line : FrameLine) (lines : List FrameLine) (number : ℕ) (at : LinePlace) (old : LaneReport)
     (report : NetworkReport) → line.sequence ≡ Some number → at.place ≡ place_of line → IsNetworkOf network (line ∷ lines) report →
     StandsAfter (lane_rules row) (lane_lines row.id network lines) old →
     seen_line old report line number at
@@ -313,7 +313,7 @@ pub seen_same : (row : Row) (network : Network) (line : FrameLine) (lines : List
 seen_same row network line lines number at old report sequence place is h =
     let st : Standing = record { line = line; before = lines } in
     let after = seen_after row.id network line lines old (lane_rules row) report is h in
-    let moved : Moment = record { network = at.network; place = place_of line; bin = at.bin } in
+    let moved : LinePlace = record { network = at.network; place = place_of line; bin = at.bin } in
     ap (λ p. taken line (record { network = at.network; place = p; bin = at.bin }) report.frames number
     (nat_lt 0 old.frames && is_silent_since old.ordinal report.silences.items)) place
     ∙ ap (λ n. taken line moved n number (nat_lt 0 old.frames && is_silent_since old.ordinal report.silences.items)) is.frames
@@ -321,7 +321,7 @@ seen_same row network line lines number at old report sequence place is h =
     ∙ ap (λ (b : Bool). taken line moved (ordinal_of network st) (unwrap_or line.sequence 0) b) after
 
 -- one more line of the lane
-pub lane_more : (row : Row) (network : Network) (line : FrameLine) (lines : List FrameLine) (number : ℕ) (at : Moment) (old new : Lane)
+pub lane_more : (row : Row) (network : Network) (line : FrameLine) (lines : List FrameLine) (number : ℕ) (at : LinePlace) (old new : LaneReport)
     (report : NetworkReport) → is_lane_line row.id network line ≡ true → line.sequence ≡ Some number → at.place ≡ place_of line →
     IsNetworkOf network (line ∷ lines) report →
     TakesLaneLine (lane_rules row) (seen_line old report line number at) old new →
@@ -329,7 +329,7 @@ pub lane_more : (row : Row) (network : Network) (line : FrameLine) (lines : List
 lane_more row network line lines number at old new report on sequence place is takes h =
     let st : Standing = record { line = line; before = lines } in
     let ls = lane_lines row.id network lines in
-    let moved : Moment = record { network = at.network; place = place_of line; bin = at.bin } in
+    let moved : LinePlace = record { network = at.network; place = place_of line; bin = at.bin } in
     let same = seen_same row network line lines number at old report sequence place is h in
     subst (λ (xs : List LaneLine). StandsAfter (lane_rules row) xs new) (sym (lines_own row.id network line lines on))
     (rebinned (lane_rules row) (record (lane_line row.id network st) { at = moved }) network 0 ls new
@@ -340,16 +340,16 @@ stamp_at None = refl
 stamp_at (Some line) = refl
 
 -- the skew of a line by what is held of the latest delivery of its number
-pub skew_known : (id : ℕ) (line : FrameLine) (lines : List FrameLine) (number : ℕ) (at : Moment) (old : LinkReport) → line.sequence ≡ Some number →
+pub skew_known : (id : ℕ) (line : FrameLine) (lines : List FrameLine) (number : ℕ) (at : LinePlace) (old : LinkReport) → line.sequence ≡ Some number →
     IsMomentOf line at → HasLatest id lines old.pairing → skew_in old number at.place.stamp ≡ skew_after id line lines
 skew_known id line lines number at old sequence moment latest =
-    ap (λ (p : Place). p.stamp - option_map_or (λ (s : Spot). s.place.stamp) (spot_at old.pairing number) 0) moment.place
+    ap (λ (p : FramePlace). p.stamp - option_map_or (λ (s : Spot). s.place.stamp) (spot_at old.pairing number) 0) moment.place
     ∙ ap (λ (o : Option Spot). line.stamp.0 - option_map_or (λ (s : Spot). s.place.stamp) o 0) (latest number)
     ∙ ap (λ n. line.stamp.0 - n) (stamp_at (latest_delivery id number lines))
     ∙ ap (λ (o : Option ℕ). line.stamp.0 - option_map_or (λ (l : FrameLine). l.stamp.0) (latest_delivery id (unwrap_or o 0) lines) 0) (sym sequence)
 
 -- one more line of the link
-pub link_more : (row : Row) (line : FrameLine) (lines : List FrameLine) (number : ℕ) (at : Moment) (networks : Sides NetworkReport) (old new : LinkReport) → length lines < 2 ^ 34 →
+pub link_more : (row : Row) (line : FrameLine) (lines : List FrameLine) (number : ℕ) (at : LinePlace) (networks : PerNetwork NetworkReport) (old new : LinkReport) → length lines < 2 ^ 34 →
     (old.deliveries + 1 < 2 ^ 64 → new.deliveries ≡ old.deliveries + one_where (is_deliver line)) →
     NotesCopy line number at old new → NotesLatest line number at old new → NotesFates line number at old new → IsFrameLine line →
     is_seen_of row.id line ≡ true → line.sequence ≡ Some number → IsMomentOf line at → AreNetworksOf (line ∷ lines) networks →
@@ -375,7 +375,7 @@ link_more row line lines number at networks old new few delivers copies latest f
     own_latest : HasLatest row.id (line ∷ lines) new.pairing
     own_latest =
         latest_own row.id number line lines (record { network = at.network; place = at.place }) (is_deliver line) old.pairing new.pairing seen refl sequence
-        (ap (λ (n : Network). record { network = n; place = at.place }) moment.network ∙ ap (λ (p : Place). record { network = line.network; place = p }) moment.place)
+        (ap (λ (n : Network). record { network = n; place = at.place }) moment.network ∙ ap (λ (p : FramePlace). record { network = line.network; place = p }) moment.place)
         latest h.latest
 
     own_fates : HasFatesOf (pairing_rules row) (line ∷ lines) new
@@ -392,13 +392,13 @@ link_more row line lines number at networks old new few delivers copies latest f
     other_line : (n m : Network) → line.network ≡ m → is_same_network n m ≡ false → is_lane_line row.id n line ≡ false
     other_line n m here differ = and_right (is_seen_of row.id line) (is_on n line) (ap (is_same_network n) here ∙ differ)
 
-    stays : (n : Network) (was now : Lane) → is_lane_line row.id n line ≡ false → KeepsLane was now →
+    stays : (n : Network) (was now : LaneReport) → is_lane_line row.id n line ≡ false → KeepsLane was now →
         StandsAfter (lane_rules row) (lane_lines row.id n lines) was → StandsAfter (lane_rules row) (lane_lines row.id n (line ∷ lines)) now
     stays n was now off keeps before =
         subst (λ (ls : List LaneLine). StandsAfter (lane_rules row) ls now) (sym (lines_other row.id n line lines off))
         (keeps_lane (lane_rules row) (lane_lines row.id n lines) was now keeps before)
 
-    with_row : (l : LaneLine) (was now : Lane) → TakesLaneLine (lane_rules (row_in old)) l was now → TakesLaneLine (lane_rules row) l was now
+    with_row : (l : LaneLine) (was now : LaneReport) → TakesLaneLine (lane_rules (row_in old)) l was now → TakesLaneLine (lane_rules row) l was now
     with_row l was now takes = subst (λ (r : Row). TakesLaneLine (lane_rules r) l was now) h.says takes
 
     at_network : (n : Network) → line.network ≡ n → at_side n → IsLinkOf row (line ∷ lines) new
@@ -437,7 +437,7 @@ pub met_other : (row : Row) (line : FrameLine) (lines : List FrameLine) (report 
 met_other row line lines report off h = h ∙ sym (settled_other (pairing_rules row) line lines off)
 
 -- one more line of the link settles the delivery of its number before
-pub met_own : (row : Row) (line : FrameLine) (lines : List FrameLine) (number : ℕ) (at : Moment) (old new : LinkReport) → length lines < 2 ^ 34 →
+pub met_own : (row : Row) (line : FrameLine) (lines : List FrameLine) (number : ℕ) (at : LinePlace) (old new : LinkReport) → length lines < 2 ^ 34 →
     is_seen_of row.id line ≡ true → line.sequence ≡ Some number → IsMomentOf line at → IsFrameLine line → NotesFates line number at old new →
     IsLinkOf row lines old → CountsMet row lines old → CountsMet row (line ∷ lines) new
 met_own row line lines number at old new few seen sequence moment reached notes is h =

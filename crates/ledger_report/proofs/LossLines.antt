@@ -17,28 +17,28 @@ use Rattle.ledger_report.specs.Losses.{AreRoom, IsRoom, KeepsLosses, Losses, Los
 use Rattle.ledger_report.specs.LostBoth.{HasLosses, both_at, both_count, first_both, is_lost_both, loses, lost_since, said_at, sees, window_of}
 use Rattle.ledger_report.specs.Networks.{IsNetworkOf}
 use Rattle.ledger_report.specs.Noting.{AreNetworksOf, IsMomentOf, seen_line}
-use Rattle.ledger_report.specs.Numbering.{counted_numbering, missing_in, numbering_of}
+use Rattle.ledger_report.specs.NumberStep.{counted_numbering, missing_in, numbering_of}
 use Rattle.ledger_report.specs.Numbers.{distance, is_loss}
 use Rattle.ledger_report.specs.Pairs.{window_in}
 use Rattle.ledger_report.specs.Standings.{Standing, standings}
 use Rattle.ledger_report.specs.Sums.{saturated}
 use Rattle.afdx_frame.specs.Frame.{other_network}
 use Rattle.ledger_report.specs.Words.{is_on, is_same_network, is_seen_of}
-use Rattle.ledger_report.specs.declared.lane.Lane.{Lane}
+use Rattle.ledger_report.specs.declared.lane.LaneReport.{LaneReport}
 use Rattle.ledger_report.specs.declared.lane.LaneLine.{LaneLine}
-use Rattle.ledger_report.specs.declared.lane.Numbering.{Numbering}
-use Rattle.ledger_report.specs.declared.lane.Numbering.TheVariants.{Follows, Restarts, Repeats, Skips}
+use Rattle.ledger_report.specs.declared.lane.NumberStep.{NumberStep}
+use Rattle.ledger_report.specs.declared.lane.NumberStep.TheVariants.{Follows, Restarts, Repeats, Skips}
 use Rattle.ledger_report.specs.declared.link.LinkReport.{LinkReport}
-use Rattle.ledger_report.specs.declared.moment.Moment.{Moment}
-use Rattle.ledger_report.specs.declared.moment.Place.{Place}
+use Rattle.ledger_report.specs.declared.moment.LinePlace.{LinePlace}
+use Rattle.ledger_report.specs.declared.moment.FramePlace.{FramePlace}
 use Rattle.ledger_report.specs.declared.network.NetworkReport.{NetworkReport}
-use Rattle.ledger_report.specs.declared.sides.Sides.{Sides}
+use Rattle.ledger_report.specs.declared.per_network.PerNetwork.{PerNetwork}
 use Rattle.ledger_report.proofs.FateCounts.{count_none, count_same}
 use Rattle.ledger_report.proofs.LinkSteps.{seen_after}
 use Rattle.ledger_report.proofs.LossSteps.{unset}
 
 -- a line of the lane, by its number
-counted_same : (row : Row) (network : Network) (line : FrameLine) (lines : List FrameLine) (number : ℕ) (at : Moment) (lane : Lane) (report : NetworkReport)
+counted_same : (row : Row) (network : Network) (line : FrameLine) (lines : List FrameLine) (number : ℕ) (at : LinePlace) (lane : LaneReport) (report : NetworkReport)
     (integrity : Bool) → integrity ≡ row.integrity → line.sequence ≡ Some number → at.place ≡ place_of line → IsNetworkOf network (line ∷ lines) report →
     StandsAfter (lane_rules row) (lane_lines row.id network lines) lane →
     counted_in integrity lane (seen_line lane report line number at)
@@ -47,7 +47,7 @@ counted_same : (row : Row) (network : Network) (line : FrameLine) (lines : List 
     (lane_line row.id network (record { line = line; before = lines })))
 counted_same row network line lines number at lane report integrity on sequence place is h =
     ap (λ (b : Bool). counted_numbering b (if integrity then numbering_of lane.previous number else Follows)) (seen_after row.id network line lines lane (lane_rules row) report is h)
-    ∙ ap (λ (n : Numbering). counted_numbering (is_after_silence row.id network (record { line = line; before = lines })) n)
+    ∙ ap (λ (n : NumberStep). counted_numbering (is_after_silence row.id network (record { line = line; before = lines })) n)
     (ap (λ (b : Bool). if b then numbering_of lane.previous number else Follows) on ∙ where_on row.integrity h.previous)
   where
     before : Option ℕ
@@ -74,14 +74,14 @@ few_of (Some previous) number = at (number == 0) (number == previous) (is_loss (
         omega (arith, most)
     at false false false is = omega arith
 
-few_counted : (after : Bool) (numbering : Numbering) → missing_in numbering < 255 → missing_in (counted_numbering after numbering) < 255
+few_counted : (after : Bool) (numbering : NumberStep) → missing_in numbering < 255 → missing_in (counted_numbering after numbering) < 255
 few_counted true Follows few = few
 few_counted true Restarts few = few
 few_counted true Repeats few = few
 few_counted true (Skips previous missing) few = omega arith
 few_counted false numbering few = few
 
-few_in : (integrity : Bool) (lane : Lane) (line : LaneLine) → missing_in (counted_in integrity lane line) < 255
+few_in : (integrity : Bool) (lane : LaneReport) (line : LaneLine) → missing_in (counted_in integrity lane line) < 255
 few_in integrity lane line = few_counted line.after_silence (if integrity then numbering_of lane.previous line.number else Follows) (at integrity)
   where
     at : (b : Bool) → missing_in (if b then numbering_of lane.previous line.number else Follows) < 255
@@ -97,7 +97,7 @@ room_seen integrity A number losses (a, b) = (room_without integrity number loss
 room_seen integrity B number losses (a, b) = (a, room_without integrity number losses.on_b b)
 
 -- by what the lane does with the line, and the note of its number
-pub notes_losses : (line : FrameLine) (number : ℕ) (at : Moment) (networks : Sides NetworkReport) (seen : LaneLine) (numbering : Numbering)
+pub notes_losses : (line : FrameLine) (number : ℕ) (at : LinePlace) (networks : PerNetwork NetworkReport) (seen : LaneLine) (numbering : NumberStep)
     (old noted numbered new : LinkReport) → seen ≡ seen_line (side_of at.network old.lanes) (side_of at.network networks) line number at →
     numbering ≡ counted_in old.integrity (side_of seen.at.network old.lanes) seen → row_in noted ≡ row_in old →
     losses_in noted ≡ with_seen old.integrity seen.at.network seen.number (losses_in old) →
@@ -109,16 +109,16 @@ notes_losses line number at networks seen numbering old noted numbered new seen_
     numbering_is ∙ ap (λ (l : LaneLine). counted_in old.integrity (side_of l.at.network old.lanes) l) seen_is in
     let mid : losses_in noted ≡ with_seen old.integrity at.network number (losses_in old) =
     noted_is ∙ ap (λ (l : LaneLine). with_seen old.integrity l.at.network l.number (losses_in old)) seen_is in
-    let few : missing_in numbering < 255 = subst (λ (n : Numbering). missing_in n < 255) (sym says) (few_in old.integrity (side_of at.network old.lanes) taken) in
+    let few : missing_in numbering < 255 = subst (λ (n : NumberStep). missing_in n < 255) (sym says) (few_in old.integrity (side_of at.network old.lanes) taken) in
     let moved = lost few (subst AreRoom (sym mid) (room_seen old.integrity at.network number (losses_in old) room)) in
     subst (λ (l : Losses). LosesAt (passes (counted_in old.integrity (side_of at.network old.lanes) taken)) at (window_in old)
     (with_seen old.integrity at.network number (losses_in old)) l) (sym same)
     (subst (λ (l : Losses). LosesAt (passes (counted_in old.integrity (side_of at.network old.lanes) taken)) at (window_in old) l (losses_in numbered)) mid
     (subst (λ (r : Row). LosesAt (passes (counted_in old.integrity (side_of at.network old.lanes) taken)) at (saturated (r.bag * 127)) (losses_in noted) (losses_in numbered)) row
-    (subst (λ (n : Numbering). LosesAt (passes n) at (window_in noted) (losses_in noted) (losses_in numbered)) says moved)))
+    (subst (λ (n : NumberStep). LosesAt (passes n) at (window_in noted) (losses_in noted) (losses_in numbered)) says moved)))
 
 -- what comes after that keeps the losses
-pub notes_losses_then : (line : FrameLine) (number : ℕ) (at : Moment) (networks : Sides NetworkReport) (old mid new : LinkReport) →
+pub notes_losses_then : (line : FrameLine) (number : ℕ) (at : LinePlace) (networks : PerNetwork NetworkReport) (old mid new : LinkReport) →
     losses_in new ≡ losses_in mid → NotesLosses line number at networks old mid → NotesLosses line number at networks old new
 notes_losses_then line number at networks old mid new same h room =
     subst (λ (l : Losses). LosesAt (passes (counted_in old.integrity (side_of at.network old.lanes)
@@ -126,7 +126,7 @@ notes_losses_then line number at networks old mid new same h room =
     (with_seen old.integrity at.network number (losses_in old)) l) (sym same) (h room)
 
 -- a line that passes over none
-pub loses_none : (passed : ℕ → Bool) (at : Moment) (window : ℕ) (losses : Losses) → ((number : ℕ) → passed number ≡ false) → AreRoom losses →
+pub loses_none : (passed : ℕ → Bool) (at : LinePlace) (window : ℕ) (losses : Losses) → ((number : ℕ) → passed number ≡ false) → AreRoom losses →
     LosesAt passed at window losses losses
 loses_none passed at window losses none rooms = record {
   moves = record {
@@ -145,7 +145,7 @@ loses_none passed at window losses none rooms = record {
     nothing = count_none (λ n. passed n && is_lost_within at.place.stamp window (held_at (losses_on (other_network at.network) losses) n)) 256
         (λ n. ap (λ (b : Bool). b && is_lost_within at.place.stamp window (held_at (losses_on (other_network at.network) losses) n)) (none n))
 
-    still : (o : Option (Network × Place)) → first_with 0 at o ≡ o
+    still : (o : Option (Network × FramePlace)) → first_with 0 at o ≡ o
     still None = refl
     still (Some first) = refl
 
@@ -154,7 +154,7 @@ loses_none passed at window losses none rooms = record {
     one B (a, b) = b
 
 -- the numbers of the network of a line
-pub moves_here : (network : Network) (passed : ℕ → Bool) (at : Moment) (held window : ℕ) (old new : Losses) → at.network ≡ network → held ≡ window →
+pub moves_here : (network : Network) (passed : ℕ → Bool) (at : LinePlace) (held window : ℕ) (old new : Losses) → at.network ≡ network → held ≡ window →
     MovesLosses passed at.place.stamp held (losses_on network old) (losses_on (other_network network) old) (losses_on network new) (losses_on (other_network network) new) →
     MovesLosses passed at.place.stamp window (losses_on at.network old) (losses_on (other_network at.network) old) (losses_on at.network new) (losses_on (other_network at.network) new)
 moves_here network passed at held window old new here same moves =
@@ -290,23 +290,23 @@ both_more more held total same = at (cases_lt 0 more)
     at (inl some) = ap (λ (b : Bool). if b then saturated (held + more) else held) (lt-ltb 0 more some) ∙ omega (arith, same)
     at (inr none) = ap (λ (b : Bool). if b then saturated (held + more) else held) (le-ltb 0 more none) ∙ omega (arith, same, none)
 
-first_stays : (more : ℕ) (at : Moment) (o : Option (Network × Place)) → nat_lt 0 more ≡ false → first_with more at o ≡ o
-first_stays more at None none = ap (λ (b : Bool). if◌then◌else◌ {A = Option (Network × Place)} b (Some (at.network, at.place)) None) none
+first_stays : (more : ℕ) (at : LinePlace) (o : Option (Network × FramePlace)) → nat_lt 0 more ≡ false → first_with more at o ≡ o
+first_stays more at None none = ap (λ (b : Bool). if◌then◌else◌ {A = Option (Network × FramePlace)} b (Some (at.network, at.place)) None) none
 first_stays more at (Some first) none = refl
 
-first_there : (more : ℕ) (at : Moment) (f : Standing → Network × Place) (x : Standing) (xs : List Standing) →
+first_there : (more : ℕ) (at : LinePlace) (f : Standing → Network × FramePlace) (x : Standing) (xs : List Standing) →
     first_with more at (option_map f (last_or (Some x) xs)) ≡ option_map f (last_or (Some x) xs)
 first_there more at f x [] = refl
 first_there more at f x (y ∷ xs) = first_there more at f y xs
 
-first_new : (more : ℕ) (at : Moment) (f : Standing → Network × Place) (st : Standing) (xs : List Standing) → nat_lt 0 more ≡ true →
+first_new : (more : ℕ) (at : LinePlace) (f : Standing → Network × FramePlace) (st : Standing) (xs : List Standing) → nat_lt 0 more ≡ true →
     (at.network, at.place) ≡ f st → first_with more at (option_map f (last_or None xs)) ≡ option_map f (last_or (Some st) xs)
 first_new more at f st [] some same =
-    ap (λ (b : Bool). if◌then◌else◌ {A = Option (Network × Place)} b (Some (at.network, at.place)) None) some ∙ ap (λ (p : Network × Place). Some p) same
+    ap (λ (b : Bool). if◌then◌else◌ {A = Option (Network × FramePlace)} b (Some (at.network, at.place)) None) some ∙ ap (λ (p : Network × FramePlace). Some p) same
 first_new more at f st (x ∷ xs) some same = first_there more at f x xs
 
 -- with the moment of the line
-losses_own : (row : Row) (line : FrameLine) (lines : List FrameLine) (number bin : ℕ) (networks : Sides NetworkReport) (old new : LinkReport) →
+losses_own : (row : Row) (line : FrameLine) (lines : List FrameLine) (number bin : ℕ) (networks : PerNetwork NetworkReport) (old new : LinkReport) →
     is_seen_of row.id line ≡ true → line.sequence ≡ Some number → AreNetworksOf (line ∷ lines) networks → IsLinkOf row lines old →
     NotesLosses line number (record { network = line.network; place = place_of line; bin = bin }) networks old new →
     HasLosses row lines old → HasLosses row (line ∷ lines) new
@@ -317,12 +317,12 @@ losses_own row line lines number bin networks old new seen sequence are link not
   told = record {
     count = moved.both ∙ ap (λ n. both_with counted n) (seen_both row.integrity line.network number (losses_in old))
         ∙ both_more counted old.lost_both (both_count row lines) h.told.count ∙ ap (λ n. saturated (n + both_count row lines)) counted_is;
-    first = moved.first ∙ ap (λ (o : Option (Network × Place)). first_with counted at o) (seen_first row.integrity line.network number (losses_in old) ∙ h.told.first)
+    first = moved.first ∙ ap (λ (o : Option (Network × FramePlace)). first_with counted at o) (seen_first row.integrity line.network number (losses_in old) ∙ h.told.first)
         ∙ first_at (nat_lt 0 counted) refl;
   };
 }
   where
-    at : Moment
+    at : LinePlace
     at = record { network = line.network; place = place_of line; bin = bin }
 
     st : Standing
@@ -351,7 +351,7 @@ losses_own row line lines number bin networks old new seen sequence are link not
     moved =
         subst (λ (b : Bool). LosesAt passed at (window_of row) (with_seen b line.network number (losses_in old)) (losses_in new)) (ap (λ (r : Row). r.integrity) link.says)
         (subst (λ n. LosesAt passed at n (with_seen old.integrity line.network number (losses_in old)) (losses_in new)) (ap (λ (r : Row). saturated (r.bag * 127)) link.says)
-        (subst (λ (n : Numbering). LosesAt (passes n) at (window_in old) (with_seen old.integrity line.network number (losses_in old)) (losses_in new)) says
+        (subst (λ (n : NumberStep). LosesAt (passes n) at (window_in old) (with_seen old.integrity line.network number (losses_in old)) (losses_in new)) says
         (notes h.room)))
 
     own_line : is_lane_line row.id line.network line ≡ true
@@ -427,11 +427,11 @@ losses_own row line lines number bin networks old new seen sequence are link not
     first_at false none =
         first_stays counted at (first_both row lines) none ∙ sym (first_quiet row line lines (ap (λ n. nat_lt 0 n) (sym counted_is) ∙ none))
 
-pub losses_more : (row : Row) (line : FrameLine) (lines : List FrameLine) (number : ℕ) (at : Moment) (networks : Sides NetworkReport) (old new : LinkReport) →
+pub losses_more : (row : Row) (line : FrameLine) (lines : List FrameLine) (number : ℕ) (at : LinePlace) (networks : PerNetwork NetworkReport) (old new : LinkReport) →
     is_seen_of row.id line ≡ true → line.sequence ≡ Some number → IsMomentOf line at → AreNetworksOf (line ∷ lines) networks → IsLinkOf row lines old →
     NotesLosses line number at networks old new → HasLosses row lines old → HasLosses row (line ∷ lines) new
 losses_more row line lines number at networks old new seen sequence moment are link notes h =
     losses_own row line lines number at.bin networks old new seen sequence are link
-    (subst (λ (p : Place). NotesLosses line number (record { network = line.network; place = p; bin = at.bin }) networks old new) moment.place
+    (subst (λ (p : FramePlace). NotesLosses line number (record { network = line.network; place = p; bin = at.bin }) networks old new) moment.place
     (subst (λ (n : Network). NotesLosses line number (record { network = n; place = at.place; bin = at.bin }) networks old new) moment.network notes))
     h

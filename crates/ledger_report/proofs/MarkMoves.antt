@@ -10,22 +10,22 @@ use Rattle.ledger_report.specs.LaneLines.{early_amount, hit_of, is_out_after_sil
 use Rattle.ledger_report.specs.LaneParts.{TakesAmounts}
 use Rattle.ledger_report.specs.Marks.{HasHits, KeepsHits, KeepsOthers, TakesHit, hits_with, sign_index}
 use Rattle.ledger_report.specs.declared.lane.LaneLine.{LaneLine}
-use Rattle.ledger_report.specs.declared.lane.Numbering.TheVariants.{Follows, Restarts, Repeats, Skips}
-use Rattle.ledger_report.specs.declared.moment.Place.{Place}
-use Rattle.ledger_report.specs.declared.signs.Mark.{Mark}
-use Rattle.ledger_report.specs.declared.signs.Sign.{Sign}
-use Rattle.ledger_report.specs.declared.signs.Sign.TheVariants.{Cut, Runt, Oversize, Foreign, Unconfigured, TooLong, Excess, Out, Lost, Repeat, Reset, Alone, Late, Early}
-use Rattle.ledger_report.specs.declared.signs.Signs.{Signs}
+use Rattle.ledger_report.specs.declared.lane.NumberStep.TheVariants.{Follows, Restarts, Repeats, Skips}
+use Rattle.ledger_report.specs.declared.moment.FramePlace.{FramePlace}
+use Rattle.ledger_report.specs.declared.anomalies.AnomalyTally.{AnomalyTally}
+use Rattle.ledger_report.specs.declared.anomalies.Anomaly.{Anomaly}
+use Rattle.ledger_report.specs.declared.anomalies.Anomaly.TheVariants.{Cut, Runt, Oversize, Foreign, Unconfigured, TooLong, Excess, Out, Lost, Repeat, Reset, Alone, Late, Early}
+use Rattle.ledger_report.specs.declared.anomalies.Anomalies.{Anomalies}
 
 pub by_test : (b : Bool) (P : Bool → Type 0) → (b ≡ true → P true) → (b ≡ false → P false) → P b
 by_test true P f g = f refl
 by_test false P f g = g refl
 
 -- the mark at a place takes a hit, and the others stay
-pub marks_hit : (marks : List Mark) (index sign other : ℕ) (new held : Mark) (hit : Hit) (hits : List Hit) → index ≡ sign → index < length marks
+pub marks_hit : (marks : List AnomalyTally) (index sign other : ℕ) (new held : AnomalyTally) (hit : Hit) (hits : List Hit) → index ≡ sign → index < length marks
     → (IsMarkOf hits (get_or marks index held) → IsMarkOf (hit ∷ hits) new)
-    → ((none : Mark) → IsMarkOf hits (get_or marks other none))
-    → (none : Mark) → IsMarkOf (if sign == other then hit ∷ hits else hits) (get_or (set marks index new) other none)
+    → ((none : AnomalyTally) → IsMarkOf hits (get_or marks other none))
+    → (none : AnomalyTally) → IsMarkOf (if sign == other then hit ∷ hits else hits) (get_or (set marks index new) other none)
 marks_hit marks index sign other new held hit hits at within takes has none =
     by_test (sign == other) (λ b. sign == other ≡ b → IsMarkOf (if b then hit ∷ hits else hits) (get_or (set marks index new) other none))
     (λ yes same. (
@@ -41,13 +41,13 @@ marks_hit marks index sign other new held hit hits at within takes has none =
     refl
 
 -- the hits that the amount of a sign gives
-hit_of-some : (place : Place) (amount : ℕ) → 0 < amount → hit_of place amount ≡ Some (record { place = place; amount = amount })
+hit_of-some : (place : FramePlace) (amount : ℕ) → 0 < amount → hit_of place amount ≡ Some (record { place = place; amount = amount })
 hit_of-some place zero some = absurd (omega arith)
 hit_of-some place (suc amount) some = refl
 
 -- a hit of one sign is one more of it alone
-pub one_hit : (sign : Sign) (amounts : Sign → ℕ) (place : Place) (amount : ℕ) →
-    ((other : Sign) → amounts other ≡ (if sign_index sign == sign_index other then amount else 0)) → 0 < amount → (other : Sign) (hits : List Hit) →
+pub one_hit : (sign : Anomaly) (amounts : Anomaly → ℕ) (place : FramePlace) (amount : ℕ) →
+    ((other : Anomaly) → amounts other ≡ (if sign_index sign == sign_index other then amount else 0)) → 0 < amount → (other : Anomaly) (hits : List Hit) →
     cons_option (hit_of place (amounts other)) hits ≡ hits_with sign (record { place = place; amount = amount }) other hits
 one_hit sign amounts place amount are some other hits =
     let hit : Hit = record { place = place; amount = amount } in
@@ -57,22 +57,22 @@ one_hit sign amounts place amount are some other hits =
     (λ no. refl)
 
 -- a hit of one sign counts for no other
-pub amounts_one : (sign : Sign) (amounts : Sign → ℕ) (place : Place) (amount : ℕ) (old new : Signs)
-    → ((other : Sign) → amounts other ≡ (if sign_index sign == sign_index other then amount else 0)) → 0 < amount
+pub amounts_one : (sign : Anomaly) (amounts : Anomaly → ℕ) (place : FramePlace) (amount : ℕ) (old new : Anomalies)
+    → ((other : Anomaly) → amounts other ≡ (if sign_index sign == sign_index other then amount else 0)) → 0 < amount
     → TakesHit sign (record { place = place; amount = amount }) old new → TakesAmounts amounts place old new
 amounts_one sign amounts place amount old new are some takes other hits has =
     subst (HasHits new other) (sym (one_hit sign amounts place amount are some other hits)) (takes other hits has)
 
 -- none counts for any sign
-pub amounts_none : (amounts : Sign → ℕ) (place : Place) (signs : Signs) → ((other : Sign) → amounts other ≡ 0) → TakesAmounts amounts place signs signs
+pub amounts_none : (amounts : Anomaly → ℕ) (place : FramePlace) (signs : Anomalies) → ((other : Anomaly) → amounts other ≡ 0) → TakesAmounts amounts place signs signs
 amounts_none amounts place signs are other hits has =
     subst (λ n. HasHits signs other (cons_option (hit_of place n) hits)) (sym (are other)) has
 
 -- ---- which signs
 
 -- what is so of each sign is so of all
-each_sign : (P : Sign → Type 0) → P Cut → P Runt → P Oversize → P Foreign → P Unconfigured → P TooLong → P Excess
-    → P Out → P Lost → P Repeat → P Reset → P Alone → P Late → P Early → (sign : Sign) → P sign
+each_sign : (P : Anomaly → Type 0) → P Cut → P Runt → P Oversize → P Foreign → P Unconfigured → P TooLong → P Excess
+    → P Out → P Lost → P Repeat → P Reset → P Alone → P Late → P Early → (sign : Anomaly) → P sign
 each_sign P a b c d e f g h i j k l m n Cut = a
 each_sign P a b c d e f g h i j k l m n Runt = b
 each_sign P a b c d e f g h i j k l m n Oversize = c
@@ -88,45 +88,45 @@ each_sign P a b c d e f g h i j k l m n Alone = l
 each_sign P a b c d e f g h i j k l m n Late = m
 each_sign P a b c d e f g h i j k l m n Early = n
 
-pub early_some : (bound interval : ℕ) (other : Sign) → interval < bound →
+pub early_some : (bound interval : ℕ) (other : Anomaly) → interval < bound →
     early_amount bound (Some interval) other ≡ (if sign_index Early == sign_index other then 1 else 0)
 early_some bound interval other less =
     let e : nat_lt interval bound ≡ true = lt-ltb interval bound less in
     each_sign (λ sign. early_amount bound (Some interval) sign ≡ (if sign_index Early == sign_index sign then 1 else 0))
     refl refl refl refl refl refl refl refl refl refl refl refl refl (rw e refl) other
 
-pub follows_amount : (other : Sign) → number_amount Follows other ≡ 0
+pub follows_amount : (other : Anomaly) → number_amount Follows other ≡ 0
 follows_amount = each_sign (λ sign. number_amount Follows sign ≡ 0) refl refl refl refl refl refl refl refl refl refl refl refl refl refl
 
-pub restarts_amount : (other : Sign) → number_amount Restarts other ≡ (if sign_index Reset == sign_index other then 1 else 0)
+pub restarts_amount : (other : Anomaly) → number_amount Restarts other ≡ (if sign_index Reset == sign_index other then 1 else 0)
 restarts_amount = each_sign (λ sign. number_amount Restarts sign ≡ (if sign_index Reset == sign_index sign then 1 else 0)) refl refl refl refl refl refl refl refl refl refl refl refl refl refl
 
-pub repeats_amount : (other : Sign) → number_amount Repeats other ≡ (if sign_index Repeat == sign_index other then 1 else 0)
+pub repeats_amount : (other : Anomaly) → number_amount Repeats other ≡ (if sign_index Repeat == sign_index other then 1 else 0)
 repeats_amount = each_sign (λ sign. number_amount Repeats sign ≡ (if sign_index Repeat == sign_index sign then 1 else 0)) refl refl refl refl refl refl refl refl refl refl refl refl refl refl
 
-pub skips_amount : (previous missing : ℕ) (other : Sign) → number_amount (Skips previous missing) other ≡ (if sign_index Lost == sign_index other then missing else 0)
+pub skips_amount : (previous missing : ℕ) (other : Anomaly) → number_amount (Skips previous missing) other ≡ (if sign_index Lost == sign_index other then missing else 0)
 skips_amount previous missing = each_sign (λ sign. number_amount (Skips previous missing) sign ≡ (if sign_index Lost == sign_index sign then missing else 0)) refl refl refl refl refl refl refl refl refl refl refl refl refl refl
 
 -- ---- rules
 
-rule_of-line : (line : LaneLine) (gone : Bool) (rule : Option Sign) (other : Sign) → is_out_after_silence line ≡ gone → line.rule ≡ rule →
+rule_of-line : (line : LaneLine) (gone : Bool) (rule : Option Anomaly) (other : Anomaly) → is_out_after_silence line ≡ gone → line.rule ≡ rule →
     rule_amount line other ≡ one_where (is_rule other (if gone then None else rule))
 rule_of-line line gone rule other is same = rw (is, same) refl
 
-pub rule_gone : (line : LaneLine) (other : Sign) → is_out_after_silence line ≡ true → rule_amount line other ≡ 0
+pub rule_gone : (line : LaneLine) (other : Anomaly) → is_out_after_silence line ≡ true → rule_amount line other ≡ 0
 rule_gone line other is = rule_of-line line true line.rule other is refl
 
-pub rule_none : (line : LaneLine) (other : Sign) → is_out_after_silence line ≡ false → line.rule ≡ None → rule_amount line other ≡ 0
+pub rule_none : (line : LaneLine) (other : Anomaly) → is_out_after_silence line ≡ false → line.rule ≡ None → rule_amount line other ≡ 0
 rule_none line other is none = rule_of-line line false None other is none
 
-pub rule_some : (line : LaneLine) (rule other : Sign) → is_out_after_silence line ≡ false → line.rule ≡ Some rule →
+pub rule_some : (line : LaneLine) (rule other : Anomaly) → is_out_after_silence line ≡ false → line.rule ≡ Some rule →
     rule_amount line other ≡ (if sign_index rule == sign_index other then 1 else 0)
 rule_some line rule other is some = rule_of-line line false (Some rule) other is some
 
 -- ---- among so many marks
 
-pub mark_pushed : (P : Mark → Type 0) (marks : List Mark) (mark : Mark) (count : ℕ) → length marks ≡ count →
-    ((k : ℕ) (none : Mark) → k < count → P (get_or marks k none)) → P mark → (k : ℕ) (none : Mark) → k < count + 1 →
+pub mark_pushed : (P : AnomalyTally → Type 0) (marks : List AnomalyTally) (mark : AnomalyTally) (count : ℕ) → length marks ≡ count →
+    ((k : ℕ) (none : AnomalyTally) → k < count → P (get_or marks k none)) → P mark → (k : ℕ) (none : AnomalyTally) → k < count + 1 →
     P (get_or (marks ++ (mark ∷ [])) k none)
 mark_pushed P marks mark count long all own k none less = at (cases_lt k count)
   where
@@ -139,5 +139,5 @@ mark_pushed P marks mark count long all own k none less = at (cases_lt k count)
 -- ---- late deliveries
 
 -- what happens to the sign `alone` leaves them
-pub kept_late : (old new : Signs) → KeepsOthers Alone old new → KeepsHits Late old new
+pub kept_late : (old new : Anomalies) → KeepsOthers Alone old new → KeepsHits Late old new
 kept_late old new others hits has none = subst (IsMarkOf hits) (sym (others Late none refl)) (has none)

@@ -18,21 +18,21 @@ use Rattle.ledger_report.specs.Places.{IsMarkOf}
 use Rattle.ledger_report.specs.RuleMarks.{HasRules, HaveRules, rule_hits}
 use Rattle.ledger_report.specs.declared.link.LinkReport.{LinkReport}
 use Rattle.ledger_report.specs.declared.network.NetworkReport.{NetworkReport}
-use Rattle.ledger_report.specs.declared.sides.Sides.{Sides}
-use Rattle.ledger_report.specs.declared.signs.Sign.{Sign}
-use Rattle.ledger_report.specs.declared.signs.Sign.TheVariants.{Cut, Runt, Oversize, Foreign, Unconfigured, TooLong, Excess, Out, Lost, Repeat, Reset, Alone, Late, Early}
-use Rattle.ledger_report.specs.declared.signs.Signs.{Signs}
+use Rattle.ledger_report.specs.declared.per_network.PerNetwork.{PerNetwork}
+use Rattle.ledger_report.specs.declared.anomalies.Anomaly.{Anomaly}
+use Rattle.ledger_report.specs.declared.anomalies.Anomaly.TheVariants.{Cut, Runt, Oversize, Foreign, Unconfigured, TooLong, Excess, Out, Lost, Repeat, Reset, Alone, Late, Early}
+use Rattle.ledger_report.specs.declared.anomalies.Anomalies.{Anomalies}
 use Rattle.ledger_report.proofs.AccountSteps.{link_at}
 
 -- ---- one lane
 
-stays : (of sign : Sign) (old new : Signs) (hits : List Hit) → KeepsOthers of old new → (sign_index of == sign_index sign) ≡ false → HasHits old sign hits →
+stays : (of sign : Anomaly) (old new : Anomalies) (hits : List Hit) → KeepsOthers of old new → (sign_index of == sign_index sign) ≡ false → HasHits old sign hits →
     HasHits new sign hits
 stays of sign old new hits others differ has none = subst (IsMarkOf hits) (sym (others sign none differ)) (has none)
 
-module _ (lane s0 s1 s2 s3 s4 s5 : Signs) (o1 : KeepsOthers Lost s0 s1) (o2 : KeepsOthers Repeat s1 s2) (o3 : KeepsOthers Reset s2 s3)
+module _ (lane s0 s1 s2 s3 s4 s5 : Anomalies) (o1 : KeepsOthers Lost s0 s1) (o2 : KeepsOthers Repeat s1 s2) (o3 : KeepsOthers Reset s2 s3)
     (o4 : KeepsOthers Alone s3 s4) (o5 : KeepsOthers Late s4 s5) where
-  all_stay : (sign : Sign) (hits : List Hit) → (8 == sign_index sign) ≡ false → (9 == sign_index sign) ≡ false → (10 == sign_index sign) ≡ false →
+  all_stay : (sign : Anomaly) (hits : List Hit) → (8 == sign_index sign) ≡ false → (9 == sign_index sign) ≡ false → (10 == sign_index sign) ≡ false →
       (11 == sign_index sign) ≡ false → (12 == sign_index sign) ≡ false → HasHits s0 sign hits → HasHits s5 sign hits
   all_stay sign hits e1 e2 e3 e4 e5 has =
       stays Late sign s4 s5 hits o5 e5 (stays Alone sign s3 s4 hits o4 e4
@@ -71,17 +71,17 @@ joined_more : (f : List Hit → List Hit) (xs : List (List Hit)) (y : List Hit) 
 joined_more f [] y = sym (append-nil (f y))
 joined_more f (x ∷ xs) y = ap (λ (hs : List Hit). hs ++ f x) (joined_more f xs y) ∙ append_assoc (f y) (joined (map f xs)) (f x)
 
-pub none_added : (network : Network) (reports : List LinkReport) (signs : Signs) → AddsLanes 0 network reports signs signs
+pub none_added : (network : Network) (reports : List LinkReport) (signs : Anomalies) → AddsLanes 0 network reports signs signs
 none_added network reports signs sign hits more long each has = has
 
-pub one_added : (count : ℕ) (network : Network) (reports : List LinkReport) (report : LinkReport) (lane old mid new : Signs) →
+pub one_added : (count : ℕ) (network : Network) (reports : List LinkReport) (report : LinkReport) (lane old mid new : Anomalies) →
     (side_of network (get_or reports count report).lanes).signs ≡ lane →
     AddsLanes count network reports old mid → AddsSigns lane mid new → AddsLanes (count + 1) network reports old new
 one_added count network reports report lane old mid new is before adds sign hits more long each has =
     subst (HasHits new sign) (sym whole)
     (adds sign (joined (map (shared sign) (take count more)) ++ hits) (get_or more count [])
     (before sign hits more (omega (arith, long)) (λ i other none less. each i other none (omega (arith, less))) has)
-    (subst (λ (s : Signs). HasHits s sign (get_or more count [])) is (each count report [] (omega arith))))
+    (subst (λ (s : Anomalies). HasHits s sign (get_or more count [])) is (each count report [] (omega arith))))
   where
     whole : joined (map (shared sign) (take (count + 1) more)) ++ hits
         ≡ shared sign (get_or more count []) ++ (joined (map (shared sign) (take count more)) ++ hits)
@@ -93,10 +93,10 @@ one_added count network reports report lane old mid new is before adds sign hits
 -- ---- at the end
 
 -- a lane has these
-lane_marks : (network : Network) (row : Row) (lines : List FrameLine) (signs : Signs) →
-    ((sign : Sign) → IsLaneSign sign → HasHits signs sign (hits (lane_rules row) sign (lane_lines row.id network lines))) →
+lane_marks : (network : Network) (row : Row) (lines : List FrameLine) (signs : Anomalies) →
+    ((sign : Anomaly) → IsLaneSign sign → HasHits signs sign (hits (lane_rules row) sign (lane_lines row.id network lines))) →
     HasHits signs Alone (alone_hits (pairing_rules row) network lines) → HasHits signs Late (late_hits (pairing_rules row) network lines) →
-    (sign : Sign) → HasHits signs sign (lane_hits sign network row lines)
+    (sign : Anomaly) → HasHits signs sign (lane_hits sign network row lines)
 lane_marks network row lines signs own alone late Alone = alone
 lane_marks network row lines signs own alone late Late = late
 lane_marks network row lines signs own alone late Cut = own Cut tt
@@ -113,9 +113,9 @@ lane_marks network row lines signs own alone late Reset = own Reset tt
 lane_marks network row lines signs own alone late Early = own Early tt
 
 -- so a network has those of all of its lanes, and by rules what it had
-network_marks : (network : Network) (links : List VirtualLink) (lines : List FrameLine) (reports : List LinkReport) (old new : Signs) →
+network_marks : (network : Network) (links : List VirtualLink) (lines : List FrameLine) (reports : List LinkReport) (old new : Anomalies) →
     length reports ≡ length links →
-    ((sign : Sign) → AreEach (λ row ls report. HasHits (side_of network report.lanes).signs sign (lane_hits sign network row ls)) links lines reports) →
+    ((sign : Anomaly) → AreEach (λ row ls report. HasHits (side_of network report.lanes).signs sign (lane_hits sign network row ls)) links lines reports) →
     AddsLanes (length reports) network reports old new → HasRules network lines old → HasNetworkHits network links lines new
 network_marks network links lines reports old new count lanes adds rules sign =
     subst (λ (hs : List (List Hit)). HasHits new sign (joined (map (shared sign) hs) ++ rule_hits network sign lines)) all
@@ -139,7 +139,7 @@ network_marks network links lines reports old new count lanes adds rules sign =
         (sym (get_or-map (λ (l : VirtualLink). lane_hits sign network (row_of l) lines) links i link none within))
         (lanes sign i link report within)
 
-pub networks_told : (links : List VirtualLink) (lines : List FrameLine) (reports : List LinkReport) (old new : Sides NetworkReport) →
+pub networks_told : (links : List VirtualLink) (lines : List FrameLine) (reports : List LinkReport) (old new : PerNetwork NetworkReport) →
     AreLinksOf links lines reports → AreEach HasAlone links lines reports →
     AddsLanes (length reports) A reports old.a.signs new.a.signs → AddsLanes (length reports) B reports old.b.signs new.b.signs → HaveRules lines old →
     HaveNetworkHits links lines new

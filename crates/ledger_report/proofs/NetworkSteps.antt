@@ -15,7 +15,7 @@ use Rattle.ledger_report.specs.Sums.{saturated, total_of}
 use Rattle.ledger_report.specs.Words.{is_on}
 use Rattle.ledger_report.specs.declared.network.NetworkReport.{NetworkReport}
 use Rattle.ledger_report.specs.declared.network.Silence.{Silence}
-use Rattle.ledger_report.specs.declared.signs.Signs.{Signs}
+use Rattle.ledger_report.specs.declared.anomalies.Anomalies.{Anomalies}
 
 -- ---- what it adds
 
@@ -233,7 +233,7 @@ network_own network line lines stamp kept old mid counted new few on at kept_is 
 -- ---- what stays
 
 -- the network's own signs are no numbers of it
-pub signs_changed : (network : Network) (lines : List FrameLine) (report : NetworkReport) (signs : Signs) → IsNetworkOf network lines report →
+pub signs_changed : (network : Network) (lines : List FrameLine) (report : NetworkReport) (signs : Anomalies) → IsNetworkOf network lines report →
     IsNetworkOf network lines (record report { signs = signs })
 signs_changed network lines report signs h = record {
   frames = h.frames;

@@ -16,7 +16,7 @@ use Rattle.ledger_report.specs.Outside.{no_frames, outside_at}
 use Rattle.ledger_report.specs.OutsideLines.{IsOutsideLink, IsOutsideOf, is_outside, outside_lines}
 use Rattle.ledger_report.specs.Sums.{saturated}
 use Rattle.ledger_report.specs.Words.{is_of_id}
-use Rattle.ledger_report.specs.declared.moment.Moment.{Moment}
+use Rattle.ledger_report.specs.declared.moment.LinePlace.{LinePlace}
 use Rattle.ledger_report.specs.declared.report.OutsideLink.{OutsideLink}
 
 pub unconfigured_where : (class : Class) → is_addressed class ≡ false → is_class Unconfigured class ≡ false
@@ -60,12 +60,12 @@ value_own value line (before ∷ own) held new at frames same here h is =
     subst (λ v. IfSome (last_or (Some before) own) (λ l. v ≡ value l)) (sym (is ∙ ap (λ (b : Bool). if b then at else held) e)) h
 
 -- what one more line does to its link
-pub record CountsLine (at : Moment) (old new : OutsideLink) : Type 0 where
+pub record CountsLine (at : LinePlace) (old new : OutsideLink) : Type 0 where
   pub frames : new.frames ≡ saturated (old.frames + 1)
   pub network : new.network ≡ (if old.frames == 0 then at.network else old.network)
   pub first : new.first ≡ (if old.frames == 0 then at.place else old.first)
 
-pub outside_more : (line : FrameLine) (lines : List FrameLine) (id : VlId) (at : Moment) (outside : List OutsideLink) (new : OutsideLink) → length lines < 2 ^ 34 →
+pub outside_more : (line : FrameLine) (lines : List FrameLine) (id : VlId) (at : LinePlace) (outside : List OutsideLink) (new : OutsideLink) → length lines < 2 ^ 34 →
     is_class Unconfigured line.verdict.class ≡ true → line.link ≡ Some id → IsMomentOf line at → length outside ≡ 65536 → id.0 < 65536 →
     CountsLine at (outside_at outside id.0) new → IsOutsideOf lines outside → IsOutsideOf (line ∷ lines) (set outside id.0 new)
 outside_more line lines id at outside new few is of_link moment full small counts h = record {

@@ -5,7 +5,7 @@ use Rattle.std.specs.Io.KnownBytes.{prepend_known}
 use Rattle.vl_config.specs.Link.{VirtualLink}
 use Rattle.ledger_text.specs.FrameText.{IsFrameLine}
 use Rattle.ledger_text.specs.Order.{IsLineAt}
-use Rattle.ledger_text.specs.declared.order.Stage.{Stage}
+use Rattle.ledger_text.specs.declared.order.LedgerStage.{LedgerStage}
 use Rattle.ledger_text.specs.Ledger.{EndsAt, HasReadLines, ReadLine, frame_lines, frames_in, has_failed as ledger_failed, left_of, lent_of, stage_of}
 use Rattle.ledger_text.specs.Lines.{unread_of}
 use Rattle.ledger_text.specs.Reader.{IsFound, reading_of, source_of}
@@ -46,8 +46,8 @@ use Rattle.ledger_report.proofs.HoldAccounts.{links_alone}
 use Rattle.ledger_report.proofs.SignSteps.{keep_each_losses}
 use Rattle.ledger_report.proofs.OutsideSteps.{outside_few}
 use Rattle.ledger_text.specs.declared.order.LedgerLine.TheVariants as lines
-use Rattle.ledger_text.specs.declared.order.Stage.TheVariants as stages
-use Rattle.ledger_text.specs.declared.reader.Found.TheVariants as found
+use Rattle.ledger_text.specs.declared.order.LedgerStage.TheVariants as stages
+use Rattle.ledger_text.specs.declared.reader.FoundLine.TheVariants as found
 
 abbrev pub line_of : {S : Type 0} → LedgerReader S → LedgerLine → ReadLine
 line_of reader line = record { text = lent_of reader; line = line }
@@ -56,7 +56,7 @@ abbrev pub IsNoting : {S : Type 0} → SourceMembers S → Option (List ℕ) →
 IsNoting s bytes failures links ledger counts statistics counted = (rs : List ReadLine) × HasNoted s bytes failures links rs ledger counts statistics counted
 
 -- what the values of a frame's line are
-frame_at : (stage : Stage) (text : List ℕ) (v : FrameLine) → IsLineAt stage text (lines.Frame v) → IsFrameLine v
+frame_at : (stage : LedgerStage) (text : List ℕ) (v : FrameLine) → IsLineAt stage text (lines.Frame v) → IsFrameLine v
 frame_at stages.Head text v is = absurd is
 frame_at stages.Frames text v is = is.values
 frame_at (stages.Counts last) text v is = absurd is

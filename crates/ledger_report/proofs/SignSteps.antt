@@ -14,9 +14,9 @@ use Rattle.ledger_report.specs.RuleMarks.{HaveRules}
 use Rattle.ledger_report.specs.SignSums.{KeepEachLosses, KeepTallies, KeepsSigns}
 use Rattle.ledger_report.specs.Words.{is_of_id, is_seen, is_seen_of}
 use Rattle.ledger_report.specs.declared.link.LinkReport.{LinkReport}
-use Rattle.ledger_report.specs.declared.moment.Moment.{Moment}
+use Rattle.ledger_report.specs.declared.moment.LinePlace.{LinePlace}
 use Rattle.ledger_report.specs.declared.network.NetworkReport.{NetworkReport}
-use Rattle.ledger_report.specs.declared.sides.Sides.{Sides}
+use Rattle.ledger_report.specs.declared.per_network.PerNetwork.{PerNetwork}
 use Rattle.ledger_report.specs.declared.statistics.Statistics.{Statistics}
 use Rattle.ledger_report.proofs.AccountSteps.{each_set_of, is_of_link}
 use Rattle.ledger_report.proofs.LossLines.{keeps_losses, losses_more, losses_other}
@@ -38,7 +38,7 @@ pub keep_each_losses : (links : List VirtualLink) (lines : List FrameLine) (old 
 keep_each_losses links lines old new keeps h i link report within =
     keeps_losses (row_of (get_or links i link)) lines (get_or old i report) (get_or new i report) (keeps i report) (h i link report within)
 
-keep_rules : (lines : List FrameLine) (old new : Sides NetworkReport) → KeepTallies old new → HaveRules lines old → HaveRules lines new
+keep_rules : (lines : List FrameLine) (old new : PerNetwork NetworkReport) → KeepTallies old new → HaveRules lines old → HaveRules lines new
 keep_rules lines old new (a, b) h =
     record { a = rules_same A lines old.a.signs new.a.signs a h.a; b = rules_same B lines old.b.signs new.b.signs b h.b }
 
@@ -50,7 +50,7 @@ pub rules_ready : (lines : List FrameLine) (old placed reached : Statistics) →
     HaveRules lines reached.networks
 rules_ready lines old placed reached one keeps h =
     keep_rules lines placed.networks reached.networks keeps.rules
-    (subst (λ (n : Sides NetworkReport). HaveRules lines n) (sym (ap (λ (x : Statistics). x.networks) one)) h)
+    (subst (λ (n : PerNetwork NetworkReport). HaveRules lines n) (sym (ap (λ (x : Statistics). x.networks) one)) h)
 
 -- the line is noted for both networks, and not yet for its link
 pub losses_ready : (links : List VirtualLink) (lines : List FrameLine) (old placed reached noted : Statistics) →
@@ -70,7 +70,7 @@ losses_unseen links line lines reports off h i link report within =
     losses_other row line lines (get_or reports i report) (and_left (is_seen line) (is_of_id row.id line.link) off) (h i link report within)
 
 -- a line of the table's link at this place
-pub losses_set : (links : List VirtualLink) (line : FrameLine) (lines : List FrameLine) (s : Statistics) (id : VlId) (number : ℕ) (at : Moment) (place : ℕ)
+pub losses_set : (links : List VirtualLink) (line : FrameLine) (lines : List FrameLine) (s : Statistics) (id : VlId) (number : ℕ) (at : LinePlace) (place : ℕ)
     (old after : LinkReport) → IsFrameLine line → IsMomentOf line at → line.link ≡ Some id → line.sequence ≡ Some number → is_seen line ≡ true →
     AreNetworksOf (line ∷ lines) s.networks → AreLinksOf links lines s.links.items → IsIndexOf links s.index.items → place ≡ get_or s.index.items id.0 65535 →
     place < length s.links.items → old ≡ get_or s.links.items place old →

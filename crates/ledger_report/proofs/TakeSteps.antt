@@ -19,7 +19,7 @@ use Rattle.ledger_report.specs.declared.counts_lines.TapEnding.{TapEnding}
 use Rattle.ledger_report.specs.declared.fault.Refusal.{Refusal}
 use Rattle.ledger_report.specs.declared.fault.Refusal.TheVariants as refusals
 use Rattle.ledger_report.specs.declared.fault.WrongLine.TheVariants as wrongs
-use Rattle.ledger_report.specs.declared.sides.Sides.{Sides}
+use Rattle.ledger_report.specs.declared.per_network.PerNetwork.{PerNetwork}
 
 -- a text that isn't the line, and its newline
 pub unlike : (made text line : List ℕ) → made ≡ text ++ codes "\n" → text ≢ line → made ≢ line ++ codes "\n"
@@ -35,7 +35,7 @@ taken_by P made line text (Err refusal) same differs whole to from =
 
 -- ---- how many lines `tap` stood
 
-pub both_told : (endings : Sides (Option TapEnding)) → is_some endings.b ≡ true → 2 ≤ taps_in endings
+pub both_told : (endings : PerNetwork (Option TapEnding)) → is_some endings.b ≡ true → 2 ≤ taps_in endings
 both_told endings is = rw is (omega arith)
 
 -- ---- the lines of links and of filters
@@ -78,7 +78,7 @@ filter_right table frames links filters taps accepted made line result all few b
 -- ---- the lines `tap`
 
 -- the network of the next one
-pub next_network : (endings : Sides (Option TapEnding)) (network : Network) → is_some endings.b ≡ false
+pub next_network : (endings : PerNetwork (Option TapEnding)) (network : Network) → is_some endings.b ≡ false
     → network ≡ (if is_some endings.a then B else A) → tap_network (taps_in endings) ≡ network
 next_network endings network none is = (rw none (where_first (is_some endings.a))) ∙ sym is
   where
@@ -86,14 +86,14 @@ next_network endings network none is = (rw none (where_first (is_some endings.a)
     where_first true = refl
     where_first false = refl
 
-pub few_taps : (endings : Sides (Option TapEnding)) → is_some endings.b ≡ false → taps_in endings < 2
+pub few_taps : (endings : PerNetwork (Option TapEnding)) → is_some endings.b ≡ false → taps_in endings < 2
 few_taps endings none = rw none (where_first (is_some endings.a))
   where
     where_first : (known : Bool) → (if known then 1 else 0) < 2
     where_first true = omega arith
     where_first false = omega arith
 
-pub not_both : (endings : Sides (Option TapEnding)) → taps_in endings < 2 → is_some endings.b ≡ false
+pub not_both : (endings : PerNetwork (Option TapEnding)) → taps_in endings < 2 → is_some endings.b ≡ false
 not_both endings few = where_second (is_some endings.b) (if is_some endings.a then 1 else 0) few
   where
     where_second : (known : Bool) (rest : ℕ) → (if known then 2 else rest) < 2 → known ≡ false
@@ -106,7 +106,7 @@ first_known known none network one two three = rw one (rw two three)
 pub first_unknown : (known none : Bool) (network : Network) → known ≡ not none → none ≡ false → network ≡ B → network ≡ (if known then B else A)
 first_unknown known none network one two three = rw one (rw two three)
 
-pub tap_here : (frames : List FrameLine) (endings : Sides (Option TapEnding)) (network : Network) (count : ℕ) (said : Said) (line : List ℕ)
+pub tap_here : (frames : List FrameLine) (endings : PerNetwork (Option TapEnding)) (network : Network) (count : ℕ) (said : Said) (line : List ℕ)
     → is_some endings.b ≡ false → network ≡ (if is_some endings.a then B else A) → count ≡ tap_frames frames network
     → IsTapLine network count said line
     → IsTapLine (tap_network (taps_in endings)) (tap_frames frames (tap_network (taps_in endings))) said line
@@ -114,7 +114,7 @@ tap_here frames endings network count said line none is counts h =
     subst (λ (n : Network). IsTapLine n (tap_frames frames n) said line) (sym (next_network endings network none is))
     (subst (λ (n : ℕ). IsTapLine network n said line) counts h)
 
-pub tap_there : (frames : List FrameLine) (endings : Sides (Option TapEnding)) (network : Network) (count : ℕ) (said : Said) (line : List ℕ)
+pub tap_there : (frames : List FrameLine) (endings : PerNetwork (Option TapEnding)) (network : Network) (count : ℕ) (said : Said) (line : List ℕ)
     → is_some endings.b ≡ false → network ≡ (if is_some endings.a then B else A) → count ≡ tap_frames frames network
     → IsTapLine (tap_network (taps_in endings)) (tap_frames frames (tap_network (taps_in endings))) said line → IsTapLine network count said line
 tap_there frames endings network count said line none is counts h =

@@ -19,9 +19,9 @@ use Rattle.ledger_report.specs.Sums.{saturated}
 use Rattle.afdx_frame.specs.Frame.{other_network}
 use Rattle.ledger_report.specs.Words.{is_on}
 use Rattle.ledger_report.specs.declared.bounds.TheConstants.{NUMBERS}
-use Rattle.ledger_report.specs.declared.lane.Lane.{Lane}
+use Rattle.ledger_report.specs.declared.lane.LaneReport.{LaneReport}
 use Rattle.ledger_report.specs.declared.link.LinkReport.{LinkReport}
-use Rattle.ledger_report.specs.declared.signs.Sign.TheVariants.{Alone}
+use Rattle.ledger_report.specs.declared.anomalies.Anomaly.TheVariants.{Alone}
 
 -- ---- deliveries that the other network didn't bring
 
@@ -96,7 +96,7 @@ alone_hits rules network lines = alone_hits_of (missed_on rules network lines)
 -- ---- in a report
 
 -- The lane has a mark of those that are alone, and how many are uncovered.
-pub record HasMissed (missed : List Missed) (lane : Lane) : Type 0 where
+pub record HasMissed (missed : List Missed) (lane : LaneReport) : Type 0 where
   pub alone : HasHits lane.signs Alone (alone_hits_of missed)
   pub uncovered : lane.uncovered ≡ saturated (length (uncovered_of missed))
 

@@ -9,8 +9,8 @@ use Rattle.ledger_report.specs.Standings.{Standing, standings}
 use Rattle.ledger_report.specs.Sums.{saturated}
 use Rattle.ledger_report.specs.Words.{is_seen_of}
 use Rattle.ledger_report.specs.declared.link.LinkReport.{LinkReport}
-use Rattle.ledger_report.specs.declared.moment.Moment.{Moment}
-use Rattle.ledger_report.specs.declared.moment.Place.{Place}
+use Rattle.ledger_report.specs.declared.moment.LinePlace.{LinePlace}
+use Rattle.ledger_report.specs.declared.moment.FramePlace.{FramePlace}
 use Rattle.ledger_report.specs.declared.pairing.Delivery.{Delivery}
 use Rattle.ledger_report.specs.declared.pairing.Pairing.{Pairing}
 
@@ -41,7 +41,7 @@ skews id lines = filter_map (skew_at id) (standings lines)
 -- a network and a place on it
 pub record Spot : Type 0 where
   pub network : Network
-  pub place : Place
+  pub place : FramePlace
 
 abbrev pub spot_of : FrameLine → Spot
 spot_of line = record { network = line.network; place = place_of line }
@@ -101,7 +101,7 @@ abbrev pub NotesCopyWhere : Bool → ℕ → LinkReport → LinkReport → Type 
 NotesCopyWhere true skew old new = TakesCopy skew old new
 NotesCopyWhere false skew old new = KeepsCopies old new
 
-abbrev pub NotesCopy : FrameLine → ℕ → Moment → LinkReport → LinkReport → Type 0
+abbrev pub NotesCopy : FrameLine → ℕ → LinePlace → LinkReport → LinkReport → Type 0
 NotesCopy line number at old new = NotesCopyWhere (is_copy line) (skew_in old number at.place.stamp) old new
 
 -- A line that says `deliver` is the latest of its number.
@@ -109,6 +109,6 @@ abbrev pub NotesLatestWhere : Bool → ℕ → Spot → Pairing → Pairing → 
 NotesLatestWhere true number spot old new = TakesLatest number spot old new
 NotesLatestWhere false number spot old new = KeepsLatest old new
 
-abbrev pub NotesLatest : FrameLine → ℕ → Moment → LinkReport → LinkReport → Type 0
+abbrev pub NotesLatest : FrameLine → ℕ → LinePlace → LinkReport → LinkReport → Type 0
 NotesLatest line number at old new =
     NotesLatestWhere (is_deliver line) number (record { network = at.network; place = at.place }) old.pairing new.pairing

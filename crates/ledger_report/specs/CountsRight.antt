@@ -17,7 +17,7 @@ use Rattle.ledger_report.specs.declared.counts_lines.TapEnding.{TapEnding}
 use Rattle.ledger_report.specs.declared.fault.Refusal.{Refusal}
 use Rattle.ledger_report.specs.declared.fault.Refusal.TheVariants as refusals
 use Rattle.ledger_report.specs.declared.fault.WrongLine.TheVariants as wrongs
-use Rattle.ledger_report.specs.declared.sides.Sides.{Sides}
+use Rattle.ledger_report.specs.declared.per_network.PerNetwork.{PerNetwork}
 
 -- ---- the lines `tap`
 
@@ -46,7 +46,7 @@ abbrev pub tap_frames : List FrameLine → Network → ℕ
 tap_frames frames network = (network_counts frames network).frames
 
 -- Both endings are what these lines say. No ending is known where there is no line of it.
-abbrev pub HasEndings : List Tap → Sides (Option TapEnding) → Type 0
+abbrev pub HasEndings : List Tap → PerNetwork (Option TapEnding) → Type 0
 HasEndings [] endings = (is_some endings.a ≡ false) × (is_some endings.b ≡ false)
 HasEndings (a ∷ []) endings = IsEnding A (tap_frames a.frames A) a.text endings.a × (is_some endings.b ≡ false)
 HasEndings (b ∷ a ∷ []) endings = IsEnding A (tap_frames a.frames A) a.text endings.a × IsEnding B (tap_frames b.frames B) b.text endings.b
@@ -105,15 +105,15 @@ TakesWhere P (Err refusals.Memory) = ⊤
 -- ---- in a reading
 
 -- how many lines `tap` stood
-abbrev pub taps_in : Sides (Option TapEnding) → ℕ
+abbrev pub taps_in : PerNetwork (Option TapEnding) → ℕ
 taps_in endings = if is_some endings.b then 2 else (if is_some endings.a then 1 else 0)
 
 -- One more ending is known, that of the network.
-abbrev pub TakesEnding : Network → ℕ → List ℕ → Sides (Option TapEnding) → Sides (Option TapEnding) → Type 0
+abbrev pub TakesEnding : Network → ℕ → List ℕ → PerNetwork (Option TapEnding) → PerNetwork (Option TapEnding) → Type 0
 TakesEnding A frames text old new = IsEnding A frames text new.a × (new.b ≡ old.b)
 TakesEnding B frames text old new = IsEnding B frames text new.b × (new.a ≡ old.a)
 
 -- A line `tap` makes the ending of the next network known, and no other line does.
-abbrev pub MovesEndings : List FrameLine → Kind → List ℕ → Sides (Option TapEnding) → Sides (Option TapEnding) → Type 0
+abbrev pub MovesEndings : List FrameLine → Kind → List ℕ → PerNetwork (Option TapEnding) → PerNetwork (Option TapEnding) → Type 0
 MovesEndings frames kinds.Tap text old new = TakesEnding (tap_network (taps_in old)) (tap_frames frames (tap_network (taps_in old))) text old new
 MovesEndings frames kind text old new = new ≡ old

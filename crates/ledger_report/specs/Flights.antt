@@ -7,9 +7,9 @@ use Rattle.ledger_report.specs.Outside.{outside_of}
 use Rattle.ledger_report.specs.Sums.{saturated}
 use Rattle.ledger_report.specs.declared.link.LinkReport.{LinkReport}
 use Rattle.ledger_report.specs.declared.report.Report.{Report}
-use Rattle.ledger_report.specs.declared.signs.Mark.{Mark}
-use Rattle.ledger_report.specs.declared.signs.Sign.{Sign}
-use Rattle.ledger_report.specs.declared.signs.Sign.TheVariants as signs
+use Rattle.ledger_report.specs.declared.anomalies.AnomalyTally.{AnomalyTally}
+use Rattle.ledger_report.specs.declared.anomalies.Anomaly.{Anomaly}
+use Rattle.ledger_report.specs.declared.anomalies.Anomaly.TheVariants as signs
 use Rattle.ledger_report.specs.declared.numbers.LinkNumbers.{LinkNumbers}
 use Rattle.ledger_report.specs.declared.worse.LinkComparison.{LinkComparison}
 
@@ -17,7 +17,7 @@ use Rattle.ledger_report.specs.declared.worse.LinkComparison.{LinkComparison}
 abbrev pub frames_of : LinkReport → ℕ
 frames_of link = saturated (link.lanes.a.frames + link.lanes.b.frames)
 
-abbrev pub count_both : Mark → LinkReport → Sign → ℕ
+abbrev pub count_both : AnomalyTally → LinkReport → Anomaly → ℕ
 count_both none link sign =
     saturated ((mark_at link.lanes.a.signs sign none).count
     + (mark_at link.lanes.b.signs sign none).count)
@@ -35,7 +35,7 @@ skew_of link =
     else Some (max link.skew_greatest link.late_greatest)
 
 -- in a flight, where the link has a frame
-abbrev pub numbers_of : Mark → Report → LinkReport → Option LinkNumbers
+abbrev pub numbers_of : AnomalyTally → Report → LinkReport → Option LinkNumbers
 numbers_of none report link = if frames_of link == 0 then None else Some (record {
   length = report.end - report.start;
   frames = frames_of link;
@@ -54,7 +54,7 @@ numbers_of none report link = if frames_of link == 0 then None else Some (record
 })
 
 abbrev pub comparison_of
-    : Mark → Report → Report → LinkReport → LinkReport → LinkComparison
+    : AnomalyTally → Report → Report → LinkReport → LinkReport → LinkComparison
 comparison_of none today baseline link before = record {
   link = link.id;
   redundancy = link.redundancy;
@@ -63,7 +63,7 @@ comparison_of none today baseline link before = record {
 }
 
 -- at an index of the table, where both reports have it
-abbrev pub comparison_at : Mark → LinkReport → Report → Report → ℕ → Option LinkComparison
+abbrev pub comparison_at : AnomalyTally → LinkReport → Report → Report → ℕ → Option LinkComparison
 comparison_at none no_link today baseline index =
     if nat_lt index (length today.links.items) && nat_lt index (length baseline.links.items)
     then Some (comparison_of none today baseline

@@ -15,13 +15,13 @@ use Rattle.ledger_report.specs.Pairs.{DiscardsWhere, comes_late, window_in}
 use Rattle.ledger_report.specs.Standings.{Standing, frames_on}
 use Rattle.afdx_frame.specs.Frame.{other_network}
 use Rattle.ledger_report.specs.Words.{is_same_network, rule_of}
-use Rattle.ledger_report.specs.declared.lane.Lane.{Lane}
+use Rattle.ledger_report.specs.declared.lane.LaneReport.{LaneReport}
 use Rattle.ledger_report.specs.declared.link.LinkReport.{LinkReport}
-use Rattle.ledger_report.specs.declared.moment.Moment.{Moment}
+use Rattle.ledger_report.specs.declared.moment.LinePlace.{LinePlace}
 use Rattle.ledger_report.specs.declared.network.NetworkReport.{NetworkReport}
 use Rattle.ledger_report.specs.declared.pairing.Delivery.{Delivery}
 use Rattle.ledger_report.specs.declared.pairing.Pairing.{Pairing}
-use Rattle.ledger_report.specs.declared.sides.Sides.{Sides}
+use Rattle.ledger_report.specs.declared.per_network.PerNetwork.{PerNetwork}
 
 -- ---- how many lines of the other network stand before the latest delivery of a number
 
@@ -48,22 +48,22 @@ HasBefore id lines pairing = (number : ℕ) → before_at pairing number ≡ opt
 -- ---- a step of the lanes
 
 -- Both lanes keep what they have of these deliveries.
-abbrev pub KeepsPlaces : Sides Lane → Sides Lane → Type 0
+abbrev pub KeepsPlaces : PerNetwork LaneReport → PerNetwork LaneReport → Type 0
 KeepsPlaces old new = KeepsMissed old.a new.a × KeepsMissed old.b new.b
 
 -- The lane takes one more, where it is a delivery of the lane.
-abbrev pub TakesOneWhere : Bool → Network → NetworkReport → Delivery → Lane → Lane → Type 0
+abbrev pub TakesOneWhere : Bool → Network → NetworkReport → Delivery → LaneReport → LaneReport → Type 0
 TakesOneWhere true other twin delivery old new = TakesMissed other twin delivery.before delivery.place old new
 TakesOneWhere false other twin delivery old new = KeepsMissed old new
 
 -- The lane of this network takes the delivery, where there is one, and it is the network's.
-abbrev pub LaneSettles : Network → NetworkReport → Option Delivery → Lane → Lane → Type 0
+abbrev pub LaneSettles : Network → NetworkReport → Option Delivery → LaneReport → LaneReport → Type 0
 LaneSettles network twin None old new = KeepsMissed old new
 LaneSettles network twin (Some delivery) old new =
     TakesOneWhere (is_same_network network delivery.network) (other_network network) twin delivery old new
 
 -- on both networks
-abbrev pub Settles : Option Delivery → Sides NetworkReport → Sides Lane → Sides Lane → Type 0
+abbrev pub Settles : Option Delivery → PerNetwork NetworkReport → PerNetwork LaneReport → PerNetwork LaneReport → Type 0
 Settles delivery networks old new =
     LaneSettles A networks.b delivery old.a new.a × LaneSettles B networks.a delivery old.b new.b
 
@@ -76,20 +76,20 @@ abbrev pub open_held : Pairing → ℕ → Option Delivery
 open_held pairing number = option_and_then open_in (slice_index_or pairing.deliveries.items number None)
 
 -- the one that a delivery of its number settles: it isn't the first of two
-abbrev pub settled_by_next : ℕ → Moment → LinkReport → Option Delivery
+abbrev pub settled_by_next : ℕ → LinePlace → LinkReport → Option Delivery
 settled_by_next number at report = if comes_late number at report then None else open_held report.pairing number
 
 -- ---- a line's effect
 
 -- A delivery settles the one of its number before, and no other line settles any.
-abbrev pub SettlesWhere : Bool → ℕ → Moment → Sides NetworkReport → LinkReport → LinkReport → Type 0
+abbrev pub SettlesWhere : Bool → ℕ → LinePlace → PerNetwork NetworkReport → LinkReport → LinkReport → Type 0
 SettlesWhere true number at networks old new =
     Settles (settled_by_next number at old) networks old.lanes new.lanes
     × TakesBefore number (side_of (other_network at.network) networks).frames old.pairing new.pairing
 SettlesWhere false number at networks old new = KeepsPlaces old.lanes new.lanes × KeepsBefore old.pairing new.pairing
 
 -- The line is taken by its lane, and as a discarded one where it is one, and then by its word.
-pub record NotesMissed (line : FrameLine) (number : ℕ) (at : Moment) (networks : Sides NetworkReport)
+pub record NotesMissed (line : FrameLine) (number : ℕ) (at : LinePlace) (networks : PerNetwork NetworkReport)
     (old new : LinkReport) : Type 0 where
   pub mid : LinkReport
   pub says : row_in mid ≡ row_in old
@@ -107,7 +107,7 @@ pub record HoldsAlone (row : Row) (lines : List FrameLine) (report : LinkReport)
   pub b : HasMissed (missed_before (pairing_rules row) B lines) report.lanes.b
 
 -- Both networks have these lines.
-pub record HaveLines (lines : List FrameLine) (networks : Sides NetworkReport) : Type 0 where
+pub record HaveLines (lines : List FrameLine) (networks : PerNetwork NetworkReport) : Type 0 where
   pub a : IsNetworkOf A lines networks.a
   pub b : IsNetworkOf B lines networks.b
 
@@ -122,7 +122,7 @@ pub record HoldsBelow (row : Row) (lines : List FrameLine) (number : ℕ) (repor
   pub b : HasMissed (missed_below (pairing_rules row) B lines number) report.lanes.b
 
 -- At the end the latest deliveries of the numbers below are settled.
-abbrev pub SettlesBelow : ℕ → Sides NetworkReport → LinkReport → LinkReport → Type 0
+abbrev pub SettlesBelow : ℕ → PerNetwork NetworkReport → LinkReport → LinkReport → Type 0
 SettlesBelow number networks old new =
     (row : Row) (lines : List FrameLine) → HaveLines lines networks → IsLinkOf row lines old → HoldsAlone row lines old
     → HoldsBelow row lines number new
@@ -135,12 +135,12 @@ KeepAllPlaces old new = (i : ℕ) (report : LinkReport) → i < length old →
     KeepsPlaces (slice_index_or old i report).lanes (slice_index_or new i report).lanes
 
 -- At the end each delivery that the other network didn't bring is alone or uncovered.
-abbrev pub EndsAlone : Sides NetworkReport → LinkReport → LinkReport → Type 0
+abbrev pub EndsAlone : PerNetwork NetworkReport → LinkReport → LinkReport → Type 0
 EndsAlone networks old new =
     (row : Row) (lines : List FrameLine) → HaveLines lines networks → IsLinkOf row lines old → HoldsAlone row lines old
     → LanesAreAlone row lines new
 
 -- of each link
-abbrev pub EndAlone : Sides NetworkReport → List LinkReport → List LinkReport → Type 0
+abbrev pub EndAlone : PerNetwork NetworkReport → List LinkReport → List LinkReport → Type 0
 EndAlone networks old new = (i : ℕ) (report : LinkReport) → i < length old →
     EndsAlone networks (slice_index_or old i report) (slice_index_or new i report)

@@ -8,17 +8,17 @@ use Rattle.ledger_report.specs.Links.{lane_rules, row_in}
 use Rattle.ledger_report.specs.Marks.{mark_at}
 use Rattle.ledger_report.specs.Pairs.{KeepsSettled}
 use Rattle.ledger_report.specs.declared.bounds.TheConstants.{NUMBERS}
-use Rattle.ledger_report.specs.declared.lane.Lane.{Lane}
+use Rattle.ledger_report.specs.declared.lane.LaneReport.{LaneReport}
 use Rattle.ledger_report.specs.declared.lane.LaneLine.{LaneLine}
 use Rattle.ledger_report.specs.declared.lane.LaneRules.{LaneRules}
 use Rattle.ledger_report.specs.declared.link.LinkReport.{LinkReport}
-use Rattle.ledger_report.specs.declared.moment.Place.{Place}
+use Rattle.ledger_report.specs.declared.moment.FramePlace.{FramePlace}
 use Rattle.ledger_report.specs.declared.network.NetworkReport.{NetworkReport}
 use Rattle.ledger_report.specs.declared.network.Silence.{Silence}
-use Rattle.ledger_report.specs.declared.sides.Sides.{Sides}
-use Rattle.ledger_report.specs.declared.signs.Mark.{Mark}
-use Rattle.ledger_report.specs.declared.signs.Sign.{Sign}
-use Rattle.ledger_report.specs.declared.signs.Signs.{Signs}
+use Rattle.ledger_report.specs.declared.per_network.PerNetwork.{PerNetwork}
+use Rattle.ledger_report.specs.declared.anomalies.AnomalyTally.{AnomalyTally}
+use Rattle.ledger_report.specs.declared.anomalies.Anomaly.{Anomaly}
+use Rattle.ledger_report.specs.declared.anomalies.Anomalies.{Anomalies}
 use Rattle.ledger_report.specs.declared.statistics.Statistics.{Statistics}
 
 -- ---- marks
@@ -26,14 +26,14 @@ use Rattle.ledger_report.specs.declared.statistics.Statistics.{Statistics}
 -- a mark without its bins
 pub record Tally : Type 0 where
   pub count : ℕ
-  pub first : Option Place
-  pub last : Option Place
+  pub first : Option FramePlace
+  pub last : Option FramePlace
 
-abbrev pub tally_of : Mark → Tally
+abbrev pub tally_of : AnomalyTally → Tally
 tally_of mark = record { count = mark.count; first = mark.first; last = mark.last }
 
 -- those of all signs
-abbrev pub tallies : Signs → List Tally
+abbrev pub tallies : Anomalies → List Tally
 tallies signs = map tally_of signs.marks.items
 
 -- ---- networks
@@ -64,14 +64,14 @@ network_numbers report = record {
 abbrev pub KeepsNetwork : NetworkReport → NetworkReport → Type 0
 KeepsNetwork old new = network_numbers new ≡ network_numbers old
 
-abbrev pub KeepsNetworks : Sides NetworkReport → Sides NetworkReport → Type 0
+abbrev pub KeepsNetworks : PerNetwork NetworkReport → PerNetwork NetworkReport → Type 0
 KeepsNetworks old new = KeepsNetwork old.a new.a × KeepsNetwork old.b new.b
 
 -- ---- lanes
 
 -- the marks of the signs that a lane's lines say by themselves
-abbrev pub KeepsMarks : Signs → Signs → Type 0
-KeepsMarks old new = (sign : Sign) → IsLaneSign sign → (none : Mark) → tally_of (mark_at new sign none) ≡ tally_of (mark_at old sign none)
+abbrev pub KeepsMarks : Anomalies → Anomalies → Type 0
+KeepsMarks old new = (sign : Anomaly) → IsLaneSign sign → (none : AnomalyTally) → tally_of (mark_at new sign none) ≡ tally_of (mark_at old sign none)
 
 -- the numbers that a lane's lines say by themselves
 pub record LaneNumbers : Type 0 where
@@ -89,7 +89,7 @@ pub record LaneNumbers : Type 0 where
   pub out_after_silence : ℕ
   pub previous : Option ℕ
 
-abbrev pub lane_numbers : Lane → LaneNumbers
+abbrev pub lane_numbers : LaneReport → LaneNumbers
 lane_numbers lane = record {
   frames = lane.frames;
   bytes = lane.bytes;
@@ -107,13 +107,13 @@ lane_numbers lane = record {
 }
 
 -- a lane remembers one loss of each sequence number at most
-abbrev pub HasLaneRoom : Lane → Type 0
+abbrev pub HasLaneRoom : LaneReport → Type 0
 HasLaneRoom lane = length lane.lost_at.items ≤ NUMBERS
 
-abbrev pub KeepsRoom : Lane → Lane → Type 0
+abbrev pub KeepsRoom : LaneReport → LaneReport → Type 0
 KeepsRoom old new = HasLaneRoom old → HasLaneRoom new
 
-abbrev pub KeepsLane : Lane → Lane → Type 0
+abbrev pub KeepsLane : LaneReport → LaneReport → Type 0
 KeepsLane old new = (lane_numbers new ≡ lane_numbers old) × KeepsMarks old.signs new.signs × KeepsRoom old new
 
 -- ---- links
@@ -124,10 +124,10 @@ KeepsLink old new =
     (row_in new ≡ row_in old) × KeepsLane old.lanes.a new.lanes.a × KeepsLane old.lanes.b new.lanes.b
 
 -- The lane of a line takes it, and the other one keeps its numbers.
-abbrev pub TakesLaneLine : LaneRules → LaneLine → Lane → Lane → Type 0
+abbrev pub TakesLaneLine : LaneRules → LaneLine → LaneReport → LaneReport → Type 0
 TakesLaneLine rules line old new = (lines : List LaneLine) → StandsAfter rules lines old → StandsAfter rules (line ∷ lines) new
 
-abbrev pub NotesLaneOn : Network → LaneRules → LaneLine → Sides Lane → Sides Lane → Type 0
+abbrev pub NotesLaneOn : Network → LaneRules → LaneLine → PerNetwork LaneReport → PerNetwork LaneReport → Type 0
 NotesLaneOn A rules line old new = TakesLaneLine rules line old.a new.a × KeepsRoom old.a new.a × KeepsLane old.b new.b
 NotesLaneOn B rules line old new = TakesLaneLine rules line old.b new.b × KeepsRoom old.b new.b × KeepsLane old.a new.a
 

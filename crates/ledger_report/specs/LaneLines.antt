@@ -2,14 +2,14 @@
 use Rattle.std.specs.Prelude.{ℕ, suc, zero, ◌+◌, ◌-◌, ◌==◌, Bool, false, ◌&&◌, nat_lt, Option, Some, None, is_some, if◌then◌else◌}
 use Rattle.std.specs.Option.{option_map_or, option_and_then}
 use Rattle.ledger_report.specs.Marks.{sign_index}
-use Rattle.ledger_report.specs.Numbering.{missing_in, numbering_of, repeats_in, resets_in}
+use Rattle.ledger_report.specs.NumberStep.{missing_in, numbering_of, repeats_in, resets_in}
 use Rattle.ledger_report.specs.Extremes.{Hit}
 use Rattle.ledger_report.specs.declared.lane.LaneLine.{LaneLine}
-use Rattle.ledger_report.specs.declared.lane.Numbering.{Numbering}
-use Rattle.ledger_report.specs.declared.lane.Numbering.TheVariants.{Follows}
-use Rattle.ledger_report.specs.declared.moment.Place.{Place}
-use Rattle.ledger_report.specs.declared.signs.Sign.{Sign}
-use Rattle.ledger_report.specs.declared.signs.Sign.TheVariants.{Excess, Out, Lost, Repeat, Reset, Early}
+use Rattle.ledger_report.specs.declared.lane.NumberStep.{NumberStep}
+use Rattle.ledger_report.specs.declared.lane.NumberStep.TheVariants.{Follows}
+use Rattle.ledger_report.specs.declared.moment.FramePlace.{FramePlace}
+use Rattle.ledger_report.specs.declared.anomalies.Anomaly.{Anomaly}
+use Rattle.ledger_report.specs.declared.anomalies.Anomaly.TheVariants.{Excess, Out, Lost, Repeat, Reset, Early}
 
 abbrev pub stamp_of : LaneLine → ℕ
 stamp_of line = line.at.place.stamp
@@ -17,7 +17,7 @@ stamp_of line = line.at.place.stamp
 abbrev pub one_where : Bool → ℕ
 one_where counts = if counts then 1 else 0
 
-abbrev pub is_rule : Sign → Option Sign → Bool
+abbrev pub is_rule : Anomaly → Option Anomaly → Bool
 is_rule sign rule = option_map_or (λ held. sign_index held == sign_index sign) rule false
 
 -- ---- intervals
@@ -47,30 +47,30 @@ bytes_of line = option_map_or (λ kept. kept + 4) line.kept 0
 abbrev pub is_out_after_silence : LaneLine → Bool
 is_out_after_silence line = is_rule Out line.rule && line.after_silence
 
-abbrev pub counted_rule : LaneLine → Option Sign
+abbrev pub counted_rule : LaneLine → Option Anomaly
 counted_rule line = if is_out_after_silence line then None else line.rule
 
 -- ---- numbers
 
 -- what its number says, against that of the line before, where integrity checking is on
-abbrev pub numbering_since : Bool → Option ℕ → LaneLine → Numbering
+abbrev pub numbering_since : Bool → Option ℕ → LaneLine → NumberStep
 numbering_since integrity before line = if integrity then numbering_of before line.number else Follows
 
 -- ---- how often a line counts for each sign
 
-abbrev pub rule_amount : LaneLine → Sign → ℕ
+abbrev pub rule_amount : LaneLine → Anomaly → ℕ
 rule_amount line sign = one_where (is_rule sign (counted_rule line))
 
-abbrev pub early_amount : ℕ → Option ℕ → Sign → ℕ
+abbrev pub early_amount : ℕ → Option ℕ → Anomaly → ℕ
 early_amount least interval Early = one_where (is_some (lead_of least interval))
 early_amount least interval sign = 0
 
-abbrev pub number_amount : Numbering → Sign → ℕ
+abbrev pub number_amount : NumberStep → Anomaly → ℕ
 number_amount numbering Lost = missing_in numbering
 number_amount numbering Repeat = repeats_in numbering
 number_amount numbering Reset = resets_in numbering
 number_amount numbering sign = 0
 
-abbrev pub hit_of : Place → ℕ → Option Hit
+abbrev pub hit_of : FramePlace → ℕ → Option Hit
 hit_of place zero = None
 hit_of place (suc amount) = Some (record { place = place; amount = suc amount })

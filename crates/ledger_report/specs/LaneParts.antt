@@ -4,32 +4,32 @@ use Rattle.std.specs.Option.{option_map_or}
 use Rattle.std.specs.List.{cons_option}
 use Rattle.ledger_report.specs.LaneLines.{early_amount, excess_lead, hit_of, interval_since, is_out_after_silence, number_amount, numbering_since, rule_amount, stamp_of}
 use Rattle.ledger_report.specs.Marks.{HasHits}
-use Rattle.ledger_report.specs.Numbering.{counted_numbering, missing_in}
+use Rattle.ledger_report.specs.NumberStep.{counted_numbering, missing_in}
 use Rattle.ledger_report.specs.Extremes.{Hit}
 use Rattle.ledger_report.specs.Sums.{saturated}
-use Rattle.ledger_report.specs.declared.lane.Lane.{Lane}
+use Rattle.ledger_report.specs.declared.lane.LaneReport.{LaneReport}
 use Rattle.ledger_report.specs.declared.lane.LaneLine.{LaneLine}
-use Rattle.ledger_report.specs.declared.lane.Numbering.{Numbering}
-use Rattle.ledger_report.specs.declared.moment.Place.{Place}
-use Rattle.ledger_report.specs.declared.signs.Sign.{Sign}
-use Rattle.ledger_report.specs.declared.signs.Signs.{Signs}
+use Rattle.ledger_report.specs.declared.lane.NumberStep.{NumberStep}
+use Rattle.ledger_report.specs.declared.moment.FramePlace.{FramePlace}
+use Rattle.ledger_report.specs.declared.anomalies.Anomaly.{Anomaly}
+use Rattle.ledger_report.specs.declared.anomalies.Anomalies.{Anomalies}
 
 -- The marks take a line that counts so often for each sign.
-abbrev pub TakesAmounts : (Sign → ℕ) → Place → Signs → Signs → Type 0
+abbrev pub TakesAmounts : (Anomaly → ℕ) → FramePlace → Anomalies → Anomalies → Type 0
 TakesAmounts amounts place old new =
-    (sign : Sign) (hits : List Hit) → HasHits old sign hits → HasHits new sign (cons_option (hit_of place (amounts sign)) hits)
+    (sign : Anomaly) (hits : List Hit) → HasHits old sign hits → HasHits new sign (cons_option (hit_of place (amounts sign)) hits)
 
 -- the interval to the lane's line before
-abbrev pub interval_in : Lane → LaneLine → Option ℕ
+abbrev pub interval_in : LaneReport → LaneLine → Option ℕ
 interval_in lane line = interval_since (if lane.frames == 0 then None else Some lane.last) line
 
 -- an interval that is below so much time
-pub record TakesEarly (bound : ℕ) (line : LaneLine) (interval : Option ℕ) (old new : Lane) : Type 0 where
+pub record TakesEarly (bound : ℕ) (line : LaneLine) (interval : Option ℕ) (old new : LaneReport) : Type 0 where
   pub excess_lead : new.excess_lead ≡ option_map_or (λ lead. max old.excess_lead lead) (excess_lead bound line interval) old.excess_lead
   pub signs : TakesAmounts (early_amount bound interval) line.at.place old.signs new.signs
   pub rest : new ≡ record old { excess_lead = new.excess_lead; signs = new.signs }
 
-pub record TakesInterval (bound : ℕ) (line : LaneLine) (old new : Lane) : Type 0 where
+pub record TakesInterval (bound : ℕ) (line : LaneLine) (old new : LaneReport) : Type 0 where
   pub least : new.least ≡ option_map_or (λ interval. min old.least interval) (interval_in old line) old.least
   pub greatest : new.greatest ≡ option_map_or (λ interval. max old.greatest interval) (interval_in old line) old.greatest
   pub interval_sum : new.interval_sum ≡ option_map_or (λ interval. saturated (old.interval_sum + interval)) (interval_in old line) old.interval_sum
@@ -48,7 +48,7 @@ pub record TakesInterval (bound : ℕ) (line : LaneLine) (old new : Lane) : Type
     greatest_bins = new.greatest_bins;
   }
 
-pub record TakesLine (line : LaneLine) (old new : Lane) : Type 0 where
+pub record TakesLine (line : LaneLine) (old new : LaneReport) : Type 0 where
   pub frames : new.frames ≡ saturated (old.frames + 1)
   pub bytes : new.bytes ≡ option_map_or (λ kept. saturated (old.bytes + (kept + 4))) line.kept old.bytes
   pub first : new.first ≡ (if old.frames == 0 then stamp_of line else old.first)
@@ -64,21 +64,21 @@ pub record TakesLine (line : LaneLine) (old new : Lane) : Type 0 where
     loads = new.loads;
   }
 
-pub record TakesRule (line : LaneLine) (old new : Lane) : Type 0 where
+pub record TakesRule (line : LaneLine) (old new : LaneReport) : Type 0 where
   pub out_after_silence : new.out_after_silence
       ≡ (if is_out_after_silence line then saturated (old.out_after_silence + 1) else old.out_after_silence)
   pub signs : TakesAmounts (rule_amount line) line.at.place old.signs new.signs
   pub rest : new ≡ record old { out_after_silence = new.out_after_silence; signs = new.signs }
 
 -- what the number says, against the lane's number before
-abbrev pub numbering_in : Bool → Lane → LaneLine → Numbering
+abbrev pub numbering_in : Bool → LaneReport → LaneLine → NumberStep
 numbering_in integrity lane line = numbering_since integrity lane.previous line
 
 -- and what counts of it: right after a silence no number is lost
-abbrev pub counted_in : Bool → Lane → LaneLine → Numbering
+abbrev pub counted_in : Bool → LaneReport → LaneLine → NumberStep
 counted_in integrity lane line = counted_numbering line.after_silence (numbering_in integrity lane line)
 
-pub record TakesNumber (integrity : Bool) (line : LaneLine) (old new : Lane) : Type 0 where
+pub record TakesNumber (integrity : Bool) (line : LaneLine) (old new : LaneReport) : Type 0 where
   pub previous : new.previous ≡ (if integrity then Some line.number else old.previous)
   pub lost_after_silence : new.lost_after_silence
       ≡ (if line.after_silence then saturated (old.lost_after_silence + missing_in (numbering_in integrity old line)) else old.lost_after_silence)

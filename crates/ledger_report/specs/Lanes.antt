@@ -4,15 +4,15 @@ use Rattle.std.specs.Prelude.{◌≡◌, ℕ, List, [], ◌∷◌, length, map, 
 use Rattle.std.specs.Option.{option_map}
 use Rattle.ledger_report.specs.LaneLines.{bytes_of, early_amount, excess_lead, hit_of, interval_since, is_out_after_silence, number_amount, numbering_since, one_where, rule_amount, stamp_of}
 use Rattle.ledger_report.specs.Marks.{HasHits}
-use Rattle.ledger_report.specs.Numbering.{counted_numbering, missing_in}
+use Rattle.ledger_report.specs.NumberStep.{counted_numbering, missing_in}
 use Rattle.ledger_report.specs.Extremes.{Hit}
 use Rattle.ledger_report.specs.Sums.{greatest_of, least_of, saturated, total_of}
-use Rattle.ledger_report.specs.declared.lane.Lane.{Lane}
+use Rattle.ledger_report.specs.declared.lane.LaneReport.{LaneReport}
 use Rattle.ledger_report.specs.declared.lane.LaneLine.{LaneLine}
 use Rattle.ledger_report.specs.declared.lane.LaneRules.{LaneRules}
-use Rattle.ledger_report.specs.declared.lane.Numbering.{Numbering}
-use Rattle.ledger_report.specs.declared.signs.Sign.{Sign}
-use Rattle.ledger_report.specs.declared.signs.Sign.TheVariants.{Cut, Runt, Oversize, Foreign, Unconfigured, TooLong, Excess, Out, Lost, Repeat, Reset, Alone, Late, Early}
+use Rattle.ledger_report.specs.declared.lane.NumberStep.{NumberStep}
+use Rattle.ledger_report.specs.declared.anomalies.Anomaly.{Anomaly}
+use Rattle.ledger_report.specs.declared.anomalies.Anomaly.TheVariants.{Cut, Runt, Oversize, Foreign, Unconfigured, TooLong, Excess, Out, Lost, Repeat, Reset, Alone, Late, Early}
 
 -- ---- lines one after the other
 
@@ -40,14 +40,14 @@ steps (line ∷ lines) = record { before = newest lines; line = line } ∷ steps
 abbrev pub interval_of : Step → Option ℕ
 interval_of step = interval_since (option_map stamp_of step.before) step.line
 
-abbrev pub numbering_at : LaneRules → Step → Numbering
+abbrev pub numbering_at : LaneRules → Step → NumberStep
 numbering_at rules step = numbering_since rules.integrity (option_map (λ before. before.number) step.before) step.line
 
-abbrev pub counted_at : LaneRules → Step → Numbering
+abbrev pub counted_at : LaneRules → Step → NumberStep
 counted_at rules step = counted_numbering step.line.after_silence (numbering_at rules step)
 
 -- how often a line counts for a sign
-abbrev pub amount_of : LaneRules → Sign → Step → ℕ
+abbrev pub amount_of : LaneRules → Anomaly → Step → ℕ
 amount_of rules Cut step = rule_amount step.line Cut
 amount_of rules Runt step = rule_amount step.line Runt
 amount_of rules Oversize step = rule_amount step.line Oversize
@@ -64,7 +64,7 @@ amount_of rules Alone step = 0
 amount_of rules Late step = 0
 
 -- the signs that a lane's lines say by themselves: of a delivery that is alone or late the other lane says it too
-abbrev pub IsLaneSign : Sign → Type 0
+abbrev pub IsLaneSign : Anomaly → Type 0
 IsLaneSign Alone = ⊥
 IsLaneSign Late = ⊥
 IsLaneSign sign = Unit {0}
@@ -78,7 +78,7 @@ abbrev pub excess_leads : ℕ → List LaneLine → List ℕ
 excess_leads least lines = filter_map (λ step. excess_lead least step.line (interval_of step)) (steps lines)
 
 -- the lines that count for a sign
-abbrev pub hits : LaneRules → Sign → List LaneLine → List Hit
+abbrev pub hits : LaneRules → Anomaly → List LaneLine → List Hit
 hits rules sign lines = filter_map (λ step. hit_of step.line.at.place (amount_of rules sign step)) (steps lines)
 
 -- the numbers missing right after a silence, where integrity checking is on
@@ -86,7 +86,7 @@ abbrev pub missing_after_silence : LaneRules → Step → ℕ
 missing_after_silence rules step = if step.line.after_silence then missing_in (numbering_at rules step) else 0
 
 -- the lane's numbers are those of these lines
-pub record StandsAfter (rules : LaneRules) (lines : List LaneLine) (lane : Lane) : Type 0 where
+pub record StandsAfter (rules : LaneRules) (lines : List LaneLine) (lane : LaneReport) : Type 0 where
   pub frames : lane.frames ≡ saturated (length lines)
   pub bytes : lane.bytes ≡ saturated (total_of (map bytes_of lines))
   pub first : IfSome (oldest lines) (λ line. lane.first ≡ stamp_of line)
@@ -100,4 +100,4 @@ pub record StandsAfter (rules : LaneRules) (lines : List LaneLine) (lane : Lane)
   pub lost_after_silence : lane.lost_after_silence ≡ saturated (total_of (map (missing_after_silence rules) (steps lines)))
   pub out_after_silence : lane.out_after_silence ≡ saturated (total_of (map (λ line. one_where (is_out_after_silence line)) lines))
   pub previous : lane.previous ≡ (if rules.integrity then option_map (λ line. line.number) (newest lines) else None)
-  pub signs : (sign : Sign) → IsLaneSign sign → HasHits lane.signs sign (hits rules sign lines)
+  pub signs : (sign : Anomaly) → IsLaneSign sign → HasHits lane.signs sign (hits rules sign lines)

@@ -27,7 +27,7 @@ pub mod LostBoth
 pub mod Marks
 pub mod Networks
 pub mod Noting
-pub mod Numbering
+pub mod NumberStep
 pub mod Numbers
 pub mod Outside
 pub mod OutsideLines

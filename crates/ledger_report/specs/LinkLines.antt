@@ -8,14 +8,14 @@ use Rattle.ledger_report.specs.Silences.{kept_silences}
 use Rattle.ledger_report.specs.Standings.{Standing, frames_on, standings}
 use Rattle.ledger_report.specs.Words.{is_on, is_seen_of, rule_of}
 use Rattle.ledger_report.specs.declared.lane.LaneLine.{LaneLine}
-use Rattle.ledger_report.specs.declared.moment.Place.{Place}
+use Rattle.ledger_report.specs.declared.moment.FramePlace.{FramePlace}
 use Rattle.ledger_report.specs.declared.network.Silence.{Silence}
 
 -- a seen line of the link with this identifier, on this network
 abbrev pub is_lane_line : ℕ → Network → FrameLine → Bool
 is_lane_line id network line = is_seen_of id line && is_on network line
 
-abbrev pub place_of : FrameLine → Place
+abbrev pub place_of : FrameLine → FramePlace
 place_of line = record { stamp = line.stamp.0; number = line.number }
 
 -- which line of its network a line is, from 1

@@ -13,13 +13,13 @@ use Rattle.ledger_report.specs.Pairs.{window_in}
 use Rattle.ledger_report.specs.Sums.{saturated}
 use Rattle.afdx_frame.specs.Frame.{other_network}
 use Rattle.ledger_report.specs.declared.bounds.TheConstants.{NUMBERS}
-use Rattle.ledger_report.specs.declared.lane.Numbering.{Numbering}
-use Rattle.ledger_report.specs.declared.lane.Numbering.TheVariants.{Follows, Restarts, Repeats, Skips}
+use Rattle.ledger_report.specs.declared.lane.NumberStep.{NumberStep}
+use Rattle.ledger_report.specs.declared.lane.NumberStep.TheVariants.{Follows, Restarts, Repeats, Skips}
 use Rattle.ledger_report.specs.declared.link.LinkReport.{LinkReport}
-use Rattle.ledger_report.specs.declared.moment.Moment.{Moment}
-use Rattle.ledger_report.specs.declared.moment.Place.{Place}
+use Rattle.ledger_report.specs.declared.moment.LinePlace.{LinePlace}
+use Rattle.ledger_report.specs.declared.moment.FramePlace.{FramePlace}
 use Rattle.ledger_report.specs.declared.network.NetworkReport.{NetworkReport}
-use Rattle.ledger_report.specs.declared.sides.Sides.{Sides}
+use Rattle.ledger_report.specs.declared.per_network.PerNetwork.{PerNetwork}
 
 -- ---- numbers that are passed over
 
@@ -27,7 +27,7 @@ use Rattle.ledger_report.specs.declared.sides.Sides.{Sides}
 abbrev pub is_passed : ℕ → ℕ → ℕ → Bool
 is_passed previous missing number = nat_le 1 (distance previous number) && nat_le (distance previous number) missing
 
-abbrev pub passes : Numbering → ℕ → Bool
+abbrev pub passes : NumberStep → ℕ → Bool
 passes Follows number = false
 passes Restarts number = false
 passes Repeats number = false
@@ -71,7 +71,7 @@ pub record Losses : Type 0 where
   pub on_a : List (Option ℕ)
   pub on_b : List (Option ℕ)
   pub both : ℕ
-  pub first : Option (Network × Place)
+  pub first : Option (Network × FramePlace)
 
 abbrev pub losses_in : LinkReport → Losses
 losses_in report = record {
@@ -103,19 +103,19 @@ abbrev pub both_with : ℕ → ℕ → ℕ
 both_with more held = if nat_lt 0 more then saturated (held + more) else held
 
 -- the first line with such a number
-abbrev pub first_with : ℕ → Moment → Option (Network × Place) → Option (Network × Place)
+abbrev pub first_with : ℕ → LinePlace → Option (Network × FramePlace) → Option (Network × FramePlace)
 first_with more at (Some first) = Some first
 first_with more at None = if nat_lt 0 more then Some (at.network, at.place) else None
 
 -- A line passes over numbers.
-pub record LosesAt (passed : ℕ → Bool) (at : Moment) (window : ℕ) (old new : Losses) : Type 0 where
+pub record LosesAt (passed : ℕ → Bool) (at : LinePlace) (window : ℕ) (old new : Losses) : Type 0 where
   pub moves : MovesLosses passed at.place.stamp window (losses_on at.network old) (losses_on (other_network at.network) old)
       (losses_on at.network new) (losses_on (other_network at.network) new)
   pub both : new.both ≡ both_with (both_passed passed at.place.stamp window (losses_on (other_network at.network) old)) old.both
   pub first : new.first ≡ first_with (both_passed passed at.place.stamp window (losses_on (other_network at.network) old)) at old.first
 
 -- A line of the link is seen, and the numbers that it passes over are lost.
-abbrev pub NotesLosses : FrameLine → ℕ → Moment → Sides NetworkReport → LinkReport → LinkReport → Type 0
+abbrev pub NotesLosses : FrameLine → ℕ → LinePlace → PerNetwork NetworkReport → LinkReport → LinkReport → Type 0
 NotesLosses line number at networks old new =
     let lane = side_of at.network old.lanes in
     let seen = seen_line lane (side_of at.network networks) line number at in

@@ -11,19 +11,19 @@ use Rattle.ledger_report.specs.Lanes.{newest}
 use Rattle.ledger_report.specs.LinkLines.{is_after_silence, is_lane_line, lane_line, lane_lines, place_of}
 use Rattle.ledger_report.specs.Links.{Row}
 use Rattle.ledger_report.specs.Losses.{AreRoom, held_at, is_lost_within, losses_in, losses_on, passes}
-use Rattle.ledger_report.specs.Numbering.{counted_numbering}
+use Rattle.ledger_report.specs.NumberStep.{counted_numbering}
 use Rattle.ledger_report.specs.Standings.{Standing, standings}
 use Rattle.ledger_report.specs.Sums.{saturated, total_of}
 use Rattle.afdx_frame.specs.Frame.{other_network}
 use Rattle.ledger_report.specs.declared.bounds.TheConstants.{NUMBERS, WINDOW_BAGS}
-use Rattle.ledger_report.specs.declared.lane.Numbering.{Numbering}
+use Rattle.ledger_report.specs.declared.lane.NumberStep.{NumberStep}
 use Rattle.ledger_report.specs.declared.link.LinkReport.{LinkReport}
-use Rattle.ledger_report.specs.declared.moment.Place.{Place}
+use Rattle.ledger_report.specs.declared.moment.FramePlace.{FramePlace}
 
 -- ---- one number
 
 -- what the number of a lane's line says, against that of the lane's line before it: right after a silence no number is lost
-abbrev pub said_at : Row → Network → Standing → Numbering
+abbrev pub said_at : Row → Network → Standing → NumberStep
 said_at row network standing =
     counted_numbering (is_after_silence row.id network standing)
     (numbering_since row.integrity (option_map (λ line. line.number) (newest (lane_lines row.id network standing.before)))
@@ -70,7 +70,7 @@ abbrev pub both_count : Row → List FrameLine → ℕ
 both_count row lines = total_of (map (both_at row) (standings lines))
 
 -- the first line that counts one, by its network and its place
-abbrev pub first_both : Row → List FrameLine → Option (Network × Place)
+abbrev pub first_both : Row → List FrameLine → Option (Network × FramePlace)
 first_both row lines =
     option_map (λ standing. (standing.line.network, place_of standing.line))
     (last_or None (filter (λ standing. nat_lt 0 (both_at row standing)) (standings lines)))

@@ -9,21 +9,21 @@ use Rattle.ledger_report.specs.Networks.{IsNetworkOf}
 use Rattle.ledger_report.specs.OutsideLines.{IsOutsideOf}
 use Rattle.ledger_report.specs.Settling.{AreBalanced}
 use Rattle.ledger_report.specs.Words.{rule_of}
-use Rattle.ledger_report.specs.declared.lane.Lane.{Lane}
+use Rattle.ledger_report.specs.declared.lane.LaneReport.{LaneReport}
 use Rattle.ledger_report.specs.declared.lane.LaneLine.{LaneLine}
-use Rattle.ledger_report.specs.declared.moment.Moment.{Moment}
+use Rattle.ledger_report.specs.declared.moment.LinePlace.{LinePlace}
 use Rattle.ledger_report.specs.declared.network.NetworkReport.{NetworkReport}
-use Rattle.ledger_report.specs.declared.sides.Sides.{Sides}
+use Rattle.ledger_report.specs.declared.per_network.PerNetwork.{PerNetwork}
 use Rattle.ledger_report.specs.declared.statistics.Statistics.{Statistics}
 use Rattle.ledger_report.specs.declared.statistics.TheConstants.{NO_LINK}
 
 -- it is the network and the place of the line
-pub record IsMomentOf (line : FrameLine) (at : Moment) : Type 0 where
+pub record IsMomentOf (line : FrameLine) (at : LinePlace) : Type 0 where
   pub network : at.network ≡ line.network
   pub place : at.place ≡ place_of line
 
 -- a line as its lane takes it, where the network's report has the line already and the lane doesn't
-abbrev pub seen_line : Lane → NetworkReport → FrameLine → ℕ → Moment → LaneLine
+abbrev pub seen_line : LaneReport → NetworkReport → FrameLine → ℕ → LinePlace → LaneLine
 seen_line lane network line number at = record {
   at = at;
   ordinal = network.frames;
@@ -34,7 +34,7 @@ seen_line lane network line number at = record {
 }
 
 -- both networks' numbers are those of these lines
-pub record AreNetworksOf (lines : List FrameLine) (networks : Sides NetworkReport) : Type 0 where
+pub record AreNetworksOf (lines : List FrameLine) (networks : PerNetwork NetworkReport) : Type 0 where
   pub a : IsNetworkOf A lines networks.a
   pub b : IsNetworkOf B lines networks.b
 

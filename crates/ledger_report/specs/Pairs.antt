@@ -13,16 +13,16 @@ use Rattle.ledger_report.specs.Sums.{greatest_of, saturated}
 use Rattle.afdx_frame.specs.Frame.{other_network}
 use Rattle.ledger_report.specs.Words.{is_same_network, rule_of}
 use Rattle.ledger_report.specs.declared.bounds.TheConstants.{WINDOW_BAGS}
-use Rattle.ledger_report.specs.declared.lane.Lane.{Lane}
+use Rattle.ledger_report.specs.declared.lane.LaneReport.{LaneReport}
 use Rattle.ledger_report.specs.declared.link.LinkReport.{LinkReport}
-use Rattle.ledger_report.specs.declared.moment.Moment.{Moment}
-use Rattle.ledger_report.specs.declared.moment.Place.{Place}
+use Rattle.ledger_report.specs.declared.moment.LinePlace.{LinePlace}
+use Rattle.ledger_report.specs.declared.moment.FramePlace.{FramePlace}
 use Rattle.ledger_report.specs.declared.pairing.Delivery.{Delivery}
 use Rattle.ledger_report.specs.declared.pairing.Fate.{Fate}
 use Rattle.ledger_report.specs.declared.pairing.Fate.TheVariants.{Open, Late, Paired, Met}
 use Rattle.ledger_report.specs.declared.pairing.Pairing.{Pairing}
-use Rattle.ledger_report.specs.declared.sides.Sides.{Sides}
-use Rattle.ledger_report.specs.declared.signs.Sign.TheVariants as signs
+use Rattle.ledger_report.specs.declared.per_network.PerNetwork.{PerNetwork}
+use Rattle.ledger_report.specs.declared.anomalies.Anomaly.TheVariants as signs
 
 -- ---- what is held of each number
 
@@ -82,15 +82,15 @@ is_held says pairing number = option_map_or (λ known. says known.fate) (held_of
 
 -- ---- late deliveries among the lanes' signs
 
-abbrev pub KeepsLateIn : Sides Lane → Sides Lane → Type 0
+abbrev pub KeepsLateIn : PerNetwork LaneReport → PerNetwork LaneReport → Type 0
 KeepsLateIn old new = KeepsHits signs.Late old.a.signs new.a.signs × KeepsHits signs.Late old.b.signs new.b.signs
 
 -- The lane of this network has one more.
-abbrev pub GainsLateOn : Network → Place → Sides Lane → Sides Lane → Type 0
+abbrev pub GainsLateOn : Network → FramePlace → PerNetwork LaneReport → PerNetwork LaneReport → Type 0
 GainsLateOn A place old new = GainsHit signs.Late (record { place = place; amount = 1 }) old.a.signs new.a.signs × KeepsHits signs.Late old.b.signs new.b.signs
 GainsLateOn B place old new = KeepsHits signs.Late old.a.signs new.a.signs × GainsHit signs.Late (record { place = place; amount = 1 }) old.b.signs new.b.signs
 
-abbrev pub GainsLateWhere : Bool → Network → Place → Sides Lane → Sides Lane → Type 0
+abbrev pub GainsLateWhere : Bool → Network → FramePlace → PerNetwork LaneReport → PerNetwork LaneReport → Type 0
 GainsLateWhere true network place old new = GainsLateOn network place old new
 GainsLateWhere false network place old new = KeepsLateIn old new
 
@@ -99,11 +99,11 @@ KeepsLate old new = KeepsLateIn old.lanes new.lanes
 
 -- ---- a line's effect
 
-pub record Discards (number : ℕ) (at : Moment) (window : ℕ) (old new : Pairing) : Type 0 where
+pub record Discards (number : ℕ) (at : LinePlace) (window : ℕ) (old new : Pairing) : Type 0 where
   pub gone : TakesGone number at.network at.place.stamp old new
   pub held : Changes number (option_map (met_by at.network at.place.stamp window) (held_of old number)) old new
 
-abbrev pub DiscardsWhere : Bool → ℕ → Moment → ℕ → Pairing → Pairing → Type 0
+abbrev pub DiscardsWhere : Bool → ℕ → LinePlace → ℕ → Pairing → Pairing → Type 0
 DiscardsWhere true number at window old new = Discards number at window old new
 DiscardsWhere false number at window old new = new ≡ old
 
@@ -153,11 +153,11 @@ pub record PairsCopy (number : ℕ) (old new : LinkReport) : Type 0 where
   pub signs : KeepsLate old new
 
 -- a delivery comes late after the one before
-abbrev pub comes_late : ℕ → Moment → LinkReport → Bool
+abbrev pub comes_late : ℕ → LinePlace → LinkReport → Bool
 comes_late number at report =
     option_map_or (awaits at.network at.place.stamp (window_in report)) (held_of report.pairing number) false
 
-abbrev pub known_after : ℕ → Moment → LinkReport → Known
+abbrev pub known_after : ℕ → LinePlace → LinkReport → Known
 known_after number at report = record {
   spot = record { network = at.network; place = at.place };
   fate = fate_so_far (comes_late number at report)
@@ -165,7 +165,7 @@ known_after number at report = record {
 }
 
 -- The delivery before is settled: it is counted where it stays met, and where this one is late, which is counted too.
-abbrev pub settled_numbers : ℕ → Moment → LinkReport → FateNumbers
+abbrev pub settled_numbers : ℕ → LinePlace → LinkReport → FateNumbers
 settled_numbers number at old = record {
   paired = old.fates.paired;
   late = counted_where (comes_late number at old) old.fates.late;
@@ -174,23 +174,23 @@ settled_numbers number at old = record {
   late_greatest = if comes_late number at old then max old.late_greatest (skew_in old number at.place.stamp) else old.late_greatest;
 }
 
-abbrev pub SettlesBefore : ℕ → Moment → LinkReport → LinkReport → Type 0
+abbrev pub SettlesBefore : ℕ → LinePlace → LinkReport → LinkReport → Type 0
 SettlesBefore number at old new = fate_numbers new ≡ settled_numbers number at old
 
-pub record TakesDelivery (number : ℕ) (at : Moment) (old new : LinkReport) : Type 0 where
+pub record TakesDelivery (number : ℕ) (at : LinePlace) (old new : LinkReport) : Type 0 where
   pub held : Changes number (Some (known_after number at old)) old.pairing new.pairing
   pub gone : KeepsGone old.pairing new.pairing
   pub numbers : fate_numbers new ≡ settled_numbers number at old
 
 -- by its word of redundancy management: does it say `deliver`, does it say `copy`
-abbrev pub NotesWordWhere : Bool → Bool → ℕ → Moment → LinkReport → LinkReport → Type 0
+abbrev pub NotesWordWhere : Bool → Bool → ℕ → LinePlace → LinkReport → LinkReport → Type 0
 NotesWordWhere true copy number at old new =
     TakesDelivery number at old new × GainsLateWhere (comes_late number at old) at.network at.place old.lanes new.lanes
 NotesWordWhere false true number at old new = PairsCopy number old new
 NotesWordWhere false false number at old new = (new.pairing ≡ old.pairing) × KeepsFates old new × KeepsLate old new
 
 -- The line is taken as a discarded one, where it has a rule and redundancy management is on, and then by its word. No line of a ledger is both.
-pub record NotesFates (line : FrameLine) (number : ℕ) (at : Moment) (old new : LinkReport) : Type 0 where
+pub record NotesFates (line : FrameLine) (number : ℕ) (at : LinePlace) (old new : LinkReport) : Type 0 where
   pub mid : LinkReport
   pub bag : mid.bag ≡ old.bag
   pub numbers : KeepsFates old mid

@@ -6,8 +6,8 @@ use Rattle.afdx_frame.specs.declared.key.TheConstants.{VL_ID_COUNT}
 use Rattle.vl_config.specs.Link.{VirtualLink}
 use Rattle.ledger_text.specs.Ledger.{EndsAt, HasReadLines, ReadLine, ReadsLines, frame_lines}
 use Rattle.ledger_text.specs.declared.bounds.TheConstants.{MAX_LINES}
-use Rattle.ledger_text.specs.declared.order.Stage.{Stage}
-use Rattle.ledger_text.specs.declared.order.Stage.TheVariants as stages
+use Rattle.ledger_text.specs.declared.order.LedgerStage.{LedgerStage}
+use Rattle.ledger_text.specs.declared.order.LedgerStage.TheVariants as stages
 use Rattle.ledger_text.specs.declared.reader.LedgerReader.{LedgerReader}
 use Rattle.ledger_text.specs.declared.reader.LedgerStop.{LedgerStop}
 use Rattle.ledger_report.specs.AloneLines.{HasAlone}
@@ -36,7 +36,7 @@ use Rattle.ledger_report.specs.declared.statistics.Statistics.{Statistics}
 -- part of this.
 pub record TellsLedger (bytes : Option (List ℕ)) (links : List VirtualLink) (report : Report) : Type 0 where
   pub rs : List ReadLine
-  pub stage : Stage
+  pub stage : LedgerStage
   pub left : Option (List ℕ)
   pub lines : ReadsLines stages.Head bytes rs stage left
   pub ends : EndsAt rs stage left report.stop
@@ -59,7 +59,7 @@ pub record TellsLedger (bytes : Option (List ℕ)) (links : List VirtualLink) (r
 -- The same, where the deliveries aren't settled yet.
 pub record HasRead (bytes : Option (List ℕ)) (links : List VirtualLink) (stop : Option LedgerStop) (counts : FrameCounts) (statistics : Statistics) (counted : CountsLines) : Type 0 where
   pub rs : List ReadLine
-  pub stage : Stage
+  pub stage : LedgerStage
   pub left : Option (List ℕ)
   pub lines : ReadsLines stages.Head bytes rs stage left
   pub ends : EndsAt rs stage left stop

@@ -7,29 +7,29 @@ use Rattle.ledger_report.specs.Pending.{pending}
 use Rattle.ledger_report.specs.Sums.{saturated}
 use Rattle.ledger_report.specs.declared.link.Fates.{Fates}
 use Rattle.ledger_report.specs.declared.link.LinkReport.{LinkReport}
-use Rattle.ledger_report.specs.declared.signs.Mark.{Mark}
-use Rattle.ledger_report.specs.declared.signs.Sign.TheVariants.{Alone}
+use Rattle.ledger_report.specs.declared.anomalies.AnomalyTally.{AnomalyTally}
+use Rattle.ledger_report.specs.declared.anomalies.Anomaly.TheVariants.{Alone}
 
 -- the deliveries of a link whose fate is counted, or that a lane counts
-abbrev pub counted : Mark → LinkReport → ℕ
+abbrev pub counted : AnomalyTally → LinkReport → ℕ
 counted none link =
     link.fates.paired + link.fates.late + link.fates.first + link.fates.met + missed none link.lanes.a + missed none link.lanes.b
 
 -- and those whose fate pends
-abbrev pub accounted : Mark → LinkReport → ℕ
+abbrev pub accounted : AnomalyTally → LinkReport → ℕ
 accounted none link = counted none link + pending link.pairing.deliveries.items
 
 -- Each delivery is counted once.
 abbrev pub IsBalanced : LinkReport → Type 0
-IsBalanced link = (none : Mark) → link.deliveries ≡ accounted none link
+IsBalanced link = (none : AnomalyTally) → link.deliveries ≡ accounted none link
 
 -- so many more
 abbrev pub AccountsMore : ℕ → LinkReport → LinkReport → Type 0
-AccountsMore more old new = (none : Mark) → accounted none old + more < 2 ^ 64 → accounted none new ≡ accounted none old + more
+AccountsMore more old new = (none : AnomalyTally) → accounted none old + more < 2 ^ 64 → accounted none new ≡ accounted none old + more
 
 -- none more
 abbrev pub AccountsSame : LinkReport → LinkReport → Type 0
-AccountsSame old new = (none : Mark) → accounted none new ≡ accounted none old
+AccountsSame old new = (none : AnomalyTally) → accounted none new ≡ accounted none old
 
 -- at the end
 abbrev pub fate_sum : Fates → ℕ
@@ -38,7 +38,7 @@ fate_sum fates = fates.paired + fates.late + fates.first + fates.met + fates.unc
 -- Both lanes' deliveries that the other network didn't bring: those where it was silent or not recorded, and those where it was alive.
 pub record SumsLanes (link : LinkReport) : Type 0 where
   pub uncovered : link.fates.uncovered ≡ saturated (link.lanes.a.uncovered + link.lanes.b.uncovered)
-  pub alone : (none : Mark)
+  pub alone : (none : AnomalyTally)
       → link.fates.alone ≡ saturated ((mark_at link.lanes.a.signs Alone none).count + (mark_at link.lanes.b.signs Alone none).count)
 
 -- ---- of each of some links

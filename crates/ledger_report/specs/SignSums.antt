@@ -9,7 +9,7 @@ use Rattle.ledger_report.specs.LostBoth.{HasLosses}
 use Rattle.ledger_report.specs.RuleMarks.{HaveRules}
 use Rattle.ledger_report.specs.declared.link.LinkReport.{LinkReport}
 use Rattle.ledger_report.specs.declared.network.NetworkReport.{NetworkReport}
-use Rattle.ledger_report.specs.declared.sides.Sides.{Sides}
+use Rattle.ledger_report.specs.declared.per_network.PerNetwork.{PerNetwork}
 use Rattle.ledger_report.specs.declared.statistics.Statistics.{Statistics}
 
 -- What each link holds of the numbers that are lost stays.
@@ -22,7 +22,7 @@ pub record HasSignsOf (links : List VirtualLink) (lines : List FrameLine) (stati
   pub losses : AreEach HasLosses links lines statistics.links.items
 
 -- Both networks' marks stay, but for their bins.
-abbrev pub KeepTallies : Sides NetworkReport → Sides NetworkReport → Type 0
+abbrev pub KeepTallies : PerNetwork NetworkReport → PerNetwork NetworkReport → Type 0
 KeepTallies old new = (tallies new.a.signs ≡ tallies old.a.signs) × (tallies new.b.signs ≡ tallies old.b.signs)
 
 -- They stay.

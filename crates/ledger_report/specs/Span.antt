@@ -2,7 +2,7 @@
 use Rattle.std.specs.Prelude.{◌≡◌, ℕ, ◌≤◌, List, [], ◌∷◌, Option, Some, None, unwrap_or}
 use Rattle.std.specs.Option.{option_map, option_map_or}
 use Rattle.ledger_text.specs.declared.frame.FrameLine.{FrameLine}
-use Rattle.ledger_report.specs.declared.moment.Place.{Place}
+use Rattle.ledger_report.specs.declared.moment.FramePlace.{FramePlace}
 use Rattle.ledger_report.specs.declared.statistics.Statistics.{Statistics}
 
 -- their timestamps
@@ -24,7 +24,7 @@ pub record HasSpan (lines : List FrameLine) (statistics : Statistics) : Type 0 w
   pub latest : latest_in statistics ≡ newest lines
 
 -- The place is the latest, not before the latest so far; it is also the first where none was before.
-pub record TakesPlace (place : Place) (old new : Statistics) : Type 0 where
+pub record TakesPlace (place : FramePlace) (old new : Statistics) : Type 0 where
   pub order : unwrap_or (latest_in old) 0 ≤ place.stamp
   pub start : new.start ≡ option_map_or (λ latest. old.start) old.latest place.stamp
   pub latest : latest_in new ≡ Some place.stamp

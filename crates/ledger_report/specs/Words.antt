@@ -15,8 +15,8 @@ use Rattle.verdict_ledger.specs.Tally.{totals_of}
 use Rattle.verdict_ledger.specs.declared.link_counts.LinkCounts.{LinkCounts}
 use Rattle.verdict_ledger.specs.declared.totals.Totals.{Totals}
 use Rattle.ledger_text.specs.declared.frame.FrameLine.{FrameLine}
-use Rattle.ledger_report.specs.declared.signs.Sign.{Sign}
-use Rattle.ledger_report.specs.declared.signs.Sign.TheVariants as signs
+use Rattle.ledger_report.specs.declared.anomalies.Anomaly.{Anomaly}
+use Rattle.ledger_report.specs.declared.anomalies.Anomaly.TheVariants as signs
 
 -- ---- which lines
 
@@ -71,13 +71,13 @@ filter_count lines filter = slice_index (counts_of lines).filters filter
 -- ---- the rule by which a frame is discarded
 
 -- of a regular line: what policing says, then integrity checking
-abbrev pub judged_rule : FrameLine → Option Sign
+abbrev pub judged_rule : FrameLine → Option Anomaly
 judged_rule line =
     if is_excess line.verdict then Some signs.Excess
     else (if is_out line.verdict then Some signs.Out else None)
 
 -- the class, unless it is regular
-abbrev pub class_rule : Class → FrameLine → Option Sign
+abbrev pub class_rule : Class → FrameLine → Option Anomaly
 class_rule class.Cut line = Some signs.Cut
 class_rule class.Runt line = Some signs.Runt
 class_rule class.Oversize line = Some signs.Oversize
@@ -86,5 +86,5 @@ class_rule class.Unconfigured line = Some signs.Unconfigured
 class_rule class.TooLong line = Some signs.TooLong
 class_rule class.Regular line = judged_rule line
 
-abbrev pub rule_of : FrameLine → Option Sign
+abbrev pub rule_of : FrameLine → Option Anomaly
 rule_of line = class_rule line.verdict.class line

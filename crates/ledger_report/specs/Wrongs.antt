@@ -24,13 +24,13 @@ use Rattle.ledger_report.specs.declared.fault.Refusal.{Refusal}
 use Rattle.ledger_report.specs.declared.fault.Refusal.TheVariants as refusals
 use Rattle.ledger_report.specs.declared.fault.WrongLine.{WrongLine}
 use Rattle.ledger_report.specs.declared.fault.WrongLine.TheVariants as wrongs
-use Rattle.ledger_report.specs.declared.moment.Place.{Place}
+use Rattle.ledger_report.specs.declared.moment.FramePlace.{FramePlace}
 use Rattle.ledger_report.specs.declared.statistics.Statistics.{Statistics}
 
 -- ---- the order of lines
 
 -- where a frame stands in the order of both networks: by timestamp, then network, then its index
-abbrev pub key_at : Place → Network → Key
+abbrev pub key_at : FramePlace → Network → Key
 key_at place network = record { stamp = record { 0 = place.stamp }; network = network; number = place.number }
 
 -- of a line's frame

@@ -4,7 +4,7 @@ ghost use Rattle.afdx_frame.specs.declared.key.Network.TheVariants.{A};
 
 use crate::bounds::ABSENT_LINES;
 use crate::network::NetworkReport;
-use crate::sides::Sides;
+use crate::per_network::PerNetwork;
 use afdx_frame::Network;
 
 /// A block of lines of a link that are all on one network while the other was alive.
@@ -50,7 +50,7 @@ impl Run {
     }
 
     /// Counts the latest lines, where the other network was alive around them.
-    fn settle(&mut self, networks: &Sides<NetworkReport>) {
+    fn settle(&mut self, networks: &PerNetwork<NetworkReport>) {
         if !networks.of(self.network.other()).covers(self.before) {
             return;
         }
@@ -67,14 +67,14 @@ impl Run {
 pub struct Absences {
     run: Option<Run>,
     /// The longest from each network.
-    longest: Sides<Option<Absence>>,
+    longest: PerNetwork<Option<Absence>>,
 }
 
 impl Absences {
     pub(crate) fn new() -> Absences {
         Absences {
             run: None,
-            longest: Sides { a: None, b: None },
+            longest: PerNetwork { a: None, b: None },
         }
     }
 
@@ -104,7 +104,12 @@ impl Absences {
 
     /// Notes a line of the link.
     #[inline]
-    pub(crate) fn note(&mut self, network: Network, stamp: u64, networks: &Sides<NetworkReport>) {
+    pub(crate) fn note(
+        &mut self,
+        network: Network,
+        stamp: u64,
+        networks: &PerNetwork<NetworkReport>,
+    ) {
         let before = networks.of(network.other()).frames;
         let Some(held) = self.run else {
             self.run = Some(Run::start(network, stamp, before));
@@ -129,7 +134,7 @@ impl Absences {
     }
 
     /// Ends the last block.
-    pub(crate) fn end(&mut self, networks: &Sides<NetworkReport>) {
+    pub(crate) fn end(&mut self, networks: &PerNetwork<NetworkReport>) {
         if let Some(mut run) = self.run {
             run.settle(networks);
             self.run = Some(run);

@@ -15,7 +15,7 @@ ghost use Rattle.ledger_report.specs.declared.fault.WrongLine.TheVariants as wro
 
 use crate::counts::FrameCounts;
 use crate::fault::{Refusal, WrongLine};
-use crate::sides::Sides;
+use crate::per_network::PerNetwork;
 use afdx_frame::Network;
 use ledger_text::Counts as CountsLine;
 use std::alloc::{AllocError, Global};
@@ -51,7 +51,7 @@ const MAX_REASON: usize = 32;
 pub struct CountsLines {
     links: usize,
     filters: usize,
-    pub endings: Sides<Option<TapEnding>>,
+    pub endings: PerNetwork<Option<TapEnding>>,
     pub whole: bool,
     text: Vec<u8>,
 }
@@ -80,7 +80,7 @@ impl CountsLines {
         CountsLines {
             links: 0,
             filters: 0,
-            endings: Sides { a: None, b: None },
+            endings: PerNetwork { a: None, b: None },
             whole: false,
             text: Vec::new(alloc),
         }

@@ -38,7 +38,7 @@ pub enum WrongLine {
 
 /// Why there is no report. Lines are counted from 1, the head being line 1.
 #[derive(Clone, Copy, Debug, PartialEq, Eq, Error)]
-pub enum ReportFault {
+pub enum NoReport {
     /// A line is wrong.
     #[error("line {line}: {wrong}")]
     Line { line: u64, wrong: WrongLine },

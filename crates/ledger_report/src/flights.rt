@@ -4,11 +4,11 @@ ghost use Rattle.std.specs.Prelude.{◌≡◌};
 ghost use Rattle.ledger_report.specs.Flights.{comparison_at, count_both, frames_of};
 ghost use Rattle.ledger_report.specs.Flights.{is_new_outside, least_of, numbers_of, skew_of};
 ghost use Rattle.ledger_report.specs.declared.link.LinkReport.{LinkReport};
-ghost use Rattle.ledger_report.specs.declared.signs.Mark.{Mark};
+ghost use Rattle.ledger_report.specs.declared.anomalies.AnomalyTally.{AnomalyTally};
 
 use crate::numbers::LinkNumbers;
 use crate::worse::LinkComparison;
-use crate::{LinkReport, Report, Sign};
+use crate::{Anomaly, LinkReport, Report};
 use afdx_frame::VlId;
 
 /// The lines of a link on both networks.
@@ -19,8 +19,8 @@ fn frames_of(link: &LinkReport) -> u64
 }
 
 /// The count of a sign on both networks.
-fn count_both(link: &LinkReport, sign: Sign) -> u64
-    ensures { (none : Mark) → result ≡ count_both none link.now sign }
+fn count_both(link: &LinkReport, sign: Anomaly) -> u64
+    ensures { (none : AnomalyTally) → result ≡ count_both none link.now sign }
 {
     let a = link.lanes.a.signs.of(sign).count;
     a.saturating_add(link.lanes.b.signs.of(sign).count)
@@ -51,7 +51,7 @@ fn skew_of(link: &LinkReport) -> Option<u64>
 
 /// The numbers of a link in a flight, where it has a frame.
 fn numbers_of(report: &Report, link: &LinkReport) -> Option<LinkNumbers>
-    ensures { (none : Mark) → result ≡ numbers_of none report.now link.now }
+    ensures { (none : AnomalyTally) → result ≡ numbers_of none report.now link.now }
 {
     let frames = frames_of(link);
     if frames == 0 {
@@ -61,15 +61,15 @@ fn numbers_of(report: &Report, link: &LinkReport) -> Option<LinkNumbers>
         length: report.end.saturating_sub(report.start),
         frames,
         copies: link.copies,
-        too_long: count_both(link, Sign::TooLong),
-        excess: count_both(link, Sign::Excess),
-        out: count_both(link, Sign::Out),
-        lost: count_both(link, Sign::Lost),
+        too_long: count_both(link, Anomaly::TooLong),
+        excess: count_both(link, Anomaly::Excess),
+        out: count_both(link, Anomaly::Out),
+        lost: count_both(link, Anomaly::Lost),
         lost_both: link.lost_both,
-        repeat: count_both(link, Sign::Repeat),
-        reset: count_both(link, Sign::Reset),
-        alone: count_both(link, Sign::Alone),
-        late: count_both(link, Sign::Late),
+        repeat: count_both(link, Anomaly::Repeat),
+        reset: count_both(link, Anomaly::Reset),
+        alone: count_both(link, Anomaly::Alone),
+        late: count_both(link, Anomaly::Late),
         least: least_of(link),
         skew: skew_of(link),
     })
@@ -78,7 +78,7 @@ fn numbers_of(report: &Report, link: &LinkReport) -> Option<LinkNumbers>
 /// The link at this index of the table in both reports, which are against that table. Nothing
 /// where a report doesn't have it.
 pub fn comparison_at(today: &Report, baseline: &Report, index: usize) -> Option<LinkComparison>
-    ensures { (none : Mark) (no_link : LinkReport)
+    ensures { (none : AnomalyTally) (no_link : LinkReport)
         → result ≡ comparison_at none no_link today.now baseline.now index }
 {
     match (today.links.get(index), baseline.links.get(index)) {

@@ -6,15 +6,15 @@ ghost use Rattle.std.specs.Prelude.{◌*◌};
 ghost use Rattle.ledger_report.specs.LinkLines.{is_silent_since};
 ghost use Rattle.ledger_report.specs.Sums.{saturated};
 ghost use Rattle.ledger_report.specs.Numbers.{distance, is_loss};
-ghost use Rattle.ledger_report.specs.Numbering.{IsPlain, counted_numbering, missing_in, numbering_of};
+ghost use Rattle.ledger_report.specs.NumberStep.{IsPlain, counted_numbering, missing_in, numbering_of};
 ghost use Rattle.ledger_report.specs.LaneLines.{is_out_after_silence, is_rule};
-ghost use Rattle.ledger_report.specs.declared.signs.Sign.TheVariants as signs;
+ghost use Rattle.ledger_report.specs.declared.anomalies.Anomaly.TheVariants as signs;
 
+use crate::anomalies::{Anomalies, Anomaly};
 use crate::bounds::{CYCLE, MAX_DISTANCE, NUMBERS};
-use crate::moment::{Moment, Place};
+use crate::moment::{FramePlace, LinePlace};
 use crate::network::NetworkReport;
 use crate::series::{Merge, Series};
-use crate::signs::{Sign, Signs};
 use std::alloc::{AllocError, Global};
 
 /// The check sequence, which recordings don't hold.
@@ -23,7 +23,7 @@ const CHECK_BYTES: u64 = 4;
 /// What the lines of one link on one network say. Of these only the lines of class `toolong` and `regular`
 /// count.
 #[derive(Drop)]
-pub struct Lane {
+pub struct LaneReport {
     /// How many lines it has.
     pub frames: u64,
     /// The bytes held of them, each with its check sequence.
@@ -43,7 +43,7 @@ pub struct Lane {
     pub out_after_silence: u64,
     /// Deliveries while the other network was silent or not recorded.
     pub uncovered: u64,
-    pub signs: Signs,
+    pub signs: Anomalies,
     pub lines: Series,
     pub loads: Series,
     pub least_bins: Series,
@@ -58,13 +58,13 @@ pub struct Lane {
 /// A seen line, as its lane takes it.
 #[derive(Clone, Copy)]
 pub struct LaneLine {
-    pub at: Moment,
+    pub at: LinePlace,
     /// Which line of its network it is, from 1.
     pub ordinal: u64,
     /// Its sequence number.
     pub number: u8,
     /// The rule by which its frame is discarded.
-    pub rule: Option<Sign>,
+    pub rule: Option<Anomaly>,
     /// How many bytes the capture holds, where a filter accepts the frame.
     pub kept: Option<u32>,
     /// Does a silence of its network stand between the lane's line before and it?
@@ -82,7 +82,7 @@ pub struct LaneRules {
 
 /// What a sequence number says against that of the lane's line before.
 #[derive(Clone, Copy, PartialEq, Eq)]
-pub enum Numbering {
+pub enum NumberStep {
     /// Nothing.
     Follows,
     /// It is 0, and isn't the lane's first.
@@ -127,7 +127,7 @@ fn is_loss(distance: u8) -> bool
 fn is_out_after_silence(line: &LaneLine) -> bool
     ensures { result ≡ is_out_after_silence line.now }
 {
-    line.after_silence && matches!(line.rule, Some(Sign::Out))
+    line.after_silence && matches!(line.rule, Some(Anomaly::Out))
 }
 
 /// The greatest lead of lines `excess`, with that of one more line.
@@ -136,37 +136,37 @@ fn excess_lead(held: u64, line: &LaneLine, lead: u64) -> u64
     ensures { result ≡ (if is_rule signs.Excess line.now.rule then max held lead else held) }
 {
     match line.rule {
-        Some(Sign::Excess) => held.max(lead),
+        Some(Anomaly::Excess) => held.max(lead),
         _ => held,
     }
 }
 
 /// What counts of it: right after a silence no number is lost.
 #[inline]
-fn counted_numbering(after_silence: bool, numbering: Numbering) -> Numbering
+fn counted_numbering(after_silence: bool, numbering: NumberStep) -> NumberStep
     ensures counted { result ≡ counted_numbering after_silence numbering }
     ensures plain { IsPlain numbering → IsPlain result }
 {
     match numbering {
-        Numbering::Skips { .. } if after_silence => Numbering::Follows,
+        NumberStep::Skips { .. } if after_silence => NumberStep::Follows,
         _ => numbering,
     }
 }
 
 /// How many numbers are missing.
 #[inline]
-fn missing_in(numbering: Numbering) -> u64
+fn missing_in(numbering: NumberStep) -> u64
     ensures { result ≡ missing_in numbering }
 {
     match numbering {
-        Numbering::Skips { missing, .. } => u64::from(missing),
+        NumberStep::Skips { missing, .. } => u64::from(missing),
         _ => 0,
     }
 }
 
 /// How many numbers are missing right after a silence, with one more line.
 #[inline]
-fn lost_with(held: u64, after_silence: bool, numbering: Numbering) -> u64
+fn lost_with(held: u64, after_silence: bool, numbering: NumberStep) -> u64
     ensures { result ≡ (if after_silence then saturated (held + missing_in numbering) else held) }
 {
     if after_silence {
@@ -178,31 +178,31 @@ fn lost_with(held: u64, after_silence: bool, numbering: Numbering) -> u64
 
 /// What a number says against that of the lane's line before.
 #[inline]
-fn numbering_of(before: Option<u8>, number: u8) -> Numbering
+fn numbering_of(before: Option<u8>, number: u8) -> NumberStep
     ensures says { result ≡ numbering_of before number }
     ensures plain { IsPlain result }
 {
     let Some(previous) = before else {
-        return Numbering::Follows;
+        return NumberStep::Follows;
     };
     if number == 0 {
-        return Numbering::Restarts;
+        return NumberStep::Restarts;
     }
     if number == previous {
-        return Numbering::Repeats;
+        return NumberStep::Repeats;
     }
     let distance = distance(previous, number);
     if is_loss(distance) {
-        Numbering::Skips {
+        NumberStep::Skips {
             previous,
             missing: distance - 1,
         }
     } else {
-        Numbering::Follows
+        NumberStep::Follows
     }
 }
 
-impl Lane {
+impl LaneReport {
     ghost use Rattle.std.specs.Prelude.{[], ◌<◌, false, slice_set, Option};
     ghost use Rattle.afdx_frame.specs.declared.key.Network.{Network};
     ghost use Rattle.ledger_report.specs.Keeping.{HasLaneRoom, KeepsLane, KeepsRoom};
@@ -219,18 +219,18 @@ impl Lane {
     ghost use Rattle.ledger_report.specs.Marks.{HasHits, IsRule, KeepsHits};
     ghost use Rattle.ledger_report.specs.declared.lane.LaneLine.{LaneLine};
     ghost use Rattle.ledger_report.specs.declared.lane.LaneRules.{LaneRules};
-    ghost use Rattle.ledger_report.specs.declared.signs.Mark.{Mark};
-    ghost use Rattle.ledger_report.specs.declared.signs.Sign.{Sign};
+    ghost use Rattle.ledger_report.specs.declared.anomalies.AnomalyTally.{AnomalyTally};
+    ghost use Rattle.ledger_report.specs.declared.anomalies.Anomaly.{Anomaly};
 
-    pub(crate) fn new(alloc: Global) -> Result<Lane, AllocError>
+    pub(crate) fn new(alloc: Global) -> Result<LaneReport, AllocError>
         ensures after { IfOk result (λ lane. (rules : LaneRules) → StandsAfter rules [] lane) }
-        ensures missed { IfOk result (λ lane. (none : Mark) → missed none lane ≡ 0) }
+        ensures missed { IfOk result (λ lane. (none : AnomalyTally) → missed none lane ≡ 0) }
         ensures alone { IfOk result (HasMissed []) }
         ensures room { IfOk result HasLaneRoom }
         ensures late { IfOk result (λ lane. HasHits lane.signs signs.Late []) }
         ensures losses { IfOk result (λ lane. lane.lost_at.items ≡ []) }
     {
-        Ok(Lane {
+        Ok(LaneReport {
             frames: 0,
             bytes: 0,
             first: 0,
@@ -243,7 +243,7 @@ impl Lane {
             lost_after_silence: 0,
             out_after_silence: 0,
             uncovered: 0,
-            signs: Signs::new(alloc)?,
+            signs: Anomalies::new(alloc)?,
             lines: Series::new(alloc, Merge::Sum),
             loads: Series::new(alloc, Merge::Sum),
             least_bins: Series::new(alloc, Merge::Least),
@@ -270,7 +270,7 @@ impl Lane {
         &mut self,
         line: &LaneLine,
         rules: &LaneRules,
-    ) -> Result<Numbering, AllocError>
+    ) -> Result<NumberStep, AllocError>
         requires rule { IfSome line.now.rule IsRule }
         ensures after { OnOk result ((lines : List LaneLine) → StandsAfter rules.now lines self.old
             → StandsAfter rules.now (line.now ∷ lines) self.new) }
@@ -332,7 +332,8 @@ impl Lane {
             return Ok(());
         }
         self.excess_lead = excess_lead(self.excess_lead, line, least - interval);
-        self.signs.hit(Sign::Early, line.at.bin, line.at.place, 1)
+        self.signs
+            .hit(Anomaly::Early, line.at.bin, line.at.place, 1)
     }
 
     /// Notes the line itself.
@@ -375,7 +376,7 @@ impl Lane {
 
     /// Notes what the sequence number says against the one before.
     #[inline]
-    fn note_number(&mut self, line: &LaneLine, integrity: bool) -> Result<Numbering, AllocError>
+    fn note_number(&mut self, line: &LaneLine, integrity: bool) -> Result<NumberStep, AllocError>
         ensures takes { OnOk result (TakesNumber integrity line.now self.old self.new) }
         ensures alone { OnOk result (KeepsAlone self.old.signs self.new.signs) }
         ensures numbering { IfOk result (λ numbering. numbering ≡ counted_numbering line.now.after_silence
@@ -394,7 +395,7 @@ impl Lane {
     /// Remembers the sequence number, which isn't lost any more, and says what it says against the one
     /// before.
     #[inline]
-    fn take_number(&mut self, line: &LaneLine, integrity: bool) -> Numbering
+    fn take_number(&mut self, line: &LaneLine, integrity: bool) -> NumberStep
         ensures says { result ≡ numbering_in integrity self.old line.now }
         ensures plain { IsPlain result }
         ensures previous { self.new.previous
@@ -408,7 +409,7 @@ impl Lane {
             self.old.lost_at.items }
     {
         if !integrity {
-            return Numbering::Follows;
+            return NumberStep::Follows;
         }
         let before = self.previous.replace(line.number);
         self.set_lost(line.number, None);
@@ -417,7 +418,7 @@ impl Lane {
 
     /// Counts what the sequence number says.
     #[inline]
-    fn hit_number(&mut self, line: &LaneLine, numbering: Numbering) -> Result<(), AllocError>
+    fn hit_number(&mut self, line: &LaneLine, numbering: NumberStep) -> Result<(), AllocError>
         requires { IsPlain numbering }
         ensures signs { TakesAmounts (number_amount numbering) line.now.at.place
             self.old.signs self.new.signs }
@@ -426,12 +427,12 @@ impl Lane {
     {
         let at = &line.at;
         match numbering {
-            Numbering::Follows => Ok(()),
-            Numbering::Restarts => self.signs.hit(Sign::Reset, at.bin, at.place, 1),
-            Numbering::Repeats => self.signs.hit(Sign::Repeat, at.bin, at.place, 1),
-            Numbering::Skips { missing, .. } => {
+            NumberStep::Follows => Ok(()),
+            NumberStep::Restarts => self.signs.hit(Anomaly::Reset, at.bin, at.place, 1),
+            NumberStep::Repeats => self.signs.hit(Anomaly::Repeat, at.bin, at.place, 1),
+            NumberStep::Skips { missing, .. } => {
                 self.signs
-                    .hit(Sign::Lost, at.bin, at.place, u64::from(missing))
+                    .hit(Anomaly::Lost, at.bin, at.place, u64::from(missing))
             }
         }
     }
@@ -474,7 +475,7 @@ impl Lane {
         lost: u8,
         stamp: u64,
         window: u64,
-        other: &mut Lane,
+        other: &mut LaneReport,
     ) -> Result<u64, AllocError>
         ensures own { self.new ≡ record self.old { lost_at = self.new.lost_at } }
         ensures other { other.new ≡ record other.old { lost_at = other.new.lost_at } }
@@ -507,7 +508,7 @@ impl Lane {
     /// Notes a delivery that the other network didn't bring, with so many lines of that one before it.
     pub(crate) fn note_alone(
         &mut self,
-        place: Place,
+        place: FramePlace,
         bin: usize,
         before: u64,
         twin: &NetworkReport,
@@ -519,7 +520,7 @@ impl Lane {
         ensures losses { self.new.lost_at ≡ self.old.lost_at }
     {
         if twin.covers(before) {
-            return self.signs.hit(Sign::Alone, bin, place, 1);
+            return self.signs.hit(Anomaly::Alone, bin, place, 1);
         }
         self.uncovered = self.uncovered.saturating_add(1);
         Ok(())

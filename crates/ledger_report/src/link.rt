@@ -6,24 +6,24 @@ ghost use Rattle.std.specs.Prelude.{◌≡◌, ◌+◌, ◌<◌, ◌==◌, ◌&&
 ghost use Rattle.ledger_report.specs.Both.{side_of};
 ghost use Rattle.ledger_report.specs.Deliveries.{is_deliver};
 ghost use Rattle.ledger_report.specs.LaneLines.{one_where};
-ghost use Rattle.ledger_report.specs.Numbering.{missing_in};
+ghost use Rattle.ledger_report.specs.NumberStep.{missing_in};
 ghost use Rattle.ledger_report.specs.LaneParts.{counted_in};
 ghost use Rattle.ledger_report.specs.Marks.{IsRule};
 ghost use Rattle.ledger_report.specs.Noting.{seen_line};
 
 use crate::absence::Absence;
+use crate::anomalies::Anomaly;
 use crate::bounds::WINDOW_BAGS;
 use crate::fault::{Refusal, WrongLine};
 use crate::gaps::Gaps;
-use crate::lane::{Lane, LaneLine, LaneRules, Numbering};
+use crate::lane::{LaneLine, LaneReport, LaneRules, NumberStep};
 use crate::median::Classes;
-use crate::moment::{Moment, Place};
+use crate::moment::{FramePlace, LinePlace};
 use crate::network::NetworkReport;
 use crate::pairing::{Delivery, Fate, Pairing};
+use crate::per_network::PerNetwork;
 use crate::presence::Presence;
 use crate::series::{Merge, Series};
-use crate::sides::Sides;
-use crate::signs::Sign;
 use crate::statistics::rule_of;
 use afdx_frame::{Network, VlId};
 use integrity::Integrity;
@@ -70,7 +70,7 @@ pub struct LinkReport {
     pub smax: u32,
     pub integrity: bool,
     pub redundancy: bool,
-    pub lanes: Sides<Lane>,
+    pub lanes: PerNetwork<LaneReport>,
     /// Lines `deliver`, and what became of them.
     pub deliveries: u64,
     pub fates: Fates,
@@ -83,13 +83,13 @@ pub struct LinkReport {
     /// The greatest skew of a second delivery beyond SkewMax.
     pub late_greatest: u64,
     /// The greatest skews of copies and of late deliveries by time, by the network of the second.
-    pub skews: Sides<Series>,
-    pub late_skews: Sides<Series>,
+    pub skews: PerNetwork<Series>,
+    pub late_skews: PerNetwork<Series>,
     /// Numbers lost on both networks.
     pub lost_both: u64,
-    pub first_lost_both: Option<(Network, Place)>,
+    pub first_lost_both: Option<(Network, FramePlace)>,
     /// The longest absence from each network.
-    pub absences: Sides<Option<Absence>>,
+    pub absences: PerNetwork<Option<Absence>>,
     /// The absence that lasts to the end, and the network that the link is absent from.
     pub stopped: Option<(Network, Absence)>,
     /// The times between deliveries.
@@ -131,7 +131,7 @@ impl LinkReport {
     ghost use Rattle.ledger_report.specs.Words.{rule_of};
     ghost use Rattle.ledger_report.specs.Settling.{AccountsMore, AccountsSame, IsBalanced, SumsLanes};
     ghost use Rattle.ledger_report.specs.Settling.{accounted, counted, fate_sum};
-    ghost use Rattle.ledger_report.specs.declared.signs.Mark.{Mark};
+    ghost use Rattle.ledger_report.specs.declared.anomalies.AnomalyTally.{AnomalyTally};
 
     pub(crate) fn new(alloc: Global, link: &Link) -> Result<LinkReport, AllocError>
         ensures balanced { IfOk result (λ report. (report.deliveries ≡ 0) × IsBalanced report) }
@@ -148,9 +148,9 @@ impl LinkReport {
             smax: link.smax,
             integrity: link.integrity,
             redundancy: link.redundancy,
-            lanes: Sides {
-                a: Lane::new(alloc)?,
-                b: Lane::new(alloc)?,
+            lanes: PerNetwork {
+                a: LaneReport::new(alloc)?,
+                b: LaneReport::new(alloc)?,
             },
             deliveries: 0,
             fates: NO_FATES,
@@ -159,17 +159,17 @@ impl LinkReport {
             skew_greatest: 0,
             skew_median: 0,
             late_greatest: 0,
-            skews: Sides {
+            skews: PerNetwork {
                 a: Series::new(alloc, Merge::Greatest),
                 b: Series::new(alloc, Merge::Greatest),
             },
-            late_skews: Sides {
+            late_skews: PerNetwork {
                 a: Series::new(alloc, Merge::Greatest),
                 b: Series::new(alloc, Merge::Greatest),
             },
             lost_both: 0,
             first_lost_both: None,
-            absences: Sides { a: None, b: None },
+            absences: PerNetwork { a: None, b: None },
             stopped: None,
             gaps: Gaps::none(),
             classes: Classes::new(alloc),
@@ -190,10 +190,10 @@ impl LinkReport {
         &mut self,
         line: &FrameLine,
         number: u8,
-        at: &Moment,
+        at: &LinePlace,
         start: u64,
         width: u64,
-        networks: &Sides<NetworkReport>,
+        networks: &PerNetwork<NetworkReport>,
     ) -> Result<(), Refusal>
         ensures wrong { IsMomentOf line.now at.now → TellsWrong
             (link_wrong (row_in self.old) (spot_at self.old.pairing number) line.now) result }
@@ -230,8 +230,8 @@ impl LinkReport {
         &mut self,
         line: &FrameLine,
         number: u8,
-        at: &Moment,
-        networks: &Sides<NetworkReport>,
+        at: &LinePlace,
+        networks: &PerNetwork<NetworkReport>,
     ) -> Result<(), AllocError>
         ensures accounts { OnOk result (AccountsMore 0 self.old self.new) }
         ensures deliveries { self.new.deliveries ≡ self.old.deliveries }
@@ -262,8 +262,8 @@ impl LinkReport {
         &self,
         line: &FrameLine,
         number: u8,
-        at: &Moment,
-        networks: &Sides<NetworkReport>,
+        at: &LinePlace,
+        networks: &PerNetwork<NetworkReport>,
     ) -> LaneLine
         ensures line { result ≡ seen_line (side_of at.now.network self.now.lanes)
             (side_of at.now.network networks.now) line.now number at.now }
@@ -282,7 +282,7 @@ impl LinkReport {
 
     /// Notes the line for its lane, and says what its sequence number says.
     #[inline]
-    fn note_lane(&mut self, line: &LaneLine) -> Result<Numbering, AllocError>
+    fn note_lane(&mut self, line: &LaneLine) -> Result<NumberStep, AllocError>
         requires rule { IfSome line.now.rule IsRule }
         ensures lanes { OnOk result (NotesLane line.now self.old self.new) }
         ensures accounts { OnOk result (AccountsMore 0 self.old self.new) }
@@ -363,7 +363,7 @@ impl LinkReport {
 
     /// Notes which of the numbers that are missing before this one both networks lost.
     #[inline]
-    fn note_numbering(&mut self, numbering: Numbering, at: &Moment) -> Result<(), AllocError>
+    fn note_numbering(&mut self, numbering: NumberStep, at: &LinePlace) -> Result<(), AllocError>
         ensures accounts { OnOk result (AccountsMore 0 self.old self.new) }
         ensures deliveries { self.new.deliveries ≡ self.old.deliveries }
         ensures copies { KeepsCopies self.old self.new }
@@ -377,13 +377,13 @@ impl LinkReport {
             (losses_in self.old) (losses_in self.new)) }
     {
         match numbering {
-            Numbering::Follows | Numbering::Restarts | Numbering::Repeats => Ok(()),
-            Numbering::Skips { previous, missing } => self.note_loss(previous, missing, at),
+            NumberStep::Follows | NumberStep::Restarts | NumberStep::Repeats => Ok(()),
+            NumberStep::Skips { previous, missing } => self.note_loss(previous, missing, at),
         }
     }
 
     /// Notes that so many numbers are lost, and counts those that the other network lost too.
-    fn note_loss(&mut self, previous: u8, lost: u8, at: &Moment) -> Result<(), AllocError>
+    fn note_loss(&mut self, previous: u8, lost: u8, at: &LinePlace) -> Result<(), AllocError>
         ensures accounts { OnOk result (AccountsMore 0 self.old self.new) }
         ensures deliveries { self.new.deliveries ≡ self.old.deliveries }
         ensures copies { KeepsCopies self.old self.new }
@@ -407,7 +407,7 @@ impl LinkReport {
     }
 
     /// Notes for the lane that so many numbers are lost, and says how many of them the other lane lost too.
-    fn lose(&mut self, previous: u8, lost: u8, at: &Moment) -> Result<u64, AllocError>
+    fn lose(&mut self, previous: u8, lost: u8, at: &LinePlace) -> Result<u64, AllocError>
         ensures accounts { AccountsMore 0 self.old self.new }
         ensures deliveries { self.new.deliveries ≡ self.old.deliveries }
         ensures copies { KeepsCopies self.old self.new }
@@ -439,7 +439,7 @@ impl LinkReport {
 
     /// Notes a copy, whose delivery stands before on the other network.
     #[inline]
-    fn note_copy(&mut self, number: u8, at: &Moment) -> Result<(), Refusal>
+    fn note_copy(&mut self, number: u8, at: &LinePlace) -> Result<(), Refusal>
         ensures wrong { TellsWrong (copy_wrong self.old.skew_max (spot_at self.old.pairing number)
             at.now.network at.now.place.stamp) result }
         ensures accounts { OnOk result (AccountsMore 0 self.old self.new) }
@@ -507,13 +507,13 @@ impl LinkReport {
     fn note_delivery(
         &mut self,
         number: u8,
-        at: &Moment,
+        at: &LinePlace,
         start: u64,
         width: u64,
-        networks: &Sides<NetworkReport>,
+        networks: &PerNetwork<NetworkReport>,
     ) -> Result<(), Refusal>
         ensures wrong { TellsWrong None result }
-        ensures accounts { OnOk result ((none : Mark) → accounted none self.old + 2 < 2 ^ 64
+        ensures accounts { OnOk result ((none : AnomalyTally) → accounted none self.old + 2 < 2 ^ 64
             → accounted none self.new ≡ accounted none self.old + 1) }
         ensures deliveries { self.old.deliveries + 1 < 2 ^ 64
             → self.new.deliveries ≡ self.old.deliveries + 1 }
@@ -551,7 +551,7 @@ impl LinkReport {
         &mut self,
         start: u64,
         width: u64,
-        networks: &Sides<NetworkReport>,
+        networks: &PerNetwork<NetworkReport>,
     ) -> Result<(), AllocError>
         ensures balanced { OnOk result (IsBalanced self.old → self.old.deliveries < 2 ^ 62
             → self.new.deliveries ≡ fate_sum self.new.fates) }
@@ -569,7 +569,7 @@ impl LinkReport {
         self.settle_latest(start, width, networks)?;
         self.sum_fates();
         self.runs.end(networks);
-        self.absences = Sides {
+        self.absences = PerNetwork {
             a: self.runs.absences.longest(Network::A),
             b: self.runs.absences.longest(Network::B),
         };
@@ -581,7 +581,7 @@ impl LinkReport {
 
     /// Sums what the lanes say of the deliveries that the other network didn't bring.
     fn sum_fates(&mut self)
-        ensures sum { (none : Mark) → counted none self.old < 2 ^ 62
+        ensures sum { (none : AnomalyTally) → counted none self.old < 2 ^ 62
             → fate_sum self.new.fates ≡ counted none self.old }
         ensures lanes { SumsLanes self.new }
         ensures deliveries { self.new.deliveries ≡ self.old.deliveries }
@@ -598,8 +598,8 @@ impl LinkReport {
             .a
             .uncovered
             .saturating_add(self.lanes.b.uncovered);
-        let alone = self.lanes.a.signs.of(Sign::Alone).count;
-        self.fates.alone = alone.saturating_add(self.lanes.b.signs.of(Sign::Alone).count);
+        let alone = self.lanes.a.signs.of(Anomaly::Alone).count;
+        self.fates.alone = alone.saturating_add(self.lanes.b.signs.of(Anomaly::Alone).count);
     }
 
     pub(crate) fn fold(&mut self)

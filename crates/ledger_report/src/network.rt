@@ -11,11 +11,11 @@ ghost use Rattle.ledger_report.specs.Words.{is_on};
 ghost use Rattle.ledger_report.specs.Silences.{is_long, usual_with};
 ghost use Rattle.ledger_report.specs.declared.bounds.TheConstants.{SILENT_LINES};
 
+use crate::anomalies::{Anomalies, Anomaly};
 use crate::bounds::{LONG_TIME, LONG_TIMES, MAX_SILENCES, SILENT_LINES};
-use crate::lane::Lane;
-use crate::moment::Moment;
+use crate::lane::LaneReport;
+use crate::moment::LinePlace;
 use crate::series::{Merge, Series};
-use crate::signs::{Sign, Signs};
 use std::alloc::{AllocError, Global};
 
 /// Preamble, start of frame, check sequence and least gap: what a frame takes on the wire beside its bytes.
@@ -47,7 +47,7 @@ pub struct NetworkReport {
     pub silences: Vec<Silence>,
     pub more_silences: u64,
     /// Lines of each sign; of links' signs the sums, but of `early` none: a network doesn't count it.
-    pub signs: Signs,
+    pub signs: Anomalies,
     /// Lines, and their bytes, by time; the greatest skew of a copy that came on this network.
     pub lines: Series,
     pub loads: Series,
@@ -77,7 +77,7 @@ impl NetworkReport {
     ghost use Rattle.ledger_report.specs.declared.series.Merge.TheVariants.{Greatest};
     ghost use Rattle.ledger_report.specs.RuleMarks.{HasRules};
     ghost use Rattle.ledger_report.specs.Standings.{frames_on};
-    ghost use Rattle.ledger_report.specs.declared.signs.Sign.TheVariants.{Alone};
+    ghost use Rattle.ledger_report.specs.declared.anomalies.Anomaly.TheVariants.{Alone};
 
     pub(crate) fn new(alloc: Global) -> Result<NetworkReport, AllocError>
         ensures numbers { IfOk result (λ report. (network : Network) → IsNetworkOf network [] report) }
@@ -90,7 +90,7 @@ impl NetworkReport {
             bytes: 0,
             silences: Vec::new(alloc),
             more_silences: 0,
-            signs: Signs::new(alloc)?,
+            signs: Anomalies::new(alloc)?,
             lines: Series::new(alloc, Merge::Sum),
             loads: Series::new(alloc, Merge::Sum),
             skews: Series::new(alloc, Merge::Greatest),
@@ -165,7 +165,7 @@ impl NetworkReport {
 
     /// Notes a line of the network.
     #[inline]
-    pub(crate) fn note(&mut self, at: &Moment, kept: Option<u32>) -> Result<(), AllocError>
+    pub(crate) fn note(&mut self, at: &LinePlace, kept: Option<u32>) -> Result<(), AllocError>
         ensures line { OnOk result ((network : Network) (line : FrameLine) (lines : List FrameLine)
             → length lines < MAX_LINES → is_on network line ≡ true → line.stamp.0 ≡ at.now.place.stamp
             → line.kept ≡ kept → IsNetworkOf network lines self.old
@@ -274,21 +274,21 @@ impl NetworkReport {
 
     /// Adds what the network's lane of a link has: a network's marks of links' signs are the sums of its
     /// lanes', but for `early`, which it doesn't count.
-    pub(crate) fn add_lane(&mut self, lane: &Lane, skews: &Series) -> Result<(), AllocError>
+    pub(crate) fn add_lane(&mut self, lane: &LaneReport, skews: &Series) -> Result<(), AllocError>
         ensures signs { OnOk result (AddsSigns lane.now.signs self.old.signs self.new.signs) }
         ensures network { OnOk result (KeepsNetwork self.old self.new) }
     {
-        self.add_sign(Sign::Lost, lane)?;
-        self.add_sign(Sign::Repeat, lane)?;
-        self.add_sign(Sign::Reset, lane)?;
-        self.add_sign(Sign::Alone, lane)?;
-        self.add_sign(Sign::Late, lane)?;
+        self.add_sign(Anomaly::Lost, lane)?;
+        self.add_sign(Anomaly::Repeat, lane)?;
+        self.add_sign(Anomaly::Reset, lane)?;
+        self.add_sign(Anomaly::Alone, lane)?;
+        self.add_sign(Anomaly::Late, lane)?;
         self.skews.absorb(skews)?;
         Ok(())
     }
 
     /// Adds a lane's mark of a sign of links.
-    fn add_sign(&mut self, sign: Sign, lane: &Lane) -> Result<(), AllocError>
+    fn add_sign(&mut self, sign: Anomaly, lane: &LaneReport) -> Result<(), AllocError>
         ensures sign { AddsSign sign lane.now.signs self.old.signs self.new.signs }
         ensures others { KeepsOthers sign self.old.signs self.new.signs }
         ensures network { KeepsNetwork self.old self.new }

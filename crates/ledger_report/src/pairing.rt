@@ -6,8 +6,8 @@ ghost use Rattle.std.specs.Option.{option_map};
 ghost use Rattle.ledger_report.specs.Pending.{pending, pends};
 
 use crate::bounds::NUMBERS;
-use crate::moment::Place;
-use crate::sides::Sides;
+use crate::moment::FramePlace;
+use crate::per_network::PerNetwork;
 use afdx_frame::Network;
 use std::alloc::{AllocError, Global};
 
@@ -28,7 +28,7 @@ pub enum Fate {
 #[derive(Clone, Copy)]
 pub struct Delivery {
     pub network: Network,
-    pub place: Place,
+    pub place: FramePlace,
     /// How many lines of the other network stand before.
     pub before: u64,
     pub fate: Fate,
@@ -52,7 +52,7 @@ impl Delivery {
 #[derive(Drop)]
 pub struct Pairing {
     deliveries: Vec<Option<Delivery>>,
-    discarded: Sides<Vec<Option<u64>>>,
+    discarded: PerNetwork<Vec<Option<u64>>>,
     ghost whole: { 0 < vec_len deliveries → vec_len deliveries ≡ 256 },
 }
 
@@ -94,7 +94,7 @@ impl Pairing {
     {
         Pairing {
             deliveries: Vec::new(alloc),
-            discarded: Sides {
+            discarded: PerNetwork {
                 a: Vec::new(alloc),
                 b: Vec::new(alloc),
             },

@@ -4,9 +4,9 @@ ghost use Rattle.ledger_text.specs.declared.frame.FrameLine.{FrameLine};
 
 use crate::absence::Absences;
 use crate::gaps::DeliveryTimes;
-use crate::moment::Moment;
+use crate::moment::LinePlace;
 use crate::network::NetworkReport;
-use crate::sides::Sides;
+use crate::per_network::PerNetwork;
 use ledger_text::FrameLine;
 use std::alloc::{AllocError, Global};
 
@@ -30,8 +30,8 @@ impl Presence {
     pub(crate) fn note(
         &mut self,
         line: &FrameLine,
-        at: &Moment,
-        networks: &Sides<NetworkReport>,
+        at: &LinePlace,
+        networks: &PerNetwork<NetworkReport>,
     ) -> Result<(), AllocError> {
         self.absences.note(at.network, at.place.stamp, networks);
         self.times.note(line, networks.of(at.network))?;
@@ -39,7 +39,7 @@ impl Presence {
     }
 
     /// Ends the last block.
-    pub(crate) fn end(&mut self, networks: &Sides<NetworkReport>) {
+    pub(crate) fn end(&mut self, networks: &PerNetwork<NetworkReport>) {
         self.absences.end(networks);
     }
 }

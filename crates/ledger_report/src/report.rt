@@ -19,14 +19,14 @@ ghost use Rattle.vl_config.specs.Document.{VlTable};
 
 use crate::counts::FrameCounts;
 use crate::counts_lines::{CountsLines, TapEnding};
-use crate::fault::{Refusal, ReportFault, WrongLine};
+use crate::fault::{NoReport, Refusal, WrongLine};
 use crate::link::LinkReport;
-use crate::moment::{Moment, Place};
+use crate::moment::{FramePlace, LinePlace};
 use crate::network::NetworkReport;
-use crate::sides::Sides;
+use crate::per_network::PerNetwork;
 use crate::statistics::Statistics;
 use afdx_frame::{Network, VlId};
-use ledger_text::{Found, LedgerLine, LedgerReader, LedgerStop, LinesRefused, ReadFault};
+use ledger_text::{FoundLine, LedgerLine, LedgerReader, LedgerStop, LinesRefused, ReadFault};
 use pcap_io::TapSource;
 use std::alloc::{AllocError, Global};
 use vl_config::Config;
@@ -38,7 +38,7 @@ pub struct OutsideLink {
     pub frames: u64,
     /// The network and the place of the first.
     pub network: Network,
-    pub first: Place,
+    pub first: FramePlace,
 }
 
 impl OutsideLink {
@@ -52,7 +52,7 @@ impl OutsideLink {
         OutsideLink {
             frames: 0,
             network: Network::A,
-            first: Place {
+            first: FramePlace {
                 stamp: 0,
                 number: 0,
             },
@@ -60,7 +60,7 @@ impl OutsideLink {
     }
 
     /// Counts a frame.
-    pub(crate) fn count(&mut self, at: &Moment)
+    pub(crate) fn count(&mut self, at: &LinePlace)
         ensures frames { self.new.frames ≡ saturated (self.old.frames + 1) }
         ensures network { self.new.network
             ≡ (if self.old.frames == 0 then at.now.network else self.old.network) }
@@ -82,7 +82,7 @@ pub struct Report {
     pub end: u64,
     /// The width of a bin, in nanoseconds.
     pub width: u64,
-    pub networks: Sides<NetworkReport>,
+    pub networks: PerNetwork<NetworkReport>,
     /// One for each link of the table, in its order.
     pub links: Vec<LinkReport>,
     /// By identifier, the links outside the table; none where there is no such frame.
@@ -90,7 +90,7 @@ pub struct Report {
     /// The counts of lines by their words.
     pub counts: FrameCounts,
     /// How the recordings end, where the ledger says so.
-    pub endings: Sides<Option<TapEnding>>,
+    pub endings: PerNetwork<Option<TapEnding>>,
     /// Does the ledger have its last line?
     pub whole: bool,
     /// Where it ends, if it doesn't.
@@ -112,25 +112,25 @@ impl Report {
 }
 
 /// The fault of a line that isn't noted.
-fn line_fault(line: u64, refusal: Refusal) -> ReportFault
+fn line_fault(line: u64, refusal: Refusal) -> NoReport
     ensures { result ≡ line_fault line refusal }
 {
     match refusal {
-        Refusal::Wrong(wrong) => ReportFault::Line { line, wrong },
-        Refusal::Memory => ReportFault::Memory,
+        Refusal::Wrong(wrong) => NoReport::Line { line, wrong },
+        Refusal::Memory => NoReport::Memory,
     }
 }
 
 /// The fault of a reader that doesn't go on.
-fn read_fault(fault: ReadFault) -> ReportFault
+fn read_fault(fault: ReadFault) -> NoReport
     ensures { result ≡ read_fault fault }
 {
     match fault {
-        ReadFault::Line { number, fault } => ReportFault::Line {
+        ReadFault::Line { number, fault } => NoReport::Line {
             line: number,
             wrong: WrongLine::Text(fault),
         },
-        ReadFault::Device | ReadFault::Failed => ReportFault::Read,
+        ReadFault::Device | ReadFault::Failed => NoReport::Read,
     }
 }
 
@@ -148,7 +148,7 @@ fn read_lines<S: TapSource>(
     config: &Config,
     ledger: &mut LedgerReader<S>,
     reading: &mut Reading,
-) -> Result<Option<LedgerStop>, ReportFault>
+) -> Result<Option<LedgerStop>, NoReport>
     requires sound { ledger_failed ledger.old ≡ false }
     ensures read { (bytes : Option (List ℕ)) (failures : ℕ) (links : List VirtualLink)
         → links ≡ config.now.links
@@ -168,15 +168,15 @@ fn read_lines<S: TapSource>(
 {
     loop {
         match ledger.advance() {
-            Ok(Found::Line(LedgerLine::Frame(frame))) => {
+            Ok(FoundLine::Line(LedgerLine::Frame(frame))) => {
                 reading.counts.count(&frame);
                 match reading.statistics.note(&frame) {
                     Ok(()) => {}
                     Err(refusal) => return Err(line_fault(ledger.number(), refusal)),
                 }
             }
-            Ok(Found::Line(LedgerLine::Head)) => {}
-            Ok(Found::Line(LedgerLine::Counts(kind))) => {
+            Ok(FoundLine::Line(LedgerLine::Head)) => {}
+            Ok(FoundLine::Line(LedgerLine::Counts(kind))) => {
                 let taken = reading
                     .lines
                     .take(alloc, config, &reading.counts, kind, ledger.line());
@@ -184,8 +184,8 @@ fn read_lines<S: TapSource>(
                     return Err(line_fault(ledger.number(), refusal));
                 }
             }
-            Ok(Found::Complete) => return Ok(None),
-            Ok(Found::Incomplete(stop)) => return Ok(Some(stop)),
+            Ok(FoundLine::Complete) => return Ok(None),
+            Ok(FoundLine::Incomplete(stop)) => return Ok(Some(stop)),
             Err(fault) => return Err(read_fault(fault)),
         }
     }
@@ -205,23 +205,23 @@ pub fn read_report<S: TapSource + Drop>(
     alloc: Global,
     config: &Config,
     source: S,
-) -> Result<Report, ReportFault>
+) -> Result<Report, NoReport>
     ensures told { IfOk result (TellsRight (S.remaining source) config.now) }
     ensures refused { IfErr result (λ fault. (after : S) × IsRefused config.now
         (source_at S.TapSource source) (source_at S.TapSource after) fault) }
 {
     let mut ledger = match LedgerReader::new(alloc, source) {
         Ok(ledger) => ledger,
-        Err(LinesRefused { source: _ }) => return Err(ReportFault::Memory),
+        Err(LinesRefused { source: _ }) => return Err(NoReport::Memory),
     };
     let mut reading = match Reading::new(alloc, config) {
         Ok(reading) => reading,
-        Err(AllocError) => return Err(ReportFault::Memory),
+        Err(AllocError) => return Err(NoReport::Memory),
     };
     let stop = read_lines(alloc, config, &mut ledger, &mut reading)?;
     match reading.statistics.end() {
         Ok(()) => Ok(reading.into_report(stop)),
-        Err(AllocError) => Err(ReportFault::Memory),
+        Err(AllocError) => Err(NoReport::Memory),
     }
 }
 

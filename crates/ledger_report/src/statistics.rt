@@ -25,16 +25,16 @@ ghost use Rattle.ledger_report.specs.OutsideLines.{IsOutsideOf};
 ghost use Rattle.ledger_report.specs.Settling.{AreBalanced, GainFates, KeepBalance};
 ghost use Rattle.ledger_report.specs.Words.{is_on};
 ghost use Rattle.ledger_report.specs.Words.{rule_of};
-ghost use Rattle.ledger_report.specs.declared.signs.Sign.TheVariants as signs;
+ghost use Rattle.ledger_report.specs.declared.anomalies.Anomaly.TheVariants as signs;
 
+use crate::anomalies::Anomaly;
 use crate::bounds::{BINS, FIRST_WIDTH};
 use crate::fault::{Refusal, WrongLine};
 use crate::link::LinkReport;
-use crate::moment::{Moment, Place};
+use crate::moment::{FramePlace, LinePlace};
 use crate::network::NetworkReport;
+use crate::per_network::PerNetwork;
 use crate::report::OutsideLink;
-use crate::sides::Sides;
-use crate::signs::Sign;
 use afdx_frame::{Network, VL_ID_COUNT, VlId};
 use ledger_text::FrameLine;
 use std::alloc::{AllocError, Global};
@@ -45,20 +45,20 @@ const NO_LINK: u16 = u16::MAX;
 
 /// The rule by which a line's frame is discarded: its class, policing or integrity checking.
 #[inline]
-pub fn rule_of(line: &FrameLine) -> Option<Sign>
+pub fn rule_of(line: &FrameLine) -> Option<Anomaly>
     ensures rule { result ≡ rule_of line.now }
     ensures sign { IfSome result IsRule }
 {
     let verdict = &line.verdict;
     match verdict.class {
-        Class::Cut => Some(Sign::Cut),
-        Class::Runt => Some(Sign::Runt),
-        Class::Oversize => Some(Sign::Oversize),
-        Class::Foreign => Some(Sign::Foreign),
-        Class::Unconfigured => Some(Sign::Unconfigured),
-        Class::TooLong => Some(Sign::TooLong),
-        Class::Regular if verdict.is_excess() => Some(Sign::Excess),
-        Class::Regular if verdict.is_out() => Some(Sign::Out),
+        Class::Cut => Some(Anomaly::Cut),
+        Class::Runt => Some(Anomaly::Runt),
+        Class::Oversize => Some(Anomaly::Oversize),
+        Class::Foreign => Some(Anomaly::Foreign),
+        Class::Unconfigured => Some(Anomaly::Unconfigured),
+        Class::TooLong => Some(Anomaly::TooLong),
+        Class::Regular if verdict.is_excess() => Some(Anomaly::Excess),
+        Class::Regular if verdict.is_out() => Some(Anomaly::Out),
         Class::Regular => None,
     }
 }
@@ -79,8 +79,8 @@ pub struct Statistics {
     pub start: u64,
     pub width: u64,
     /// The latest line's key, and how many lines there are.
-    latest: Option<(Place, Network)>,
-    pub networks: Sides<NetworkReport>,
+    latest: Option<(FramePlace, Network)>,
+    pub networks: PerNetwork<NetworkReport>,
     pub links: Vec<LinkReport>,
     /// By identifier, the index of the link.
     index: Vec<u16>,
@@ -130,7 +130,7 @@ fn note_on(
     own: &mut NetworkReport,
     other: &mut NetworkReport,
     line: &FrameLine,
-    at: &Moment,
+    at: &LinePlace,
 ) -> Result<(), AllocError>
     ensures own { OnOk result ((network : Network) (lines : List FrameLine) → length lines < MAX_LINES
         → is_on network line.now ≡ true → at.now.place ≡ place_of line.now → IsNetworkOf network lines own.old
@@ -159,7 +159,7 @@ fn end_links(
     links: &mut Vec<LinkReport>,
     start: u64,
     width: u64,
-    networks: &Sides<NetworkReport>,
+    networks: &PerNetwork<NetworkReport>,
 ) -> Result<(), AllocError>
     ensures links { OnOk result (KeepsLinks links.old.items links.new.items) }
     ensures fates { OnOk result (GainFates links.old.items links.new.items) }
@@ -173,7 +173,10 @@ fn end_links(
 }
 
 /// Adds to each network what its lanes have.
-fn add_lanes(links: &[LinkReport], networks: &mut Sides<NetworkReport>) -> Result<(), AllocError>
+fn add_lanes(
+    links: &[LinkReport],
+    networks: &mut PerNetwork<NetworkReport>,
+) -> Result<(), AllocError>
     ensures a { OnOk result
         (AddsLanes (length links.now) A links.now networks.old.a.signs networks.new.a.signs) }
     ensures b { OnOk result
@@ -211,7 +214,7 @@ impl Statistics {
             start: 0,
             width: FIRST_WIDTH,
             latest: None,
-            networks: Sides {
+            networks: PerNetwork {
                 a: NetworkReport::new(alloc)?,
                 b: NetworkReport::new(alloc)?,
             },
@@ -233,7 +236,7 @@ impl Statistics {
 
     /// Checks that a line comes after the latest one, and remembers it.
     #[inline]
-    fn take_place(&mut self, place: Place, network: Network) -> Result<(), WrongLine>
+    fn take_place(&mut self, place: FramePlace, network: Network) -> Result<(), WrongLine>
         ensures latest { OnOk result (held_key self.new ≡ Some (key_at place network)) }
         ensures order { result ≡ (if is_unordered (held_key self.old) (key_at place network)
             then Err wrongs.Order else Ok tt) }
@@ -309,12 +312,12 @@ impl Statistics {
             → IsFrameLine line.now → length lines < MAX_LINES → IsAccountOf links lines self.old
             → HasSignsOf links lines self.old → HasSignsOf links (line.now ∷ lines) self.new) }
     {
-        let place = Place {
+        let place = FramePlace {
             stamp: line.stamp.0,
             number: line.number,
         };
         self.take_place(place, line.network)?;
-        let at = Moment {
+        let at = LinePlace {
             network: line.network,
             place,
             bin: self.reach(place.stamp),
@@ -332,7 +335,7 @@ impl Statistics {
 
     /// Notes the line for both networks.
     #[inline]
-    fn note_networks(&mut self, line: &FrameLine, at: &Moment) -> Result<(), AllocError>
+    fn note_networks(&mut self, line: &FrameLine, at: &LinePlace) -> Result<(), AllocError>
         ensures networks { OnOk result ((lines : List FrameLine) → length lines < MAX_LINES
             → IsMomentOf line.now at.now → AreNetworksOf lines self.old.networks
             → AreNetworksOf (line.now ∷ lines) self.new.networks) }
@@ -366,7 +369,7 @@ impl Statistics {
         line: &FrameLine,
         id: VlId,
         number: u8,
-        at: &Moment,
+        at: &LinePlace,
     ) -> Result<(), Refusal>
         ensures wrong { (links : List VirtualLink) (lines : List FrameLine) → IsMomentOf line.now at.now
             → line.now.link ≡ Some id → line.now.sequence ≡ Some number
@@ -412,7 +415,7 @@ impl Statistics {
     }
 
     /// Notes a frame of a link outside the table.
-    fn note_outside(&mut self, id: VlId, at: &Moment) -> Result<(), AllocError>
+    fn note_outside(&mut self, id: VlId, at: &LinePlace) -> Result<(), AllocError>
         ensures rest { self.new ≡ record self.old { outside = self.new.outside } }
         ensures line { OnOk result ((line : FrameLine) (lines : List FrameLine) → length lines < MAX_LINES
             → is_class class.Unconfigured line.verdict.class ≡ true → line.link ≡ Some id

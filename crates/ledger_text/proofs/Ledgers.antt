@@ -7,17 +7,17 @@ use Rattle.ledger_text.specs.Places.{stage_after}
 use Rattle.ledger_text.specs.declared.frame.FrameLine.{FrameLine}
 use Rattle.ledger_text.specs.Reader.{IsFound, reading_of}
 use Rattle.ledger_text.specs.declared.order.LedgerLine.{LedgerLine}
-use Rattle.ledger_text.specs.declared.order.Stage.{Stage}
-use Rattle.ledger_text.specs.declared.order.Stage.TheVariants as stages
-use Rattle.ledger_text.specs.declared.reader.Found.TheVariants as found
+use Rattle.ledger_text.specs.declared.order.LedgerStage.{LedgerStage}
+use Rattle.ledger_text.specs.declared.order.LedgerStage.TheVariants as stages
+use Rattle.ledger_text.specs.declared.reader.FoundLine.TheVariants as found
 use Rattle.ledger_text.specs.declared.reader.LedgerReader.{LedgerReader}
 use Rattle.ledger_text.specs.declared.reader.LedgerStop.{LedgerStop}
 
-pub reads_one_more : (stage here : Stage) (bytes mid after : Option (List ℕ)) (rs : List ReadLine) (r : ReadLine)
+pub reads_one_more : (stage here : LedgerStage) (bytes mid after : Option (List ℕ)) (rs : List ReadLine) (r : ReadLine)
     → ReadsLines stage bytes rs here mid → TakesLine here mid after r → ReadsLines stage bytes (rs ++ r ∷ []) (stage_after r.line) after
 reads_one_more stage here bytes mid after [] r (same, left) takes =
     let moved : TakesLine stage bytes after r =
-    subst (λ (x : Stage). TakesLine x bytes after r) (sym same) (subst (λ (x : Option (List ℕ)). TakesLine here x after r) (sym left) takes) in
+    subst (λ (x : LedgerStage). TakesLine x bytes after r) (sym same) (subst (λ (x : Option (List ℕ)). TakesLine here x after r) (sym left) takes) in
     (after, moved, (refl, refl))
 reads_one_more stage here bytes mid after (q ∷ rs) r (next, first, more) takes =
     (next, first, reads_one_more (stage_after q.line) here next mid after rs r more takes)
@@ -42,7 +42,7 @@ pub found_one_more : {S : Type 0} (s : SourceMembers S) (bytes : Option (List �
     → IsFound (reading_of s.remaining s.failures old) (reading_of s.remaining s.failures new) (lent_of new) (found.Line read) → has_failed new ≡ false
     → HasReadLines s bytes failures (rs ++ line_of new read ∷ []) new
 found_one_more s bytes failures rs old new read h is sound = record {
-  lines = subst (λ (x : Stage). ReadsLines stages.Head bytes (rs ++ line_of new read ∷ []) x (left_of s new)) (sym is.1.1)
+  lines = subst (λ (x : LedgerStage). ReadsLines stages.Head bytes (rs ++ line_of new read ∷ []) x (left_of s new)) (sym is.1.1)
       (reads_one_more stages.Head (stage_of old) bytes (left_of s old) (left_of s new) rs (line_of new read) h.lines (found_line s old new read is));
   number = is.1.2 ∙ ap (λ (n : ℕ). n + 1) h.number ∙ sym (length-append rs (line_of new read ∷ []));
   sound = sound;

@@ -11,8 +11,8 @@ use Rattle.ledger_text.specs.declared.bounds.TheConstants.{BLOCK_LEN}
 use Rattle.ledger_text.specs.declared.frame.FrameLine.{FrameLine}
 use Rattle.ledger_text.specs.declared.order.LedgerLine.{LedgerLine}
 use Rattle.ledger_text.specs.declared.order.LedgerLine.TheVariants as lines
-use Rattle.ledger_text.specs.declared.order.Stage.{Stage}
-use Rattle.ledger_text.specs.declared.order.Stage.TheVariants as stages
+use Rattle.ledger_text.specs.declared.order.LedgerStage.{LedgerStage}
+use Rattle.ledger_text.specs.declared.order.LedgerStage.TheVariants as stages
 use Rattle.ledger_text.specs.declared.reader.LedgerReader.{LedgerReader}
 use Rattle.ledger_text.specs.declared.reader.LedgerStop.{LedgerStop}
 
@@ -22,7 +22,7 @@ pub record ReadLine : Type 0 where
   pub line : LedgerLine
 
 -- The bytes begin with this line and its newline, which stands at this place.
-pub record TakesLine (stage : Stage) (before after : Option (List ℕ)) (r : ReadLine) : Type 0 where
+pub record TakesLine (stage : LedgerStage) (before after : Option (List ℕ)) (r : ReadLine) : Type 0 where
   pub one : NoNewline r.text
   pub short : length r.text < BLOCK_LEN
   pub gone : Consumes before after (r.text ++ 10 ∷ [])
@@ -33,14 +33,14 @@ abbrev pub LeavesPart : Bool → Option (List ℕ) → Type 0
 LeavesPart within left = (part : List ℕ) × (rest : Option (List ℕ)) × IsNextLine left rest part (last_of within)
 
 -- The bytes begin with these lines, one after another, which lead from the first place and bytes to the last.
-abbrev pub ReadsLines : Stage → Option (List ℕ) → List ReadLine → Stage → Option (List ℕ) → Type 0
+abbrev pub ReadsLines : LedgerStage → Option (List ℕ) → List ReadLine → LedgerStage → Option (List ℕ) → Type 0
 ReadsLines stage before [] stage2 after = (stage ≡ stage2) × (before ≡ after)
 ReadsLines stage before (r ∷ rs) stage2 after =
     (mid : Option (List ℕ)) × TakesLine stage before mid r × ReadsLines (stage_after r.line) mid rs stage2 after
 
 -- How a ledger ends after these lines: after its line `total`, and nothing is left; or before it, and nothing is left or the beginning of a
 -- line, which has no newline.
-abbrev pub EndsAt : List ReadLine → Stage → Option (List ℕ) → Option LedgerStop → Type 0
+abbrev pub EndsAt : List ReadLine → LedgerStage → Option (List ℕ) → Option LedgerStop → Type 0
 EndsAt rs stage left None = (has_total stage ≡ true) × LeavesPart false left
 EndsAt rs stage left (Some stop) = (has_total stage ≡ false) × (stop.lines ≡ length rs) × LeavesPart stop.within_line left
 
@@ -64,7 +64,7 @@ abbrev pub has_failed : {S : Type 0} → LedgerReader S → Bool
 has_failed reader = reader.failed
 
 -- where it stands: what stands before the next line, how many lines do, and what is left
-abbrev pub stage_of : {S : Type 0} → LedgerReader S → Stage
+abbrev pub stage_of : {S : Type 0} → LedgerReader S → LedgerStage
 stage_of reader = reader.stage
 
 abbrev pub number_of : {S : Type 0} → LedgerReader S → ℕ

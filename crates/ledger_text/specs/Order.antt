@@ -4,8 +4,8 @@ use Rattle.ledger_text.specs.Fields.{fields_of, first_field}
 use Rattle.ledger_text.specs.FrameText.{IsFrameText, IsFrameFault}
 use Rattle.ledger_text.specs.declared.order.Counts.{Counts}
 use Rattle.ledger_text.specs.declared.order.Counts.TheVariants as counts
-use Rattle.ledger_text.specs.declared.order.Stage.{Stage}
-use Rattle.ledger_text.specs.declared.order.Stage.TheVariants as stages
+use Rattle.ledger_text.specs.declared.order.LedgerStage.{LedgerStage}
+use Rattle.ledger_text.specs.declared.order.LedgerStage.TheVariants as stages
 use Rattle.ledger_text.specs.declared.order.LedgerLine.{LedgerLine}
 use Rattle.ledger_text.specs.declared.order.LedgerLine.TheVariants as lines
 use Rattle.ledger_text.specs.declared.fault.LineFault.{LineFault}
@@ -37,7 +37,7 @@ abbrev pub IsCounts : List ℕ → Counts → Type 0
 IsCounts line kind = counts_word kind ≡ first_field (fields_of line)
 
 -- what a line at this place is
-abbrev pub IsLineAt : Stage → List ℕ → LedgerLine → Type 0
+abbrev pub IsLineAt : LedgerStage → List ℕ → LedgerLine → Type 0
 IsLineAt stages.Head line lines.Head = line ≡ head_line
 IsLineAt stages.Frames line (lines.Frame v) = IsFrameText line v
 IsLineAt stages.Frames line (lines.Counts kind) = IsCounts line kind
@@ -45,13 +45,13 @@ IsLineAt (stages.Counts last) line (lines.Counts kind) = IsCounts line kind × (
 IsLineAt _ line _ = ⊥
 
 -- what is wrong with a line at this place, at which none is that stands there
-abbrev pub IsLineFaultAt : Stage → List ℕ → LineFault → Type 0
+abbrev pub IsLineFaultAt : LedgerStage → List ℕ → LineFault → Type 0
 IsLineFaultAt stages.Head line faults.Head = line ≢ head_line
 IsLineFaultAt stages.Frames line (faults.Frame fault) = IsFrameFault (fields_of line) fault × ((kind : Counts) → IsCounts line kind → ⊥)
 IsLineFaultAt (stages.Counts last) line faults.Order = (kind : Counts) → IsCounts line kind → may_follow last kind ≡ true → ⊥
 IsLineFaultAt _ line _ = ⊥
 
 -- what a line at this place reads as
-abbrev pub IsLineRead : Stage → List ℕ → Result LedgerLine LineFault → Type 0
+abbrev pub IsLineRead : LedgerStage → List ℕ → Result LedgerLine LineFault → Type 0
 IsLineRead stage line (Ok read) = IsLineAt stage line read
 IsLineRead stage line (Err fault) = IsLineFaultAt stage line fault

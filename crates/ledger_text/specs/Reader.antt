@@ -7,13 +7,13 @@ use Rattle.ledger_text.specs.Lines.{IsNextLine, line_source, lines_left}
 use Rattle.ledger_text.specs.Places.{IsLineRefused, IsRead, has_total}
 use Rattle.ledger_text.specs.declared.lines.LineFound.{LineFound}
 use Rattle.ledger_text.specs.declared.lines.LineFound.TheVariants as next
-use Rattle.ledger_text.specs.declared.order.Stage.{Stage}
+use Rattle.ledger_text.specs.declared.order.LedgerStage.{LedgerStage}
 use Rattle.ledger_text.specs.declared.fault.LineFault.{LineFault}
 use Rattle.ledger_text.specs.declared.fault.LineFault.TheVariants as wrong
 use Rattle.ledger_text.specs.declared.fault.ReadFault.{ReadFault}
 use Rattle.ledger_text.specs.declared.fault.ReadFault.TheVariants as faults
-use Rattle.ledger_text.specs.declared.reader.Found.{Found}
-use Rattle.ledger_text.specs.declared.reader.Found.TheVariants as found
+use Rattle.ledger_text.specs.declared.reader.FoundLine.{FoundLine}
+use Rattle.ledger_text.specs.declared.reader.FoundLine.TheVariants as found
 use Rattle.ledger_text.specs.declared.reader.LedgerReader.{LedgerReader}
 
 -- what it reads from
@@ -23,7 +23,7 @@ source_of reader = line_source reader.lines
 -- Where it stands: what stands before the next line, how many lines do, which bytes are left where the source exposes them, and how
 -- often the source has failed.
 pub record Reading : Type 0 where
-  pub stage : Stage
+  pub stage : LedgerStage
   pub number : ℕ
   pub left : Option (List ℕ)
   pub failures : ℕ
@@ -47,7 +47,7 @@ last_of false = next.End
 
 -- The next line of the bytes is the one that is lent, and stands at its place; or nothing is left after the line `total`; or before it nothing
 -- or the beginning of a line is, which is lent.
-abbrev pub IsFound : Reading → Reading → List ℕ → Found → Type 0
+abbrev pub IsFound : Reading → Reading → List ℕ → FoundLine → Type 0
 IsFound old new line (found.Line read) =
     IsNextLine old.left new.left line next.Line × IsRead old.stage old.number line new.stage new.number (found.Line read) × (new.failures ≡ old.failures)
 IsFound old new line found.Complete = (has_total old.stage ≡ true) × IsNextLine old.left new.left line next.End × Stays old new

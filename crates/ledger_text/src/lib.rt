@@ -5,17 +5,17 @@
 //!
 //! ```text
 //! let mut reader = LedgerReader::new(alloc, source)?;
-//! while let Found::Line(line) = reader.advance()? {
+//! while let FoundLine::Line(line) = reader.advance()? {
 //!     if let LedgerLine::Frame(frame) = line {
 //!         // frame.stamp, frame.link, .., and reader.line() as it stands
 //!     }
 //! }
 //! ```
 //!
-//! - [`LedgerReader`], with [`Found`], [`LedgerLine`] and [`Counts`], and its faults [`ReadFault`] and
+//! - [`LedgerReader`], with [`FoundLine`], [`LedgerLine`] and [`Counts`], and its faults [`ReadFault`] and
 //!   [`LineFault`]. The first wrong line is named by its number, counted from 1.
 //! - [`read_frame`], the values of a frame's line ([`FrameLine`]), or its first wrong field
-//!   ([`FrameFault`]); [`read_line`], a line at its place ([`Stage`]).
+//!   ([`FrameFault`]); [`read_line`], a line at its place ([`LedgerStage`]).
 //! - [`LineSource`], the lines of any source, with [`LineFound`].
 //! - Laws: a line has one reading ([`line_reads_one_way`]), and what `verdict_ledger` writes of an entry
 //!   reads back as what its line shows ([`entries_read_back`]).
@@ -37,5 +37,5 @@ pub use fault::{FrameFault, LineFault, ReadFault};
 pub use frame::{FrameLine, read_frame};
 pub use laws::{entries_read_back, line_reads_one_way};
 pub use lines::{LineFound, LineSource, LinesRefused};
-pub use order::{Counts, LedgerLine, Stage, read_line};
-pub use reader::{Found, LedgerReader, LedgerStop};
+pub use order::{Counts, LedgerLine, LedgerStage, read_line};
+pub use reader::{FoundLine, LedgerReader, LedgerStop};

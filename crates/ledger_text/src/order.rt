@@ -24,7 +24,7 @@ pub enum Counts {
 
 /// What stands before the next line.
 #[derive(Clone, Copy, PartialEq, Eq)]
-pub enum Stage {
+pub enum LedgerStage {
     /// Nothing: the head is next.
     Head,
     /// The head, or the line of a frame.
@@ -89,25 +89,25 @@ fn is_head(line: &[u8]) -> bool
 
 /// Reads a line, without its newline, that stands at this place.
 #[inline(always)]
-pub fn read_line(stage: Stage, line: &[u8]) -> Result<LedgerLine, LineFault>
+pub fn read_line(stage: LedgerStage, line: &[u8]) -> Result<LedgerLine, LineFault>
     ensures { IsLineRead stage line.now result }
 {
     match stage {
-        Stage::Head => {
+        LedgerStage::Head => {
             if is_head(line) {
                 Ok(LedgerLine::Head)
             } else {
                 Err(LineFault::Head)
             }
         }
-        Stage::Frames => match counts_of(first_word(line)) {
+        LedgerStage::Frames => match counts_of(first_word(line)) {
             Some(counts) => Ok(LedgerLine::Counts(counts)),
             None => match read_frame(line) {
                 Ok(frame) => Ok(LedgerLine::Frame(frame)),
                 Err(fault) => Err(LineFault::Frame(fault)),
             },
         },
-        Stage::Counts(last) => match counts_of(first_word(line)) {
+        LedgerStage::Counts(last) => match counts_of(first_word(line)) {
             Some(counts) if may_follow(last, counts) => Ok(LedgerLine::Counts(counts)),
             _ => Err(LineFault::Order),
         },

@@ -6,7 +6,7 @@ ghost use Rattle.ledger_text.specs.declared.bounds.TheConstants.{MAX_LINES};
 use crate::bounds::MAX_LINES;
 use crate::fault::{LineFault, ReadFault};
 use crate::lines::{LineFound, LineSource, LinesRefused};
-use crate::order::{Counts, LedgerLine, Stage, read_line};
+use crate::order::{Counts, LedgerLine, LedgerStage, read_line};
 use pcap_io::TapSource;
 use std::alloc::Global;
 
@@ -21,7 +21,7 @@ pub struct LedgerStop {
 
 /// What a reader finds next.
 #[derive(Clone, Copy, PartialEq, Eq)]
-pub enum Found {
+pub enum FoundLine {
     /// A line, whose bytes the reader lends.
     Line(LedgerLine),
     /// The end, after the line `total`.
@@ -32,12 +32,12 @@ pub enum Found {
 
 /// What stands before the line after this one.
 #[inline]
-fn stage_after(line: &LedgerLine) -> Stage
+fn stage_after(line: &LedgerLine) -> LedgerStage
     ensures { result ≡ stage_after line.now }
 {
     match line {
-        LedgerLine::Head | LedgerLine::Frame(_) => Stage::Frames,
-        LedgerLine::Counts(counts) => Stage::Counts(*counts),
+        LedgerLine::Head | LedgerLine::Frame(_) => LedgerStage::Frames,
+        LedgerLine::Counts(counts) => LedgerStage::Counts(*counts),
     }
 }
 
@@ -45,7 +45,7 @@ fn stage_after(line: &LedgerLine) -> Stage
 #[derive(Drop)]
 pub struct LedgerReader<S> {
     lines: LineSource<S>,
-    stage: Stage,
+    stage: LedgerStage,
     /// How many lines were read.
     number: u64,
     failed: bool,
@@ -59,7 +59,7 @@ impl<S: TapSource> LedgerReader<S> {
     ghost use Rattle.ledger_text.specs.Reader.{IsFound, IsReadFault, reading_of, source_of};
     ghost use Rattle.ledger_text.specs.Places.{IsEnd, IsRead, IsReadRefused, IsUnended, has_total};
     ghost use Rattle.ledger_text.specs.declared.fault.ReadFault.TheVariants as faults;
-    ghost use Rattle.ledger_text.specs.declared.order.Stage.TheVariants as stages;
+    ghost use Rattle.ledger_text.specs.declared.order.LedgerStage.TheVariants as stages;
 
     /// A reader of which nothing is read yet. Allocates a block of 64 KiB; where there is no memory for it
     /// the source comes back.
@@ -72,7 +72,7 @@ impl<S: TapSource> LedgerReader<S> {
     {
         Ok(LedgerReader {
             lines: LineSource::new(alloc, source)?,
-            stage: Stage::Head,
+            stage: LedgerStage::Head,
             number: 0,
             failed: false,
         })
@@ -80,7 +80,7 @@ impl<S: TapSource> LedgerReader<S> {
 
     /// Goes on to the next line, whose bytes `line` lends, or finds the end, which is found again at each
     /// later call. After a fault each later call returns `Failed`. Allocates nothing.
-    pub fn advance(&mut self) -> Result<Found, ReadFault>
+    pub fn advance(&mut self) -> Result<FoundLine, ReadFault>
         ensures found { self.old.failed ≡ false → IfOk result (IsFound
             (reading_of S.remaining S.failures self.old) (reading_of S.remaining S.failures self.new)
             (lent_line self.new.lines)) }
@@ -101,7 +101,7 @@ impl<S: TapSource> LedgerReader<S> {
 
     /// Finds the next line or the end.
     #[inline(always)]
-    fn find(&mut self) -> Result<Found, ReadFault>
+    fn find(&mut self) -> Result<FoundLine, ReadFault>
         ensures found { IfOk result (IsFound
             (reading_of S.remaining S.failures self.old) (reading_of S.remaining S.failures self.new)
             (lent_line self.new.lines)) }
@@ -119,7 +119,7 @@ impl<S: TapSource> LedgerReader<S> {
 
     /// Reads the line that was found.
     #[inline(always)]
-    fn read(&mut self) -> Result<Found, ReadFault>
+    fn read(&mut self) -> Result<FoundLine, ReadFault>
         ensures found { IfOk result (IsRead self.old.stage self.old.number (lent_line self.old.lines)
             self.new.stage self.new.number) }
         ensures fault { IfErr result (IsReadRefused self.old.stage self.old.number
@@ -135,7 +135,7 @@ impl<S: TapSource> LedgerReader<S> {
             Ok(line) => {
                 self.stage = stage_after(&line);
                 self.number += 1;
-                Ok(Found::Line(line))
+                Ok(FoundLine::Line(line))
             }
             Err(fault) => Err(self.fault(fault)),
         }
@@ -152,12 +152,12 @@ impl<S: TapSource> LedgerReader<S> {
     }
 
     /// What the end is, within a line or not.
-    fn end(&self, within_line: bool) -> Found
+    fn end(&self, within_line: bool) -> FoundLine
         ensures { IsEnd self.now.stage self.now.number within_line result }
     {
         match self.stage {
-            Stage::Counts(Counts::Total) => Found::Complete,
-            _ => Found::Incomplete(LedgerStop {
+            LedgerStage::Counts(Counts::Total) => FoundLine::Complete,
+            _ => FoundLine::Incomplete(LedgerStop {
                 lines: self.number,
                 within_line,
             }),
@@ -165,11 +165,11 @@ impl<S: TapSource> LedgerReader<S> {
     }
 
     /// What a last line without a newline is. After the line `total` nothing may stand.
-    fn unended(&self) -> Result<Found, ReadFault>
+    fn unended(&self) -> Result<FoundLine, ReadFault>
         ensures { IsUnended self.now.stage self.now.number result }
     {
         match self.end(true) {
-            Found::Complete => Err(self.fault(LineFault::Newline)),
+            FoundLine::Complete => Err(self.fault(LineFault::Newline)),
             end => Ok(end),
         }
     }

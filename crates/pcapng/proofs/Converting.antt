@@ -24,8 +24,8 @@ use Rattle.pcapng.specs.declared.block.FirstSection.TheVariants as firsts
 use Rattle.pcapng.specs.declared.block.PacketFields.{PacketFields}
 use Rattle.pcapng.specs.declared.converter.Converter.{Converter}
 use Rattle.pcapng.specs.declared.block.StartFault.{StartFault}
-use Rattle.pcapng.specs.declared.converter.Stage.{Stage}
-use Rattle.pcapng.specs.declared.converter.Stage.TheVariants as stages
+use Rattle.pcapng.specs.declared.converter.Reached.{Reached}
+use Rattle.pcapng.specs.declared.converter.Reached.TheVariants as stages
 use Rattle.pcapng.specs.declared.section.Role.{Role}
 use Rattle.pcapng.specs.declared.section.Role.TheVariants as roles
 use Rattle.pcapng.specs.declared.section.Section.{Section}
@@ -278,9 +278,9 @@ unread_behind a b len kept whole long =
 -- ---- the next block
 
 -- the bytes end before what comes next does
-pub ends_within : (c : Converter) (st : Stage) → c.stage ≡ st → rest_at st (known_of c.section) (unread_of c) ≡ end_at st (known_of c.section) (unread_of c)
+pub ends_within : (c : Converter) (st : Reached) → c.stage ≡ st → rest_at st (known_of c.section) (unread_of c) ≡ end_at st (known_of c.section) (unread_of c)
     → EndsWithin c
-ends_within c st t e = subst (λ (s : Stage). rest_at s (known_of c.section) (unread_of c) ≡ end_at s (known_of c.section) (unread_of c)) (sym t) e
+ends_within c st t e = subst (λ (s : Reached). rest_at s (known_of c.section) (unread_of c) ≡ end_at s (known_of c.section) (unread_of c)) (sym t) e
 
 pub ends_few : (c : Converter) → c.stage ≡ stages.Blocks → length (unread_of c) < 12 → EndsWithin c
 ends_few c t few = ends_within c stages.Blocks t (given_few (known_of c.section) (unread_of c) few)
@@ -348,7 +348,7 @@ reads_good c d start l t p some e whole long is rest =
     let facts = start_facts c.section.order u start e in
     let order : m.order ≡ start.order = read_order k start (block_of c start.len) (record { given = pending_of d; known = m }) is facts.1 in
     let unread : unread_of d ++ l ≡ drop start.len (u ++ l) = ap (λ (x : List ℕ). x ++ l) rest.1 ∙ sym (drop-append-le start.len u l (omega (arith, size))) in
-    ap (λ (s : Stage). pending_of d ++ rest_at s m (unread_of d ++ l)) (rest.0 ∙ t)
+    ap (λ (s : Reached). pending_of d ++ rest_at s m (unread_of d ++ l)) (rest.0 ∙ t)
     ∙ (ap (λ (x : List ℕ). pending_of d ++ given_for m (blocks_of m.order x)) unread
     ∙ (ap (λ (o : ByteOrder). pending_of d ++ given_for m (blocks_of o (drop start.len (u ++ l)))) order
     ∙ sym (whole_given c start l (Ok (record { given = pending_of d; known = m })) t p some e whole long is)))

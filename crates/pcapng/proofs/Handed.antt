@@ -19,8 +19,8 @@ use Rattle.pcapng.specs.Section.{Known, known_of, unknown}
 use Rattle.pcapng.specs.declared.choice.Choice.{Choice}
 use Rattle.pcapng.specs.declared.section.Section.{Section}
 use Rattle.pcapng.specs.declared.converter.Converter.{Converter}
-use Rattle.pcapng.specs.declared.converter.Stage.{Stage}
-use Rattle.pcapng.specs.declared.converter.Stage.TheVariants as stages
+use Rattle.pcapng.specs.declared.converter.Reached.{Reached}
+use Rattle.pcapng.specs.declared.converter.Reached.TheVariants as stages
 
 which : (b : Bool) → (b ≡ true) ⊎ (b ≡ false)
 which true = inl refl
@@ -31,13 +31,13 @@ none_first [] ys e = refl
 none_first (x ∷ xs) ys e = cc
 
 -- what is given next stays, what is known, and the unread bytes with those of the source
-pub keeps_at : (p q : List ℕ) (st to : Stage) (k m : Known) (u v : List ℕ) (r s : Option (List ℕ)) → q ≡ p → to ≡ st → m ≡ k
+pub keeps_at : (p q : List ℕ) (st to : Reached) (k m : Known) (u v : List ℕ) (r s : Option (List ℕ)) → q ≡ p → to ≡ st → m ≡ k
     → Keeps (prepend_known u r) (prepend_known v s) → Keeps (known_at p st k u r) (known_at q to m v s)
 keeps_at p q st to k m u v None s e t f h = tt
 keeps_at p q st to k m u v (Some x) None e t f h = absurd h
 keeps_at p q st to k m u v (Some x) (Some y) e t f h =
     ap (λ (l : List ℕ). l ++ rest_at to m (v ++ y)) e
-    ∙ (ap (λ (a : Stage). p ++ rest_at a m (v ++ y)) t
+    ∙ (ap (λ (a : Reached). p ++ rest_at a m (v ++ y)) t
     ∙ (ap (λ (n : Known). p ++ rest_at st n (v ++ y)) f ∙ ap (λ (l : List ℕ). p ++ rest_at st k l) h))
 
 pub gives_known : (c d : Converter) (front : List ℕ) (r : Option (List ℕ)) → pending_of c ≡ front ++ pending_of d → d.stage ≡ c.stage
@@ -45,7 +45,7 @@ pub gives_known : (c d : Converter) (front : List ℕ) (r : Option (List ℕ)) �
 gives_known c d front None p t u f = tt
 gives_known c d front (Some x) p t u f =
     let same : rest_at d.stage (known_of d.section) (unread_of d ++ x) ≡ rest_at c.stage (known_of c.section) (unread_of c ++ x) =
-    ap (λ (st : Stage). rest_at st (known_of d.section) (unread_of d ++ x)) t
+    ap (λ (st : Reached). rest_at st (known_of d.section) (unread_of d ++ x)) t
     ∙ (ap (λ (s : Section). rest_at c.stage (known_of s) (unread_of d ++ x)) f ∙ ap (λ (l : List ℕ). rest_at c.stage (known_of c.section) (l ++ x)) u) in
     let rest = rest_at c.stage (known_of c.section) (unread_of c ++ x) in
     ap (λ (l : List ℕ). l ++ rest) p ∙ (append_assoc front (pending_of d) rest ∙ ap (λ (l : List ℕ). front ++ (pending_of d ++ l)) (sym same))
@@ -56,11 +56,11 @@ hands_known c d None h = tt
 hands_known c d (Some x) h = h x
 
 -- where nothing is left of what is given next, it is what the rest stands for
-pub at_stage : (c : Converter) (st : Stage) (left : List ℕ) → c.stage ≡ st → pending_of c ≡ []
+pub at_stage : (c : Converter) (st : Reached) (left : List ℕ) → c.stage ≡ st → pending_of c ≡ []
     → handed c left ≡ rest_at st (known_of c.section) (unread_of c ++ left)
 at_stage c st left t p =
     ap (λ (l : List ℕ). l ++ rest_at c.stage (known_of c.section) (unread_of c ++ left)) p
-    ∙ ap (λ (s : Stage). rest_at s (known_of c.section) (unread_of c ++ left)) t
+    ∙ ap (λ (s : Reached). rest_at s (known_of c.section) (unread_of c ++ left)) t
 
 -- ---- the first four bytes
 

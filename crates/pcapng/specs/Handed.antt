@@ -11,8 +11,8 @@ use Rattle.pcapng.specs.Text.{cut_bytes, reason_bytes}
 use Rattle.pcapng.specs.declared.block.TheConstants.{MAX_BLOCK_LEN}
 use Rattle.pcapng.specs.declared.choice.Choice.{Choice}
 use Rattle.pcapng.specs.declared.converter.Converter.{Converter}
-use Rattle.pcapng.specs.declared.converter.Stage.{Stage}
-use Rattle.pcapng.specs.declared.converter.Stage.TheVariants as stages
+use Rattle.pcapng.specs.declared.converter.Reached.{Reached}
+use Rattle.pcapng.specs.declared.converter.Reached.TheVariants as stages
 use Rattle.pcapng.specs.declared.converter.Step.{Step}
 use Rattle.pcapng.specs.declared.converter.Step.TheVariants as steps
 use Rattle.pcapng.specs.declared.source.RecordingSource.{RecordingSource}
@@ -52,7 +52,7 @@ skipped_at before len k bytes =
     else reason_bytes BlockLengthsDiffer
 
 -- what is given for the bytes that aren't judged yet
-abbrev pub rest_at : Stage → Known → List ℕ → List ℕ
+abbrev pub rest_at : Reached → Known → List ℕ → List ℕ
 rest_at stages.Start k bytes = given_from k bytes
 rest_at stages.Untouched k bytes = bytes
 rest_at stages.FirstSection k bytes = pcap_of k bytes
@@ -61,7 +61,7 @@ rest_at (stages.Skipping left len) k bytes = skipped_at left len k bytes
 rest_at stages.Ended k bytes = []
 
 -- what is given for them where they end before what comes next does
-abbrev pub end_at : Stage → Known → List ℕ → List ℕ
+abbrev pub end_at : Reached → Known → List ℕ → List ℕ
 end_at stages.Start k bytes = bytes
 end_at stages.Untouched k bytes = bytes
 end_at stages.FirstSection k bytes = []
@@ -74,7 +74,7 @@ abbrev pub handed : Converter → List ℕ → List ℕ
 handed c left = pending_of c ++ rest_at c.stage (known_of c.section) (unread_of c ++ left)
 
 -- what is given next, and then for the unread bytes and those that the source has left, where it exposes them
-abbrev pub known_at : List ℕ → Stage → Known → List ℕ → Option (List ℕ) → Option (List ℕ)
+abbrev pub known_at : List ℕ → Reached → Known → List ℕ → Option (List ℕ) → Option (List ℕ)
 known_at pending stage k unread None = None
 known_at pending stage k unread (Some left) = Some (pending ++ rest_at stage k (unread ++ left))
 

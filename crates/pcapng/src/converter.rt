@@ -4,7 +4,7 @@ ghost use Rattle.std.specs.Io.KnownBytes.{IsAtEnd, Keeps, prepend_known};
 ghost use Rattle.pcap_io.specs.Device.{CountsFailure, NoFailure};
 ghost use Rattle.pcapng.specs.Block.{fields_of, shortest_of};
 ghost use Rattle.pcapng.specs.declared.block.BlockKind.TheVariants as kinds;
-ghost use Rattle.pcapng.specs.declared.converter.Stage.TheVariants as stages;
+ghost use Rattle.pcapng.specs.declared.converter.Reached.TheVariants as stages;
 ghost use Rattle.pcapng.specs.declared.block.TheConstants.{MAX_BLOCK_LEN};
 ghost use Rattle.pcapng.specs.declared.text.TheConstants.{FILE_HEADER_LEN};
 
@@ -27,7 +27,7 @@ const PIECE_LEN: usize = 65_536;
 
 /// How far a recording was read.
 #[derive(Clone, Copy, PartialEq, Eq)]
-pub enum Stage {
+pub enum Reached {
     /// Nothing of it was judged.
     Start,
     /// It isn't pcapng, and is handed on.
@@ -54,7 +54,7 @@ pub enum Step {
 /// What was read ahead of a recording, and what is given for it.
 #[derive(Drop)]
 pub struct Converter {
-    stage: Stage,
+    stage: Reached,
     section: Section,
     /// How many packets of interfaces that aren't Ethernet were skipped.
     skipped: u64,
@@ -163,7 +163,7 @@ impl Converter {
         let mut block = Vec::with_capacity(alloc, MAX_BLOCK_LEN)?;
         block.resize(PIECE_LEN, 0).unwrap();
         Ok(Converter {
-            stage: Stage::Start,
+            stage: Reached::Start,
             section,
             skipped: 0,
             block,
@@ -179,7 +179,7 @@ impl Converter {
 
     /// How far the recording was read.
     #[inline]
-    pub fn stage(&self) -> Stage
+    pub fn stage(&self) -> Reached
         ensures { result ≡ self.now.stage }
     {
         self.stage
@@ -236,7 +236,7 @@ impl Converter {
         self.header = header;
         self.header_from = 0;
         self.header_to = len;
-        self.stage = Stage::Ended;
+        self.stage = Reached::Ended;
     }
 
     /// Ends for a reason.
@@ -266,17 +266,17 @@ impl Converter {
         ensures { handed self.new [] ≡ handed self.old [] }
     {
         match self.stage {
-            Stage::Start => self.stage = Stage::Untouched,
-            Stage::Blocks if self.start == self.end => {
+            Reached::Start => self.stage = Reached::Untouched,
+            Reached::Blocks if self.start == self.end => {
                 if self.section.is_described() {
-                    self.stage = Stage::Ended;
+                    self.stage = Reached::Ended;
                 } else {
                     self.end_bad(BadReason::NoSuchInterface);
                 }
             }
-            Stage::Blocks | Stage::Skipping { .. } => self.end_with([0; FILE_HEADER_LEN], 1),
-            Stage::FirstSection => self.stage = Stage::Ended,
-            Stage::Untouched | Stage::Ended => {}
+            Reached::Blocks | Reached::Skipping { .. } => self.end_with([0; FILE_HEADER_LEN], 1),
+            Reached::FirstSection => self.stage = Reached::Ended,
+            Reached::Untouched | Reached::Ended => {}
         }
     }
 
@@ -335,7 +335,7 @@ impl Converter {
         self.body_to = 0;
         let magic = read_u32(ByteOrder::Big, &self.block[start..start + 4]);
         if magic == SECTION_HEADER {
-            self.stage = Stage::FirstSection;
+            self.stage = Reached::FirstSection;
             return Step::Done;
         }
         if magic == CONVERTED_MAGIC {
@@ -343,10 +343,10 @@ impl Converter {
             self.header_from = 0;
             self.header_to = 4;
             self.start = start + 4;
-            self.stage = Stage::Untouched;
+            self.stage = Reached::Untouched;
             return Step::Done;
         }
-        self.stage = Stage::Untouched;
+        self.stage = Reached::Untouched;
         Step::Done
     }
 
@@ -370,7 +370,7 @@ impl Converter {
                 self.header = file_header(None);
                 self.header_from = 0;
                 self.header_to = FILE_HEADER_LEN;
-                self.stage = Stage::Blocks;
+                self.stage = Reached::Blocks;
                 self.start += len;
             }
         }
@@ -398,7 +398,7 @@ impl Converter {
             }
         };
         if begun.kind == BlockKind::Other {
-            self.stage = Stage::Skipping {
+            self.stage = Reached::Skipping {
                 left: begun.len - 4,
                 len: begun.len,
             };
@@ -525,21 +525,21 @@ impl Converter {
         let unread = self.end - self.start;
         if (left as usize) > unread {
             self.start = self.end;
-            self.stage = Stage::Skipping {
+            self.stage = Reached::Skipping {
                 left: left - unread as u32,
                 len,
             };
             return Step::Needs(1);
         }
         self.start += left as usize;
-        self.stage = Stage::Skipping { left: 0, len };
+        self.stage = Reached::Skipping { left: 0, len };
         if self.end - self.start < 4 {
             return Step::Needs(4);
         }
         let last = read_u32(self.section.order, &self.block[self.start..self.end]);
         if last == len {
             self.start += 4;
-            self.stage = Stage::Blocks;
+            self.stage = Reached::Blocks;
         } else {
             self.end_bad(BadReason::BlockLengthsDiffer);
         }
@@ -555,15 +555,15 @@ impl Converter {
         ensures given { StillGiven self.new result [] }
     {
         match self.stage {
-            Stage::Start => self.begin(),
-            Stage::FirstSection => self.first_section(),
-            Stage::Blocks => self.next_block(),
-            Stage::Skipping { left, len } => self.skip(left, len),
-            Stage::Untouched => {
+            Reached::Start => self.begin(),
+            Reached::FirstSection => self.first_section(),
+            Reached::Blocks => self.next_block(),
+            Reached::Skipping { left, len } => self.skip(left, len),
+            Reached::Untouched => {
                 self.hand_on();
                 Step::Done
             }
-            Stage::Ended => Step::Done,
+            Reached::Ended => Step::Done,
         }
     }
 }

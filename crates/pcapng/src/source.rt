@@ -6,7 +6,7 @@ ghost use Rattle.pcapng.specs.declared.block.TheConstants.{MAX_BLOCK_LEN};
 
 use crate::block::MAX_BLOCK_LEN;
 use crate::choice::Choice;
-use crate::converter::{Converter, Stage, Step};
+use crate::converter::{Converter, Reached, Step};
 use crate::interface::Interface;
 use pcap_io::{DeviceFault, TapSource};
 use std::alloc::Global;
@@ -32,7 +32,7 @@ pub struct RecordingSource<S> {
 impl<S: TapSource> RecordingSource<S> {
     ghost use Rattle.pcapng.specs.Handed.{EndsWithin, Lacks, StillGiven};
     ghost use Rattle.pcapng.specs.Handed.{given_of, pending_of, remaining_of, unread_of};
-    ghost use Rattle.pcapng.specs.declared.converter.Stage.TheVariants.{Untouched};
+    ghost use Rattle.pcapng.specs.declared.converter.Reached.TheVariants.{Untouched};
 
     /// Hands on the recording of a source. It reads nothing yet, and allocates all that it will need:
     /// a block of 2^20 bytes, of which it touches no more than 64 KiB unless a longer block comes, and
@@ -175,8 +175,8 @@ impl<S: TapSource> TapSource for RecordingSource<S> {
                 return Ok(done);
             }
             match self.converter.stage() {
-                Stage::Ended => return Ok(done),
-                Stage::Untouched if self.converter.is_read() => {
+                Reached::Ended => return Ok(done),
+                Reached::Untouched if self.converter.is_read() => {
                     return if done > 0 { Ok(done) } else { self.pass(buf) };
                 }
                 _ => {}

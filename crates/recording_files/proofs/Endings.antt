@@ -29,7 +29,7 @@ use Rattle.recording_files.proofs.Given.{ends_bad, ends_short, given_ending, giv
 use Rattle.recording_files.proofs.Reading.{good_given, given_all, same_stamp, stamp_fits}
 use Rattle.recording_files.specs.Given.{end_of, given_as, given_at, given_body, given_header, given_of, header_text, part_text}
 use Rattle.recording_files.specs.Laws.{FileIsRead, packet_given}
-use Rattle.recording_files.specs.declared.stage.Place.TheVariants.{First}
+use Rattle.recording_files.specs.declared.stage.WhichFile.TheVariants.{First}
 
 which : (b : Bool) → (b ≡ true) ⊎ (b ≡ false)
 which true = inl refl

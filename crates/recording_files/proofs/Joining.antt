@@ -21,17 +21,17 @@ use Rattle.recording_files.specs.Input.{ReadsHeader, ReadsStart, StartGives, lef
 use Rattle.recording_files.specs.Supply.{GivesNext, KeepsFiles}
 use Rattle.recording_files.specs.declared.joined.JoinedSource.{JoinedSource}
 use Rattle.recording_files.specs.declared.stage.Packet.{Packet}
-use Rattle.recording_files.specs.declared.stage.Place.{Place}
-use Rattle.recording_files.specs.declared.stage.Place.TheVariants.{First, Next}
-use Rattle.recording_files.specs.declared.stage.Stage.{Stage}
-use Rattle.recording_files.specs.declared.stage.Stage.TheVariants as stages
+use Rattle.recording_files.specs.declared.stage.WhichFile.{WhichFile}
+use Rattle.recording_files.specs.declared.stage.WhichFile.TheVariants.{First, Next}
+use Rattle.recording_files.specs.declared.stage.FilesStage.{FilesStage}
+use Rattle.recording_files.specs.declared.stage.FilesStage.TheVariants as stages
 use Rattle.recording_files.specs.Run.{IsGivenLayout, IsRun}
 use Rattle.recording_files.proofs.Given.{given_part, given_whole}
 use Rattle.recording_files.proofs.Runs.{run_given}
 
 -- nothing is left of the bytes of a packet that isn't given
-pub none_given : (s t : Stage) (text drawn : List ℕ) → s ≡ t → body_of t drawn ≡ [] → text ++ body_of s drawn ≡ text
-none_given s t text drawn e none = ap (λ (b : List ℕ). text ++ b) (ap (λ (x : Stage). body_of x drawn) e ∙ none) ∙ append-nil text
+pub none_given : (s t : FilesStage) (text drawn : List ℕ) → s ≡ t → body_of t drawn ≡ [] → text ++ body_of s drawn ≡ text
+none_given s t text drawn e none = ap (λ (b : List ℕ). text ++ b) (ap (λ (x : FilesStage). body_of x drawn) e ∙ none) ∙ append-nil text
 
 pub none_first : (xs ys : List ℕ) → xs ++ ys ≡ [] → xs ≡ []
 none_first [] ys e = refl
@@ -40,14 +40,14 @@ none_first (x ∷ xs) ys e = cc
 -- ---- a device that fails
 
 -- what is left of the file stays
-pub keeps_left : (p q : List ℕ) (s : Stage) (l m : Option (List ℕ)) (f : Option (List (List ℕ))) → q ≡ p → Keeps l m → Keeps (known_at p s l f) (known_at q s m f)
+pub keeps_left : (p q : List ℕ) (s : FilesStage) (l m : Option (List ℕ)) (f : Option (List (List ℕ))) → q ≡ p → Keeps l m → Keeps (known_at p s l f) (known_at q s m f)
 keeps_left p q s None m f e h = tt
 keeps_left p q s (Some x) None f e h = absurd h
 keeps_left p q s (Some x) (Some y) None e h = tt
 keeps_left p q s (Some x) (Some y) (Some fs) e h = ap (λ (b : List ℕ). b ++ rest_of s y fs) e ∙ ap (λ (b : List ℕ). p ++ rest_of s b fs) h
 
 -- the files that are to come stay
-pub keeps_files : (p q : List ℕ) (s : Stage) (l : Option (List ℕ)) (f g : Option (List (List ℕ))) → q ≡ p → KeepsFiles f g → Keeps (known_at p s l f) (known_at q s l g)
+pub keeps_files : (p q : List ℕ) (s : FilesStage) (l : Option (List ℕ)) (f g : Option (List (List ℕ))) → q ≡ p → KeepsFiles f g → Keeps (known_at p s l f) (known_at q s l g)
 keeps_files p q s None f g e h = tt
 keeps_files p q s (Some x) None g e h = tt
 keeps_files p q s (Some x) (Some fs) None e h = absurd h
@@ -55,7 +55,7 @@ keeps_files p q s (Some x) (Some fs) (Some gs) e h = ap (λ (b : List ℕ). b ++
 
 -- ---- files
 
-pub opens : {F : Type 0} (remaining : F → Option (List ℕ)) (file : F) (place : Place) (p q : List ℕ) (s : Stage) (l m : Option (List ℕ)) (f g : Option (List (List ℕ)))
+pub opens : {F : Type 0} (remaining : F → Option (List ℕ)) (file : F) (place : WhichFile) (p q : List ℕ) (s : FilesStage) (l m : Option (List ℕ)) (f g : Option (List (List ℕ)))
     → s ≡ stages.File place → m ≡ remaining file → GivesNext remaining f g (Some file) → p ≡ [] → q ≡ [] → Keeps (known_at p s l f) (known_at q (stages.FileHeader place) m g)
 opens remaining file place p q s None m f g t here came e d = tt
 opens remaining file place p q s (Some x) m None g t here came e d = tt
@@ -67,7 +67,7 @@ opens remaining file Next p q s (Some x) m (Some (y ∷ ys)) (Some gs) t here ca
     rw (here ∙ came.0, came.1, e, d, t) refl
 
 -- there is no file at all
-pub opens_none : {F : Type 0} (remaining : F → Option (List ℕ)) (p q : List ℕ) (s : Stage) (l : Option (List ℕ)) (f g : Option (List (List ℕ)))
+pub opens_none : {F : Type 0} (remaining : F → Option (List ℕ)) (p q : List ℕ) (s : FilesStage) (l : Option (List ℕ)) (f g : Option (List (List ℕ)))
     → s ≡ stages.File First → GivesNext remaining f g None → p ≡ [] → q ≡ no_header First Short → Keeps (known_at p s l f) (known_at q stages.Ended l g)
 opens_none remaining p q s None f g t came e d = tt
 opens_none remaining p q s (Some x) None g t came e d = tt
@@ -76,7 +76,7 @@ opens_none remaining p q s (Some x) (Some (y ∷ ys)) (Some gs) t came e d = abs
 opens_none remaining p q s (Some x) (Some []) (Some gs) t came e d = rw (t, e) (append-nil q ∙ d)
 
 -- there is no further one
-pub opens_last : {F : Type 0} (remaining : F → Option (List ℕ)) (p q : List ℕ) (s : Stage) (l : Option (List ℕ)) (f g : Option (List (List ℕ)))
+pub opens_last : {F : Type 0} (remaining : F → Option (List ℕ)) (p q : List ℕ) (s : FilesStage) (l : Option (List ℕ)) (f g : Option (List (List ℕ)))
     → s ≡ stages.File Next → GivesNext remaining f g None → p ≡ [] → q ≡ [] → Keeps (known_at p s l f) (known_at q stages.Ended l g)
 opens_last remaining p q s None f g t came e d = tt
 opens_last remaining p q s (Some x) None g t came e d = tt
@@ -84,7 +84,7 @@ opens_last remaining p q s (Some x) (Some fs) None t came e d = absurd came
 opens_last remaining p q s (Some x) (Some (y ∷ ys)) (Some gs) t came e d = absurd came
 opens_last remaining p q s (Some x) (Some []) (Some gs) t came e d = rw (t, e, d) refl
 
-pub begins : (place : Place) (layout : Layout) (p q : List ℕ) (s : Stage) (l m : Option (List ℕ)) (f : Option (List (List ℕ))) → s ≡ stages.FileHeader place → p ≡ []
+pub begins : (place : WhichFile) (layout : Layout) (p q : List ℕ) (s : FilesStage) (l m : Option (List ℕ)) (f : Option (List (List ℕ))) → s ≡ stages.FileHeader place → p ≡ []
     → q ≡ file_header_of place → ReadsHeader l m (Ok layout) → Keeps (known_at p s l f) (known_at q (stages.Header layout) m f)
 begins place layout p q s None m f t e d read = tt
 begins place layout p q s (Some xs) m None t e d read = tt
@@ -94,7 +94,7 @@ begins place layout p q s (Some xs) m (Some fs) t e d (read, (ys, here, behind))
     (ap (λ (b : List ℕ). b ++ given_at layout ys next) d
     ∙ (ap (λ (b : List ℕ). file_header_of place ++ given_at layout b next) behind ∙ sym (ap (λ (r : Result Layout HeaderFault). given_as place r xs next) read)))
 
-pub begins_wrong : (place : Place) (fault : HeaderFault) (p q : List ℕ) (s : Stage) (l m : Option (List ℕ)) (f : Option (List (List ℕ))) → s ≡ stages.FileHeader place → p ≡ []
+pub begins_wrong : (place : WhichFile) (fault : HeaderFault) (p q : List ℕ) (s : FilesStage) (l m : Option (List ℕ)) (f : Option (List (List ℕ))) → s ≡ stages.FileHeader place → p ≡ []
     → q ≡ no_header place fault → ReadsHeader l m (Err fault) → Keeps (known_at p s l f) (known_at q stages.Ended m f)
 begins_wrong place fault p q s None m f t e d read = tt
 begins_wrong place fault p q s (Some xs) m None t e d read = tt
@@ -104,31 +104,31 @@ begins_wrong place fault p q s (Some xs) m (Some fs) t e d (read, (ys, here, beh
 -- ---- packets
 
 -- what is given for a packet's header, or for how the file ends, is given further on
-pub starts : (layout : Layout) (r : Result Packet Ending) (p q : List ℕ) (s t : Stage) (l m : Option (List ℕ)) (f : Option (List (List ℕ))) → s ≡ stages.Header layout → p ≡ []
+pub starts : (layout : Layout) (r : Result Packet Ending) (p q : List ℕ) (s t : FilesStage) (l m : Option (List ℕ)) (f : Option (List (List ℕ))) → s ≡ stages.Header layout → p ≡ []
     → ReadsStart layout l m r → ((xs ys : List ℕ) (fs : List (List ℕ)) → StartGives layout xs ys r → q ++ rest_of t ys fs ≡ given_at layout xs (given_next fs))
     → Keeps (known_at p s l f) (known_at q t m f)
 starts layout r p q s t None m f e d read h = tt
 starts layout r p q s t (Some xs) m None e d read h = tt
 starts layout r p q s t (Some xs) m (Some fs) e d (ys, here, gives) h = rw (here, e, d) (h xs ys fs gives)
 
-pub starts_packet : (layout : Layout) (packet : Packet) (p q : List ℕ) (s : Stage) (l m : Option (List ℕ)) (f : Option (List (List ℕ))) → s ≡ stages.Header layout → p ≡ []
+pub starts_packet : (layout : Layout) (packet : Packet) (p q : List ℕ) (s : FilesStage) (l m : Option (List ℕ)) (f : Option (List (List ℕ))) → s ≡ stages.Header layout → p ≡ []
     → q ≡ header_text packet.header → ReadsStart layout l m (Ok packet) → Keeps (known_at p s l f) (known_at q (stages.Body packet) m f)
 starts_packet layout packet p q s l m f e d c read =
     starts layout (Ok packet) p q s (stages.Body packet) l m f e d read
     (λ xs ys fs h. ap (λ (b : List ℕ). b ++ given_body packet.layout packet.header ys (given_next fs)) c ∙ sym (h (given_next fs)))
 
-pub starts_clean : (layout : Layout) (n : ℕ) (p q : List ℕ) (s : Stage) (l m : Option (List ℕ)) (f : Option (List (List ℕ))) → s ≡ stages.Header layout → p ≡ [] → q ≡ []
+pub starts_clean : (layout : Layout) (n : ℕ) (p q : List ℕ) (s : FilesStage) (l m : Option (List ℕ)) (f : Option (List (List ℕ))) → s ≡ stages.Header layout → p ≡ [] → q ≡ []
     → ReadsStart layout l m (Err (Clean n)) → Keeps (known_at p s l f) (known_at q (stages.File Next) m f)
 starts_clean layout n p q s l m f e d c read =
     starts layout (Err (Clean n)) p q s (stages.File Next) l m f e d read (λ xs ys fs h. rw c (sym (h (given_next fs))))
 
 -- the file ends in another way, and so does all
-pub starts_last : (layout : Layout) (ending : Ending) (p q : List ℕ) (s : Stage) (l m : Option (List ℕ)) (f : Option (List (List ℕ))) → s ≡ stages.Header layout → p ≡ []
+pub starts_last : (layout : Layout) (ending : Ending) (p q : List ℕ) (s : FilesStage) (l m : Option (List ℕ)) (f : Option (List (List ℕ))) → s ≡ stages.Header layout → p ≡ []
     → ((next : List ℕ) → q ≡ given_end (Some ending) cut_bytes next []) → ReadsStart layout l m (Err ending) → Keeps (known_at p s l f) (known_at q stages.Ended m f)
 starts_last layout ending p q s l m f e d c read =
     starts layout (Err ending) p q s stages.Ended l m f e d read (λ xs ys fs h. append-nil q ∙ (c (given_next fs) ∙ sym (h (given_next fs))))
 
-pub bodies : (packet : Packet) (p q : List ℕ) (s : Stage) (l m : Option (List ℕ)) (f : Option (List (List ℕ))) (drawn : List ℕ) → s ≡ stages.Body packet → p ≡ []
+pub bodies : (packet : Packet) (p q : List ℕ) (s : FilesStage) (l m : Option (List ℕ)) (f : Option (List (List ℕ))) (drawn : List ℕ) → s ≡ stages.Body packet → p ≡ []
     → q ≡ drawn → length drawn ≡ packet.header.captured_len → Consumes l m drawn → Keeps (known_at p s l f) (known_at q (stages.Given (Some packet.layout) 0) m f)
 bodies packet p q s None m f drawn e d c size gone = tt
 bodies packet p q s (Some xs) None f drawn e d c size gone = absurd gone
@@ -139,7 +139,7 @@ bodies packet p q s (Some xs) (Some ys) (Some fs) drawn e d c size gone =
     (ap (λ (b : List ℕ). b ++ given_at packet.layout ys next) c
     ∙ (sym (given_whole packet.layout packet.header drawn ys next size) ∙ ap (λ (b : List ℕ). given_body packet.layout packet.header b next) (sym gone)))
 
-pub bodies_cut : (packet : Packet) (p q : List ℕ) (s : Stage) (l m : Option (List ℕ)) (f : Option (List (List ℕ))) (drawn : List ℕ) → s ≡ stages.Body packet → p ≡ []
+pub bodies_cut : (packet : Packet) (p q : List ℕ) (s : FilesStage) (l m : Option (List ℕ)) (f : Option (List (List ℕ))) (drawn : List ℕ) → s ≡ stages.Body packet → p ≡ []
     → q ≡ drawn → length drawn < packet.header.captured_len → IsAtEnd m → Consumes l m drawn → Keeps (known_at p s l f) (known_at q (stages.Given None 0) m f)
 bodies_cut packet p q s None m f drawn e d c short end gone = tt
 bodies_cut packet p q s (Some xs) None f drawn e d c short end gone = absurd gone
@@ -149,14 +149,14 @@ bodies_cut packet p q s (Some xs) (Some ys) (Some fs) drawn e d c short end gone
     rw (e, d) (append-nil q ∙ (c ∙ (sym (given_part packet.layout packet.header drawn (given_next fs) short) ∙ ap (λ (b : List ℕ). given_body packet.layout packet.header b (given_next fs)) (sym all))))
 
 -- all bytes of a packet are given
-pub passes : (layout : Layout) (from : ℕ) (p q : List ℕ) (s : Stage) (l : Option (List ℕ)) (f : Option (List (List ℕ))) → s ≡ stages.Given (Some layout) from → p ≡ [] → q ≡ []
+pub passes : (layout : Layout) (from : ℕ) (p q : List ℕ) (s : FilesStage) (l : Option (List ℕ)) (f : Option (List (List ℕ))) → s ≡ stages.Given (Some layout) from → p ≡ [] → q ≡ []
     → Keeps (known_at p s l f) (known_at q (stages.Header layout) l f)
 passes layout from p q s None f e d c = tt
 passes layout from p q s (Some xs) None e d c = tt
 passes layout from p q s (Some xs) (Some fs) e d c = rw (e, d, c) refl
 
 -- a run of packets is given as it stands
-pub runs : (layout : Layout) (p q front : List ℕ) (s : Stage) (l m : Option (List ℕ)) (f : Option (List (List ℕ))) (frames greatest : ℕ) → s ≡ stages.Header layout → p ≡ [] → q ≡ []
+pub runs : (layout : Layout) (p q front : List ℕ) (s : FilesStage) (l m : Option (List ℕ)) (f : Option (List (List ℕ))) (frames greatest : ℕ) → s ≡ stages.Header layout → p ≡ [] → q ≡ []
     → IsGivenLayout layout → IsRun layout front frames greatest → Consumes l m front → Consumes (known_at p s l f) (known_at q s m f) front
 runs layout p q front s None m f frames greatest e d c given run gone = tt
 runs layout p q front s (Some xs) m None frames greatest e d c given run gone = tt
@@ -167,7 +167,7 @@ runs layout p q front s (Some xs) (Some ys) (Some fs) frames greatest e d c give
 
 -- ---- what is given
 
-pub gives : (front p q : List ℕ) (s t : Stage) (l m : Option (List ℕ)) (f g : Option (List (List ℕ))) → p ≡ front ++ q → m ≡ l → g ≡ f
+pub gives : (front p q : List ℕ) (s t : FilesStage) (l m : Option (List ℕ)) (f g : Option (List (List ℕ))) → p ≡ front ++ q → m ≡ l → g ≡ f
     → ((xs : List ℕ) (fs : List (List ℕ)) → rest_of t xs fs ≡ rest_of s xs fs) → Consumes (known_at p s l f) (known_at q t m g) front
 gives front p q s t None m f g e same still h = tt
 gives front p q s t (Some xs) m None g e same still h = tt
@@ -176,7 +176,7 @@ gives front p q s t (Some xs) m (Some fs) g e same still h =
     (ap (λ (b : List ℕ). b ++ rest_of s xs fs) e ∙ (append_assoc front q (rest_of s xs fs) ∙ ap (λ (b : List ℕ). front ++ (q ++ b)) (sym (h xs fs))))
 
 -- nothing follows
-pub ends_there : (p : List ℕ) (s : Stage) (l : Option (List ℕ)) (f : Option (List (List ℕ))) → s ≡ stages.Ended → p ≡ [] → IsAtEnd (known_at p s l f)
+pub ends_there : (p : List ℕ) (s : FilesStage) (l : Option (List ℕ)) (f : Option (List (List ℕ))) → s ≡ stages.Ended → p ≡ [] → IsAtEnd (known_at p s l f)
 ends_there p s None f e d = tt
 ends_there p s (Some xs) None e d = tt
 ends_there p s (Some xs) (Some fs) e d = rw (e, d) refl

@@ -16,7 +16,7 @@ use Rattle.recording_files.proofs.Endings.{file_parse}
 use Rattle.recording_files.proofs.Reading.{all_fit, good_in_time, whole_given}
 use Rattle.recording_files.specs.Given.{given_as, given_at, given_next, given_of}
 use Rattle.recording_files.specs.Laws.{AreWhole, FaultIsTold, IsCleanEnd, LastIsRead, NoHeaderEnds, packet_given}
-use Rattle.recording_files.specs.declared.stage.Place.TheVariants.{First, Next}
+use Rattle.recording_files.specs.declared.stage.WhichFile.TheVariants.{First, Next}
 
 abbrev texts : List Packet → List ℕ
 texts packets = flat_map (packet_bytes converted_layout) packets

@@ -17,8 +17,8 @@ use Rattle.pcapng.specs.Text.{converted_layout, file_header_bytes}
 use Rattle.recording_files.proofs.Given.{given_ending, given_first, ends_clean}
 use Rattle.recording_files.specs.Given.{end_of, file_header_of, given_as, given_at, given_file, given_header, given_next, given_of, head_of, header_text, packet_text}
 use Rattle.recording_files.specs.Laws.{AreWhole, FilesAreRead, IsWhole, packet_given}
-use Rattle.recording_files.specs.declared.stage.Place.{Place}
-use Rattle.recording_files.specs.declared.stage.Place.TheVariants.{First, Next}
+use Rattle.recording_files.specs.declared.stage.WhichFile.{WhichFile}
+use Rattle.recording_files.specs.declared.stage.WhichFile.TheVariants.{First, Next}
 
 -- ---- a packet
 
@@ -120,7 +120,7 @@ good_in_time late high (p ∷ ps) fits times = (
 -- ---- files
 
 -- a file that ends clean gives its packets, and then what the next ones give
-pub whole_given : (place : Place) (bytes next : List ℕ) (packets : List Packet) → IsWhole bytes packets
+pub whole_given : (place : WhichFile) (bytes next : List ℕ) (packets : List Packet) → IsWhole bytes packets
     → given_file place bytes next ≡ file_header_of place ++ (flat_map (packet_bytes converted_layout) packets ++ next)
 whole_given place bytes next packets w =
     let body : List ℕ = drop 24 bytes in

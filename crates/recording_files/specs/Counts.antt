@@ -4,8 +4,8 @@ use Rattle.pcap_io.specs.declared.layout.Layout.{Layout}
 use Rattle.pcap_io.specs.declared.packet_header.PacketHeader.{PacketHeader}
 use Rattle.recording_files.specs.Run.{IsRun}
 use Rattle.recording_files.specs.declared.joined.JoinedSource.{JoinedSource}
-use Rattle.recording_files.specs.declared.stage.Stage.{Stage}
-use Rattle.recording_files.specs.declared.stage.Stage.TheVariants as stages
+use Rattle.recording_files.specs.declared.stage.FilesStage.{FilesStage}
+use Rattle.recording_files.specs.declared.stage.FilesStage.TheVariants as stages
 use Rattle.recording_files.specs.declared.supply.ReadFile.{ReadFile}
 
 -- what is told of it where it comes back
@@ -26,6 +26,6 @@ pub record CountsRun {P F : Type 0} (layout : Layout) (old new : JoinedSource P 
   pub counted : CountsFrames old new frames greatest
 
 -- a frame of this header was counted if all its bytes are there
-abbrev pub CountsBody : {P F : Type 0} → JoinedSource P F → JoinedSource P F → PacketHeader → Stage → Type 0
+abbrev pub CountsBody : {P F : Type 0} → JoinedSource P F → JoinedSource P F → PacketHeader → FilesStage → Type 0
 CountsBody old new header (stages.Given (Some layout) from) = CountsFrames old new 1 (header.seconds * 1000000000 + header.fraction)
 CountsBody old new header stage = CountsFrames old new 0 0

@@ -12,8 +12,8 @@ use Rattle.pcap_io.specs.declared.layout.TheConstants.{FILE_HEADER_LEN}
 use Rattle.pcap_io.specs.declared.recording.BadReason.TheVariants.{NextFile}
 use Rattle.pcap_io.specs.declared.recording.Ending.{Ending}
 use Rattle.pcap_io.specs.declared.recording.Ending.TheVariants.{Clean, Cut, Bad}
-use Rattle.recording_files.specs.declared.stage.Place.{Place}
-use Rattle.recording_files.specs.declared.stage.Place.TheVariants.{First, Next}
+use Rattle.recording_files.specs.declared.stage.WhichFile.{WhichFile}
+use Rattle.recording_files.specs.declared.stage.WhichFile.TheVariants.{First, Next}
 use Rattle.pcapng.specs.Text.{converted_layout, cut_bytes, file_header_bytes, reason_bytes}
 
 -- ---- a packet
@@ -78,21 +78,21 @@ given_body layout h bytes next =
 -- ---- the files
 
 -- the file header stands before the first file alone
-abbrev pub file_header_of : Place → List ℕ
+abbrev pub file_header_of : WhichFile → List ℕ
 file_header_of First = file_header_bytes None
 file_header_of Next = []
 
 -- what is given for a file that has no header
-abbrev pub no_header : Place → HeaderFault → List ℕ
+abbrev pub no_header : WhichFile → HeaderFault → List ℕ
 no_header First fault = file_header_bytes (Some fault)
 no_header Next fault = reason_bytes NextFile
 
-abbrev pub given_as : Place → Result Layout HeaderFault → List ℕ → List ℕ → List ℕ
+abbrev pub given_as : WhichFile → Result Layout HeaderFault → List ℕ → List ℕ → List ℕ
 given_as place (Ok layout) bytes next = file_header_of place ++ given_at layout (drop FILE_HEADER_LEN bytes) next
 given_as place (Err fault) bytes next = no_header place fault
 
 -- what is given for a file, and for those after it
-abbrev pub given_file : Place → List ℕ → List ℕ → List ℕ
+abbrev pub given_file : WhichFile → List ℕ → List ℕ → List ℕ
 given_file place bytes next = given_as place (header_of bytes) bytes next
 
 -- what is given for further files
@@ -106,6 +106,6 @@ given_of [] = no_header First Short
 given_of (bytes ∷ files) = given_file First bytes (given_next files)
 
 -- what is given for files, of which the first is the recording's first or a further one
-abbrev pub given_files : Place → List (List ℕ) → List ℕ
+abbrev pub given_files : WhichFile → List (List ℕ) → List ℕ
 given_files First files = given_of files
 given_files Next files = given_next files

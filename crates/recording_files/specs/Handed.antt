@@ -5,16 +5,16 @@ use Rattle.recording_files.specs.Given.{given_at, given_body, given_file, given_
 use Rattle.recording_files.specs.Input.{drawn_of, left_of}
 use Rattle.recording_files.specs.Pending.{waiting_of}
 use Rattle.recording_files.specs.declared.joined.JoinedSource.{JoinedSource}
-use Rattle.recording_files.specs.declared.stage.Stage.{Stage}
-use Rattle.recording_files.specs.declared.stage.Stage.TheVariants as stages
+use Rattle.recording_files.specs.declared.stage.FilesStage.{FilesStage}
+use Rattle.recording_files.specs.declared.stage.FilesStage.TheVariants as stages
 
 -- of a packet's bytes those that are given next
-abbrev pub body_of : Stage → List ℕ → List ℕ
+abbrev pub body_of : FilesStage → List ℕ → List ℕ
 body_of (stages.Given layout from) drawn = drop from drawn
 body_of stage drawn = []
 
 -- what is given for the bytes that are left of a file, and for the files that are still to come
-abbrev pub rest_of : Stage → List ℕ → List (List ℕ) → List ℕ
+abbrev pub rest_of : FilesStage → List ℕ → List (List ℕ) → List ℕ
 rest_of (stages.File place) bytes files = given_files place files
 rest_of (stages.FileHeader place) bytes files = given_file place bytes (given_next files)
 rest_of (stages.Header layout) bytes files = given_at layout bytes (given_next files)
@@ -23,7 +23,7 @@ rest_of (stages.Given (Some layout) from) bytes files = given_at layout bytes (g
 rest_of (stages.Given None from) bytes files = []
 rest_of stages.Ended bytes files = []
 
-abbrev pub known_at : List ℕ → Stage → Option (List ℕ) → Option (List (List ℕ)) → Option (List ℕ)
+abbrev pub known_at : List ℕ → FilesStage → Option (List ℕ) → Option (List (List ℕ)) → Option (List ℕ)
 known_at pending stage (Some bytes) (Some files) = Some (pending ++ rest_of stage bytes files)
 known_at pending stage (Some bytes) None = None
 known_at pending stage None files = None

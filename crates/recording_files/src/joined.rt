@@ -6,7 +6,7 @@ ghost use Rattle.pcap_io.specs.Device.{CountsFailure};
 use crate::input::{draw, drawn, into_file, read_file_header, read_header};
 use crate::pending::{Pending, copy_some};
 use crate::run::{is_given_layout, move_run};
-use crate::stage::{Packet, Place, Stage};
+use crate::stage::{FilesStage, Packet, WhichFile};
 use crate::supply::{FileSupply, ReadFile};
 use pcap_io::{BlockSource, DeviceFault, Ending, HeaderFault, Layout, TapSource};
 use pcapng::{FILE_HEADER_LEN, PACKET_HEADER_LEN};
@@ -30,7 +30,7 @@ pub struct JoinedSource<P, F> {
     greatest: u64,
     /// How many files were opened.
     opened: u64,
-    stage: Stage,
+    stage: FilesStage,
     /// What is given next.
     pending: Pending,
 }
@@ -43,7 +43,7 @@ impl<F: TapSource + Drop, P: FileSupply<F>> JoinedSource<P, F> {
     ghost use Rattle.recording_files.specs.Handed.{remaining_of};
     ghost use Rattle.recording_files.specs.Input.{drawn_of, file_of};
     ghost use Rattle.recording_files.specs.Run.{IsGivenLayout};
-    ghost use Rattle.recording_files.specs.declared.stage.Stage.TheVariants as stages;
+    ghost use Rattle.recording_files.specs.declared.stage.FilesStage.TheVariants as stages;
 
     /// Reads the files of a supply. It takes none yet, and allocates nothing.
     pub fn new(alloc: Global, supply: P) -> JoinedSource<P, F>
@@ -60,7 +60,7 @@ impl<F: TapSource + Drop, P: FileSupply<F>> JoinedSource<P, F> {
             frames: 0,
             greatest: 0,
             opened: 0,
-            stage: Stage::File(Place::First),
+            stage: FilesStage::File(WhichFile::First),
             pending: Pending::nothing(),
         }
     }
@@ -99,13 +99,13 @@ impl<F: TapSource + Drop, P: FileSupply<F>> JoinedSource<P, F> {
             ≡ take result (body_of self.old.stage (drawn_of self.old.input)) }
         ensures given { GivesBody self.old self.new result }
     {
-        let Stage::Given(layout, from) = self.stage else {
+        let FilesStage::Given(layout, from) = self.stage else {
             return 0;
         };
         let bytes = drawn(&self.input);
         let from = from.min(bytes.len());
         let count = copy_some(buf, &bytes[from..]);
-        self.stage = Stage::Given(layout, from + count);
+        self.stage = FilesStage::Given(layout, from + count);
         count
     }
 
@@ -129,7 +129,7 @@ impl<F: TapSource + Drop, P: FileSupply<F>> JoinedSource<P, F> {
             × IsGivenLayout layout) }
     {
         match self.stage {
-            Stage::Header(layout) if is_given_layout(layout) => Some(layout),
+            FilesStage::Header(layout) if is_given_layout(layout) => Some(layout),
             _ => None,
         }
     }
@@ -188,7 +188,7 @@ impl<F: TapSource + Drop, P: FileSupply<F>> JoinedSource<P, F> {
     }
 
     /// Opens the next file.
-    fn open_next(&mut self, place: Place) -> Result<(), DeviceFault>
+    fn open_next(&mut self, place: WhichFile) -> Result<(), DeviceFault>
         requires stage { self.old.stage ≡ stages.File place }
         requires given { pending_of self.old ≡ [] }
         ensures kept { Keeps (known_of F.remaining P.files self.old)
@@ -203,19 +203,19 @@ impl<F: TapSource + Drop, P: FileSupply<F>> JoinedSource<P, F> {
             (Some(file), _) => {
                 self.input = Some(BlockSource::new(file));
                 self.opened = self.opened.saturating_add(1);
-                self.stage = Stage::FileHeader(place);
+                self.stage = FilesStage::FileHeader(place);
             }
-            (None, Place::First) => {
-                self.pending = Pending::no_header(Place::First, HeaderFault::Short);
-                self.stage = Stage::Ended;
+            (None, WhichFile::First) => {
+                self.pending = Pending::no_header(WhichFile::First, HeaderFault::Short);
+                self.stage = FilesStage::Ended;
             }
-            (None, Place::Next) => self.stage = Stage::Ended,
+            (None, WhichFile::Next) => self.stage = FilesStage::Ended,
         }
         Ok(())
     }
 
     /// Reads the header of the file.
-    fn begin_file(&mut self, place: Place) -> Result<(), DeviceFault>
+    fn begin_file(&mut self, place: WhichFile) -> Result<(), DeviceFault>
         requires stage { self.old.stage ≡ stages.FileHeader place }
         requires given { pending_of self.old ≡ [] }
         ensures kept { Keeps (known_of F.remaining P.files self.old)
@@ -225,11 +225,11 @@ impl<F: TapSource + Drop, P: FileSupply<F>> JoinedSource<P, F> {
         match read_file_header(self.alloc, &mut self.input)? {
             Ok(layout) => {
                 self.pending = Pending::file(place);
-                self.stage = Stage::Header(layout);
+                self.stage = FilesStage::Header(layout);
             }
             Err(fault) => {
                 self.pending = Pending::no_header(place, fault);
-                self.stage = Stage::Ended;
+                self.stage = FilesStage::Ended;
             }
         }
         Ok(())
@@ -247,16 +247,16 @@ impl<F: TapSource + Drop, P: FileSupply<F>> JoinedSource<P, F> {
         match read_header(self.alloc, layout, &mut self.input)? {
             Ok(packet) => {
                 self.pending = Pending::packet(&packet.header);
-                self.stage = Stage::Body(packet);
+                self.stage = FilesStage::Body(packet);
             }
-            Err(Ending::Clean(_)) => self.stage = Stage::File(Place::Next),
+            Err(Ending::Clean(_)) => self.stage = FilesStage::File(WhichFile::Next),
             Err(Ending::Cut(_)) => {
                 self.pending = Pending::cut();
-                self.stage = Stage::Ended;
+                self.stage = FilesStage::Ended;
             }
             Err(Ending::Bad(_, reason)) => {
                 self.pending = Pending::reason(reason);
-                self.stage = Stage::Ended;
+                self.stage = FilesStage::Ended;
             }
         }
         Ok(())
@@ -280,9 +280,9 @@ impl<F: TapSource + Drop, P: FileSupply<F>> JoinedSource<P, F> {
             let stamp = u64::from(packet.header.seconds) * 1_000_000_000
                 + u64::from(packet.header.fraction);
             self.greatest = self.greatest.max(stamp);
-            self.stage = Stage::Given(Some(packet.layout), 0);
+            self.stage = FilesStage::Given(Some(packet.layout), 0);
         } else {
-            self.stage = Stage::Given(None, 0);
+            self.stage = FilesStage::Given(None, 0);
         }
         Ok(())
     }
@@ -296,19 +296,19 @@ impl<F: TapSource + Drop, P: FileSupply<F>> JoinedSource<P, F> {
         ensures failures { self.new.failures ≡ self.old.failures }
     {
         match self.stage {
-            Stage::File(place) => self.open_next(place),
-            Stage::FileHeader(place) => self.begin_file(place),
-            Stage::Header(layout) => self.next_packet(layout),
-            Stage::Body(packet) => self.read_body(packet),
-            Stage::Given(Some(layout), _) => {
-                self.stage = Stage::Header(layout);
+            FilesStage::File(place) => self.open_next(place),
+            FilesStage::FileHeader(place) => self.begin_file(place),
+            FilesStage::Header(layout) => self.next_packet(layout),
+            FilesStage::Body(packet) => self.read_body(packet),
+            FilesStage::Given(Some(layout), _) => {
+                self.stage = FilesStage::Header(layout);
                 Ok(())
             }
-            Stage::Given(None, _) => {
-                self.stage = Stage::Ended;
+            FilesStage::Given(None, _) => {
+                self.stage = FilesStage::Ended;
                 Ok(())
             }
-            Stage::Ended => Ok(()),
+            FilesStage::Ended => Ok(()),
         }
     }
 
@@ -316,11 +316,11 @@ impl<F: TapSource + Drop, P: FileSupply<F>> JoinedSource<P, F> {
     #[inline]
     fn waits(&self) -> bool {
         let needed = match self.stage {
-            Stage::File(_) => return true,
-            Stage::FileHeader(_) => FILE_HEADER_LEN,
-            Stage::Header(_) => PACKET_HEADER_LEN,
-            Stage::Body(packet) => packet.header.captured_len as usize,
-            Stage::Given(_, _) | Stage::Ended => 0,
+            FilesStage::File(_) => return true,
+            FilesStage::FileHeader(_) => FILE_HEADER_LEN,
+            FilesStage::Header(_) => PACKET_HEADER_LEN,
+            FilesStage::Body(packet) => packet.header.captured_len as usize,
+            FilesStage::Given(_, _) | FilesStage::Ended => 0,
         };
         match &self.input {
             Some(input) => input.unread().len() < needed,
@@ -333,7 +333,7 @@ impl<F: TapSource + Drop, P: FileSupply<F>> JoinedSource<P, F> {
     fn is_ended(&self) -> bool
         ensures { IsTrue result → self.now.stage ≡ stages.Ended }
     {
-        matches!(self.stage, Stage::Ended)
+        matches!(self.stage, FilesStage::Ended)
     }
 
     /// What a read that meets a fault comes to: after some bytes it comes again at the next call.

@@ -4,7 +4,7 @@ ghost use Rattle.pcapng.specs.Text.{cut_bytes, file_header_bytes, reason_bytes};
 ghost use Rattle.pcapng.specs.declared.text.TheConstants.{FILE_HEADER_LEN};
 ghost use Rattle.recording_files.specs.Given.{file_header_of, header_text, no_header};
 
-use crate::stage::Place;
+use crate::stage::WhichFile;
 use pcap_io::{BadReason, HeaderFault, PacketHeader};
 use pcapng::{FILE_HEADER_LEN, PACKET_HEADER_LEN, file_header, packet_header, reason_header};
 
@@ -66,22 +66,22 @@ impl Pending {
     }
 
     /// The file header, before the first file.
-    pub fn file(place: Place) -> Pending
+    pub fn file(place: WhichFile) -> Pending
         ensures { waiting_of result ≡ file_header_of place }
     {
         match place {
-            Place::First => Pending::first(file_header(None), FILE_HEADER_LEN),
-            Place::Next => Pending::nothing(),
+            WhichFile::First => Pending::first(file_header(None), FILE_HEADER_LEN),
+            WhichFile::Next => Pending::nothing(),
         }
     }
 
     /// What tells that a file has no header that is read.
-    pub fn no_header(place: Place, fault: HeaderFault) -> Pending
+    pub fn no_header(place: WhichFile, fault: HeaderFault) -> Pending
         ensures { waiting_of result ≡ no_header place fault }
     {
         match place {
-            Place::First => Pending::first(file_header(Some(fault)), FILE_HEADER_LEN),
-            Place::Next => Pending::reason(BadReason::NextFile),
+            WhichFile::First => Pending::first(file_header(Some(fault)), FILE_HEADER_LEN),
+            WhichFile::Next => Pending::reason(BadReason::NextFile),
         }
     }
 

@@ -6,7 +6,7 @@ use pcap_io::{Layout, PacketHeader};
 
 /// Which of the files.
 #[derive(Clone, Copy)]
-pub enum Place {
+pub enum WhichFile {
     First,
     /// One after it.
     Next,
@@ -23,11 +23,11 @@ pub struct Packet {
 
 /// What of the files comes next.
 #[derive(Clone, Copy)]
-pub enum Stage {
+pub enum FilesStage {
     /// A file.
-    File(Place),
+    File(WhichFile),
     /// The file header of the file that was opened last.
-    FileHeader(Place),
+    FileHeader(WhichFile),
     /// A packet's header, in this layout.
     Header(Layout),
     /// The bytes of a packet.

@@ -5,7 +5,7 @@ use crate::view::View;
 use crate::writer::Page;
 use crate::writer::Part::{Letter, Number, Tenths, Text};
 use afdx_frame::Network;
-use ledger_report::Sign;
+use ledger_report::Anomaly;
 
 /// What is wrong with the table or a recording, and not with a link.
 #[derive(Clone, Copy, PartialEq, Eq)]
@@ -35,12 +35,12 @@ impl Cause {
     fn counts(self, view: &View<'_>) -> (u64, u64) {
         let frames = view.report.counts.all().frames;
         match self {
-            Cause::OtherTable => (view.total(Sign::Unconfigured).sum(), frames),
-            Cause::CutFrames => (view.total(Sign::Cut).sum(), frames),
+            Cause::OtherTable => (view.total(Anomaly::Unconfigured).sum(), frames),
+            Cause::CutFrames => (view.total(Anomaly::Cut).sum(), frames),
             Cause::Doubled(network) => {
                 let side = view.report.networks.of(network);
-                let excess = side.signs.of(Sign::Excess).count;
-                let again = side.signs.of(Sign::Repeat).count;
+                let excess = side.signs.of(Anomaly::Excess).count;
+                let again = side.signs.of(Anomaly::Repeat).count;
                 (excess.saturating_add(again), side.frames)
             }
             Cause::Drift => (0, 0),

@@ -6,7 +6,7 @@ use crate::view::View;
 use crate::writer::Page;
 use crate::writer::Part::{self, Hundredths, Number, Tenths, Text, Tick};
 use afdx_frame::Network;
-use ledger_report::{BINS, Interval, Lane, LinkReport, Series};
+use ledger_report::{BINS, Interval, LaneReport, LinkReport, Series};
 
 /// How the bins of a column become one number.
 #[derive(Clone, Copy, PartialEq, Eq)]
@@ -302,7 +302,7 @@ pub fn push_intervals(
     texts: Texts<'_>,
     drawing: Drawing,
     link: &LinkReport,
-    lane: &Lane,
+    lane: &LaneReport,
 ) {
     let (bag, height) = (link.bag, drawing.height);
     let least = Columns::new(view, Kind::Least, drawing.per).with(&lane.least_bins);

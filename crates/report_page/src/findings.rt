@@ -13,11 +13,11 @@ use crate::writer::Part::{Both, Duration, Grouped, Letter, Number, Text, Thousan
 use crate::writer::{Named, Page, flag};
 use afdx_frame::Network::{self, A, B};
 use afdx_frame::VlId;
-use ledger_report::Sign::{
+use ledger_report::Anomaly::{
     Cut, Excess, Foreign, Late, Lost, Oversize, Repeat, Reset, Runt, TooLong,
 };
 use ledger_report::{
-    Count, Interval, LinkComparison, LinkReport, Report, STOPPED_LINES, Sign, WORSE, Worse,
+    Anomaly, Count, Interval, LinkComparison, LinkReport, Report, STOPPED_LINES, WORSE, Worse,
     is_new_outside,
 };
 
@@ -218,7 +218,7 @@ impl Findings<'_> {
     }
 
     /// A class that has no link.
-    fn class(&mut self, view: &View<'_>, sign: Sign, about: &str) {
+    fn class(&mut self, view: &View<'_>, sign: Anomaly, about: &str) {
         let counts = view.total(sign);
         if counts.sum() == 0 || !self.begin(Notice) {
             return;
@@ -253,7 +253,7 @@ enum Which {
     Ends,
     Gap,
     LostOnBoth,
-    Has(Sign),
+    Has(Anomaly),
     Silent,
     Worse(Worse),
 }
@@ -296,7 +296,7 @@ fn title_of(how: Worse) -> &'static str {
 }
 
 /// The sentences on classes that have no link, in their order.
-const ON_CLASSES: [(Sign, &str); 4] = [
+const ON_CLASSES: [(Anomaly, &str); 4] = [
     (Foreign, "Foreign (another constant field)"),
     (Oversize, "Oversize (above 1514 bytes)"),
     (Runt, "Runt (below 60 bytes)"),

@@ -4,7 +4,7 @@ use crate::numbers::rounded;
 use crate::view::NETWORKS;
 use afdx_frame::Network;
 use ledger_report::{
-    Interval, LONG_TIME, LONG_TIMES, Lane, LinkReport, NetworkReport, Report, SILENT_LINES,
+    Interval, LONG_TIME, LONG_TIMES, LaneReport, LinkReport, NetworkReport, Report, SILENT_LINES,
     Silence, WINDOW_BAGS,
 };
 
@@ -118,12 +118,12 @@ fn has_rate(link: &LinkReport) -> bool {
 }
 
 /// How long a lane was recorded in this time, from its first line to its last.
-fn within(lane: &Lane, interval: Interval) -> u64 {
+fn within(lane: &LaneReport, interval: Interval) -> u64 {
     between(interval.from.max(lane.first), interval.to.min(lane.last)).time()
 }
 
 /// About how many frames of a lane fall into a time, by the mean of its intervals.
-fn about(lane: &Lane, time: u64) -> u64 {
+fn about(lane: &LaneReport, time: u64) -> u64 {
     rounded(time, lane.intervals, lane.interval_sum)
 }
 

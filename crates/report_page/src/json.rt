@@ -9,8 +9,8 @@ use crate::view::{NETWORKS, SIGNS, View};
 use crate::writer::{Page, Part};
 use afdx_frame::{Network, VlId};
 use ledger_report::{
-    COUNTS, Interval, LinkComparison, LinkCounts, LinkNumbers, LinkReport, NetworkReport, Place,
-    Report, Series, Signs, Totals, WORSE, is_new_outside,
+    Anomalies, COUNTS, FramePlace, Interval, LinkComparison, LinkCounts, LinkNumbers, LinkReport,
+    NetworkReport, Report, Series, Totals, WORSE, is_new_outside,
 };
 use run_manifest::Manifest;
 use serde_json::Error;
@@ -108,7 +108,7 @@ impl Json {
         object_if!(self; name; interval => held; from = Stamp(held.from), to = Stamp(held.to));
     }
 
-    fn place(&mut self, name: &str, place: Option<Place>) {
+    fn place(&mut self, name: &str, place: Option<FramePlace>) {
         object_if!(self; name; place => held; stamp = Stamp(held.stamp),
             number = Number(u64::from(held.number)));
     }
@@ -133,7 +133,7 @@ impl Json {
     }
 
     /// The signs that occur.
-    fn signs(&mut self, signs: &Signs) {
+    fn signs(&mut self, signs: &Anomalies) {
         self.open("signs", "[");
         for sign in SIGNS {
             let mark = signs.of(sign);

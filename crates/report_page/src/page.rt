@@ -10,7 +10,7 @@ use crate::view::{DISCARDS, NETWORKS, SIGNS, View};
 use crate::writer::Part::{self, Both, Duration, Given, Grouped, Number, Tenths, Text, Utc};
 use crate::writer::{Named, Page, Pair, flag};
 use afdx_frame::Network::{self, A, B};
-use ledger_report::Sign::{Alone, Cut, Late, Lost};
+use ledger_report::Anomaly::{Alone, Cut, Late, Lost};
 use ledger_report::{Report, TapEnd, TapEnding};
 use ledger_text::LedgerStop;
 use run_manifest::{FileRecord, Manifest, RecordingRecord};

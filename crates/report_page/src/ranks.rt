@@ -3,7 +3,7 @@
 use crate::gaps::{gap_of, stop_of};
 use crate::view::{NETWORKS, TROUBLES, counts_of};
 use afdx_frame::Network;
-use ledger_report::{LinkReport, Report, Sign};
+use ledger_report::{Anomaly, LinkReport, Report};
 use std::alloc::{AllocError, Global};
 
 /// A link is in trouble with so many signs,
@@ -47,7 +47,7 @@ pub fn frames_of(link: &LinkReport) -> u64 {
 
 /// How many frames of a network are cut short by the recorder: what became of them isn't known.
 fn cut_on(report: &Report, network: Network) -> u64 {
-    report.networks.of(network).signs.of(Sign::Cut).count
+    report.networks.of(network).signs.of(Anomaly::Cut).count
 }
 
 /// How many of a link's signs may come of frames cut short: as many as there are on the network where its
@@ -57,8 +57,8 @@ pub fn open_signs(report: &Report, link: &LinkReport) -> u64 {
     for network in NETWORKS {
         let cut = cut_on(report, network);
         let lane = &link.lanes.of(network).signs;
-        let alone = &link.lanes.of(network.other()).signs.of(Sign::Alone);
-        for mark in [lane.of(Sign::Lost), lane.of(Sign::Out), alone] {
+        let alone = &link.lanes.of(network.other()).signs.of(Anomaly::Alone);
+        for mark in [lane.of(Anomaly::Lost), lane.of(Anomaly::Out), alone] {
             open = open.saturating_add(mark.count.min(cut));
         }
     }
@@ -92,7 +92,7 @@ pub fn level_of(report: &Report, link: &LinkReport) -> Level {
         Level::Silent
     } else if never || many || gap {
         Level::Trouble
-    } else if signs > 0 || counts_of(link, Sign::Reset).sum() > 0 {
+    } else if signs > 0 || counts_of(link, Anomaly::Reset).sum() > 0 {
         Level::Notice
     } else {
         Level::Clean

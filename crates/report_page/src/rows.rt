@@ -10,8 +10,8 @@ use crate::view::{
 use crate::writer::Part::{self, Both, Duration, Grouped, Letter, Millionths, Number, Text};
 use crate::writer::{Page, Pair, flag};
 use afdx_frame::Network;
+use ledger_report::Anomaly::{self, Alone, Excess, Late, Lost, Out, Repeat, Reset, TooLong};
 use ledger_report::LinkReport;
-use ledger_report::Sign::{self, Alone, Excess, Late, Lost, Out, Repeat, Reset, TooLong};
 use vl_config::Link;
 
 /// The shapes of what comes, of what is discarded, and of skews.
@@ -133,7 +133,7 @@ pub fn push_timeline(page: &mut Page, view: &View<'_>) {
 }
 
 /// The signs that have a row in a strip where they occur.
-const STRIP_SIGNS: [Sign; 8] = [TooLong, Excess, Out, Lost, Repeat, Alone, Late, Reset];
+const STRIP_SIGNS: [Anomaly; 8] = [TooLong, Excess, Out, Lost, Repeat, Alone, Late, Reset];
 
 fn push_link_frames(page: &mut Page, view: &View<'_>, link: &LinkReport, per: usize) {
     let (a, b) = (&link.lanes.a, &link.lanes.b);
@@ -177,7 +177,7 @@ fn push_link_intervals(
     push_intervals(page, view, texts, sums(36, (class, ""), per, 0), link, lane);
     fill!(page; INTERVALS; least = Millionths(lane.least), most = Millionths(lane.greatest),
         mean = Millionths(quotient(lane.interval_sum, lane.intervals)),
-        early = Grouped(lane.signs.of(Sign::Early).count));
+        early = Grouped(lane.signs.of(Anomaly::Early).count));
 }
 
 fn push_link_skews(page: &mut Page, view: &View<'_>, link: &LinkReport, per: usize) {
@@ -190,7 +190,7 @@ fn push_link_skews(page: &mut Page, view: &View<'_>, link: &LinkReport, per: usi
 }
 
 /// Appends the row of a link's sign, if it occurs.
-fn push_link_sign(page: &mut Page, view: &View<'_>, link: &LinkReport, sign: Sign, per: usize) {
+fn push_link_sign(page: &mut Page, view: &View<'_>, link: &LinkReport, sign: Anomaly, per: usize) {
     let (a, b) = (link.lanes.a.signs.of(sign), link.lanes.b.signs.of(sign));
     let counts = counts_of(link, sign);
     if counts.sum() == 0 {

@@ -9,7 +9,7 @@ use crate::view::{NETWORKS, TROUBLES, View, counts_of, links_word};
 use crate::writer::Page;
 use crate::writer::Part::{Letter, Number, Seconds, Text, Thousandths};
 use afdx_frame::Network;
-use ledger_report::{Interval, LinkComparison, LinkReport, Report, Sign, WORSE, Worse};
+use ledger_report::{Anomaly, Interval, LinkComparison, LinkReport, Report, WORSE, Worse};
 use std::alloc::{AllocError, Global};
 use vl_config::Config;
 
@@ -76,7 +76,7 @@ fn push_link(page: &mut Page, view: &View<'_>, rank: &Rank) {
     };
     page.columns(rank.level.word(), u64::from(link.id.0));
     fill!(page; " $name$ frames $frames$"; name = Text(&link.name), frames = Number(frames_of(report)));
-    for sign in TROUBLES.iter().chain(&[Sign::Reset]) {
+    for sign in TROUBLES.iter().chain(&[Anomaly::Reset]) {
         let counts = counts_of(report, *sign);
         if counts.sum() > 0 {
             fill!(page; " $word$ $a$/$b$"; word = Text(sign.word()), a = Number(counts.0),

@@ -9,7 +9,7 @@ use crate::writer::Part::{
 };
 use crate::writer::{Page, Pair, flag};
 use afdx_frame::Network;
-use ledger_report::Sign::{Alone, Early, Excess, Late, Lost, Out, TooLong};
+use ledger_report::Anomaly::{Alone, Early, Excess, Late, Lost, Out, TooLong};
 use ledger_report::{COUNTS, Count, LinkNumbers, LinkReport, WORSE, Worse};
 
 /// How many links a row of the map has.

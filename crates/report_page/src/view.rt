@@ -5,8 +5,8 @@ use crate::numbers::quotient;
 use crate::ranks::{LEVELS, Level, Rank, ranks_of};
 use crate::writer::{Pair, Part};
 use afdx_frame::Network;
-use ledger_report::Sign::{self, Alone, Excess, Late, Lost, Out, TooLong};
-use ledger_report::{LinkComparison, LinkReport, Place, Report, WORSE, comparison_at};
+use ledger_report::Anomaly::{self, Alone, Excess, Late, Lost, Out, TooLong};
+use ledger_report::{FramePlace, LinkComparison, LinkReport, Report, WORSE, comparison_at};
 use std::alloc::{AllocError, Global};
 use vl_config::{Config, Link};
 
@@ -16,21 +16,21 @@ pub const ROWS: usize = 64;
 pub const STRIPS: usize = 12;
 
 /// All signs, the reasons to discard a frame first.
-pub const SIGNS: [Sign; 14] = [
-    Sign::Cut,
-    Sign::Runt,
-    Sign::Oversize,
-    Sign::Foreign,
-    Sign::Unconfigured,
+pub const SIGNS: [Anomaly; 14] = [
+    Anomaly::Cut,
+    Anomaly::Runt,
+    Anomaly::Oversize,
+    Anomaly::Foreign,
+    Anomaly::Unconfigured,
     TooLong,
     Excess,
     Out,
     Lost,
-    Sign::Repeat,
-    Sign::Reset,
+    Anomaly::Repeat,
+    Anomaly::Reset,
     Alone,
     Late,
-    Sign::Early,
+    Anomaly::Early,
 ];
 
 /// So many of them are reasons to discard a frame, in the order of judgement,
@@ -39,7 +39,7 @@ pub const DISCARDS: usize = 8;
 pub const LOSSES: usize = 5;
 
 /// The signs that count against a link.
-pub const TROUBLES: [Sign; 6] = [TooLong, Excess, Out, Lost, Late, Alone];
+pub const TROUBLES: [Anomaly; 6] = [TooLong, Excess, Out, Lost, Late, Alone];
 
 /// Both networks.
 pub const NETWORKS: [Network; 2] = [Network::A, Network::B];
@@ -90,7 +90,7 @@ impl<'a> View<'a> {
     }
 
     /// The counts of a sign on both networks.
-    pub fn total(&self, sign: Sign) -> Pair {
+    pub fn total(&self, sign: Anomaly) -> Pair {
         let (a, b) = (&self.report.networks.a, &self.report.networks.b);
         Pair(a.signs.of(sign).count, b.signs.of(sign).count)
     }
@@ -165,7 +165,7 @@ impl<'a> View<'a> {
 }
 
 /// The counts of a link's sign on both networks.
-pub fn counts_of(link: &LinkReport, sign: Sign) -> Pair {
+pub fn counts_of(link: &LinkReport, sign: Anomaly) -> Pair {
     let (a, b) = (&link.lanes.a.signs, &link.lanes.b.signs);
     Pair(a.of(sign).count, b.of(sign).count)
 }
@@ -181,7 +181,7 @@ pub fn has_strip(rank: &Rank, at: usize) -> bool {
 }
 
 /// The network and the place of a link's first frame of a sign.
-pub fn first_of(link: &LinkReport, sign: Sign) -> Option<(Network, Place)> {
+pub fn first_of(link: &LinkReport, sign: Anomaly) -> Option<(Network, FramePlace)> {
     let (a, b) = (&link.lanes.a.signs, &link.lanes.b.signs);
     match (a.of(sign).first, b.of(sign).first) {
         (Some(a), Some(b)) if b.stamp < a.stamp => Some((Network::B, b)),
@@ -192,7 +192,7 @@ pub fn first_of(link: &LinkReport, sign: Sign) -> Option<(Network, Place)> {
 }
 
 /// The network, the time and the number of a frame, if there is one; else the first is blank.
-pub fn first_parts(view: &View<'_>, first: Option<(Network, Place)>) -> [Part<'static>; 3] {
+pub fn first_parts(view: &View<'_>, first: Option<(Network, FramePlace)>) -> [Part<'static>; 3] {
     let Some((network, place)) = first else {
         return [Part::Text(""); 3];
     };

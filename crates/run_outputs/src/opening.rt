@@ -2,11 +2,11 @@
 use command_line::{Fault, FileOption};
 use packet_format::PacketFormat;
 use pcapng::Interfaces;
-use tap_inputs::{Blocks, NO_RUN, Output, SharedBlocks};
+use tap_inputs::{Blocks, NO_RUN, OutputStream, SharedBlocks};
 use vl_config::Config;
 
 /// What hands an output its bytes in blocks. Are they to be hashed?
-pub fn blocks_of(rt: &HostRuntime, output: Output, hashed: bool) -> Result<Blocks, Fault> {
+pub fn blocks_of(rt: &HostRuntime, output: OutputStream, hashed: bool) -> Result<Blocks, Fault> {
     Blocks::new(rt.alloc(), output, hashed).map_err(|_| NO_RUN)
 }
 
@@ -27,7 +27,7 @@ pub fn create_hashed(
     file: FileOption,
     hashed: bool,
 ) -> Result<Blocks, Fault> {
-    match Output::open(rt, path) {
+    match OutputStream::open(rt, path) {
         Ok(opened) => blocks_of(rt, opened, hashed),
         Err(_) => Err(Fault::File(file)),
     }

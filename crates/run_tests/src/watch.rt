@@ -88,7 +88,7 @@ pub const WAYS: [Way; 4] = [
 
 /// How the recordings of a run ended, and its counts.
 #[derive(Clone, Copy)]
-pub struct Counts {
+pub struct WatchCounts {
     pub a: Ending,
     pub b: Ending,
     pub totals: Totals,
@@ -101,7 +101,7 @@ pub type Sink = Counted<MemSink>;
 /// What a run has left.
 #[derive(Drop)]
 pub struct Ran {
-    pub outcome: Result<Counts, WatchFault>,
+    pub outcome: Result<WatchCounts, WatchFault>,
     pub a: Option<Source>,
     pub b: Option<Source>,
     pub capture: Sink,
@@ -114,7 +114,7 @@ impl Ran {
     ) -> Ran {
         match done {
             Ok(watched) => Ran {
-                outcome: Ok(Counts {
+                outcome: Ok(WatchCounts {
                     a: watched.endings[0],
                     b: watched.endings[1],
                     totals: *watched.totals(),

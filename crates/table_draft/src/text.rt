@@ -55,9 +55,9 @@ impl Display for About {
 
 /// A time in UTC, as RFC 3339 writes it.
 #[derive(Clone, Copy)]
-struct Moment(Stamp);
+struct DraftTime(Stamp);
 
-impl Display for Moment {
+impl Display for DraftTime {
     fn fmt<W: fmt::Write>(&self, f: &mut Formatter<W>) -> fmt::Result {
         let nanos = self.0.0;
         match Timestamp::from_nanosecond(i128::from(nanos)) {
@@ -205,7 +205,7 @@ fn write_need(
     if needed == 0 {
         return Ok(());
     }
-    let at = Moment(need.at());
+    let at = DraftTime(need.at());
     write!(text, "# {network}: largest need {needed} us, at {at}")?;
     if needed > MAX_JITTER_US {
         text.push_str(", more than a table allows")?;

@@ -1,6 +1,6 @@
 //! An output that is written in blocks, and handed to the system before the program waits for an input that
 //! pauses, as pipes do.
-use crate::streams::{Input, Output};
+use crate::streams::{Input, OutputStream};
 use run_manifest::{Digesting, Sum, Tally};
 use std::alloc::{AllocError, Global};
 use std::io::{BufWriter, ErrorKind, Read, Write};
@@ -11,7 +11,7 @@ use std::{io, mem};
 pub const BLOCK: usize = 65536;
 
 /// What hands an output its bytes in blocks, which are counted, and hashed if that is asked for.
-type BlockWriter = BufWriter<Digesting<Output>>;
+type BlockWriter = BufWriter<Digesting<OutputStream>>;
 
 /// An output that is written in blocks, by one thread.
 #[derive(Drop)]
@@ -24,7 +24,7 @@ pub enum Blocks {
 impl Blocks {
     /// Nothing was written yet. Is what is written to be hashed? `AllocError` if there is no memory for the
     /// block.
-    pub fn new(alloc: Global, output: Output, hashed: bool) -> Result<Blocks, AllocError> {
+    pub fn new(alloc: Global, output: OutputStream, hashed: bool) -> Result<Blocks, AllocError> {
         match BufWriter::with_capacity(alloc, BLOCK, Digesting::new(output, hashed)) {
             Ok(writer) => Ok(Blocks::Own(writer)),
             Err(_) => Err(AllocError),

@@ -4,7 +4,7 @@
 //!   looked at before it is read.
 //! - [`files_of`]: a recording as a run reads it; [`TapEnd`]: what is known of it afterwards.
 //! - [`Progress`] and [`Pauses`]: what a person at a terminal sees meanwhile.
-//! - [`Input`], [`Output`] and [`Blocks`]: files and standard streams.
+//! - [`Input`], [`OutputStream`] and [`Blocks`]: files and standard streams.
 //!
 //! All stands over the system's files, so what is read and written is tested, and proved not to panic.
 #![tactic(auto)]
@@ -30,5 +30,5 @@ pub use progress::{Progress, Recording};
 pub use recordings::{FileList, Reading, TapEnd, TapFiles, end_of, files_of, open_both};
 pub use refused::{NO_RUN, Refused};
 pub use seams::tell_gaps;
-pub use streams::{Input, Noting, Output, OutputFile};
+pub use streams::{Input, Noting, OutputFile, OutputStream};
 pub use taps::{Tap, TapFile, Taps, option_of};

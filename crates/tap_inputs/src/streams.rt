@@ -116,45 +116,45 @@ impl Write for OutputFile {
 
 /// What is written.
 #[derive(Drop)]
-pub enum Output {
+pub enum OutputStream {
     File(OutputFile),
     Standard(Stdout),
     /// It is written nowhere.
     Nowhere,
 }
 
-impl Output {
+impl OutputStream {
     /// Opens a file as it stands, or standard output for `-`.
-    pub fn open(rt: &HostRuntime, path: &str) -> io::Result<Output> {
+    pub fn open(rt: &HostRuntime, path: &str) -> io::Result<OutputStream> {
         if command_line::is_standard(path) {
-            return Ok(Output::Standard(rt.stdout()));
+            return Ok(OutputStream::Standard(rt.stdout()));
         }
-        Ok(Output::File(OutputFile::open(rt, path)?))
+        Ok(OutputStream::File(OutputFile::open(rt, path)?))
     }
 
     /// Empties a regular file to which nothing was written.
     pub fn empty(&mut self) -> io::Result<()> {
         match self {
-            Output::File(file) => file.empty(),
-            Output::Standard(_) | Output::Nowhere => Ok(()),
+            OutputStream::File(file) => file.empty(),
+            OutputStream::Standard(_) | OutputStream::Nowhere => Ok(()),
         }
     }
 }
 
-impl Write for Output {
+impl Write for OutputStream {
     fn write(&mut self, bytes: &[u8]) -> io::Result<usize> {
         match self {
-            Output::File(file) => file.write(bytes),
-            Output::Standard(stdout) => stdout.write(bytes),
-            Output::Nowhere => Ok(bytes.len()),
+            OutputStream::File(file) => file.write(bytes),
+            OutputStream::Standard(stdout) => stdout.write(bytes),
+            OutputStream::Nowhere => Ok(bytes.len()),
         }
     }
 
     fn flush(&mut self) -> io::Result<()> {
         match self {
-            Output::File(file) => file.flush(),
-            Output::Standard(stdout) => stdout.flush(),
-            Output::Nowhere => Ok(()),
+            OutputStream::File(file) => file.flush(),
+            OutputStream::Standard(stdout) => stdout.flush(),
+            OutputStream::Nowhere => Ok(()),
         }
     }
 }

@@ -1,6 +1,6 @@
 //! What a person is told of a ledger's line that contradicts the table: which link, and how.
 use afdx_frame::VlId;
-use ledger_text::{Found, FrameLine, LedgerLine, LedgerReader};
+use ledger_text::{FoundLine, FrameLine, LedgerLine, LedgerReader};
 use pcap_io::ReadSource;
 use std::fmt::{Display, Formatter};
 use std::fs::File;
@@ -63,12 +63,12 @@ fn line_again(rt: &HostRuntime, path: &str, number: u64) -> Option<FrameLine> {
     let source = ReadSource::new(File::open(rt, path).ok()?);
     let mut ledger = LedgerReader::new(rt.alloc(), source).ok()?;
     for _ in 1..number {
-        let Ok(Found::Line(_)) = ledger.advance() else {
+        let Ok(FoundLine::Line(_)) = ledger.advance() else {
             return None;
         };
     }
     match ledger.advance() {
-        Ok(Found::Line(LedgerLine::Frame(line))) => Some(line),
+        Ok(FoundLine::Line(LedgerLine::Frame(line))) => Some(line),
         _ => None,
     }
 }

@@ -21,7 +21,7 @@ use std::fmt::{Display, Formatter};
 use std::fs::File;
 use std::io::Read;
 use std::{fmt, fs, io};
-use tap_inputs::{Disorder, Output, Tap, Taps};
+use tap_inputs::{Disorder, OutputStream, Tap, Taps};
 use vl_config::{Config, ConfigFault};
 
 /// Why a file can't be read or written.
@@ -197,7 +197,7 @@ fn reason_of_input(rt: &HostRuntime, path: &str, file: FileOption) -> Option<Rea
 
 /// Why a file that is written can't be opened.
 fn reason_of_output(rt: &HostRuntime, path: &str) -> Option<Reason> {
-    match Output::open(rt, path) {
+    match OutputStream::open(rt, path) {
         Ok(_) => None,
         Err(error) => Some(Reason::System(error)),
     }

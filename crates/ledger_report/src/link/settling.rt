@@ -4,12 +4,12 @@ ghost use Rattle.std.specs.Prelude.{◌≡◌, ◌+◌, ◌<◌, false, Some, No
 ghost use Rattle.ledger_report.specs.Pending.{fate_pends, pends};
 
 use super::LinkReport;
+use crate::anomalies::Anomaly;
 use crate::bounds::NUMBERS;
-use crate::moment::Moment;
+use crate::moment::LinePlace;
 use crate::network::NetworkReport;
 use crate::pairing::{Delivery, Fate};
-use crate::sides::Sides;
-use crate::signs::Sign;
+use crate::per_network::PerNetwork;
 use crate::statistics::bin_of;
 use afdx_frame::Network;
 use std::alloc::AllocError;
@@ -33,19 +33,19 @@ impl LinkReport {
     ghost use Rattle.afdx_frame.specs.Frame.{other_network};
     ghost use Rattle.ledger_report.specs.Settling.{AccountsMore};
     ghost use Rattle.ledger_report.specs.Settling.{accounted, counted};
-    ghost use Rattle.ledger_report.specs.declared.signs.Mark.{Mark};
+    ghost use Rattle.ledger_report.specs.declared.anomalies.AnomalyTally.{AnomalyTally};
 
     /// Settles the latest delivery of the number of a delivery, and says what is known of this one.
     #[inline]
     pub(super) fn settle_before(
         &mut self,
         number: u8,
-        at: &Moment,
+        at: &LinePlace,
         start: u64,
         width: u64,
-        networks: &Sides<NetworkReport>,
+        networks: &PerNetwork<NetworkReport>,
     ) -> Result<Fate, AllocError>
-        ensures accounts { IfOk result (λ fate. (none : Mark) → accounted none self.old + 2 < 2 ^ 64
+        ensures accounts { IfOk result (λ fate. (none : AnomalyTally) → accounted none self.old + 2 < 2 ^ 64
             → accounted none self.new + fate_pends fate ≡ accounted none self.old
             + pends (slice_index_or self.old.pairing.deliveries.items number None) + 1) }
         ensures pairing { self.new.pairing ≡ self.old.pairing }
@@ -77,7 +77,7 @@ impl LinkReport {
 
     /// What is known of a delivery by the lines before it.
     #[inline]
-    fn fate_so_far(&self, number: u8, at: &Moment) -> Fate
+    fn fate_so_far(&self, number: u8, at: &LinePlace) -> Fate
         ensures pends { fate_pends result ≡ 1 }
         ensures fate { result ≡ fate_so_far false (is_gone_by at.now.place.stamp (window_in self.now)
             (gone_in self.now.pairing number (other_network at.now.network))) }
@@ -89,7 +89,7 @@ impl LinkReport {
     }
 
     /// Notes the second delivery of a number, beyond SkewMax.
-    fn note_late(&mut self, skew: u64, at: &Moment) -> Result<(), AllocError>
+    fn note_late(&mut self, skew: u64, at: &LinePlace) -> Result<(), AllocError>
         ensures accounts { OnOk result (AccountsMore 2 self.old self.new) }
         ensures pairing { self.new.pairing ≡ self.old.pairing }
         ensures deliveries { self.new.deliveries ≡ self.old.deliveries }
@@ -109,7 +109,7 @@ impl LinkReport {
     }
 
     /// Counts a late delivery for its lane.
-    fn hit_late(&mut self, at: &Moment) -> Result<(), AllocError>
+    fn hit_late(&mut self, at: &LinePlace) -> Result<(), AllocError>
         ensures accounts { AccountsMore 0 self.old self.new }
         ensures pairing { self.new.pairing ≡ self.old.pairing }
         ensures deliveries { self.new.deliveries ≡ self.old.deliveries }
@@ -121,8 +121,8 @@ impl LinkReport {
         ensures losses { KeepsLosses self.old self.new }
     {
         match at.network {
-            Network::A => self.lanes.a.signs.hit(Sign::Late, at.bin, at.place, 1),
-            Network::B => self.lanes.b.signs.hit(Sign::Late, at.bin, at.place, 1),
+            Network::A => self.lanes.a.signs.hit(Anomaly::Late, at.bin, at.place, 1),
+            Network::B => self.lanes.b.signs.hit(Anomaly::Late, at.bin, at.place, 1),
         }
     }
 
@@ -132,7 +132,7 @@ impl LinkReport {
         delivery: Delivery,
         start: u64,
         width: u64,
-        networks: &Sides<NetworkReport>,
+        networks: &PerNetwork<NetworkReport>,
     ) -> Result<(), AllocError>
         ensures accounts { OnOk result (AccountsMore (fate_pends delivery.fate) self.old self.new) }
         ensures pairing { self.new.pairing ≡ self.old.pairing }
@@ -164,7 +164,7 @@ impl LinkReport {
         &mut self,
         delivery: &Delivery,
         bin: usize,
-        networks: &Sides<NetworkReport>,
+        networks: &PerNetwork<NetworkReport>,
     ) -> Result<(), AllocError>
         ensures accounts { OnOk result (AccountsMore 1 self.old self.new) }
         ensures pairing { self.new.pairing ≡ self.old.pairing }
@@ -196,9 +196,9 @@ impl LinkReport {
         &mut self,
         start: u64,
         width: u64,
-        networks: &Sides<NetworkReport>,
+        networks: &PerNetwork<NetworkReport>,
     ) -> Result<(), AllocError>
-        ensures counts { OnOk result ((none : Mark) → accounted none self.old < 2 ^ 62
+        ensures counts { OnOk result ((none : AnomalyTally) → accounted none self.old < 2 ^ 62
             → counted none self.new ≡ accounted none self.old) }
         ensures deliveries { OnOk result (self.new.deliveries ≡ self.old.deliveries) }
         ensures copies { OnOk result (KeepsCopies self.old self.new) }
@@ -222,7 +222,7 @@ impl LinkReport {
         number: u8,
         start: u64,
         width: u64,
-        networks: &Sides<NetworkReport>,
+        networks: &PerNetwork<NetworkReport>,
     ) -> Result<(), AllocError>
         ensures accounts { OnOk result (AccountsMore
             (pends (slice_index_or self.old.pairing.deliveries.items number None)) self.old self.new) }

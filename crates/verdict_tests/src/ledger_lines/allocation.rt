@@ -4,7 +4,7 @@
 //! passes by either answer, and a test `ample_..` by the right one alone.
 
 use crate::ledger_lines::reader::pieces;
-use ledger_text::{Found, LedgerReader};
+use ledger_text::{FoundLine, LedgerReader};
 use pcap_io::{MemSource, TapSource};
 use std::process::Abort;
 
@@ -15,7 +15,7 @@ fn begins(rt: &(impl Abort + AllocGlobal)) -> bool {
     };
     match LedgerReader::new(rt.alloc(), MemSource::new(bytes, pieces(1000))) {
         Ok(mut reader) => {
-            assert!(rt; matches!(reader.advance(), Ok(Found::Line(_))));
+            assert!(rt; matches!(reader.advance(), Ok(FoundLine::Line(_))));
             true
         }
         Err(refused) => {

@@ -3,7 +3,7 @@
 //! one and `P` that of one that ends within a line, `H` a wrong head, `O` a wrong order, `N` a missing
 //! newline, `X` a line that is too long, `M` one line more than are read, and `a` to `l` a wrong field.
 use crate::ledger_lines::frames::letter;
-use ledger_text::{Found, LedgerReader, LedgerStop, LineFault, ReadFault};
+use ledger_text::{FoundLine, LedgerReader, LedgerStop, LineFault, ReadFault};
 use pcap_io::{MemSource, Script};
 use std::alloc::Global;
 use std::process::Abort;
@@ -84,19 +84,22 @@ fn fault_letter(fault: LineFault) -> u8 {
 }
 
 /// The letter of an end, and what the next call finds: the same end, behind what stands of a line.
-fn end_letter(end: Found) -> (u8, Found) {
+fn end_letter(end: FoundLine) -> (u8, FoundLine) {
     match end {
-        Found::Incomplete(
+        FoundLine::Incomplete(
             LedgerStop {
                 lines,
                 within_line: true,
             },
         ) => {
             let within_line = false;
-            (b'P', Found::Incomplete(LedgerStop { lines, within_line }))
+            (
+                b'P',
+                FoundLine::Incomplete(LedgerStop { lines, within_line }),
+            )
         }
-        Found::Complete => (b'C', end),
-        Found::Line(_) | Found::Incomplete(_) => (b'I', end),
+        FoundLine::Complete => (b'C', end),
+        FoundLine::Line(_) | FoundLine::Incomplete(_) => (b'I', end),
     }
 }
 
@@ -113,7 +116,9 @@ pub fn outcome(
     };
     for lines in 0..=bytes.len() {
         match reader.advance() {
-            Ok(Found::Line(_)) => assert!(rt; reader.number() == (lines as u64).saturating_add(1)),
+            Ok(FoundLine::Line(_)) => assert!(rt;
+                reader.number() == (lines as u64).saturating_add(1)
+            ),
             Ok(end) => {
                 let (letter, again) = end_letter(end);
                 assert!(rt; reader.advance() == Ok(again));

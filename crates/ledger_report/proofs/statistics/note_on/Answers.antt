@@ -1,7 +1,7 @@
 -- The network's own signs are all that a rule changes.
 use Rattle.std.proofs.Common.{refl, sym, ap, subst, ◌∙◌}
 use Rattle.ledger_report.specs.RuleMarks.{HasRules}
-use Rattle.ledger_report.specs.declared.moment.Place.{Place}
+use Rattle.ledger_report.specs.declared.moment.FramePlace.{FramePlace}
 use Rattle.ledger_report.proofs.NetworkSteps.{signs_changed}
 use Rattle.ledger_report.proofs.RuleSteps.{rules_more, rules_none, rules_other}
 use Rattle.ledger_report.proofs.statistics.note_on.Goals as goal
@@ -9,7 +9,7 @@ use Rattle.ledger_report.proofs.statistics.note_on.Goals as goal
 pub returns-in_ok-hit-clause-own : goal.returns-in_ok-hit-clause-own
 returns-in_ok-hit-clause-own c = λ network lines few on place h.
     signs_changed network _ c.note.new.self c.hit.new.self
-    (c.in_ok-note.ensures.line network c.args.line.now lines few on (ap (λ (p : Place). p.stamp) (sym place)) refl h)
+    (c.in_ok-note.ensures.line network c.args.line.now lines few on (ap (λ (p : FramePlace). p.stamp) (sym place)) refl h)
 
 pub returns-in_ok-hit-clause-other : goal.returns-in_ok-hit-clause-other
 returns-in_ok-hit-clause-other c = λ network lines few off h. c.pass.ensures.line network c.args.line.now lines few off h
@@ -26,7 +26,7 @@ returns-in_ok-hit-clause-other_rules c = λ network lines off h.
 
 pub returns-in_default-clause-own : goal.returns-in_default-clause-own
 returns-in_default-clause-own c = λ network lines few on place h.
-    c.in_ok-note.ensures.line network c.args.line.now lines few on (ap (λ (p : Place). p.stamp) (sym place)) refl h
+    c.in_ok-note.ensures.line network c.args.line.now lines few on (ap (λ (p : FramePlace). p.stamp) (sym place)) refl h
 
 pub returns-in_default-clause-other : goal.returns-in_default-clause-other
 returns-in_default-clause-other c = λ network lines few off h. c.pass.ensures.line network c.args.line.now lines few off h

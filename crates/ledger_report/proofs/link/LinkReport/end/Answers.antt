@@ -1,6 +1,6 @@
 -- Each delivery has its fate once what is left is settled.
 use Rattle.std.proofs.Common.{None, arith}
-use Rattle.ledger_report.specs.declared.signs.Mark.{Mark}
+use Rattle.ledger_report.specs.declared.anomalies.AnomalyTally.{AnomalyTally}
 use Rattle.ledger_report.proofs.KeepSteps.{keeps_late_on}
 use Rattle.ledger_report.proofs.AloneNotes.{ends_alone}
 use Rattle.ledger_report.proofs.link.LinkReport.end.Goals as goal
@@ -11,7 +11,7 @@ returns-clause-late c =
 
 pub returns-clause-balanced : goal.returns-clause-balanced
 returns-clause-balanced c = λ balanced few.
-    let none : Mark = record { count = 0; first = None; last = None; bins = c.args.self.now.skews.a } in
+    let none : AnomalyTally = record { count = 0; first = None; last = None; bins = c.args.self.now.skews.a } in
     let first = balanced none in
     let latest = c.in_ok-settle_latest.ensures.counts none (omega (arith, first, few)) in
     let sum = c.sum_fates.ensures.sum none (omega (arith, latest, first, few)) in

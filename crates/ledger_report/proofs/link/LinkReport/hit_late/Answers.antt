@@ -3,16 +3,16 @@ use Rattle.std.proofs.Common.{refl, sym, ap, subst, arith}
 use Rattle.afdx_frame.specs.declared.key.Network.{Network}
 use Rattle.ledger_report.specs.Pairs.{GainsLateOn}
 use Rattle.ledger_report.specs.declared.link.LinkReport.{LinkReport}
-use Rattle.ledger_report.specs.declared.signs.Mark.{Mark}
-use Rattle.ledger_report.specs.declared.signs.Sign.TheVariants.{Alone, Late}
+use Rattle.ledger_report.specs.declared.anomalies.AnomalyTally.{AnomalyTally}
+use Rattle.ledger_report.specs.declared.anomalies.Anomaly.TheVariants.{Alone, Late}
 use Rattle.ledger_report.proofs.HoldNotes.{keeps_missed_late, keeps_missed_none}
 use Rattle.ledger_report.proofs.link.LinkReport.hit_late.Goals as goal
 
 pub returns-in-A-clause-accounts : goal.returns-in-A-clause-accounts
-returns-in-A-clause-accounts c = λ none few. let alone = ap (λ (m : Mark). m.count) (c.hit.ensures.others Alone none refl) in omega (arith, alone)
+returns-in-A-clause-accounts c = λ none few. let alone = ap (λ (m : AnomalyTally). m.count) (c.hit.ensures.others Alone none refl) in omega (arith, alone)
 
 pub returns-in-B-clause-accounts : goal.returns-in-B-clause-accounts
-returns-in-B-clause-accounts c = λ none few. let alone = ap (λ (m : Mark). m.count) (c.hit-in-B.ensures.others Alone none refl) in omega (arith, alone)
+returns-in-B-clause-accounts c = λ none few. let alone = ap (λ (m : AnomalyTally). m.count) (c.hit-in-B.ensures.others Alone none refl) in omega (arith, alone)
 
 pub returns-in-A-clause-late : goal.returns-in-A-clause-late
 returns-in-A-clause-late c =

@@ -7,12 +7,12 @@ use Rattle.ledger_report.specs.Losses.{KeepsLosses}
 use Rattle.ledger_report.specs.Pairs.{KeepsLate, MeetsOf, met_with}
 use Rattle.ledger_report.specs.Pending.{pending}
 use Rattle.ledger_report.specs.Settling.{accounted, counted}
-use Rattle.ledger_report.specs.declared.signs.Mark.{Mark}
+use Rattle.ledger_report.specs.declared.anomalies.AnomalyTally.{AnomalyTally}
 use Rattle.ledger_report.proofs.link.LinkReport.settle_latest.Given as goal
 
 abbrev pub invariant-loop-number : goal.invariant-loop-number
 invariant-loop-number l = record {
-  settled : (none : Mark) → accounted none l.initial.self < 2 ^ 62
+  settled : (none : AnomalyTally) → accounted none l.initial.self < 2 ^ 62
       → counted none l.self + pending (drop l.number l.initial.self.pairing.deliveries.items) ≡ accounted none l.initial.self;
   pairing : l.self.pairing ≡ l.initial.self.pairing;
   deliveries : l.self.deliveries ≡ l.initial.self.deliveries;

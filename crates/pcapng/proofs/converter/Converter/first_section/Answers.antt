@@ -6,7 +6,7 @@ use Rattle.pcapng.specs.File.{first_of}
 use Rattle.pcapng.specs.Handed.{unread_of}
 use Rattle.pcapng.specs.Section.{known_of}
 use Rattle.pcapng.specs.declared.block.FirstSection.TheVariants as firsts
-use Rattle.pcapng.specs.declared.converter.Stage.TheVariants as stages
+use Rattle.pcapng.specs.declared.converter.Reached.TheVariants as stages
 use Rattle.pcapng.proofs.converter.Converter.first_section.Goals as goal
 
 pub returns-in-Wrong-clause-kept : goal.returns-in-Wrong-clause-kept

@@ -3,7 +3,7 @@ use Rattle.std.proofs.KnownBytes.{Consumes-kept, Keeps-refl, Keeps-trans}
 use borrow.Rule.Slice.PartMut.{put_mid}
 use Rattle.pcap_io.proofs.Transfers.{fill_more}
 use Rattle.pcapng.proofs.Handed.{ends_there, err_reads, keeps_after, reads_after}
-use Rattle.pcapng.specs.declared.converter.Stage.TheVariants as stages
+use Rattle.pcapng.specs.declared.converter.Reached.TheVariants as stages
 use Rattle.pcapng.proofs.source.RecordingSourceTapSource.read.Goals as goal
 use Rattle.pcapng.proofs.source.RecordingSourceTapSource.read.Goals.{in-Needs+else-done-gt0-2+in_ok-refill, in_default-step}
 

@@ -2,7 +2,7 @@ use Rattle.std.proofs.Common.{◌≡◌, [], ◌++◌, refl, take, ◌∙◌}
 use Rattle.recording_files.specs.Handed.{body_of}
 use Rattle.recording_files.specs.Input.{drawn_of}
 use Rattle.recording_files.specs.Pending.{waiting_of}
-use Rattle.recording_files.specs.declared.stage.Stage.TheVariants as stages
+use Rattle.recording_files.specs.declared.stage.FilesStage.TheVariants as stages
 use Rattle.recording_files.proofs.Joining.{none_first, none_given, runs}
 use Rattle.recording_files.proofs.joined.JoinedSource.give_run.Goals as goal
 

@@ -3,7 +3,7 @@ use Rattle.std.proofs.KnownBytes.{Consumes-kept, Keeps-refl}
 use Rattle.pcap_io.proofs.Bytes.{known_bytes-consumed}
 use Rattle.pcap_io.proofs.Transfers.{fill_more}
 use Rattle.recording_files.proofs.Joining.{all_given, fault_reads, fill_twice}
-use Rattle.recording_files.specs.declared.stage.Stage.TheVariants as stages
+use Rattle.recording_files.specs.declared.stage.FilesStage.TheVariants as stages
 use Rattle.recording_files.proofs.joined.JoinedSourceTapSource.read.Goals as goal
 
 pub returns-then-done-buf-clause-bytes : goal.returns-then-done-buf-clause-bytes
