@@ -1,15 +1,13 @@
 //! The command `asm`: a filter's source is assembled and printed in the numeric form.
-ghost use Rattle.std.specs.Prelude.{◌≡◌, ℕ, IfErr, IfOk, List, Option, Result, option_map, string_bytes};
+ghost use Rattle.std.specs.Prelude.{◌≡◌, IfErr, IfOk, option_map, string_bytes};
 ghost use Rattle.bpf_asm.specs.Assembly.{IsTextFault};
-ghost use Rattle.command_line.specs.declared.fault.Fault.{Fault};
-ghost use Rattle.commands.specs.Asm.{IsAsmRun, IsAssembledAs, IsTextRan, Prints, text_fault};
+ghost use Rattle.commands.specs.Asm.{IsAsmRun, IsAssembledAs, Prints, text_fault};
 ghost use Rattle.run_fault.specs.Device.{devices_of};
 
-use crate::capture::Ran;
 use crate::text::{TextRefusal, read_text};
 use bpf_asm::{AsmFault, assemble};
 use bpf_isa::write_numeric;
-use command_line::{Exit, Fault, FileOption, fault_line};
+use command_line::{Fault, FileOption};
 use pcap_io::{OutSink, TapSource, write_all};
 use std::alloc::Global;
 
@@ -89,25 +87,5 @@ pub fn run_asm<S: TapSource, W: OutSink>(alloc: Global, source: S, sink: W) -> A
         text: Some(text),
         source,
         sink,
-    }
-}
-
-/// The command `asm` with its status and its fault line. The source is dropped.
-pub fn asm_over<S: TapSource + Drop, W: OutSink>(alloc: Global, source: S, sink: W) -> Ran<W>
-    ensures { (text : Option (List ℕ)) × (outcome : Result (Unit {0}) Fault) × (rest : S)
-        × IsAsmRun text outcome
-        (devices_of S.TapSource W.OutSink source sink)
-        (devices_of S.TapSource W.OutSink rest result.sink)
-        × IsTextRan outcome result.status (option_map string_bytes result.line) }
-{
-    let run = run_asm(alloc, source, sink);
-    let line = match &run.outcome {
-        Ok(()) => None,
-        Err(fault) => fault_line(alloc, fault).ok(),
-    };
-    Ran {
-        status: Exit::of_text(run.outcome, true).status(),
-        line,
-        sink: run.sink,
     }
 }

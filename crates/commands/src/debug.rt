@@ -1,34 +1,16 @@
 //! The command `debug`: a filter is stepped through on the frames of a recording.
-ghost use Rattle.std.specs.Prelude.{◌≡◌, ◌<◌, ◌∷◌, IfSome, Result, Some, length, option_map, string_bytes};
-ghost use Rattle.command_line.specs.declared.fault.Fault.{Fault};
-ghost use Rattle.commands.specs.Asm.{IsTextRan};
-ghost use Rattle.commands.specs.Sessions.{Answers, AnswersCommand, AreAnswered, IsAnswered, IsBegun, IsDebugRun, IsSessionRun};
-ghost use Rattle.commands.specs.Sessions.{commands_fault, debug_devices, ends_session, is_blank, lines_left, lines_of, text_of};
+ghost use Rattle.std.specs.Prelude.{◌≡◌, ◌<◌, ◌∷◌, IfSome, Some, length};
+ghost use Rattle.commands.specs.Sessions.{Answers, AnswersCommand, AreAnswered, IsAnswered, IsBegun, IsSessionRun};
+ghost use Rattle.commands.specs.Sessions.{commands_fault, ends_session, is_blank, lines_left, lines_of, text_of};
 ghost use Rattle.run_fault.specs.Device.{sink_at, source_at};
 
-use crate::capture::Ran;
-use crate::inputs::filter_of;
-use crate::tap::{HeldTap, TapRead, read_tap};
 use crate::text::{TextRefusal, read_text};
 use afdx_frame::TapFrame;
 use bpf_debugger::{Command, DebugFault, Session, bad_command_line, read_command, render};
 use bpf_loader::Program;
-use command_line::{Exit, Fault, FileOption, fault_line};
+use command_line::{Fault, FileOption};
 use pcap_io::{OutSink, TapSource, write_all};
 use std::alloc::{AllocError, Global};
-
-/// A session that has ended, with the devices that it was given.
-#[derive(Drop)]
-pub struct DebugRun<S, C, W> {
-    /// Whether all commands were answered, or why they weren't.
-    pub outcome: Result<(), Fault>,
-    /// Where the recording was read from.
-    pub tap: S,
-    /// Where the commands were read from.
-    pub commands: C,
-    /// Where the replies were printed.
-    pub sink: W,
-}
 
 /// What answers a line: a text that needs no memory, or one that was rendered.
 #[derive(Drop)]
@@ -212,85 +194,4 @@ pub fn run_session<C: TapSource, W: OutSink>(
     };
     let mut session = begin_session(alloc, program, frames, sink)?;
     answer_lines(alloc, &mut session, &text, sink)
-}
-
-/// The command `debug`: reads the filter from its numeric form, then the recording whole as network A, and
-/// runs a session over the commands.
-pub fn run_debug<S: TapSource, C: TapSource, W: OutSink>(
-    alloc: Global,
-    filter: &str,
-    tap: S,
-    commands: C,
-    sink: W,
-) -> DebugRun<S, C, W>
-    ensures { IsDebugRun filter.now result.outcome
-        (debug_devices (source_at S.TapSource tap)
-        (source_at C.TapSource commands) (sink_at W.OutSink sink))
-        (debug_devices (source_at S.TapSource result.tap)
-        (source_at C.TapSource result.commands)
-        (sink_at W.OutSink result.sink)) }
-{
-    let program = match filter_of(alloc, filter, None) {
-        Ok(program) => program,
-        Err(fault) => {
-            return DebugRun {
-                outcome: Err(fault),
-                tap,
-                commands,
-                sink,
-            };
-        }
-    };
-    let TapRead {
-        outcome,
-        source: tap,
-    } = read_tap(alloc, 0, tap);
-    let HeldTap { frames, ending: _ } = match outcome {
-        Ok(tap) => tap,
-        Err(fault) => {
-            return DebugRun {
-                outcome: Err(Fault::Watch(fault)),
-                tap,
-                commands,
-                sink,
-            };
-        }
-    };
-    let (mut commands, mut sink) = (commands, sink);
-    let outcome = run_session(alloc, program, frames, &mut commands, &mut sink);
-    DebugRun {
-        outcome,
-        tap,
-        commands,
-        sink,
-    }
-}
-
-/// The command `debug` with its status and its fault line. The sources are dropped.
-pub fn debug_over<S: TapSource + Drop, C: TapSource + Drop, W: OutSink>(
-    alloc: Global,
-    filter: &str,
-    tap: S,
-    commands: C,
-    sink: W,
-) -> Ran<W>
-    ensures { (outcome : Result (Unit {0}) Fault) × (tap' : S) × (commands' : C)
-        × IsDebugRun filter.now outcome
-        (debug_devices (source_at S.TapSource tap)
-        (source_at C.TapSource commands) (sink_at W.OutSink sink))
-        (debug_devices (source_at S.TapSource tap')
-        (source_at C.TapSource commands')
-        (sink_at W.OutSink result.sink))
-        × IsTextRan outcome result.status (option_map string_bytes result.line) }
-{
-    let run = run_debug(alloc, filter, tap, commands, sink);
-    let line = match &run.outcome {
-        Ok(()) => None,
-        Err(fault) => fault_line(alloc, fault).ok(),
-    };
-    Ran {
-        status: Exit::of_text(run.outcome, true).status(),
-        line,
-        sink: run.sink,
-    }
 }

@@ -10,12 +10,14 @@ mod laws;
 mod selection;
 mod tap;
 mod text;
+mod whole;
 
-pub use asm::{AsmRun, asm_over, run_asm};
-pub use capture::{CaptureRun, Ran, capture_by, capture_over, run_capture};
-pub use debug::{DebugRun, answer_line, begin_session, debug_over, run_debug, run_session};
+pub use asm::{AsmRun, run_asm};
+pub use capture::{CaptureRun, capture_by};
+pub use debug::{answer_line, begin_session, run_session};
 pub use inputs::{filter_of, filter_of_source, load_filters, read_config, read_file};
 pub use laws::source_means_its_program;
 pub use selection::selection_of;
 pub use tap::{HeldTap, TapRead, read_tap};
 pub use text::MAX_TEXT;
+pub use whole::{DebugRun, Ran, asm_over, capture_over, debug_over, run_capture, run_debug};

@@ -49,11 +49,9 @@ impl Model for Lanes {
 }
 
 impl Lanes {
-    ghost use Rattle.std.specs.Prelude.{IfErr, OnErr, OnOk, slice_get};
+    ghost use Rattle.std.specs.Prelude.{OnErr, OnOk};
     ghost use Rattle.vl_judge.specs.Lanes.{FollowsOn, StandsAfter, last_key, place_of};
-    ghost use Rattle.vl_judge.specs.Parts.{count_marked, has_frame};
     ghost use Rattle.vl_judge.specs.Verdicts.{verdicts};
-    ghost use Rattle.vl_judge.specs.declared.fault.LaneFault.TheVariants.{Spawn};
 
     /// The lanes of a table's links, which have seen no frame. Whatever the table, the index of all
     /// identifiers is allocated, so an `Err` may come for any.

@@ -23,6 +23,7 @@ impl Lanes {
     ghost use Rattle.vl_judge.specs.Lanes.{FollowsOn, StandsAfter, last_key};
     ghost use Rattle.vl_judge.specs.Parts.{count_marked, has_frame};
     ghost use Rattle.vl_judge.specs.Verdicts.{verdicts};
+    ghost use Rattle.vl_judge.specs.declared.fault.LaneFault.TheVariants.{Spawn};
 
     /// Judges a round of frames by so many workers, 1 to [`MAX_WORKERS`]. Worker 0 is the caller, and
     /// each other one a thread that is started for the round. Verdict i is that of frame i.

@@ -2,7 +2,7 @@
 use Rattle.std.proofs.Common.{◌≡◌, ℕ, ◌<◌, Some, length, take}
 use Rattle.std.specs.Prelude.{slice_get}
 use Rattle.vl_judge.specs.Parts.{has_frame}
-use Rattle.vl_judge.proofs.lanes.round.Lanes.marks.Given as goal
+use Rattle.vl_judge.proofs.lanes.Lanes.marks.Given as goal
 
 abbrev pub invariant-loop-index : goal.invariant-loop-index
 invariant-loop-index l = record {

@@ -9,7 +9,7 @@ use Rattle.vl_judge.specs.Lanes.{Knows, LanesState, lane_with, last_key}
 use Rattle.vl_judge.specs.Parts.{Covers, NonePartLater, PartKnows, placed}
 use Rattle.vl_judge.proofs.Rounds.{last_key_in_two}
 use Rattle.vl_judge.proofs.Whole.{all_know, all_none_later, indexed_by_ids, lanes_know, length-placed, none_after_last, restored, stopped_all, whole_round}
-use Rattle.vl_judge.proofs.lanes.round.Lanes.judge_shared.Goals as goal
+use Rattle.vl_judge.proofs.lanes.Lanes.judge_shared.Goals as goal
 
 pub judge_part-requires-clause-follows : goal.judge_part-requires-clause-follows
 judge_part-requires-clause-follows g c κs within = record {

@@ -11,8 +11,8 @@ use Rattle.vl_judge.specs.Parts.{has_frame}
 use Rattle.vl_judge.proofs.Places.{by_test}
 use Rattle.vl_judge.proofs.Parts.{get_set_other}
 use Rattle.vl_judge.proofs.Whole.{get_set_same}
-use Rattle.vl_judge.proofs.lanes.round.Lanes.marks.Goals as goal
-use Rattle.vl_judge.proofs.lanes.round.Lanes.marks.Goals.{then-place-len, else-place-len}
+use Rattle.vl_judge.proofs.lanes.Lanes.marks.Goals as goal
+use Rattle.vl_judge.proofs.lanes.Lanes.marks.Goals.{then-place-len, else-place-len}
 
 or_true : (b : Bool) → (b || true) ≡ true
 or_true true = refl
