@@ -1,5 +1,5 @@
 -- What a run of watch came to, as a person at a terminal is told (this project's format), and which input its counts speak against.
-use Rattle.std.specs.Prelude.{ℕ, ◌-◌, ◌/◌, ◌==◌, nat_lt, nat_le, Bool, ◌&&◌, List, [], ◌++◌, Option, None, Some, codes, decimal, if◌then◌else◌}
+use Rattle.std.specs.Prelude.{ℕ, ◌/◌, ◌==◌, nat_lt, Bool, ◌&&◌, List, [], ◌++◌, Option, None, Some, codes, decimal, if◌then◌else◌}
 use Rattle.integrity.specs.Word.{integrity_word}
 use Rattle.integrity.specs.declared.verdict.Integrity.TheVariants as integrity
 use Rattle.policing.specs.Word.{policing_word}
@@ -8,13 +8,10 @@ use Rattle.vl_config.specs.Class.{class_word}
 use Rattle.vl_config.specs.declared.class.Class.TheVariants as class
 use Rattle.pcap_io.specs.Word.{frames_before}
 use Rattle.pcap_io.specs.declared.recording.Ending.{Ending}
+use Rattle.recording_check.specs.Decide.{is_nearly_all}
 use Rattle.verdict_ledger.specs.declared.totals.Totals.{Totals}
 use Rattle.command_line.specs.declared.summary.Hint.{Hint}
 use Rattle.command_line.specs.declared.summary.Hint.TheVariants as hint
-
--- all but a tenth of some frames at most
-abbrev pub is_nearly_all : ℕ → ℕ → Bool
-is_nearly_all count frames = nat_lt 0 frames && nat_le (frames - count) (frames / 10)
 
 -- both networks have frames, some are delivered, and none is a copy
 abbrev pub has_no_copy : ℕ → ℕ → Totals → Bool

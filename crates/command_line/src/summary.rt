@@ -1,10 +1,11 @@
 //! What a run of `watch` came to, told to a person at a terminal.
 ghost use Rattle.std.specs.Prelude.{◌≡◌};
-ghost use Rattle.command_line.specs.Summary.{hint_of, hint_words, is_nearly_all};
+ghost use Rattle.command_line.specs.Summary.{hint_of, hint_words};
 
 use integrity::Integrity;
 use pcap_io::Ending;
 use policing::Policing;
+use recording_check::is_nearly_all;
 use std::fmt;
 use std::fmt::{Display, Formatter};
 use verdict_ledger::Totals;
@@ -26,13 +27,6 @@ pub enum Hint {
     Numbers,
     /// The clocks of the taps: both networks have frames, and none is the copy of another.
     Clocks,
-}
-
-/// Are so many of all frames nearly all of them, nine in ten? Of no frame none are.
-fn is_nearly_all(count: u64, frames: u64) -> bool
-    ensures { result ≡ is_nearly_all count frames }
-{
-    0 < frames && frames.saturating_sub(count) <= frames / 10
 }
 
 /// Which input is likely wrong, by the endings of both recordings and the counts of their frames.

@@ -6,9 +6,10 @@ use Rattle.std.specs.Option.{ForSome}
 use Rattle.afdx_frame.specs.Frame.{Frame}
 use Rattle.afdx_frame.specs.declared.key.Network.{Network}
 use Rattle.afdx_frame.specs.declared.key.Network.TheVariants.{A, B}
-use Rattle.ordered_merge.specs.Merge.{CanFetch, Follows, IsInTime, MergerState, Tap, after_cut, change_tap, cut_frames, ended, fetched, highest, safe_frames, tap_after, tap_of, without_first}
+use Rattle.ordered_merge.specs.Merge.{CanFetch, CanFetchAll, Follows, IsInTime, MergerState, Tap, after_cut, change_tap, cut_frames, ended, fetched, fetched_all, highest, safe_frames, tap_after, tap_of, without_first}
 use Rattle.ordered_merge.specs.Order.{IsOrder, insert_frame, is_before}
 use Rattle.pcap_io.specs.Position.{TakesAPacket, Reading, TakesFrame, after_frame, start_at}
+use Rattle.pcap_io.specs.Batches.{GivesFrames}
 use Rattle.pcap_io.proofs.Parse.{reads_more}
 use Rattle.std.proofs.KnownBytes.{Consumes-nil}
 use Rattle.pcap_io.specs.declared.position.Position.{Position}
@@ -17,7 +18,7 @@ use Rattle.pcap_io.specs.declared.recording.Stage.TheVariants.{Going}
 use Rattle.run_fault.specs.Device.{SourceView}
 use Rattle.run_fault.specs.Recording.{most_frames}
 use Rattle.run_fault.specs.Recording.{Ends}
-use Rattle.tap_merge.specs.Taps.{Agrees, Fits, HasRead, Merges, MergesNot, ReadsPart, SourceFails, turns_of}
+use Rattle.tap_merge.specs.Taps.{Agrees, Fits, HasRead, Merges, MergesAll, MergesFrame, MergesNot, ReadsPart, SourceFails, turns_of}
 use Rattle.run_fault.specs.declared.fault.WatchFault.{WatchFault}
 use Rattle.run_fault.specs.declared.fault.WatchFault.TheVariants as watch
 use Rattle.ordered_merge.proofs.Following.{ended_is_safe, follows_end, follows_fetch_a, follows_fetch_b}
@@ -121,9 +122,68 @@ b_stays_at_end end q m agrees = same_b end q m (ended m A) refl refl agrees
 pub a_stays_at_end : (end : Option Ending) (q : Position) (m : MergerState) → Agrees A end q m → Agrees A end q (ended m B)
 a_stays_at_end end q m agrees = same_a end q m (ended m B) refl refl agrees
 
+b_stays_at_all : (fs : List Frame) (old new : Reading) (m m' : MergerState) (end : Option Ending) (q : Position) → MergesAll A fs old new m m' →
+    Agrees B end q m → Agrees B end q m'
+b_stays_at_all [] old new m m' end q (here, is) agrees = subst (Agrees B end q) (sym is) agrees
+b_stays_at_all (f ∷ fs) old new m m' end q (mid, (t, moved, failures, net, can), rest) agrees =
+    b_stays_at_all fs mid new (fetched m f) m' end q rest (b_stays_at_fetch end q m f net agrees)
+
+a_stays_at_all : (fs : List Frame) (old new : Reading) (m m' : MergerState) (end : Option Ending) (q : Position) → MergesAll B fs old new m m' →
+    Agrees A end q m → Agrees A end q m'
+a_stays_at_all [] old new m m' end q (here, is) agrees = subst (Agrees A end q) (sym is) agrees
+a_stays_at_all (f ∷ fs) old new m m' end q (mid, (t, moved, failures, net, can), rest) agrees =
+    a_stays_at_all fs mid new (fetched m f) m' end q rest (a_stays_at_fetch end q m f net agrees)
+
+pub b_stays : (came : Option Ending) (old new : Reading) (m m' : MergerState) (end : Option Ending) (q : Position) → Merges A came old new m m' →
+    Agrees B end q m → Agrees B end q m'
+b_stays None old new m m' end q (f, fs, all) agrees = b_stays_at_all (f ∷ fs) old new m m' end q all agrees
+b_stays (Some ending) old new m m' end q (ends, moved, is) agrees = subst (Agrees B end q) (sym is) (b_stays_at_end end q m agrees)
+
+pub a_stays : (came : Option Ending) (old new : Reading) (m m' : MergerState) (end : Option Ending) (q : Position) → Merges B came old new m m' →
+    Agrees A end q m → Agrees A end q m'
+a_stays None old new m m' end q (f, fs, all) agrees = a_stays_at_all (f ∷ fs) old new m m' end q all agrees
+a_stays (Some ending) old new m m' end q (ends, moved, is) agrees = subst (Agrees A end q) (sym is) (a_stays_at_end end q m agrees)
+
 pub has_ended : (network : Network) (m : MergerState) → (tap_of (ended m network) network).ended ≡ true
 has_ended A m = refl
 has_ended B m = refl
+
+-- ---- frames that come together
+
+first_of : (fs : List Frame) → 0 < length fs → (f : Frame) × (gs : List Frame) × (fs ≡ f ∷ gs)
+first_of [] some = absurd (omega (arith, some))
+first_of (f ∷ fs) some = (f, fs, refl)
+
+all_fit : (network : Network) (fs : List Frame) (old new : Reading) (m : MergerState) → old.position.stage ≡ Going → Fits network old.position m →
+    GivesFrames old fs new → MergesAll network fs old new m (fetched_all m fs) × CanFetchAll network m fs
+    × Agrees network None new.position (fetched_all m fs) × (new.failures ≡ old.failures)
+all_fit network [] old new m going fits same = (
+  (sym same, refl),
+  record {},
+  subst (λ (r : Reading). Agrees network None r.position m) same (going, fits),
+  ap (λ (r : Reading). r.failures) (sym same),
+)
+all_fit network (f ∷ fs) old new m going fits (mid, step, rest) =
+    let t : TakesFrame old.position old.remaining mid.remaining f = step.item going in
+    let fit = frame_fits network old.position m old.remaining mid.remaining f fits t in
+    let moved : mid.position ≡ after_frame old.position f.stamp = step.after in
+    let next = all_fit network fs mid new (fetched m f) (ap (λ (q : Position). q.stage) moved ∙ going)
+    (subst (λ (q : Position). Fits network q (fetched m f)) (sym moved) (fits_after network old.position m f fit.0 fits)) rest in (
+      (mid, (t, moved, step.no_failure, fit.0, fit.1), next.0),
+      (fit.0, fit.1, next.1),
+      next.2,
+      next.3 ∙ step.no_failure,
+    )
+
+pub batch_fits : (network : Network) (fs : List Frame) (old new : Reading) (m : MergerState) → old.position.stage ≡ Going → Fits network old.position m →
+    GivesFrames old fs new → CanFetchAll network m fs × Agrees network None new.position (fetched_all m fs) × (new.failures ≡ old.failures)
+batch_fits network fs old new m going fits gives = (all_fit network fs old new m going fits gives).1
+
+pub batch_merges : (network : Network) (fs : List Frame) (old new : Reading) (m : MergerState) → old.position.stage ≡ Going → Fits network old.position m →
+    GivesFrames old fs new → 0 < length fs → Merges network None old new m (fetched_all m fs)
+batch_merges network fs old new m going fits gives some =
+    let (f, gs, is) = first_of fs some in
+    (f, gs, subst (λ (l : List Frame). MergesAll network l old new m (fetched_all m fs)) is (all_fit network fs old new m going fits gives).0)
 
 -- ---- a network that is wanted goes on
 
@@ -231,27 +291,63 @@ ended_length : (m : MergerState) (network : Network) → length (ended m network
 ended_length m A = refl
 ended_length m B = refl
 
--- less work is left after an item, whether the tap's turns stand before the other's or after them
+same_most : (q q' : Position) (stamp : ℕ) → q' ≡ after_frame q stamp → q.most ≡ most_frames → q'.most ≡ most_frames
+same_most q q' stamp moved most = ap (λ (p : Position). p.most) moved ∙ most
+
+frame_less : (network : Network) (f : Frame) (old mid : Reading) (m : MergerState) (other : ℕ) → old.position.most ≡ most_frames → MergesFrame network f old mid m →
+    ((turns_of None mid.position + other) * 2 + length (fetched m f).pending < (turns_of None old.position + other) * 2 + length m.pending)
+    × ((other + turns_of None mid.position) * 2 + length (fetched m f).pending < (other + turns_of None old.position) * 2 + length m.pending)
+frame_less network f old mid m other most (t, moved, failures, net, can) =
+    turn_less most_frames old.position.count mid.position.count (length m.pending) (length (fetched m f).pending) other
+    (subst (λ n. old.position.count < n) most t.bounded) (ap (λ (q : Position). q.count) moved) (fetched_length m f)
+
+all_less : (network : Network) (fs : List Frame) (old new : Reading) (m m' : MergerState) (other : ℕ) → old.position.most ≡ most_frames →
+    MergesAll network fs old new m m' →
+    ((turns_of None new.position + other) * 2 + length m'.pending ≤ (turns_of None old.position + other) * 2 + length m.pending)
+    × ((other + turns_of None new.position) * 2 + length m'.pending ≤ (other + turns_of None old.position) * 2 + length m.pending)
+all_less network [] old new m m' other most (here, is) = rw (here, is) (omega arith, omega arith)
+all_less network (f ∷ fs) old new m m' other most (mid, step, rest) =
+    let first = frame_less network f old mid m other most step in
+    let more = all_less network fs mid new (fetched m f) m' other (same_most old.position mid.position f.stamp step.1 most) rest in
+    (omega (arith, first.0, more.0), omega (arith, first.1, more.1))
+
+-- less work is left after what came next, whether the tap's turns stand before the other's or after them
 pub less_work : (network : Network) (end : Option Ending) (old new : Reading) (m m' : MergerState) (other : ℕ) → old.position.most ≡ most_frames →
     Merges network end old new m m' →
     ((turns_of end new.position + other) * 2 + length m'.pending < (turns_of None old.position + other) * 2 + length m.pending)
     × ((other + turns_of end new.position) * 2 + length m'.pending < (other + turns_of None old.position) * 2 + length m.pending)
-less_work network None old new m m' other most (f, t, moved, same, can, is) =
-    turn_less most_frames old.position.count new.position.count (length m.pending) (length m'.pending) other
-    (subst (λ n. old.position.count < n) most t.bounded) (ap (λ (q : Position). q.count) moved) (ap (λ (s : MergerState). length s.pending) is ∙ fetched_length m f)
+less_work network None old new m m' other most (f, fs, mid, step, rest) =
+    let first = frame_less network f old mid m other most step in
+    let more = all_less network fs mid new (fetched m f) m' other (same_most old.position mid.position f.stamp step.1 most) rest in
+    (omega (arith, first.0, more.0), omega (arith, first.1, more.1))
 less_work network (Some ending) old new m m' other most (ends, moved, is) =
     last_less most_frames old.position.count (length m.pending) (length m'.pending) other (ap (λ (s : MergerState). length s.pending) is ∙ ended_length m network)
 
--- ---- an item of a tap is merged
+-- ---- what comes next of a tap is merged
+
+all_a : (fs : List Frame) (late : ℕ) (before : SourceView) (fa fb cut : List Frame) (old new : Reading) (m m' : MergerState) → old.position.most ≡ most_frames →
+    HasRead A late before fa None old → Follows m fa fb cut → MergesAll A fs old new m m' →
+    (more : List Frame) × HasRead A late before more None new × Follows m' more fb cut
+all_a [] late before fa fb cut old new m m' most read fol (here, is) =
+    (fa, subst (HasRead A late before fa None) (sym here) read, subst (λ (s : MergerState). Follows s fa fb cut) (sym is) fol)
+all_a (f ∷ fs) late before fa fb cut old new m m' most read fol (mid, (t, moved, failures, net, can), rest) =
+    all_a fs late before (fa ++ f ∷ []) fb cut mid new (fetched m f) m' (same_most old.position mid.position f.stamp moved most)
+    (read_frame A late before fa old mid f most read t moved failures) (follows_fetch_a m fa fb cut f fol can net) rest
+
+all_b : (fs : List Frame) (late : ℕ) (before : SourceView) (fa fb cut : List Frame) (old new : Reading) (m m' : MergerState) → old.position.most ≡ most_frames →
+    HasRead B late before fb None old → Follows m fa fb cut → MergesAll B fs old new m m' →
+    (more : List Frame) × HasRead B late before more None new × Follows m' fa more cut
+all_b [] late before fa fb cut old new m m' most read fol (here, is) =
+    (fb, subst (HasRead B late before fb None) (sym here) read, subst (λ (s : MergerState). Follows s fa fb cut) (sym is) fol)
+all_b (f ∷ fs) late before fa fb cut old new m m' most read fol (mid, (t, moved, failures, net, can), rest) =
+    all_b fs late before fa (fb ++ f ∷ []) cut mid new (fetched m f) m' (same_most old.position mid.position f.stamp moved most)
+    (read_frame B late before fb old mid f most read t moved failures) (follows_fetch_b m fa fb cut f fol can net) rest
 
 pub merged_a : (end : Option Ending) (late : ℕ) (before : SourceView) (fa fb cut : List Frame) (old new : Reading) (m m' : MergerState) → old.position.most ≡ most_frames →
     HasRead A late before fa None old → Follows m fa fb cut → Merges A end old new m m' → new.failures ≡ old.failures →
     (more : List Frame) × HasRead A late before more end new × Follows m' more fb cut
-merged_a None late before fa fb cut old new m m' most read fol (f, t, moved, same, can, is) failures = (
-  fa ++ f ∷ [],
-  read_frame A late before fa old new f most read t moved failures,
-  subst (λ (s : MergerState). Follows s (fa ++ f ∷ []) fb cut) (sym is) (follows_fetch_a m fa fb cut f fol can same),
-)
+merged_a None late before fa fb cut old new m m' most read fol (f, fs, all) failures =
+    all_a (f ∷ fs) late before fa fb cut old new m m' most read fol all
 merged_a (Some ending) late before fa fb cut old new m m' most read fol (ends, moved, is) failures = (
   fa,
   read_end A late before fa old new ending read ends failures,
@@ -261,32 +357,15 @@ merged_a (Some ending) late before fa fb cut old new m m' most read fol (ends, m
 pub merged_b : (end : Option Ending) (late : ℕ) (before : SourceView) (fa fb cut : List Frame) (old new : Reading) (m m' : MergerState) → old.position.most ≡ most_frames →
     HasRead B late before fb None old → Follows m fa fb cut → Merges B end old new m m' → new.failures ≡ old.failures →
     (more : List Frame) × HasRead B late before more end new × Follows m' fa more cut
-merged_b None late before fa fb cut old new m m' most read fol (f, t, moved, same, can, is) failures = (
-  fb ++ f ∷ [],
-  read_frame B late before fb old new f most read t moved failures,
-  subst (λ (s : MergerState). Follows s fa (fb ++ f ∷ []) cut) (sym is) (follows_fetch_b m fa fb cut f fol can same),
-)
+merged_b None late before fa fb cut old new m m' most read fol (f, fs, all) failures =
+    all_b (f ∷ fs) late before fa fb cut old new m m' most read fol all
 merged_b (Some ending) late before fa fb cut old new m m' most read fol (ends, moved, is) failures = (
   fb,
   read_end B late before fb old new ending read ends failures,
   subst (λ (s : MergerState). Follows s fa fb cut) (sym is) (follows_end m fa fb cut B fol),
 )
 
--- ---- an item of a tap isn't merged
-
--- the frame was read, and has no place in the merger
-part_dropped : (network : Network) (late : ℕ) (before : SourceView) (frames : List Frame) (old new : Reading) (f : Frame) → old.position.most ≡ most_frames →
-    HasRead network late before frames None old → TakesFrame old.position old.remaining new.remaining f →
-    ReadsPart network late before (frames ++ f ∷ []) new
-part_dropped network late before frames old new f most read t =
-    let there : Reading = record { position = after_frame old.position f.stamp; remaining = new.remaining; failures = old.failures } in
-    let has = read_frame network late before frames old there f most read t refl refl in
-    record {
-      position = has.position;
-      left = has.left;
-      read = has.read;
-      gone = none_gone has.left new.remaining (sym has.stands.1);
-    }
+-- ---- what comes next of a tap isn't merged
 
 counted_from : (a b c : ℕ) → b ≡ a → CountsFailure b c → CountsFailure a c
 counted_from a b c same counts = subst (λ n. CountsFailure n c) same counts
@@ -306,14 +385,9 @@ stops_a (watch.Read A) late a b fa fb cut end_b old new other m most read_a read
 stops_a (watch.Read B) late a b fa fb cut end_b old new other m most read_a read_b fol (is, counts, gone) = (let wrong : ⊥ = cc is in absurd wrong)
 stops_a watch.Memory late a b fa fb cut end_b old new other m most read_a read_b fol (same, inl gone) =
     (fa, m.pending, fol.order, part_stopped A late a fa old new read_a gone, part_of B late b fb end_b other read_b, (same ∙ read_a.failures, read_b.failures))
-stops_a watch.Memory late a b fa fb cut end_b old new other m most read_a read_b fol (same, inr (f, t, net, can)) = (
-  fa ++ f ∷ [],
-  insert_frame f m.pending,
-  (follows_fetch_a m fa fb cut f fol can net).order,
-  part_dropped A late a fa old new f most read_a t,
-  part_of B late b fb end_b other read_b,
-  (same ∙ read_a.failures, read_b.failures),
-)
+stops_a watch.Memory late a b fa fb cut end_b old new other m most read_a read_b fol (same, inr (m', f, fs, all)) =
+    let (more, read, follows) = all_a (f ∷ fs) late a fa fb cut old new m m' most read_a fol all in
+    (more, m'.pending, follows.order, part_of A late a more None new read, part_of B late b fb end_b other read_b, (same ∙ read_a.failures, read_b.failures))
 stops_a watch.Workers late a b fa fb cut end_b old new other m most read_a read_b fol h = absurd h
 stops_a (watch.Header network fault) late a b fa fb cut end_b old new other m most read_a read_b fol h = absurd h
 stops_a (watch.Write out) late a b fa fb cut end_b old new other m most read_a read_b fol h = absurd h
@@ -336,14 +410,9 @@ stops_b (watch.Read B) late a b fa fb cut end_a old new other m most read_b read
 stops_b (watch.Read A) late a b fa fb cut end_a old new other m most read_b read_a fol (is, counts, gone) = (let wrong : ⊥ = cc is in absurd wrong)
 stops_b watch.Memory late a b fa fb cut end_a old new other m most read_b read_a fol (same, inl gone) =
     (fb, m.pending, fol.order, part_of A late a fa end_a other read_a, part_stopped B late b fb old new read_b gone, (read_a.failures, same ∙ read_b.failures))
-stops_b watch.Memory late a b fa fb cut end_a old new other m most read_b read_a fol (same, inr (f, t, net, can)) = (
-  fb ++ f ∷ [],
-  insert_frame f m.pending,
-  (follows_fetch_b m fa fb cut f fol can net).order,
-  part_of A late a fa end_a other read_a,
-  part_dropped B late b fb old new f most read_b t,
-  (read_a.failures, same ∙ read_b.failures),
-)
+stops_b watch.Memory late a b fa fb cut end_a old new other m most read_b read_a fol (same, inr (m', f, fs, all)) =
+    let (more, read, follows) = all_b (f ∷ fs) late b fa fb cut old new m m' most read_b fol all in
+    (more, m'.pending, follows.order, part_of A late a fa end_a other read_a, part_of B late b more None new read, (read_a.failures, same ∙ read_b.failures))
 stops_b watch.Workers late a b fa fb cut end_a old new other m most read_b read_a fol h = absurd h
 stops_b (watch.Header network fault) late a b fa fb cut end_a old new other m most read_b read_a fol h = absurd h
 stops_b (watch.Write out) late a b fa fb cut end_a old new other m most read_b read_a fol h = absurd h
@@ -367,10 +436,22 @@ take_none : (n : ℕ) (l : List Frame) → take (suc n) l ≡ [] → l ≡ []
 take_none n [] e = refl
 take_none n (f ∷ l) e = (let wrong : ⊥ = cc e in absurd wrong)
 
--- where both have ended, an empty cut leaves nothing
-pub all_cut : (m : MergerState) (most : ℕ) → 0 < most → m.a.ended ≡ true → m.b.ended ≡ true → cut_frames m most ≡ [] → m.pending ≡ []
-all_cut m zero less a b none = absurd (omega (arith, less))
-all_cut m (suc most) less a b none = take_none most m.pending (ap (take (suc most)) (sym (ended_is_safe m a b)) ∙ none)
+none_taken : (l : List Frame) → (length (take 1 l) ≡ 1 → ⊥) → l ≡ []
+none_taken [] no = refl
+none_taken (f ∷ l) no = absurd (no refl)
+
+some_taken : (n : ℕ) (l : List Frame) → 0 < n → length (take 1 l) ≡ 1 → 0 < length (take n l)
+some_taken zero l less one = absurd (omega (arith, less))
+some_taken (suc n) [] less one = absurd (omega (arith, one))
+some_taken (suc n) (f ∷ l) less one = omega arith
+
+-- where both have ended and none is safe, none is left
+pub none_left : (m : MergerState) → m.a.ended ≡ true → m.b.ended ≡ true → (length (cut_frames m 1) ≡ 1 → ⊥) → m.pending ≡ []
+none_left m a b no = sym (ended_is_safe m a b) ∙ none_taken (safe_frames m) no
+
+-- where one is safe, a cut has some
+pub some_cut : (m : MergerState) (most : ℕ) → 0 < most → length (cut_frames m 1) ≡ 1 → 0 < length (cut_frames m most)
+some_cut m most less one = some_taken most (safe_frames m) less one
 
 -- where no frame was cut, none was safe, and none is
 pub none_safe : (m : MergerState) (most : ℕ) → 0 < most → cut_frames m most ≡ [] → safe_frames (after_cut m most) ≡ []

@@ -1,5 +1,5 @@
 -- Two recordings as they are read and merged (this project's profile).
-use Rattle.std.specs.Prelude.{◌≡◌, ◌⊎◌, ℕ, ◌+◌, ◌*◌, ◌-◌, true, false, List, ◌++◌, length, Option, Some, None, is_some, unwrap_or}
+use Rattle.std.specs.Prelude.{◌≡◌, ◌⊎◌, ℕ, ◌+◌, ◌*◌, ◌-◌, true, false, List, [], ◌∷◌, ◌++◌, length, Option, Some, None, is_some, unwrap_or}
 use Rattle.afdx_frame.specs.Frame.{Frame}
 use Rattle.afdx_frame.specs.declared.key.Network.{Network}
 use Rattle.afdx_frame.specs.declared.key.Network.TheVariants.{A, B}
@@ -35,23 +35,33 @@ abbrev pub Agrees : Network → Option Ending → Position → MergerState → T
 Agrees network None q m = (q.stage ≡ Going) × Fits network q m
 Agrees network (Some ending) q m = (q.stage ≡ Ended ending) × ((tap_of m network).ended ≡ true)
 
--- a reader's next item was merged: a frame, or the recording's ending
+-- the next frame of a reader is the merger's next one of the network
+abbrev pub MergesFrame : Network → Frame → Reading → Reading → MergerState → Type 0
+MergesFrame network f old new m =
+    TakesFrame old.position old.remaining new.remaining f × (new.position ≡ after_frame old.position f.stamp)
+    × (new.failures ≡ old.failures) × (f.network ≡ network) × CanFetch m f
+
+-- the next frames of a reader were merged, one after another
+abbrev pub MergesAll : Network → List Frame → Reading → Reading → MergerState → MergerState → Type 0
+MergesAll network [] old new m m' = (new ≡ old) × (m' ≡ m)
+MergesAll network (f ∷ fs) old new m m' =
+    (mid : Reading) × MergesFrame network f old mid m × MergesAll network fs mid new (fetched m f) m'
+
+-- what comes next of a reader was merged: frames, at least one, or the recording's ending
 abbrev pub Merges : Network → Option Ending → Reading → Reading → MergerState → MergerState → Type 0
-Merges network None old new m m' =
-    (f : Frame) × TakesFrame old.position old.remaining new.remaining f × (new.position ≡ after_frame old.position f.stamp)
-    × (f.network ≡ network) × CanFetch m f × (m' ≡ fetched m f)
+Merges network None old new m m' = (f : Frame) × (fs : List Frame) × MergesAll network (f ∷ fs) old new m m'
 Merges network (Some ending) old new m m' =
     Ends old.position old.remaining new.remaining ending × (new.position ≡ record old.position { stage = Ended ending })
     × (m' ≡ ended m network)
 
--- A reader's next item wasn't merged: the source failed, or there was no memory for the frame, or for its place in the merger.
+-- What comes next of a reader wasn't merged: the source failed, or there was no memory for a frame, or for the places of frames in
+-- the merger, which may have some of them.
 abbrev pub MergesNot : Network → WatchFault → Reading → Reading → MergerState → Type 0
 MergesNot network (watch.Read failed) old new m =
     (failed ≡ network) × CountsFailure old.failures new.failures × TakesAPacket old.remaining new.remaining
 MergesNot network watch.Memory old new m =
     (new.failures ≡ old.failures)
-    × (TakesAPacket old.remaining new.remaining
-    ⊎ ((f : Frame) × TakesFrame old.position old.remaining new.remaining f × (f.network ≡ network) × CanFetch m f))
+    × (TakesAPacket old.remaining new.remaining ⊎ ((m' : MergerState) × Merges network None old new m m'))
 MergesNot network fault old new m = ⊥
 
 -- ---- both taps

@@ -10,14 +10,15 @@ ghost use Rattle.tap_merge.specs.Taps.{Agrees, Fits, Merges, MergesNot};
 use afdx_frame::Network;
 use frame_batch::Round;
 use ordered_merge::Merger;
-use pcap_io::{Ending, Item, OpenRefused, ReadFault, TapReader, TapSource};
+use pcap_io::{Batched, Ending, OpenRefused, ReadFault, TapReader, TapSource};
 use run_fault::{MAX_FRAMES, WatchFault, fault_of_open};
 use std::alloc::{AllocError, Global};
 use std::num::NonZeroUsize;
 
-/// Merges the next frame of a network's reader, or its ending, which it returns.
+/// Merges the next frames of a network's reader, at most `most`, or its ending, which it returns.
 fn merge_next<S: TapSource>(
     alloc: Global,
+    most: usize,
     network: Network,
     reader: &mut TapReader<S>,
     merger: &mut Merger,
@@ -34,12 +35,12 @@ fn merge_next<S: TapSource>(
         (reading_of S.remaining S.failures reader.old)
         (reading_of S.remaining S.failures reader.new) merger.old) }
 {
-    match reader.next(alloc) {
-        Ok(Item::Frame(frame)) => match merger.fetch(frame) {
+    match reader.next_batch(alloc, most) {
+        Ok(Batched::Frames(batch)) => match merger.fetch_all(network, batch) {
             Ok(()) => Ok(None),
             Err(_) => Err(WatchFault::Memory),
         },
-        Ok(Item::End(ending)) => {
+        Ok(Batched::End(ending)) => {
             merger.end(network);
             Ok(Some(ending))
         }
@@ -72,7 +73,7 @@ pub struct Unopened<S, T> {
 pub const ROUND: usize = 1024;
 
 impl<S: TapSource, T: TapSource> Taps<S, T> {
-    ghost use Rattle.ordered_merge.specs.Merge.{new_state};
+    ghost use Rattle.ordered_merge.specs.Merge.{cut_frames, new_state};
     ghost use Rattle.pcap_io.specs.Reader.{remaining_of, unread_of};
     ghost use Rattle.run_fault.specs.Recording.{LeavesUnread};
     ghost use Rattle.tap_merge.specs.Taps.{Agree, HasEnded, HasMerged, StopsMerging, work_left};
@@ -152,8 +153,9 @@ impl<S: TapSource, T: TapSource> Taps<S, T> {
         (a.into_source(), b.into_source())
     }
 
-    /// Merges the next item of the network whose turn it is. False: both have ended.
-    fn merge_one(&mut self, alloc: Global) -> Result<bool, WatchFault>
+    /// Merges what comes next of the network whose turn it is: at most `most` frames, or its ending. False: both
+    /// have ended.
+    fn merge_one(&mut self, alloc: Global, most: usize) -> Result<bool, WatchFault>
         requires { Agree self.old }
         ensures agree { OnOk result (Agree self.new) }
         ensures merged { OnOk result ((late : ℕ) (a b : SourceView)
@@ -176,44 +178,12 @@ impl<S: TapSource, T: TapSource> Taps<S, T> {
         match self.merger.wants() {
             None => return Ok(false),
             Some(Network::A) => {
-                let end = merge_next(alloc, Network::A, &mut self.a, &mut self.merger)?;
+                let end = merge_next(alloc, most, Network::A, &mut self.a, &mut self.merger)?;
                 self.end_a = end;
             }
             Some(Network::B) => {
-                let end = merge_next(alloc, Network::B, &mut self.b, &mut self.merger)?;
+                let end = merge_next(alloc, most, Network::B, &mut self.b, &mut self.merger)?;
                 self.end_b = end;
-            }
-        }
-        Ok(true)
-    }
-
-    /// Merges up to `most` items, at least one. False: both have ended.
-    fn merge_some(&mut self, alloc: Global, most: usize) -> Result<bool, WatchFault>
-        requires { Agree self.old }
-        ensures agree { OnOk result (Agree self.new) }
-        ensures merged { OnOk result ((late : ℕ) (a b : SourceView)
-            (frames_a frames_b cut : List Frame)
-            → HasMerged S.TapSource T.TapSource
-            late a b frames_a frames_b cut self.old
-            → (more_a : List Frame) × (more_b : List Frame)
-            × HasMerged S.TapSource T.TapSource
-            late a b more_a more_b cut self.new) }
-        ensures goes_on { result ≡ Ok true → work_left self.new < work_left self.old }
-        ensures ended { result ≡ Ok false → HasEnded self.new × (self.new ≡ self.old) }
-        ensures stopped { IfErr result (λ fault. (late : ℕ) (a b : SourceView)
-            (frames_a frames_b cut : List Frame)
-            → HasMerged S.TapSource T.TapSource
-            late a b frames_a frames_b cut self.old
-            → StopsMerging fault late a b cut
-            (reading_of S.remaining S.failures self.new.a)
-            (reading_of T.remaining T.failures self.new.b)) }
-    {
-        if !self.merge_one(alloc)? {
-            return Ok(false);
-        }
-        for _more in 1..most {
-            if !self.merge_one(alloc)? {
-                break;
             }
         }
         Ok(true)
@@ -231,8 +201,8 @@ impl<S: TapSource, T: TapSource> Taps<S, T> {
             late a b frames_a frames_b (cut ++ round) self.new) }
         ensures work { IfOk result (λ round.
             length round + work_left self.new ≡ work_left self.old) }
-        ensures ended { IfOk result (λ round. HasEnded self.old → round ≡ []
-            → HasEnded self.new × (self.new.merger.pending ≡ [])) }
+        ensures some { IfOk result (λ round. length (cut_frames self.old.merger 1) ≡ 1
+            → 0 < length round) }
         ensures stopped { IfErr result (λ fault. (late : ℕ) (a b : SourceView)
             (frames_a frames_b cut : List Frame)
             → HasMerged S.TapSource T.TapSource
@@ -275,14 +245,13 @@ impl<S: TapSource, T: TapSource> Taps<S, T> {
             (reading_of S.remaining S.failures self.new.a)
             (reading_of T.remaining T.failures self.new.b)) }
     {
-        let merged = self.merge_some(alloc, most.get())?;
+        // What came together may be several rounds.
+        if !self.merger.has_round(1) {
+            if !self.merge_one(alloc, most.get())? {
+                return Ok(None);
+            }
+        }
         let round = self.cut_round(most)?;
-        if merged {
-            return Ok(Some(round));
-        }
-        if round.is_empty() {
-            return Ok(None);
-        }
         Ok(Some(round))
     }
 }
