@@ -1,7 +1,7 @@
 -- Two recordings, as they are read and merged.
-use Rattle.std.proofs.Common.{◌≡◌, inl, inr, ℕ, ◌+◌, ◌-◌, ◌*◌, ◌<◌, ◌≤◌, max, Bool, true, false, cond, suc, List, [], ◌∷◌, ◌++◌, length, take, zero, Option, Some, None, is_some, refl, sym, subst, ap, ◌∙◌, arith}
-use Rattle.std.proofs.lemmas.Bool.{eqb-true, false≢true}
-use Rattle.std.specs.Prelude.{unwrap_or, ◌==◌}
+use Rattle.std.proofs.Common.{◌≡◌, inl, inr, map, ℕ, ◌+◌, ◌-◌, ◌*◌, ◌<◌, ◌≤◌, max, Bool, true, false, cond, suc, List, [], ◌∷◌, ◌++◌, length, take, zero, Option, Some, None, is_some, refl, sym, subst, ap, ◌∙◌, arith}
+use Rattle.std.proofs.lemmas.Bool.{false≢true}
+use Rattle.std.specs.Prelude.{unwrap_or}
 use Rattle.std.specs.Option.{ForSome}
 use Rattle.afdx_frame.specs.Frame.{Frame}
 use Rattle.afdx_frame.specs.declared.key.Network.{Network}
@@ -9,6 +9,8 @@ use Rattle.afdx_frame.specs.declared.key.Network.TheVariants.{A, B}
 use Rattle.ordered_merge.specs.Merge.{CanFetch, CanFetchAll, Follows, IsInTime, MergerState, Tap, after_cut, change_tap, cut_frames, ended, fetched, fetched_all, highest, safe_frames, tap_after, tap_of, without_first}
 use Rattle.ordered_merge.specs.Order.{IsOrder, insert_frame, is_before}
 use Rattle.pcap_io.specs.Position.{TakesAPacket, Reading, TakesFrame, after_frame, start_at}
+use Rattle.frame_batch.specs.Batch.{BatchState, batch_frames, record_frame}
+use Rattle.frame_batch.specs.declared.frame_record.FrameRecord.{FrameRecord}
 use Rattle.pcap_io.specs.Batches.{GivesFrames}
 use Rattle.pcap_io.proofs.Parse.{reads_more}
 use Rattle.std.proofs.KnownBytes.{Consumes-nil}
@@ -150,6 +152,13 @@ has_ended B m = refl
 
 -- ---- frames that come together
 
+some_mapped : (block : List ℕ) (records : List FrameRecord) → 0 < length records → 0 < length (map (record_frame block) records)
+some_mapped block [] some = absurd (omega (arith, some))
+some_mapped block (r ∷ records) some = omega arith
+
+pub has_frames : (b : BatchState) → 0 < length b.left → 0 < length (batch_frames b)
+has_frames b some = some_mapped b.block b.left some
+
 first_of : (fs : List Frame) → 0 < length fs → (f : Frame) × (gs : List Frame) × (fs ≡ f ∷ gs)
 first_of [] some = absurd (omega (arith, some))
 first_of (f ∷ fs) some = (f, fs, refl)
@@ -177,7 +186,9 @@ all_fit network (f ∷ fs) old new m going fits (mid, step, rest) =
 
 pub batch_fits : (network : Network) (fs : List Frame) (old new : Reading) (m : MergerState) → old.position.stage ≡ Going → Fits network old.position m →
     GivesFrames old fs new → CanFetchAll network m fs × Agrees network None new.position (fetched_all m fs) × (new.failures ≡ old.failures)
-batch_fits network fs old new m going fits gives = (all_fit network fs old new m going fits gives).1
+batch_fits network fs old new m going fits gives =
+    let (merges, can, agrees, failures) = all_fit network fs old new m going fits gives in
+    (can, agrees, failures)
 
 pub batch_merges : (network : Network) (fs : List Frame) (old new : Reading) (m : MergerState) → old.position.stage ≡ Going → Fits network old.position m →
     GivesFrames old fs new → 0 < length fs → Merges network None old new m (fetched_all m fs)
@@ -316,7 +327,7 @@ pub less_work : (network : Network) (end : Option Ending) (old new : Reading) (m
     Merges network end old new m m' →
     ((turns_of end new.position + other) * 2 + length m'.pending < (turns_of None old.position + other) * 2 + length m.pending)
     × ((other + turns_of end new.position) * 2 + length m'.pending < (other + turns_of None old.position) * 2 + length m.pending)
-less_work network None old new m m' other most (f, fs, mid, step, rest) =
+less_work network None old new m m' other most (f, fs, (mid, step, rest)) =
     let first = frame_less network f old mid m other most step in
     let more = all_less network fs mid new (fetched m f) m' other (same_most old.position mid.position f.stamp step.1 most) rest in
     (omega (arith, first.0, more.0), omega (arith, first.1, more.1))
@@ -385,7 +396,7 @@ stops_a (watch.Read A) late a b fa fb cut end_b old new other m most read_a read
 stops_a (watch.Read B) late a b fa fb cut end_b old new other m most read_a read_b fol (is, counts, gone) = (let wrong : ⊥ = cc is in absurd wrong)
 stops_a watch.Memory late a b fa fb cut end_b old new other m most read_a read_b fol (same, inl gone) =
     (fa, m.pending, fol.order, part_stopped A late a fa old new read_a gone, part_of B late b fb end_b other read_b, (same ∙ read_a.failures, read_b.failures))
-stops_a watch.Memory late a b fa fb cut end_b old new other m most read_a read_b fol (same, inr (m', f, fs, all)) =
+stops_a watch.Memory late a b fa fb cut end_b old new other m most read_a read_b fol (same, inr (m', (f, fs, all))) =
     let (more, read, follows) = all_a (f ∷ fs) late a fa fb cut old new m m' most read_a fol all in
     (more, m'.pending, follows.order, part_of A late a more None new read, part_of B late b fb end_b other read_b, (same ∙ read_a.failures, read_b.failures))
 stops_a watch.Workers late a b fa fb cut end_b old new other m most read_a read_b fol h = absurd h
@@ -410,7 +421,7 @@ stops_b (watch.Read B) late a b fa fb cut end_a old new other m most read_b read
 stops_b (watch.Read A) late a b fa fb cut end_a old new other m most read_b read_a fol (is, counts, gone) = (let wrong : ⊥ = cc is in absurd wrong)
 stops_b watch.Memory late a b fa fb cut end_a old new other m most read_b read_a fol (same, inl gone) =
     (fb, m.pending, fol.order, part_of A late a fa end_a other read_a, part_stopped B late b fb old new read_b gone, (read_a.failures, same ∙ read_b.failures))
-stops_b watch.Memory late a b fa fb cut end_a old new other m most read_b read_a fol (same, inr (m', f, fs, all)) =
+stops_b watch.Memory late a b fa fb cut end_a old new other m most read_b read_a fol (same, inr (m', (f, fs, all))) =
     let (more, read, follows) = all_b (f ∷ fs) late b fa fb cut old new m m' most read_b fol all in
     (more, m'.pending, follows.order, part_of A late a fa end_a other read_a, part_of B late b more None new read, (read_a.failures, same ∙ read_b.failures))
 stops_b watch.Workers late a b fa fb cut end_a old new other m most read_b read_a fol h = absurd h
@@ -437,17 +448,22 @@ take_none n [] e = refl
 take_none n (f ∷ l) e = (let wrong : ⊥ = cc e in absurd wrong)
 
 none_taken : (l : List Frame) → (length (take 1 l) ≡ 1 → ⊥) → l ≡ []
-none_taken [] no = refl
-none_taken (f ∷ l) no = absurd (no refl)
+none_taken [] not = refl
+none_taken (f ∷ l) not = absurd (not refl)
 
 some_taken : (n : ℕ) (l : List Frame) → 0 < n → length (take 1 l) ≡ 1 → 0 < length (take n l)
 some_taken zero l less one = absurd (omega (arith, less))
 some_taken (suc n) [] less one = absurd (omega (arith, one))
 some_taken (suc n) (f ∷ l) less one = omega arith
 
+-- where both have ended, an empty cut leaves nothing
+pub all_cut : (m : MergerState) (most : ℕ) → 0 < most → m.a.ended ≡ true → m.b.ended ≡ true → cut_frames m most ≡ [] → m.pending ≡ []
+all_cut m zero less a b none = absurd (omega (arith, less))
+all_cut m (suc most) less a b none = take_none most m.pending (ap (take (suc most)) (sym (ended_is_safe m a b)) ∙ none)
+
 -- where both have ended and none is safe, none is left
 pub none_left : (m : MergerState) → m.a.ended ≡ true → m.b.ended ≡ true → (length (cut_frames m 1) ≡ 1 → ⊥) → m.pending ≡ []
-none_left m a b no = sym (ended_is_safe m a b) ∙ none_taken (safe_frames m) no
+none_left m a b not = sym (ended_is_safe m a b) ∙ none_taken (safe_frames m) not
 
 -- where one is safe, a cut has some
 pub some_cut : (m : MergerState) (most : ℕ) → 0 < most → length (cut_frames m 1) ≡ 1 → 0 < length (cut_frames m most)

@@ -36,10 +36,12 @@ fn merge_next<S: TapSource>(
         (reading_of S.remaining S.failures reader.new) merger.old) }
 {
     match reader.next_batch(alloc, most) {
-        Ok(Batched::Frames(batch)) => match merger.fetch_all(network, batch) {
-            Ok(()) => Ok(None),
-            Err(_) => Err(WatchFault::Memory),
-        },
+        Ok(Batched::Frames(batch)) => {
+            if merger.fetch_all(network, batch).is_err() {
+                return Err(WatchFault::Memory);
+            }
+            Ok(None)
+        }
         Ok(Batched::End(ending)) => {
             merger.end(network);
             Ok(Some(ending))

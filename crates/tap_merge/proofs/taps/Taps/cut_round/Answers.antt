@@ -1,9 +1,9 @@
-use Rattle.std.proofs.Common.{◌∙◌, ◌++◌, List, sym, ap}
+use Rattle.std.proofs.Common.{◌<◌, List, length, subst, sym}
 use Rattle.afdx_frame.specs.Frame.{Frame}
 use Rattle.afdx_frame.specs.declared.key.Network.TheVariants.{A, B}
-use Rattle.pcap_io.specs.Reader.{position_of, reading_of}
+use Rattle.pcap_io.specs.Reader.{reading_of}
 use Rattle.ordered_merge.proofs.Following.{follows_cut}
-use Rattle.tap_merge.proofs.TwoTaps.{all_cut, has_met, part_of}
+use Rattle.tap_merge.proofs.TwoTaps.{part_of, some_cut}
 use Rattle.tap_merge.proofs.taps.Taps.cut_round.Goals as goal
 
 pub returns-in-Ok-clause-merged : goal.returns-in-Ok-clause-merged
@@ -13,14 +13,9 @@ returns-in-Ok-clause-merged g c = λ late a b frames_a frames_b cut h. record {
   follows = rw (c.in-Ok.ensures.rest, c.in-Ok.ensures.round) (follows_cut c.args.self.now.merger frames_a frames_b cut c.get.result h.follows);
 }
 
-pub returns-in-Ok-clause-ended : goal.returns-in-Ok-clause-ended
-returns-in-Ok-clause-ended g c = λ ended none.
-    (let taps = c.args.self.now in (
-      ended,
-      sym (ap (λ (l : List Frame). l ++ c.cut.new.self.pending) none) ∙ sym c.in-Ok.ensures.whole
-          ∙ all_cut taps.merger c.get.result c.get.ensures.nonzero (has_met A taps.end_a (position_of taps.a) taps.merger c.requires.0 ended.0)
-          (has_met B taps.end_b (position_of taps.b) taps.merger c.requires.1 ended.1) (sym c.in-Ok.ensures.round ∙ none),
-    ))
+pub returns-in-Ok-clause-some : goal.returns-in-Ok-clause-some
+returns-in-Ok-clause-some g c = λ one.
+    subst (λ (l : List Frame). 0 < length l) (sym c.in-Ok.ensures.round) (some_cut c.args.self.now.merger c.get.result c.get.ensures.nonzero one)
 
 pub returns-in-Err-clause-stopped : goal.returns-in-Err-clause-stopped
 returns-in-Err-clause-stopped g c = λ late a b frames_a frames_b cut h. record {

@@ -4,10 +4,9 @@ use Rattle.afdx_frame.specs.declared.key.Network.TheVariants.{A, B}
 use Rattle.pcap_io.specs.Reader.{position_of, reading_of}
 use Rattle.pcap_io.specs.declared.recording.Ending.{Ending}
 use Rattle.tap_merge.specs.Taps.{HasRead, turns_of}
-use Rattle.tap_merge.proofs.TwoTaps.{goes_on, less_work, merged_a, merged_b, stops_a, stops_b}
+use Rattle.tap_merge.proofs.TwoTaps.{a_stays, b_stays, goes_on, less_work, merged_a, merged_b, stops_a, stops_b}
 use Rattle.tap_merge.proofs.taps.Taps.merge_one.Goals as goal
 
--- src/taps.rt:88:27
 pub returns-in_err-end-in-Some-A-clause-stopped : goal.returns-in_err-end-in-Some-A-clause-stopped
 returns-in_err-end-in-Some-A-clause-stopped g c =
     let taps = c.args.self.now in
@@ -22,7 +21,6 @@ returns-in_err-end-in-Some-A-clause-stopped g c =
     h.read_b h.follows c.in_err-end-in-Some-A.ensures.stopped in
     record { frames_a = s.0; frames_b = frames_b; rest = s.1; order = s.2; read_a = s.3; read_b = s.4; fails = s.5 }))
 
--- src/taps.rt:92:27
 pub returns-in_err-end-in-Some-B-clause-stopped : goal.returns-in_err-end-in-Some-B-clause-stopped
 returns-in_err-end-in-Some-B-clause-stopped g c =
     let taps = c.args.self.now in
@@ -37,7 +35,6 @@ returns-in_err-end-in-Some-B-clause-stopped g c =
     h.read_a h.follows c.in_err-end-in-Some-B.ensures.stopped in
     record { frames_a = frames_a; frames_b = s.0; rest = s.1; order = s.2; read_a = s.3; read_b = s.4; fails = s.5 }))
 
--- src/taps.rt:66:5
 pub returns-in_ok-end-in-Some-A-clause-merged : goal.returns-in_ok-end-in-Some-A-clause-merged
 returns-in_ok-end-in-Some-A-clause-merged g c = λ late a b frames_a frames_b cut h.
     (let taps = c.args.self.now in
@@ -49,7 +46,6 @@ returns-in_ok-end-in-Some-A-clause-merged g c = λ late a b frames_a frames_b cu
     h.follows c.in_ok-end-in-Some-A.ensures.merged c.in_ok-end-in-Some-A.ensures.no_failure in
     (s.0, frames_b, record { read_a = s.1; read_b = h.read_b; follows = s.2 }))
 
--- src/taps.rt:66:5
 pub returns-in_ok-end-in-Some-A-clause-goes_on : goal.returns-in_ok-end-in-Some-A-clause-goes_on
 returns-in_ok-end-in-Some-A-clause-goes_on g c = λ _.
     (let taps = c.args.self.now in
@@ -59,7 +55,6 @@ returns-in_ok-end-in-Some-A-clause-goes_on g c = λ _.
     (reading_of g.S.TapSource.remaining g.S.TapSource.failures c.merge_next.new.reader) taps.merger c.merge_next.new.merger
     (turns_of taps.end_b (position_of taps.b)) on.2.most c.in_ok-end-in-Some-A.ensures.merged).0)
 
--- src/taps.rt:66:5
 pub returns-in_ok-end-in-Some-B-clause-merged : goal.returns-in_ok-end-in-Some-B-clause-merged
 returns-in_ok-end-in-Some-B-clause-merged g c = λ late a b frames_a frames_b cut h.
     (let taps = c.args.self.now in
@@ -71,7 +66,6 @@ returns-in_ok-end-in-Some-B-clause-merged g c = λ late a b frames_a frames_b cu
     h.follows c.in_ok-end-in-Some-B.ensures.merged c.in_ok-end-in-Some-B.ensures.no_failure in
     (frames_a, s.0, record { read_a = h.read_a; read_b = s.1; follows = s.2 }))
 
--- src/taps.rt:66:5
 pub returns-in_ok-end-in-Some-B-clause-goes_on : goal.returns-in_ok-end-in-Some-B-clause-goes_on
 returns-in_ok-end-in-Some-B-clause-goes_on g c = λ _.
     (let taps = c.args.self.now in
@@ -80,3 +74,23 @@ returns-in_ok-end-in-Some-B-clause-goes_on g c = λ _.
     (reading_of g.T.TapSource.remaining g.T.TapSource.failures taps.b)
     (reading_of g.T.TapSource.remaining g.T.TapSource.failures c.merge_next-in-Some-B.new.reader) taps.merger c.merge_next-in-Some-B.new.merger
     (turns_of taps.end_a (position_of taps.a)) on.2.most c.in_ok-end-in-Some-B.ensures.merged).1)
+
+pub returns-in_ok-end-in-Some-A-clause-agree : goal.returns-in_ok-end-in-Some-A-clause-agree
+returns-in_ok-end-in-Some-A-clause-agree g c =
+    let taps = c.args.self.now in (
+      c.in_ok-end-in-Some-A.ensures.agrees,
+      b_stays c.in_ok-end-in-Some-A.end
+          (reading_of g.S.TapSource.remaining g.S.TapSource.failures taps.a)
+          (reading_of g.S.TapSource.remaining g.S.TapSource.failures c.merge_next.new.reader) taps.merger c.merge_next.new.merger taps.end_b (position_of taps.b)
+          c.in_ok-end-in-Some-A.ensures.merged c.requires.1,
+    )
+
+pub returns-in_ok-end-in-Some-B-clause-agree : goal.returns-in_ok-end-in-Some-B-clause-agree
+returns-in_ok-end-in-Some-B-clause-agree g c =
+    let taps = c.args.self.now in (
+      a_stays c.in_ok-end-in-Some-B.end
+          (reading_of g.T.TapSource.remaining g.T.TapSource.failures taps.b)
+          (reading_of g.T.TapSource.remaining g.T.TapSource.failures c.merge_next-in-Some-B.new.reader) taps.merger c.merge_next-in-Some-B.new.merger taps.end_a (position_of taps.a)
+          c.in_ok-end-in-Some-B.ensures.merged c.requires.0,
+      c.in_ok-end-in-Some-B.ensures.agrees,
+    )
