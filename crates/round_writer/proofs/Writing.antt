@@ -17,7 +17,7 @@ use Rattle.filter_workers.specs.Filters.{mask_by}
 use Rattle.round_writer.specs.Filters.{Making, capture_by, entries_by, entry_packet, keep_by, lines_by, packets_of}
 use Rattle.round_writer.specs.Entries.{AreEntries, AreVerdicts}
 use Rattle.round_writer.specs.declared.entries.Entries.{Entries}
-use Rattle.round_writer.specs.Outputs.{AppendsAll, HasPackets, HasPacketsFirst, SinkFails, StopsWriting, WhereLedgerFailed, effect_of, ledger_fault}
+use Rattle.round_writer.specs.Outputs.{AppendsAll, HasPackets, HasPacketsFirst, SinkFails, StopsWriting, WhereCaptureStands, effect_of, ledger_fault}
 use Rattle.verdict_ledger.specs.Writing.{IsAppended}
 use Rattle.verdict_ledger.specs.declared.fault.LedgerFault.{LedgerFault}
 use Rattle.verdict_ledger.specs.declared.fault.LedgerFault.TheVariants as ledger_faults
@@ -226,28 +226,28 @@ first_longer ps vl_table fs gs c c' l l' (inr (m, packets, lines)) =
       subst (λ (xs : List Frame). AppendsSome l l' (lines_by ps vl_table xs)) (sym p.1) lines,
     )
 
--- what always holds, where the ledger can't be written
-pub where_ledger : (P : Type 0) (fault : WatchFault) → P → WhereLedgerFailed fault P
-where_ledger P (watch.Write output.Ledger) p = p
-where_ledger P (watch.Write output.Capture) p = tt
-where_ledger P watch.Memory p = tt
-where_ledger P watch.Spawn p = tt
-where_ledger P watch.Workers p = tt
-where_ledger P (watch.Header network fault) p = tt
-where_ledger P (watch.Read network) p = tt
-where_ledger P watch.RingLost p = tt
-where_ledger P watch.Filters p = tt
+-- what always holds, where the capture stands
+pub where_capture : (P : Type 0) (fault : WatchFault) → P → WhereCaptureStands fault P
+where_capture P (watch.Write output.Ledger) p = p
+where_capture P (watch.Write output.Capture) p = tt
+where_capture P watch.Memory p = p
+where_capture P watch.Spawn p = p
+where_capture P watch.Workers p = p
+where_capture P (watch.Header network fault) p = p
+where_capture P (watch.Read network) p = p
+where_capture P watch.RingLost p = p
+where_capture P watch.Filters p = p
 
-pub where_ledger_map : (P Q : Type 0) (fault : WatchFault) → (P → Q) → WhereLedgerFailed fault P → WhereLedgerFailed fault Q
-where_ledger_map P Q (watch.Write output.Ledger) f p = f p
-where_ledger_map P Q (watch.Write output.Capture) f p = tt
-where_ledger_map P Q watch.Memory f p = tt
-where_ledger_map P Q watch.Spawn f p = tt
-where_ledger_map P Q watch.Workers f p = tt
-where_ledger_map P Q (watch.Header network fault) f p = tt
-where_ledger_map P Q (watch.Read network) f p = tt
-where_ledger_map P Q watch.RingLost f p = tt
-where_ledger_map P Q watch.Filters f p = tt
+pub where_capture_map : (P Q : Type 0) (fault : WatchFault) → (P → Q) → WhereCaptureStands fault P → WhereCaptureStands fault Q
+where_capture_map P Q (watch.Write output.Ledger) f p = f p
+where_capture_map P Q (watch.Write output.Capture) f p = tt
+where_capture_map P Q watch.Memory f p = f p
+where_capture_map P Q watch.Spawn f p = f p
+where_capture_map P Q watch.Workers f p = f p
+where_capture_map P Q (watch.Header network fault) f p = f p
+where_capture_map P Q (watch.Read network) f p = f p
+where_capture_map P Q watch.RingLost f p = f p
+where_capture_map P Q watch.Filters f p = f p
 
 -- there is an entry for each frame
 zipped_length : (fs : List Frame) (vs : List Judgement) (ks : List (Option ℕ)) (ms : List ℕ) →

@@ -400,7 +400,8 @@ running_aborts fault ps vl_table before a b after_a after_b capture ledger more_
         (wrote (watch.Read B) w safe (none_of B settled_b.start settled_b.reading (taken_items b) more_b ends settled_b.gives))
     by (watch.Read A) (inl ((B, (is, sound, ends)), w)) other safe = (let wrong : ⊥ = cc is in absurd wrong)
     by (watch.Read B) (inl ((A, (is, sound, ends)), w)) other safe = (let wrong : ⊥ = cc is in absurd wrong)
-    by watch.Memory (inl (rings, w)) other safe = aborts watch.Memory (back_a, back_b, w.capture_failures, w.ledger_failures) tt tt tt
+    by watch.Memory (inl (rings, w)) other safe =
+        aborts watch.Memory (back_a, back_b, w.capture_failures, w.ledger_failures) tt ((whole w).0, (whole w).1) tt
     by watch.RingLost (inl (rings, w)) other safe = absurd (other refl)
     by watch.Workers (inl ((A, h), w)) other safe = absurd h
     by watch.Workers (inl ((B, h), w)) other safe = absurd h
@@ -415,7 +416,8 @@ running_aborts fault ps vl_table before a b after_a after_b capture ledger more_
     by (watch.Write output.Capture) (inr w) other safe = aborts (watch.Write output.Capture) (back_a, back_b, w.fails.0, w.fails.1) tt tt tt
     by (watch.Write output.Ledger) (inr w) other safe =
         aborts (watch.Write output.Ledger) (back_a, back_b, w.fails.0, w.fails.1) tt (packets_longer ps vl_table s.cut stopped.rest before.capture capture w.whole) tt
-    by watch.Memory (inr w) other safe = aborts watch.Memory (back_a, back_b, w.fails.0, w.fails.1) tt tt tt
+    by watch.Memory (inr w) other safe =
+        aborts watch.Memory (back_a, back_b, w.fails.0, w.fails.1) tt (packets_longer ps vl_table s.cut stopped.rest before.capture capture w.whole) tt
     by watch.Spawn (inr w) other safe = absurd w.fails
     by (watch.Read n) (inr w) other safe = absurd w.fails
     by watch.RingLost (inr w) other safe = absurd (other refl)

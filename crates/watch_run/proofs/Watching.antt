@@ -21,7 +21,7 @@ use Rattle.verdict_ledger.specs.Tally.{totals_of}
 use Rattle.verdict_ledger.specs.declared.totals.Totals.{Totals}
 use Rattle.vl_config.specs.Document.{VlTable}
 use Rattle.vl_judge.specs.Lanes.{last_key}
-use Rattle.round_writer.specs.Outputs.{HasPackets, HasWritten, SinkFails, StopsWriting, WhereLedgerFailed}
+use Rattle.round_writer.specs.Outputs.{HasPackets, HasWritten, SinkFails, StopsWriting, WhereCaptureStands}
 use Rattle.vl_judge.specs.Lanes.{FollowsOn}
 use Rattle.watch_run.specs.Run.{IsWatching, StopsWatching}
 use Rattle.tap_merge.specs.declared.taps.Taps.{Taps}
@@ -231,7 +231,7 @@ stops_by_merging fault ps vl_table before cut a b capture ledger is_first s pack
       order = s.order;
       packets = capture_some ps vl_table cut s.rest before.capture.contents capture.contents packets;
       lines = of_cut;
-      wholes = tt;
+      wholes = (whole.0, whole.1);
       first = first;
       fails = (fails.0, fails.1, sound_c, sound_l);
       run = tt;
@@ -262,7 +262,7 @@ stops_by_writing fault ps vl_table before fa fb cut rest a b capture ledger is_f
     )
 
     by : (f : WatchFault) → SinkFails f before.capture.failures capture.failures before.ledger.failures ledger.failures →
-        WhereLedgerFailed f (HasPackets ps vl_table cut before.capture capture) → StopsWatching f ps vl_table before a b capture ledger
+        WhereCaptureStands f (HasPackets ps vl_table cut before.capture capture) → StopsWatching f ps vl_table before a b capture ledger
     by (watch.Write output.Capture) fails whole = record {
       frames_a = fa;
       frames_b = fb;
@@ -300,7 +300,7 @@ stops_by_writing fault ps vl_table before fa fb cut rest a b capture ledger is_f
       order = order;
       packets = capture_longer ps vl_table cut rest before.capture.contents capture.contents s.packets;
       lines = of_cut;
-      wholes = tt;
+      wholes = packets_longer ps vl_table cut rest before.capture capture whole;
       first = first;
       fails = (sound_a, sound_b, fails.0, fails.1);
       run = tt;

@@ -239,7 +239,8 @@ impl<S, T, W, L> Ready<S, T, W, L> {
 /// `Memory` before the threads start: of the recordings the file headers alone were read.
 ///
 /// Later `Read`, `Write` or `Memory`: each output has a prefix of what belongs to the frames that were read,
-/// after `Read` with whole packets and lines. Both recordings were read on to their endings, or until they
+/// after `Read` with whole packets and lines, and the capture with a whole packet unless it couldn't be
+/// written. Both recordings were read on to their endings, or until they
 /// failed; of several faults one is told. All devices come back. A source may have been read ahead by no more
 /// than 262144 bytes, and after a fault by a packet more.
 ///

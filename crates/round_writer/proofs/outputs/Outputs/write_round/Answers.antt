@@ -1,6 +1,8 @@
 use Rattle.std.proofs.lemmas.Result.{err_from_is_err_and}
 use Rattle.run_fault.proofs.Results.{with_err, with_on_ok}
-use Rattle.round_writer.proofs.Writing.{capture_some, first_whole, lines_some}
+use Rattle.pcap_io.specs.Writer.{sink_of}
+use Rattle.run_fault.specs.Device.{sink_at}
+use Rattle.round_writer.proofs.Writing.{capture_some, first_whole, lines_some, packets_first}
 use Rattle.round_writer.specs.Filters.{making_of}
 use Rattle.round_writer.proofs.outputs.Outputs.write_round.Goals as goal
 
@@ -11,7 +13,7 @@ returns-in_err-verdicts-clause-stopped g c =
       packets = capture_some (making_of c.args.plan.now) vl_table frames c.args.round.now _ _ h.packets;
       lines = lines_some (making_of c.args.plan.now) vl_table frames c.args.round.now _ _ h.lines;
       packets_first = first_whole (making_of c.args.plan.now) vl_table frames c.args.round.now _ _ _ _ h.packets h.lines;
-      whole = tt;
+      whole = packets_first (making_of c.args.plan.now) vl_table frames c.args.round.now capture (sink_at g.W.OutSink (sink_of c.args.self.now.capture)) h.packets;
       fails = (h.capture_failures, h.ledger_failures);
     })
 
@@ -22,7 +24,7 @@ returns-in_err-fill-clause-stopped g c =
       packets = capture_some (making_of c.args.plan.now) vl_table frames c.args.round.now _ _ h.packets;
       lines = lines_some (making_of c.args.plan.now) vl_table frames c.args.round.now _ _ h.lines;
       packets_first = first_whole (making_of c.args.plan.now) vl_table frames c.args.round.now _ _ _ _ h.packets h.lines;
-      whole = tt;
+      whole = packets_first (making_of c.args.plan.now) vl_table frames c.args.round.now capture (sink_at g.W.OutSink (sink_of c.args.self.now.capture)) h.packets;
       fails = (h.capture_failures, h.ledger_failures);
     })
 
