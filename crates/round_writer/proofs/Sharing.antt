@@ -16,7 +16,7 @@ use Rattle.verdict_ledger.specs.declared.ledger.Ledger.{Ledger}
 use Rattle.vl_config.specs.Document.{VlTable}
 use Rattle.vl_judge.specs.Lanes.{LanesState, StandsAfter}
 use Rattle.worker_pool.specs.Chunks.{Posted}
-use Rattle.round_writer.proofs.Writing.{capture_longer, capture_some, first_longer, first_whole, lines_longer, lines_some, packets_first, packets_longer, where_capture, where_capture_map}
+use Rattle.round_writer.proofs.Writing.{capture_longer, capture_some, first_longer, first_whole, lines_longer, lines_some, packets_first, whole_after, whole_longer}
 
 -- writing stopped, and more frames would have followed
 pub stops_longer : (fault : WatchFault) (ps : Making) (vl_table : VlTable) (capture ledger capture' ledger' : SinkView) (fs gs : List Frame) →
@@ -25,7 +25,7 @@ stops_longer fault ps vl_table capture ledger capture' ledger' fs gs s = record 
   packets = capture_longer ps vl_table fs gs capture.contents capture'.contents s.packets;
   lines = lines_longer ps vl_table fs gs ledger.contents ledger'.contents s.lines;
   packets_first = first_longer ps vl_table fs gs capture.contents capture'.contents ledger.contents ledger'.contents s.packets_first;
-  whole = where_capture_map (HasPackets ps vl_table fs capture capture') (HasPackets ps vl_table (fs ++ gs) capture capture') fault (packets_longer ps vl_table fs gs capture capture') s.whole;
+  whole = whole_longer fault ps vl_table fs gs capture capture' s.whole;
   fails = s.fails;
 }
 
@@ -57,7 +57,7 @@ module _ {W L T : Type 0} (w : SinkMembers W) (l : SinkMembers L) (ps : Making) 
             (lines_some ps vl_table h.first (frames_at flight ++ round) _ _ h.written.lines);
         packets_first = subst (λ (fs : List Frame). HasPacketsFirst ps vl_table fs capture.contents (w.contents (sink_of outputs.capture)) ledger.contents (l.contents (ledger_sink outputs.ledger))) (sym whole)
             (first_whole ps vl_table h.first (frames_at flight ++ round) _ _ _ _ h.written.packets h.written.lines);
-        whole = where_capture (HasPackets ps vl_table (frames ++ round) capture (sink_at w (sink_of outputs.capture))) fault
+        whole = whole_after fault ps vl_table (frames ++ round) capture (sink_at w (sink_of outputs.capture))
             (subst (λ (fs : List Frame). HasPackets ps vl_table fs capture (sink_at w (sink_of outputs.capture))) (sym whole)
             (packets_first ps vl_table h.first (frames_at flight ++ round) capture (sink_at w (sink_of outputs.capture)) h.written.packets));
         fails = fails;

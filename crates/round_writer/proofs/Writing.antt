@@ -17,7 +17,7 @@ use Rattle.filter_workers.specs.Filters.{mask_by}
 use Rattle.round_writer.specs.Filters.{Making, capture_by, entries_by, entry_packet, keep_by, lines_by, packets_of}
 use Rattle.round_writer.specs.Entries.{AreEntries, AreVerdicts}
 use Rattle.round_writer.specs.declared.entries.Entries.{Entries}
-use Rattle.round_writer.specs.Outputs.{AppendsAll, HasPackets, HasPacketsFirst, SinkFails, StopsWriting, WhereCaptureStands, effect_of, ledger_fault}
+use Rattle.round_writer.specs.Outputs.{AppendsAll, HasPackets, HasPacketsFirst, SinkFails, StopsWriting, IsWholeAfter, effect_of, ledger_fault}
 use Rattle.verdict_ledger.specs.Writing.{IsAppended}
 use Rattle.verdict_ledger.specs.declared.fault.LedgerFault.{LedgerFault}
 use Rattle.verdict_ledger.specs.declared.fault.LedgerFault.TheVariants as ledger_faults
@@ -226,28 +226,30 @@ first_longer ps vl_table fs gs c c' l l' (inr (m, packets, lines)) =
       subst (λ (xs : List Frame). AppendsSome l l' (lines_by ps vl_table xs)) (sym p.1) lines,
     )
 
--- what always holds, where the capture stands
-pub where_capture : (P : Type 0) (fault : WatchFault) → P → WhereCaptureStands fault P
-where_capture P (watch.Write output.Ledger) p = p
-where_capture P (watch.Write output.Capture) p = tt
-where_capture P watch.Memory p = p
-where_capture P watch.Spawn p = p
-where_capture P watch.Workers p = p
-where_capture P (watch.Header network fault) p = p
-where_capture P (watch.Read network) p = p
-where_capture P watch.RingLost p = p
-where_capture P watch.Filters p = p
+pub whole_after : (fault : WatchFault) (ps : Making) (vl_table : VlTable) (fs : List Frame) (capture capture' : SinkView) → HasPackets ps vl_table fs capture capture' →
+    IsWholeAfter fault ps vl_table fs capture capture'
+whole_after (watch.Write output.Ledger) ps vl_table fs capture capture' p = p
+whole_after (watch.Write output.Capture) ps vl_table fs capture capture' p = tt
+whole_after watch.Memory ps vl_table fs capture capture' p = inr p
+whole_after watch.Spawn ps vl_table fs capture capture' p = tt
+whole_after watch.Workers ps vl_table fs capture capture' p = tt
+whole_after (watch.Header network fault) ps vl_table fs capture capture' p = tt
+whole_after (watch.Read network) ps vl_table fs capture capture' p = tt
+whole_after watch.RingLost ps vl_table fs capture capture' p = tt
+whole_after watch.Filters ps vl_table fs capture capture' p = tt
 
-pub where_capture_map : (P Q : Type 0) (fault : WatchFault) → (P → Q) → WhereCaptureStands fault P → WhereCaptureStands fault Q
-where_capture_map P Q (watch.Write output.Ledger) f p = f p
-where_capture_map P Q (watch.Write output.Capture) f p = tt
-where_capture_map P Q watch.Memory f p = f p
-where_capture_map P Q watch.Spawn f p = f p
-where_capture_map P Q watch.Workers f p = f p
-where_capture_map P Q (watch.Header network fault) f p = f p
-where_capture_map P Q (watch.Read network) f p = f p
-where_capture_map P Q watch.RingLost f p = f p
-where_capture_map P Q watch.Filters f p = f p
+pub whole_longer : (fault : WatchFault) (ps : Making) (vl_table : VlTable) (fs gs : List Frame) (capture capture' : SinkView) →
+    IsWholeAfter fault ps vl_table fs capture capture' → IsWholeAfter fault ps vl_table (fs ++ gs) capture capture'
+whole_longer (watch.Write output.Ledger) ps vl_table fs gs capture capture' p = packets_longer ps vl_table fs gs capture capture' p
+whole_longer (watch.Write output.Capture) ps vl_table fs gs capture capture' p = tt
+whole_longer watch.Memory ps vl_table fs gs capture capture' (inl none) = inl none
+whole_longer watch.Memory ps vl_table fs gs capture capture' (inr p) = inr (packets_longer ps vl_table fs gs capture capture' p)
+whole_longer watch.Spawn ps vl_table fs gs capture capture' p = tt
+whole_longer watch.Workers ps vl_table fs gs capture capture' p = tt
+whole_longer (watch.Header network fault) ps vl_table fs gs capture capture' p = tt
+whole_longer (watch.Read network) ps vl_table fs gs capture capture' p = tt
+whole_longer watch.RingLost ps vl_table fs gs capture capture' p = tt
+whole_longer watch.Filters ps vl_table fs gs capture capture' p = tt
 
 -- there is an entry for each frame
 zipped_length : (fs : List Frame) (vs : List Judgement) (ks : List (Option ℕ)) (ms : List ℕ) →

@@ -78,10 +78,12 @@ SinkFails fault c c' l l' = OfWriting fault (Fails fault CaptureSink c c' × Fai
 abbrev pub HasPackets : Making → VlTable → List Frame → SinkView → SinkView → Type 0
 HasPackets ps vl_table frames capture capture' = (n : ℕ) × Appends capture.contents capture'.contents (capture_by ps vl_table (take n frames))
 
--- where the capture's sink took all that it was given, this
-abbrev pub WhereCaptureStands : WatchFault → Type 0 → Type 0
-WhereCaptureStands (watch.Write output.Capture) P = ⊤
-WhereCaptureStands fault P = P
+-- The capture ends with a whole packet or its file header, unless it can't be written. Where memory is missing it may have nothing yet.
+abbrev pub IsWholeAfter : WatchFault → Making → VlTable → List Frame → SinkView → SinkView → Type 0
+IsWholeAfter (watch.Write output.Ledger) ps vl_table frames capture capture' = HasPackets ps vl_table frames capture capture'
+IsWholeAfter watch.Memory ps vl_table frames capture capture' =
+    Appends capture.contents capture'.contents [] ⊎ HasPackets ps vl_table frames capture capture'
+IsWholeAfter fault ps vl_table frames capture capture' = ⊤
 
 -- known bytes grow by the bytes, and then perhaps by more
 abbrev pub AppendsAll : Option (List ℕ) → Option (List ℕ) → List ℕ → Type 0
@@ -95,13 +97,13 @@ HasPacketsFirst ps vl_table frames capture capture' ledger ledger' =
     ⊎ ((m : ℕ) × AppendsAll capture capture' (capture_by ps vl_table (take m frames)) × AppendsSome ledger ledger' (lines_by ps vl_table (take m frames)))
 
 -- Each sink has a prefix of what belongs to these frames. The capture is begun before the ledger, and has a round's packets before the ledger has
--- its lines: so no line stands in the ledger whose packet isn't in the capture. The capture ends with a whole packet or its file header, unless it
--- can't be written.
+-- its lines: so no line stands in the ledger whose packet isn't in the capture.
+-- Where the ledger can't be written, the capture ends with a whole packet or its file header.
 pub record StopsWriting (fault : WatchFault) (ps : Making) (vl_table : VlTable) (capture ledger capture' ledger' : SinkView) (frames : List Frame) : Type 0 where
   pub packets : AppendsSome capture.contents capture'.contents (capture_by ps vl_table frames)
   pub lines : AppendsSome ledger.contents ledger'.contents (lines_by ps vl_table frames)
   pub packets_first : HasPacketsFirst ps vl_table frames capture.contents capture'.contents ledger.contents ledger'.contents
-  pub whole : WhereCaptureStands fault (HasPackets ps vl_table frames capture capture')
+  pub whole : IsWholeAfter fault ps vl_table frames capture capture'
   pub fails : SinkFails fault capture.failures capture'.failures ledger.failures ledger'.failures
 
 -- Both outputs are complete, with these counts.

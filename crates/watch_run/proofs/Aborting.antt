@@ -43,7 +43,7 @@ use Rattle.tap_queue.specs.declared.item.TapItem.{TapItem}
 use Rattle.tap_merge.proofs.TwoTaps.{high_after, in_time}
 use Rattle.watch_run.proofs.Watching.{first_of_all, wholes_before}
 use Rattle.watch_run.proofs.WholeOrder.{IsFirst, goes_on, recorded}
-use Rattle.round_writer.proofs.Writing.{capture_all, capture_longer, first_all, first_longer, lines_all, lines_longer, packets_longer}
+use Rattle.round_writer.proofs.Writing.{capture_all, capture_longer, first_all, first_longer, lines_all, lines_longer, packets_longer, whole_longer}
 
 -- ---- a tap whose source came back
 
@@ -401,7 +401,7 @@ running_aborts fault ps vl_table before a b after_a after_b capture ledger more_
     by (watch.Read A) (inl ((B, (is, sound, ends)), w)) other safe = (let wrong : ⊥ = cc is in absurd wrong)
     by (watch.Read B) (inl ((A, (is, sound, ends)), w)) other safe = (let wrong : ⊥ = cc is in absurd wrong)
     by watch.Memory (inl (rings, w)) other safe =
-        aborts watch.Memory (back_a, back_b, w.capture_failures, w.ledger_failures) tt ((whole w).0, (whole w).1) tt
+        aborts watch.Memory (back_a, back_b, w.capture_failures, w.ledger_failures) tt (inr ((whole w).0, (whole w).1)) tt
     by watch.RingLost (inl (rings, w)) other safe = absurd (other refl)
     by watch.Workers (inl ((A, h), w)) other safe = absurd h
     by watch.Workers (inl ((B, h), w)) other safe = absurd h
@@ -417,7 +417,7 @@ running_aborts fault ps vl_table before a b after_a after_b capture ledger more_
     by (watch.Write output.Ledger) (inr w) other safe =
         aborts (watch.Write output.Ledger) (back_a, back_b, w.fails.0, w.fails.1) tt (packets_longer ps vl_table s.cut stopped.rest before.capture capture w.whole) tt
     by watch.Memory (inr w) other safe =
-        aborts watch.Memory (back_a, back_b, w.fails.0, w.fails.1) tt (packets_longer ps vl_table s.cut stopped.rest before.capture capture w.whole) tt
+        aborts watch.Memory (back_a, back_b, w.fails.0, w.fails.1) tt (whole_longer watch.Memory ps vl_table s.cut stopped.rest before.capture capture w.whole) tt
     by watch.Spawn (inr w) other safe = absurd w.fails
     by (watch.Read n) (inr w) other safe = absurd w.fails
     by watch.RingLost (inr w) other safe = absurd (other refl)

@@ -21,7 +21,7 @@ use Rattle.run_fault.specs.Device.{SinkMembers, SinkView, SourceView, sink_at}
 use Rattle.run_fault.specs.Opening.{FailsOnly, WatchDevices, watch_devices}
 use Rattle.watch_run.specs.Watch.{IsRunFault, IsWatched}
 use Rattle.round_writer.specs.Round.{IsFilterCount}
-use Rattle.round_writer.proofs.Writing.{capture_all, first_all, lines_all}
+use Rattle.round_writer.proofs.Writing.{capture_all, first_all, lines_all, packets_all}
 use Rattle.run_fault.specs.declared.fault.Output.TheVariants as output
 use Rattle.run_fault.specs.declared.fault.WatchFault.{WatchFault}
 use Rattle.run_fault.specs.declared.fault.WatchFault.TheVariants as watch
@@ -119,7 +119,7 @@ lost_at_end w l ps vl_table capture ledger rings outputs running = record {
     packets_first = first_all ps vl_table running.cut capture.contents (w.contents (sink_of outputs.capture)) ledger.contents
         (l.contents (ledger_sink outputs.ledger)) running.written.packets
         (lines_all ps vl_table running.cut ledger.contents (l.contents (ledger_sink outputs.ledger)) running.written.lines);
-    whole = tt;
+    whole = inr (packets_all ps vl_table running.cut capture (sink_at w (sink_of outputs.capture)) running.written.packets);
     fails = (running.written.capture_failures, running.written.ledger_failures);
   });
   safe = tt;

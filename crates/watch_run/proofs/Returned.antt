@@ -237,7 +237,7 @@ stopped_at_the_end fault ps vl_table before after fa fb cut end_a end_b m a b un
         order = follows_order m fa fb cut follows none;
         capture = some;
         ledger = lines;
-        wholes = packets_all ps vl_table cut before.capture after.capture s.packets;
+        wholes = inr (packets_all ps vl_table cut before.capture after.capture s.packets);
         first = first;
       };
       whole_a = whole_given networks.A vl_table.late before.a after.a fa end_a a unread_a read_a r.a_left r.a_failures;

@@ -1,5 +1,5 @@
 -- A run over two recordings: its rounds follow on one another, and what it leaves where it stops.
-use Rattle.std.proofs.Common.{◌≡◌, inl, Bool, false, zero, ℕ, suc, ◌+◌, ◌^◌, ◌≤◌, List, [], ◌∷◌, ◌++◌, length, take, Option, Some, None, sym, subst, ap, ◌∙◌, append_assoc, arith, refl}
+use Rattle.std.proofs.Common.{◌≡◌, inl, inr, Bool, false, zero, ℕ, suc, ◌+◌, ◌^◌, ◌≤◌, List, [], ◌∷◌, ◌++◌, length, take, Option, Some, None, sym, subst, ap, ◌∙◌, append_assoc, arith, refl}
 use Rattle.std.proofs.lemmas.List.{append-nil, length-append, take-append-le, take_all}
 use Rattle.std.proofs.lemmas.List.Sorted.{length_permutation}
 use Rattle.std.specs.Prelude.{◌==◌}
@@ -21,7 +21,7 @@ use Rattle.verdict_ledger.specs.Tally.{totals_of}
 use Rattle.verdict_ledger.specs.declared.totals.Totals.{Totals}
 use Rattle.vl_config.specs.Document.{VlTable}
 use Rattle.vl_judge.specs.Lanes.{last_key}
-use Rattle.round_writer.specs.Outputs.{HasPackets, HasWritten, SinkFails, StopsWriting, WhereCaptureStands}
+use Rattle.round_writer.specs.Outputs.{HasWritten, SinkFails, StopsWriting, IsWholeAfter}
 use Rattle.vl_judge.specs.Lanes.{FollowsOn}
 use Rattle.watch_run.specs.Run.{IsWatching, StopsWatching}
 use Rattle.tap_merge.specs.declared.taps.Taps.{Taps}
@@ -36,7 +36,7 @@ use Rattle.run_fault.specs.declared.fault.WatchFault.{WatchFault}
 use Rattle.run_fault.specs.declared.fault.WatchFault.TheVariants as watch
 use Rattle.watch_run.proofs.WholeOrder.{IsFirst}
 use Rattle.verdict_ledger.specs.Text.{ledger_head, lines_text, rest_text}
-use Rattle.round_writer.proofs.Writing.{capture_all, lines_all, some_longer, capture_longer, capture_some, entries_length, first_longer, first_whole, lines_longer, lines_some, packets_longer}
+use Rattle.round_writer.proofs.Writing.{capture_all, lines_all, some_longer, capture_longer, capture_some, entries_length, first_longer, first_whole, lines_longer, lines_some, packets_longer, whole_longer}
 
 -- ---- the number of filters
 
@@ -231,7 +231,7 @@ stops_by_merging fault ps vl_table before cut a b capture ledger is_first s pack
       order = s.order;
       packets = capture_some ps vl_table cut s.rest before.capture.contents capture.contents packets;
       lines = of_cut;
-      wholes = (whole.0, whole.1);
+      wholes = inr (whole.0, whole.1);
       first = first;
       fails = (fails.0, fails.1, sound_c, sound_l);
       run = tt;
@@ -262,7 +262,7 @@ stops_by_writing fault ps vl_table before fa fb cut rest a b capture ledger is_f
     )
 
     by : (f : WatchFault) → SinkFails f before.capture.failures capture.failures before.ledger.failures ledger.failures →
-        WhereCaptureStands f (HasPackets ps vl_table cut before.capture capture) → StopsWatching f ps vl_table before a b capture ledger
+        IsWholeAfter f ps vl_table cut before.capture capture → StopsWatching f ps vl_table before a b capture ledger
     by (watch.Write output.Capture) fails whole = record {
       frames_a = fa;
       frames_b = fb;
@@ -300,7 +300,7 @@ stops_by_writing fault ps vl_table before fa fb cut rest a b capture ledger is_f
       order = order;
       packets = capture_longer ps vl_table cut rest before.capture.contents capture.contents s.packets;
       lines = of_cut;
-      wholes = packets_longer ps vl_table cut rest before.capture capture whole;
+      wholes = whole_longer watch.Memory ps vl_table cut rest before.capture capture whole;
       first = first;
       fails = (sound_a, sound_b, fails.0, fails.1);
       run = tt;

@@ -15,7 +15,7 @@ use Rattle.run_fault.specs.declared.fault.Output.TheVariants as output
 use Rattle.run_fault.specs.declared.fault.WatchFault.TheVariants as watch
 use Rattle.run_fault.specs.Device.{AppendsSome, SinkView}
 use Rattle.run_fault.specs.Recording.{IsReadPart, IsReadWhole}
-use Rattle.round_writer.specs.Outputs.{HasPackets, HasPacketsFirst}
+use Rattle.round_writer.specs.Outputs.{HasPackets, HasPacketsFirst, IsWholeAfter}
 use Rattle.round_writer.specs.Round.{IsFilterCount}
 use Rattle.run_fault.specs.Opening.{AbortsAtOpening, FailsOnly, WatchDevices}
 
@@ -56,13 +56,14 @@ HasLines ps vl_table before frames_a frames_b frames capture ledger =
     × AppendsSome before.ledger.contents ledger.contents (ledger_by ps vl_table frames a b))
 
 -- Where a recording's source failed, the outputs have all that belongs to the first so many frames, and no part of a packet or a line. Where the
--- ledger can't be written, or memory is missing, the capture has whole packets, and at least its file header: it is begun first.
+-- ledger can't be written, the capture has whole packets, and at least its file header: it is begun first. Where memory is missing, it has whole
+-- packets, or nothing yet.
 abbrev pub HasWholes : WatchFault → Making → VlTable → List Frame → SinkView → SinkView → SinkView → SinkView → Type 0
 HasWholes (watch.Read network) ps vl_table frames capture ledger capture' ledger' =
     (n : ℕ) × Appends capture.contents capture'.contents (capture_by ps vl_table (take n frames))
     × Appends ledger.contents ledger'.contents (lines_by ps vl_table (take n frames))
 HasWholes (watch.Write output.Ledger) ps vl_table frames capture ledger capture' ledger' = HasPackets ps vl_table frames capture capture'
-HasWholes watch.Memory ps vl_table frames capture ledger capture' ledger' = HasPackets ps vl_table frames capture capture'
+HasWholes watch.Memory ps vl_table frames capture ledger capture' ledger' = IsWholeAfter watch.Memory ps vl_table frames capture capture'
 HasWholes fault ps vl_table frames capture ledger capture' ledger' = ⊤
 
 -- Of recordings whose bytes are known, whatever was read: each output has a prefix of what belongs to all their frames.

@@ -11,7 +11,7 @@ use Rattle.verdict_ledger.specs.Ledger.{StandsAfter as LedgerStandsAfter, sink_o
 use Rattle.run_fault.specs.Device.{sink_at}
 use Rattle.round_writer.specs.Filters.{entries_by, keep_by, lines_by}
 use Rattle.round_writer.specs.Outputs.{ledger_fault}
-use Rattle.round_writer.proofs.Writing.{all_after, round_told, entries_told, first_all, first_packets, ledger_stops, lines_all, lines_more, lines_some, capture_all, packets_all, packets_some, packets_whole, where_capture}
+use Rattle.round_writer.proofs.Writing.{all_after, round_told, entries_told, first_all, first_packets, ledger_stops, lines_all, lines_more, lines_some, capture_all, packets_all, packets_some, packets_whole, whole_after}
 use Rattle.round_writer.proofs.outputs.write_entries.Goals as goal
 
 pub round_text-requires-clause-text : goal.round_text-requires-clause-text
@@ -75,7 +75,7 @@ returns-in-Err-clause-stopped g c = rw c.fault_of_ledger.ensures (λ ps vl_table
       lines = stops.0;
       packets_first = first_all ps vl_table (frames ++ round) _ _ _ _
           (packets_whole ps vl_table frames round _ _ _ _ _ (round_told ps vl_table frames round _ _ said are) (c.deref.ensures.value ∙ are.packets_are) h.packets c.in_ok-write_packets.ensures.written.complete) stops.0;
-      whole = where_capture _ (ledger_fault c.in-Err.fault)
+      whole = whole_after (ledger_fault c.in-Err.fault) ps vl_table (frames ++ round) capture (sink_at g.W.OutSink (sink_of c.write_packets.new.capture))
           (packets_all ps vl_table (frames ++ round) capture (sink_at g.W.OutSink (sink_of c.write_packets.new.capture))
           (packets_whole ps vl_table frames round _ _ _ _ _ (round_told ps vl_table frames round _ _ said are) (c.deref.ensures.value ∙ are.packets_are) h.packets c.in_ok-write_packets.ensures.written.complete));
       fails = stops.1;

@@ -1,10 +1,10 @@
-use Rattle.std.proofs.Common.{◌∙◌, ap}
+use Rattle.std.proofs.Common.{◌++◌, ◌∙◌, ap}
 use Rattle.pcap_io.specs.Writer.{sink_of}
 use Rattle.round_writer.specs.Outputs.{effect_of}
 use Rattle.round_writer.specs.declared.shared.JudgedRound.{JudgedRound}
 use Rattle.run_fault.specs.Device.{sink_at}
 use Rattle.run_fault.proofs.Results.{with_err, with_on_ok}
-use Rattle.round_writer.proofs.Writing.{capture_some, first_whole, lines_some, no_sink_fails, packets_first, same_effect, where_capture}
+use Rattle.round_writer.proofs.Writing.{capture_some, first_whole, lines_some, no_sink_fails, packets_first, same_effect, whole_after}
 use Rattle.round_writer.specs.Filters.{making_of}
 use Rattle.round_writer.proofs.outputs.write_flight.Goals as goal
 
@@ -16,7 +16,7 @@ returns-in-Err-clause-stopped g c =
       packets = capture_some ps vl_table frames round _ _ h.packets;
       lines = lines_some ps vl_table frames round _ _ h.lines;
       packets_first = first_whole ps vl_table frames round _ _ _ _ h.packets h.lines;
-      whole = where_capture _ (effect_of c.in-Err.fault)
+      whole = whole_after (effect_of c.in-Err.fault) ps vl_table (frames ++ round) capture (sink_at g.W.OutSink (sink_of c.args.capture.now))
           (packets_first ps vl_table frames round capture (sink_at g.W.OutSink (sink_of c.args.capture.now)) h.packets);
       fails = no_sink_fails c.in-Err.fault _ _ _ _ c.in-Err.ensures.fault h.capture_failures h.ledger_failures;
     }

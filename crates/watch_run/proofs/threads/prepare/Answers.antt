@@ -1,6 +1,7 @@
 use Rattle.std.proofs.Common.{inr, [], subst}
 use Rattle.afdx_frame.specs.declared.key.Network.TheVariants.{A, B}
 use Rattle.tap_merge.specs.Taps.{HasMerged}
+use Rattle.pcap_io.specs.Writer.{sink_of}
 use Rattle.run_fault.specs.Device.{sink_at, source_at}
 use Rattle.run_fault.specs.Opening.{watch_devices}
 use Rattle.run_fault.specs.declared.fault.WatchFault.TheVariants.{Memory}
@@ -8,7 +9,7 @@ use Rattle.watch_run.proofs.Returned.{aborted}
 use Rattle.watch_run.proofs.Starting.{ready_made, still_opened}
 use Rattle.tap_merge.proofs.TwoTaps.{part_of}
 use Rattle.watch_run.proofs.Watching.{none_first, stops_by_writing}
-use Rattle.round_writer.proofs.Writing.{capture_all, first_whole, lines_all}
+use Rattle.round_writer.proofs.Writing.{capture_all, first_whole, lines_all, packets_all}
 use Rattle.round_writer.specs.Filters.{making_of}
 use Rattle.watch_run.proofs.threads.prepare.Goals as goal
 
@@ -52,7 +53,7 @@ returns-in-Err-two_rings-clause-refused g c = rw (c.new-in-Err-two_rings.ensures
             packets = capture_all ps vl_table [] _ _ written.packets;
             lines = lines_all ps vl_table [] _ _ written.lines;
             packets_first = first_whole ps vl_table [] [] _ _ _ _ written.packets written.lines;
-            whole = tt;
+            whole = inr (packets_all ps vl_table [] before.capture (sink_at g.W.OutSink (sink_of c.in-Ok-begin.outputs.capture)) written.packets);
             fails = (written.capture_failures, written.ledger_failures);
           })),
     ))

@@ -8,7 +8,7 @@ use Rattle.pcap_io.specs.Writer.{sink_of}
 use Rattle.run_fault.specs.Device.{sink_at}
 use Rattle.round_writer.specs.Filters.{capture_by, making_of}
 use Rattle.round_writer.specs.Outputs.{ledger_fault}
-use Rattle.round_writer.proofs.Writing.{capture_all, first_all, ledger_stops, packets_all, where_capture}
+use Rattle.round_writer.proofs.Writing.{capture_all, first_all, ledger_stops, packets_all, whole_after}
 use Rattle.round_writer.proofs.outputs.Outputs.begin.Goals as goal
 
 pub returns-in-Err-begin-clause-stopped : goal.returns-in-Err-begin-clause-stopped
@@ -24,7 +24,7 @@ returns-in-Err-begin-clause-stopped g c =
       packets = capture_all ps vl_table [] _ _ whole;
       lines = stops.0;
       packets_first = first_all ps vl_table [] _ _ _ _ whole stops.0;
-      whole = where_capture _ (ledger_fault c.in-Err-begin.field-0.fault)
+      whole = whole_after (ledger_fault c.in-Err-begin.field-0.fault) ps vl_table [] (sink_at g.W.OutSink c.args.capture) (sink_at g.W.OutSink (sink_of c.in-Ok-begin_with.writer))
           (packets_all ps vl_table [] (sink_at g.W.OutSink c.args.capture) (sink_at g.W.OutSink (sink_of c.in-Ok-begin_with.writer)) whole);
       fails = stops.1;
     })

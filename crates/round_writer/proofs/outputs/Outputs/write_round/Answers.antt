@@ -1,3 +1,4 @@
+use Rattle.std.proofs.Common.{inr}
 use Rattle.std.proofs.lemmas.Result.{err_from_is_err_and}
 use Rattle.run_fault.proofs.Results.{with_err, with_on_ok}
 use Rattle.pcap_io.specs.Writer.{sink_of}
@@ -13,7 +14,7 @@ returns-in_err-verdicts-clause-stopped g c =
       packets = capture_some (making_of c.args.plan.now) vl_table frames c.args.round.now _ _ h.packets;
       lines = lines_some (making_of c.args.plan.now) vl_table frames c.args.round.now _ _ h.lines;
       packets_first = first_whole (making_of c.args.plan.now) vl_table frames c.args.round.now _ _ _ _ h.packets h.lines;
-      whole = packets_first (making_of c.args.plan.now) vl_table frames c.args.round.now capture (sink_at g.W.OutSink (sink_of c.args.self.now.capture)) h.packets;
+      whole = inr (packets_first (making_of c.args.plan.now) vl_table frames c.args.round.now capture (sink_at g.W.OutSink (sink_of c.args.self.now.capture)) h.packets);
       fails = (h.capture_failures, h.ledger_failures);
     })
 
@@ -24,7 +25,7 @@ returns-in_err-fill-clause-stopped g c =
       packets = capture_some (making_of c.args.plan.now) vl_table frames c.args.round.now _ _ h.packets;
       lines = lines_some (making_of c.args.plan.now) vl_table frames c.args.round.now _ _ h.lines;
       packets_first = first_whole (making_of c.args.plan.now) vl_table frames c.args.round.now _ _ _ _ h.packets h.lines;
-      whole = packets_first (making_of c.args.plan.now) vl_table frames c.args.round.now capture (sink_at g.W.OutSink (sink_of c.args.self.now.capture)) h.packets;
+      whole = inr (packets_first (making_of c.args.plan.now) vl_table frames c.args.round.now capture (sink_at g.W.OutSink (sink_of c.args.self.now.capture)) h.packets);
       fails = (h.capture_failures, h.ledger_failures);
     })
 
