@@ -1,5 +1,5 @@
 -- What contracts see of a writer of packets, and what a call leaves of its sink.
-use Rattle.std.specs.Prelude.{◌≡◌, ℕ, Bool, List, Option, Result, Ok, Err, ⊤}
+use Rattle.std.specs.Prelude.{◌≡◌, ℕ, Bool, true, List, Option, Result, Ok, Err, ⊤}
 use Rattle.std.specs.Io.KnownBytes.{Appends}
 use Rattle.packet_format.specs.Packets.{Format, Pcap, Pcapng, format_of, head_by}
 use Rattle.packet_format.specs.declared.writer.PacketFault.{PacketFault}
@@ -7,6 +7,7 @@ use Rattle.packet_format.specs.declared.writer.PacketFault.TheVariants as faults
 use Rattle.packet_format.specs.declared.writer.PacketWriter.{PacketWriter}
 use Rattle.pcap_io.specs.Device.{AppendsPrefix, CountsFailure}
 use Rattle.pcap_io.specs.Writer.{has_failed as output_failed, sink_of as sink_of_output}
+use Rattle.pcap_io.specs.declared.writer.CaptureWriter.{CaptureWriter}
 
 -- what it writes to
 abbrev pub sink_of : {W : Type 0} → PacketWriter W → W
@@ -41,3 +42,8 @@ abbrev pub Puts : Format → Result (Unit {0}) PacketFault → Option (List ℕ)
 Puts format (Ok done) old new before after bytes = Appends old new bytes × (after ≡ before)
 Puts format (Err faults.Device) old new before after bytes = AppendsPrefix old new bytes × CountsFailure before after
 Puts format (Err faults.Memory) old new before after bytes = IsPcapng format × (new ≡ old) × (after ≡ before)
+
+-- what a fault leaves: after one of the device no more packets are taken, and where there is no memory the output stands as it was
+abbrev pub LeavesOutput : {W : Type 0} → PacketFault → CaptureWriter W → CaptureWriter W → Type 0
+LeavesOutput faults.Device old new = output_failed new ≡ true
+LeavesOutput faults.Memory old new = new ≡ old

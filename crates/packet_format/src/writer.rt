@@ -1,5 +1,5 @@
 //! The writer, and why a packet isn't written.
-ghost use Rattle.std.specs.Prelude.{◌≡◌, ◌≤◌, false, length, IfOk, OnErr, OnOk};
+ghost use Rattle.std.specs.Prelude.{◌≡◌, ◌≤◌, false, length, IfErr, IfOk, OnErr, OnOk};
 ghost use Rattle.std.specs.Option.{option_map};
 ghost use Rattle.packet_format.specs.Packets.{format_of, head_by, packet_by};
 ghost use Rattle.packet_format.specs.Writer.{HoldsHead, IsPcapng};
@@ -69,7 +69,7 @@ pub struct PacketWriter<'a, W> {
 }
 
 impl<'a, W: OutSink> PacketWriter<'a, W> {
-    ghost use Rattle.packet_format.specs.Writer.{Puts, format_in, has_failed, sink_after, sink_of};
+    ghost use Rattle.packet_format.specs.Writer.{LeavesOutput, Puts, format_in, has_failed, sink_after, sink_of};
 
     /// Writes what a capture in the format begins with, which [`head_of`] made. An `Err` gives the sink back,
     /// which failed after a prefix of it.
@@ -119,6 +119,7 @@ impl<'a, W: OutSink> PacketWriter<'a, W> {
             (option_map (λ l. l.now) line.entry)) }
         ensures format { format_in self.new ≡ format_in self.old }
         ensures going { OnOk result (has_failed self.new ≡ false) }
+        ensures after_fault { IfErr result (λ fault. LeavesOutput fault self.old.output self.new.output) }
     {
         self.packet.clear();
         match self
@@ -151,6 +152,7 @@ impl<'a, W: OutSink> PacketWriter<'a, W> {
             (option_map (λ l. l.now) line.entry)) }
         ensures format { format_in self.new ≡ format_in self.old }
         ensures going { OnOk result (has_failed self.new ≡ false) }
+        ensures after_fault { IfErr result (λ fault. LeavesOutput fault self.old.output self.new.output) }
     {
         match self.format {
             PacketFormat::Pcap => match self.output.put_lent(frame, keep) {
