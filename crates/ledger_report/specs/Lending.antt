@@ -3,7 +3,7 @@ use Rattle.std.specs.Borrow.{Lends, Fml, RattleType, MutBor}
 use Rattle.afdx_frame.specs.declared.key.Network.{Network}
 use Rattle.ledger_report.specs.Both.{with_side}
 use Rattle.ledger_report.specs.declared.per_network.PerNetwork.{PerNetwork}
-use Rattle.ledger_report.specs.contracts.sides.PerNetwork.{the_row}
+use Rattle.ledger_report.specs.contracts.per_network.PerNetwork.{the_row}
 
 module _ (T : RattleType) (s : MutBor (PerNetwork T.Denot)) where
   -- once the borrow r ends, the network has the value that r shows last, and the other has its own
