@@ -428,7 +428,9 @@ fn fixed_advice(fault: &Fault) -> &'static str {
         Fault::Report(fault) | Fault::Baseline(fault) => report_advice(fault),
         Fault::Icd(fault) => icd_advice(fault),
         Fault::Draft(fault) => draft_advice(fault),
-        Fault::Constant => "--constant is a number of 32 bits, as 0x03000000 or 50331648",
+        Fault::Constant => {
+            "--constant is a number of 32 bits with bits 24 and 25 set, as 0x03000000 or 50331648"
+        }
         Fault::Unsound => "a run with these inputs would not be sound: the answer says why",
     }
 }
