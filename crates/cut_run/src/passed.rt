@@ -12,7 +12,8 @@ use std::collections::BTreeMap;
 #[inline(always)]
 fn has_below(passed: &BTreeMap<SearchPlace, TapFrame>, place: SearchPlace) -> bool
     ensures below { result ≡ true → (q : SearchPlace) × IsSome (passed_at passed.now q) × IsBelow q place }
-    ensures none { result ≡ false → (q : SearchPlace) → IsSome (passed_at passed.now q) → IsBelow q place → ⊥ }
+    ensures none { result ≡ false → (q : SearchPlace)
+        → IsSome (passed_at passed.now q) → IsBelow q place → ⊥ }
 {
     place_order();
     match passed.first_key_value() {
