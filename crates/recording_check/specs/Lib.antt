@@ -4,6 +4,7 @@ pub mod Decide
 pub mod Formats
 pub mod Lasts
 pub mod Parts
+pub mod Places
 pub mod Questions
 pub mod Seen
 pub mod Tallies

@@ -1,8 +1,9 @@
 -- What is counted of a link of the table, over the list of its frames on both networks, the newest first (this project's profile).
-use Rattle.std.specs.Prelude.{◌≡◌, ℕ, List, length, map, filter, reverse, take, min, Option}
+use Rattle.std.specs.Prelude.{◌≡◌, ℕ, List, [], ◌∷◌, length, map, filter, reverse, take, min, Option, ⊤, if◌then◌else◌}
 use Rattle.afdx_frame.specs.declared.key.Network.{Network}
 use Rattle.afdx_frame.specs.declared.key.Network.TheVariants.{A, B}
 use Rattle.traffic_survey.specs.CopyPairs.{CountsCopies, SeenFrame, frames_on, is_same}
+use Rattle.vl_config.specs.Link.{VirtualLink}
 use Rattle.recording_check.specs.Clocks.{first_meeting}
 use Rattle.recording_check.specs.Lasts.{HasLast}
 use Rattle.recording_check.specs.declared.clocks.Meeting.{Meeting}
@@ -40,6 +41,16 @@ pub record CountsFrames (skew : ℕ) (tally : LinkTally) (frames : List SeenFram
 pub record CountsTally (skew : ℕ) (tally : LinkTally) (frames : List SeenFrame) : Type 0 where
   pub counts : CountsFrames skew tally frames
   pub last : HasLast frames tally.last
+
+-- how much later than its frame a copy may come: not at all without redundancy management
+abbrev pub skew_of : VirtualLink → ℕ
+skew_of link = if link.redundancy then link.skew else 0
+
+-- each link has its counts, of no frame
+abbrev pub HaveNoFrames : List VirtualLink → List LinkTally → Type 0
+HaveNoFrames [] [] = ⊤
+HaveNoFrames (link ∷ links) (tally ∷ tallies) = CountsTally (skew_of link) tally [] × HaveNoFrames links tallies
+HaveNoFrames links tallies = ⊥
 
 -- how many frames of a network were counted
 abbrev pub counted_on : Network → LinkTally → ℕ

@@ -1,9 +1,9 @@
 //! The counts of both recordings against a table.
 
-ghost use Rattle.std.specs.Prelude.{◌≡◌, ◌≤◌, ◌^◌, [], IfOk, length, vec_len};
-ghost use Rattle.afdx_frame.specs.declared.key.Network.TheVariants.{A, B};
-ghost use Rattle.recording_check.specs.Seen.{CountsNetwork};
-ghost use Rattle.recording_check.specs.Taps.{CountsTap};
+ghost use Rattle.std.specs.Prelude.{◌≡◌, ◌≤◌, ◌<◌, ◌^◌, [], IfOk, OnOk, Option, ℕ, length, option_map, slice_get, slice_index, vec_len};
+ghost use Rattle.vl_config.specs.Class.{link_of_frame};
+ghost use Rattle.recording_check.specs.Places.{IsIndexed};
+ghost use Rattle.recording_check.specs.Tallies.{HaveNoFrames, skew_of};
 
 use crate::link::LinkTally;
 use crate::tap::TapTally;
@@ -14,9 +14,6 @@ use vl_config::{Class, Config, Link, class_by};
 
 /// How many constant fields other than the table's are kept.
 pub const MAX_CONSTANTS: usize = 8;
-
-/// No link.
-const NO_LINK: u16 = u16::MAX;
 
 /// How many frames have a constant field.
 #[derive(Clone, Copy, Debug)]
@@ -30,13 +27,13 @@ pub struct Constant {
 struct Listed<'a> {
     constant: u32,
     links: &'a [Link],
-    /// The place of each identifier's link.
+    /// The place of each identifier's link, or the number of links where the table lacks it.
     places: Vec<u16>,
     tallies: Vec<LinkTally>,
     /// How many frames have each identifier that the table lacks.
     unlisted: Vec<u32>,
     constants: Vec<Constant>,
-    ghost complete: { vec_len places ≡ 65536 },
+    ghost indexed: { IsIndexed places.items links.now },
     ghost counted: { vec_len unlisted ≡ 65536 },
 }
 
@@ -51,86 +48,143 @@ pub struct Inputs<'a> {
 /// The place of each identifier's link.
 fn places_of(alloc: Global, links: &[Link]) -> Result<Vec<u16>, AllocError>
     requires { length links.now ≤ 4096 }
-    ensures { IfOk result (λ places. vec_len places ≡ 65536) }
+    ensures { IfOk result (λ places. IsIndexed places.items links.now) }
 {
-    let mut places = vec![in alloc; NO_LINK; VL_ID_COUNT]?;
-    for (index, link) in links.iter().enumerate() {
-        let VlId(id) = link.id;
-        places[usize::from(id)] = index as u16;
+    let mut places = repeated(alloc, links.len() as u16, VL_ID_COUNT)?;
+    for place in (0..links.len()).rev() {
+        let link = &links[place];
+        places[usize::from(link.id.0)] = place as u16;
     }
     Ok(places)
 }
 
+fn repeated(alloc: Global, number: u16, len: usize) -> Result<Vec<u16>, AllocError>
+    ensures len { IfOk result (λ numbers. length numbers.items ≡ len) }
+    ensures each { IfOk result (λ numbers.
+        (k : ℕ) → k < len → slice_index numbers.items k ≡ number) }
+{
+    vec![in alloc; number; len]
+}
+
+/// So many counts of no frame.
+fn no_counts(alloc: Global, len: usize) -> Result<Vec<u32>, AllocError>
+    ensures len { IfOk result (λ counts. length counts.items ≡ len) }
+    ensures each { IfOk result (λ counts. (k : ℕ) → k < len → slice_index counts.items k ≡ 0) }
+{
+    vec![in alloc; 0; len]
+}
+
+/// The counts of each link, of no frame.
+fn tallies_of(alloc: Global, links: &[Link]) -> Result<Vec<LinkTally>, AllocError>
+    ensures { IfOk result (λ tallies. HaveNoFrames links.now tallies.items) }
+{
+    let mut tallies = Vec::with_capacity(alloc, links.len())?;
+    for link in links {
+        tallies.push(LinkTally::new(skew_of(link)))?;
+    }
+    Ok(tallies)
+}
+
+/// How much later than its frame a copy may come: not at all without redundancy management.
+fn skew_of(link: &Link) -> u64
+    ensures { result ≡ skew_of link.now }
+{
+    if link.redundancy { link.skew } else { 0 }
+}
+
 impl<'a> Listed<'a> {
-    fn new(alloc: Global, config: &'a Config) -> Result<Listed<'a>, AllocError> {
+    ghost use Rattle.recording_check.specs.Seen.{IsUnseen, class_in, rule_of};
+
+    fn new(alloc: Global, config: &'a Config) -> Result<Listed<'a>, AllocError>
+        ensures rule { IfOk result (λ listed. rule_of listed ≡ (config.now.constant, config.now.links)) }
+        ensures unseen { IfOk result IsUnseen }
+    {
         let links = config.links();
-        let mut tallies = Vec::with_capacity(alloc, links.len())?;
-        for link in links {
-            let skew = if link.redundancy { link.skew } else { 0 };
-            tallies.push(LinkTally::new(skew))?;
-        }
         Ok(Listed {
             constant: config.constant(),
             links,
             places: places_of(alloc, links)?,
-            tallies,
-            unlisted: vec![in alloc; 0u32; VL_ID_COUNT]?,
+            tallies: tallies_of(alloc, links)?,
+            unlisted: no_counts(alloc, VL_ID_COUNT)?,
             constants: Vec::new(alloc),
         })
     }
 
-    fn place(&self, id: VlId) -> usize {
-        usize::from(self.places[usize::from(id.0)])
+    /// The place of a frame's link, or the number of links where the table lacks it.
+    #[inline(always)]
+    fn place(&self, frame: &LentFrame<'_>) -> usize
+        ensures { slice_get self.now.links.now result ≡ link_of_frame self.now.links.now frame.now }
+    {
+        match frame.view().vl() {
+            Some(id) => usize::from(self.places[usize::from(id.0)]),
+            None => self.links.len(),
+        }
     }
 
     /// Counts a frame by its class under the table.
     #[inline]
-    fn see(&mut self, frame: &LentFrame<'_>) -> Result<Class, AllocError> {
-        let id = frame.view().vl().unwrap_or(VlId(0));
-        let place = self.place(id);
+    fn see(&mut self, frame: &LentFrame<'_>) -> Result<Class, AllocError>
+        ensures class { IfOk result (λ class. class ≡ class_in (rule_of self.old) frame.now) }
+        ensures rule { OnOk result (rule_of self.new ≡ rule_of self.old) }
+    {
+        let place = self.place(frame);
         let smax = self.links.get(place).map(|link| link.smax);
         let class = class_by(self.constant, smax, frame);
         match class {
             Class::Cut | Class::Runt | Class::Oversize => {}
-            Class::Foreign => self.see_constant(frame.view().constant().unwrap_or(0))?,
-            Class::Unconfigured => {
-                let count = self.unlisted[usize::from(id.0)];
-                self.unlisted[usize::from(id.0)] = count.saturating_add(1);
+            Class::Foreign => {
+                let constant = frame.view().constant().unwrap_or(0);
+                see_constant(&mut self.constants, constant)?;
             }
+            Class::Unconfigured => self.see_unlisted(frame),
             Class::TooLong | Class::Regular => self.see_link(place, frame),
         }
         Ok(class)
     }
 
     #[inline]
-    fn see_link(&mut self, place: usize, frame: &LentFrame<'_>) {
+    fn see_unlisted(&mut self, frame: &LentFrame<'_>)
+        ensures { rule_of self.new ≡ rule_of self.old }
+    {
+        if let Some(VlId(id)) = frame.view().vl() {
+            let count = self.unlisted[usize::from(id)];
+            self.unlisted[usize::from(id)] = count.saturating_add(1);
+        }
+    }
+
+    #[inline]
+    fn see_link(&mut self, place: usize, frame: &LentFrame<'_>)
+        ensures { rule_of self.new ≡ rule_of self.old }
+    {
         let number = frame.view().sequence().unwrap_or(0);
         if let Some(tally) = self.tallies.get_mut(place) {
             tally.see(frame.network(), frame.stamp(), number);
         }
     }
+}
 
-    /// Counts a frame of another constant field.
-    fn see_constant(&mut self, constant: u32) -> Result<(), AllocError> {
-        for place in 0..self.constants.len() {
-            if self.constants[place].constant == constant {
-                let frames = self.constants[place].frames;
-                self.constants[place].frames = frames.saturating_add(1);
-                return Ok(());
-            }
+/// Counts a frame of another constant field.
+fn see_constant(constants: &mut Vec<Constant>, constant: u32) -> Result<(), AllocError> {
+    for place in 0..constants.len() {
+        if constants[place].constant == constant {
+            let frames = constants[place].frames;
+            constants[place].frames = frames.saturating_add(1);
+            return Ok(());
         }
-        if self.constants.len() < MAX_CONSTANTS {
-            self.constants.push(Constant {
-                constant,
-                frames: 1,
-            })?;
-        }
-        Ok(())
     }
+    if constants.len() < MAX_CONSTANTS {
+        constants.push(Constant {
+            constant,
+            frames: 1,
+        })?;
+    }
+    Ok(())
 }
 
 impl<'a> Inputs<'a> {
+    ghost use Rattle.std.specs.Option.{ForSome, option_copied};
     ghost use Rattle.recording_check.specs.Parts.{constants_of, links_of, tallies_of, tap_of, unlisted_of};
+    ghost use Rattle.recording_check.specs.Seen.{CountsInputs, IsUnseen};
 
     /// Of no frame.
     ///
@@ -138,9 +192,9 @@ impl<'a> Inputs<'a> {
     ///
     /// `AllocError` if the system is out of memory.
     pub fn new(alloc: Global, config: Option<&'a Config>) -> Result<Inputs<'a>, AllocError>
-        // What `Observer::has_seen` takes of the first value: no frame is counted on either network.
-        ensures a { IfOk result (λ inputs. CountsTap (tap_of A inputs) []) }
-        ensures b { IfOk result (λ inputs. CountsTap (tap_of B inputs) []) }
+        // What `Observer::has_seen` takes of the first value.
+        ensures counts { IfOk result (λ inputs. CountsInputs (option_copied config.entry) inputs []) }
+        ensures unseen { IfOk result (λ inputs. ForSome inputs.listed IsUnseen) }
     {
         let listed = match config {
             Some(config) => Some(Listed::new(alloc, config)?),
@@ -205,11 +259,16 @@ impl<'a> Inputs<'a> {
 }
 
 impl<'a> Inputs<'a> {
+    ghost use Rattle.recording_check.specs.Seen.{class_in, rule_in};
+
     /// Counts a frame for the table, if there is one, and says its class.
     #[inline(always)]
     fn see_listed(&mut self, frame: &LentFrame<'_>) -> Result<Option<Class>, AllocError>
         ensures a { self.new.a ≡ self.old.a }
         ensures b { self.new.b ≡ self.old.b }
+        ensures rule { OnOk result (rule_in self.new ≡ rule_in self.old) }
+        ensures class { IfOk result (λ class.
+            class ≡ option_map (λ rule. class_in rule frame.now) (rule_in self.old)) }
     {
         match &mut self.listed {
             Some(listed) => Ok(Some(listed.see(frame)?)),
@@ -219,10 +278,12 @@ impl<'a> Inputs<'a> {
 }
 
 impl Observer for Inputs<'_> {
+    ghost use Rattle.vl_config.specs.Document.{VlTable};
+    ghost use Rattle.recording_check.specs.Seen.{CountsInputs};
+
     // No more frames than 2^32 are counted exactly.
-    ghost has_seen = { λ first frames last. CountsTap first.a [] → CountsTap first.b []
-        → length frames ≤ 2 ^ 32
-        → CountsNetwork A last.a frames × CountsNetwork B last.b frames };
+    ghost has_seen = { λ first frames last. (table : Option VlTable) → CountsInputs table first []
+        → length frames ≤ 2 ^ 32 → CountsInputs table last frames };
 
     #[inline]
     fn see(&mut self, alloc: Global, frame: &LentFrame<'_>) -> Result<(), AllocError> {
