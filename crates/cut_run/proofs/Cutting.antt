@@ -104,7 +104,7 @@ stopped_line s t w format choice a b output vs fs taken fa fb v n f faults.Write
       spread = h.spread;
       takes = h.takes;
       read = read;
-      why = tt;
+      why = (f, named_last names.0 names.1 fa fb (read_lines choice.skips vs) h.found v f h.named.named named.named);
       written = (
         f,
         part.0,

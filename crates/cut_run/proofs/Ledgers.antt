@@ -168,9 +168,9 @@ line_fault skips (faults.Order k) before rs stage left rest fa fb n v count says
 line_fault skips (faults.Absent k) before rs stage left rest fa fb n v count says why = (why.0 ∙ count, (v, says, why.1))
 line_fault skips (faults.Header network f) before rs stage left rest fa fb n v count says why = absurd why
 line_fault skips (faults.Read source.Ledger) before rs stage left rest fa fb n v count says why = absurd why
-line_fault skips (faults.Read (source.Recording A)) before rs stage left rest fa fb n v count says why = (v, says, sym why)
-line_fault skips (faults.Read (source.Recording B)) before rs stage left rest fa fb n v count says why = (v, says, sym why)
-line_fault skips faults.Write before rs stage left rest fa fb n v count says why = (v, says)
+line_fault skips (faults.Read (source.Recording A)) before rs stage left rest fa fb n v count says why = (v, says, sym why.0, why.1)
+line_fault skips (faults.Read (source.Recording B)) before rs stage left rest fa fb n v count says why = (v, says, sym why.0, why.1)
+line_fault skips faults.Write before rs stage left rest fa fb n v count says why = (v, says, why)
 line_fault skips faults.Memory before rs stage left rest fa fb n v count says why = (v, says)
 
 -- and the ledger didn't fail

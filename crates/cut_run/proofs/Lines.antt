@@ -180,7 +180,8 @@ named_last fa fb ga gb (w ∷ vs) [] v f was h = absurd was
 named_last fa fb ga gb (w ∷ vs) (g ∷ fs) v f (one, more) (first, rest) = named_last fa fb ga gb vs fs v f more rest
 
 pub named_some : (fa fb : List Frame) (vs : List FrameLine) (gs : List Frame) (v : FrameLine) → AreFramesOf fa fb (vs ++ v ∷ []) gs
-    → (fs : List Frame) × AreFramesOf fa fb vs fs
-named_some fa fb [] gs v h = ([], tt)
+    → (fs : List Frame) × AreFramesOf fa fb vs fs × ((f : Frame) × IsFrameOf fa fb v f)
+named_some fa fb [] [] v h = absurd h
+named_some fa fb [] (g ∷ gs) v h = ([], tt, (g, h.0))
 named_some fa fb (w ∷ vs) [] v h = absurd h
-named_some fa fb (w ∷ vs) (g ∷ gs) v (one, more) = let rest = named_some fa fb vs gs v more in (g ∷ rest.0, (one, rest.1))
+named_some fa fb (w ∷ vs) (g ∷ gs) v (one, more) = let rest = named_some fa fb vs gs v more in (g ∷ rest.0, (one, rest.1), rest.2)

@@ -1,5 +1,5 @@
 -- What a finder says of one network, as both recordings have it.
-use Rattle.std.proofs.Common.{◌≡◌, ◌∙◌, ℕ, List, [], ◌∷◌, ◌++◌, slice_get, Option, None, Some, Result, Ok, Err, refl, sym, ap, subst, inl, inr, arith}
+use Rattle.std.proofs.Common.{◌≡◌, ◌∙◌, ℕ, ◌≤◌, List, [], ◌∷◌, ◌++◌, length, slice_get, Option, None, Some, Result, Ok, Err, refl, sym, ap, subst, inl, inr, arith}
 use Rattle.std.specs.Prelude.{MatchResult, IfSome}
 use Rattle.std.specs.Io.KnownBytes.{Consumes}
 use Rattle.afdx_frame.specs.Frame.{Frame}
@@ -156,6 +156,10 @@ lacks_side : (network : Network) (a b : SourceView) (ga gb : List Frame) (v : Fr
     → LacksFrame (view_of network a b) (side network ga gb) v → LacksFrame (view_of v.network a b) (side v.network ga gb) v
 lacks_side network a b ga gb v is lacks = subst (λ (m : Network). LacksFrame (view_of m a b) (side m ga gb) v) (sym is) lacks
 
+few_side : (network : Network) (ga gb : List Frame) (v : FrameLine) → v.network ≡ network → length (side network ga gb) ≤ v.number
+    → length (side v.network ga gb) ≤ v.number
+few_side network ga gb v is few = subst (λ (m : Network). length (side m ga gb) ≤ v.number) (sym is) few
+
 -- the other recording stays
 stays_a : {S T : Type 0} (s : SourceMembers S) (t : SourceMembers T) (a b : SourceView) (vs : List FrameLine) (fs fa fb : List Frame) (old new : Recordings S T)
     → HasNamed s t a b vs fs fa fb old → new.a ≡ old.a → ReadsPart (opening_at A a) fa (finding_of s.remaining s.failures new.a)
@@ -179,7 +183,7 @@ stopped_a s t a b vs fs fa fb old new v n find.Absent h is found same =
 stopped_a s t a b vs fs fa fb old new v n find.Device h is found same =
     stopped_one s t a b vs fs fa fb (fa ++ found.more) fb old new v n (faults.Read (source.Recording v.network)) h
     (record { position = found.position; left = found.left; read = found.read; gone = found.gone }) (stays_b s t a b vs fs fa fb old new h same)
-    (widens_by fa found.more) (widens_none fb) refl (rw is found.failure) (rw (is, same) h.read_b.no_failure)
+    (widens_by fa found.more) (widens_none fb) (refl, few_side A (fa ++ found.more) fb v is found.before) (rw is found.failure) (rw (is, same) h.read_b.no_failure)
 stopped_a s t a b vs fs fa fb old new v n find.Memory h is found same =
     stopped_one s t a b vs fs fa fb (fa ++ found.more) fb old new v n faults.Memory h
     (record { position = found.position; left = found.left; read = found.read; gone = found.gone }) (stays_b s t a b vs fs fa fb old new h same)
@@ -199,7 +203,8 @@ stopped_b s t a b vs fs fa fb old new v n find.Absent h is found same =
     found.read.no_failure
 stopped_b s t a b vs fs fa fb old new v n find.Device h is found same =
     stopped_one s t a b vs fs fa fb fa (fb ++ found.more) old new v n (faults.Read (source.Recording v.network)) h (stays_a s t a b vs fs fa fb old new h same)
-    (record { position = found.position; left = found.left; read = found.read; gone = found.gone }) (widens_none fa) (widens_by fb found.more) refl
+    (record { position = found.position; left = found.left; read = found.read; gone = found.gone }) (widens_none fa) (widens_by fb found.more)
+    (refl, few_side B fa (fb ++ found.more) v is found.before)
     (rw (is, same) h.read_a.no_failure) (rw is found.failure)
 stopped_b s t a b vs fs fa fb old new v n find.Memory h is found same =
     stopped_one s t a b vs fs fa fb fa (fb ++ found.more) old new v n faults.Memory h (stays_a s t a b vs fs fa fb old new h same)

@@ -124,7 +124,7 @@ unwritten_line s t (Some b) vs v n (Some q) (Some r) h more =
       read_b = part_read (opening_at B b.b) more.2 named.floor_b (finding_of t.remaining t.failures r.b) named.read_b;
       rise = h.3.rise;
       named = before.1;
-      why = tt;
+      why = before.2;
       a_failures = named.read_a.no_failure;
       b_failures = named.read_b.no_failure;
     }

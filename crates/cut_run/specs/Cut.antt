@@ -23,7 +23,7 @@ use Rattle.run_fault.specs.Device.{SinkMembers, SinkView, SourceMembers, SourceV
 use Rattle.run_fault.specs.Fault.{FailsWhere}
 use Rattle.run_fault.specs.Recording.{FailsAtHeader, HasHeaderFault, IsReadPart, WasOpened}
 use Rattle.cut_run.specs.Faults.{LedgerSource, OutputSink, RecordingSource, names}
-use Rattle.cut_run.specs.Lines.{AreFramesOf, AreSpread, Choice, ComesLater, IsTakenNext, Rise, TakesOf, is_read, last_key, read_lines, side, cut_capture, line_packet}
+use Rattle.cut_run.specs.Lines.{AreFramesOf, AreSpread, Choice, ComesLater, IsFrameOf, IsTakenNext, Rise, TakesOf, is_read, last_key, read_lines, side, cut_capture, line_packet}
 use Rattle.cut_run.specs.Naming.{LacksFrame, view_of}
 use Rattle.cut_run.specs.declared.cut.CutEnding.{CutEnding}
 use Rattle.cut_run.specs.declared.cut.CutEnding.TheVariants as ending
@@ -169,9 +169,10 @@ IsLineFault skips (faults.Absent n) before rs stage left rest frames_a frames_b 
     × ((v : FrameLine) × ReadsNext skips stage left rest v × LacksFrame (view_of v.network before.a before.b) (side v.network frames_a frames_b) v)
 IsLineFault skips (faults.Read source.Ledger) before rs stage left rest frames_a frames_b = FailsInLine left rest
 IsLineFault skips (faults.Read (source.Recording network)) before rs stage left rest frames_a frames_b =
-    (v : FrameLine) × ReadsNext skips stage left rest v × (v.network ≡ network)
+    (v : FrameLine) × ReadsNext skips stage left rest v × (v.network ≡ network) × (length (side v.network frames_a frames_b) ≤ v.number)
 IsLineFault skips faults.Memory before rs stage left rest frames_a frames_b = (v : FrameLine) × ReadsNext skips stage left rest v
-IsLineFault skips faults.Write before rs stage left rest frames_a frames_b = (v : FrameLine) × ReadsNext skips stage left rest v
+IsLineFault skips faults.Write before rs stage left rest frames_a frames_b =
+    (v : FrameLine) × ReadsNext skips stage left rest v × ((f : Frame) × IsFrameOf frames_a frames_b v f)
 IsLineFault skips (faults.Header network fault) before rs stage left rest frames_a frames_b = ⊥
 
 -- The output has the whole capture of what was taken. Where the sink failed, the next line is taken too, and a prefix of its frame's packet

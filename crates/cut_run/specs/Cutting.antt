@@ -1,5 +1,5 @@
 -- A cut between its first line and its last (this project's profile).
-use Rattle.std.specs.Prelude.{◌≡◌, ◌<◌, ◌≤◌, ℕ, true, false, List, [], ◌∷◌, ◌++◌, length, take, Option, None, Result, Ok, Err, ◌⊎◌, ⊤}
+use Rattle.std.specs.Prelude.{◌≡◌, ◌<◌, ◌≤◌, ℕ, true, false, List, [], ◌∷◌, ◌++◌, length, take, Option, None, Result, Ok, Err, ◌⊎◌}
 use Rattle.std.specs.Io.KnownBytes.{Appends}
 use Rattle.std.specs.List.{zip}
 use Rattle.afdx_frame.specs.Frame.{Frame}
@@ -21,7 +21,7 @@ use Rattle.run_fault.specs.Device.{SinkMembers, SinkView, SourceMembers, SourceV
 use Rattle.run_fault.specs.Fault.{FailsWhere}
 use Rattle.cut_run.specs.Cut.{CutDevices, HasWritten, IsLineFault, stop_of}
 use Rattle.cut_run.specs.Faults.{LedgerSource, OutputSink, RecordingSource, names}
-use Rattle.cut_run.specs.Lines.{AreFramesOf, AreSpread, Choice, IsTakenNext, Rise, TakesOf, is_read, read_lines, cut_capture, line_packet}
+use Rattle.cut_run.specs.Lines.{AreFramesOf, AreSpread, Choice, IsFrameOf, IsTakenNext, Rise, TakesOf, is_read, read_lines, cut_capture, line_packet}
 use Rattle.cut_run.specs.Naming.{HasNamed, IsNameFault, ReadsPart, opening_at}
 use Rattle.cut_run.specs.declared.cut.CutEnding.{CutEnding}
 use Rattle.cut_run.specs.declared.cut.Taking.{Taking}
@@ -48,9 +48,9 @@ TakesMore s t w format choice a b output vs fs v taking =
     (f : Frame) × (taken : List (FrameLine × Frame)) × (frames_a : List Frame) × (frames_b : List Frame)
     × HasTaken s t w format choice a b output (vs ++ v ∷ []) (fs ++ f ∷ []) taken frames_a frames_b taking
 
--- why a line stops a cut: its frame isn't found, or isn't written
+-- why a line stops a cut: its frame isn't found, or it is, and isn't written
 abbrev pub IsTakeFault : CutFault → ℕ → SourceView → SourceView → List FrameLine → FrameLine → List Frame → List Frame → Type 0
-IsTakeFault faults.Write n a b vs v frames_a frames_b = ⊤
+IsTakeFault faults.Write n a b vs v frames_a frames_b = (f : Frame) × IsFrameOf frames_a frames_b v f
 IsTakeFault fault n a b vs v frames_a frames_b = IsNameFault fault n a b vs v frames_a frames_b
 
 -- The whole capture of what was taken was written. Where the sink failed, this line is taken too, and a prefix of its frame's packet was

@@ -82,7 +82,9 @@ view_of B a b = b
 abbrev pub IsNameFault : CutFault → ℕ → SourceView → SourceView → List FrameLine → FrameLine → List Frame → List Frame → Type 0
 IsNameFault (faults.Order m) n a b vs v frames_a frames_b = (m ≡ n) × (ComesLater (last_key vs) v → ⊥)
 IsNameFault (faults.Absent m) n a b vs v frames_a frames_b = (m ≡ n) × LacksFrame (view_of v.network a b) (side v.network frames_a frames_b) v
-IsNameFault (faults.Read (source.Recording network)) n a b vs v frames_a frames_b = network ≡ v.network
+-- no more frames of its network were read than stand before it
+IsNameFault (faults.Read (source.Recording network)) n a b vs v frames_a frames_b =
+    (network ≡ v.network) × (length (side v.network frames_a frames_b) ≤ v.number)
 IsNameFault faults.Memory n a b vs v frames_a frames_b = ⊤
 IsNameFault fault n a b vs v frames_a frames_b = ⊥
 
