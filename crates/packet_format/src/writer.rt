@@ -69,7 +69,8 @@ pub struct PacketWriter<'a, W> {
 }
 
 impl<'a, W: OutSink> PacketWriter<'a, W> {
-    ghost use Rattle.packet_format.specs.Writer.{LeavesOutput, Puts, format_in, has_failed, sink_after, sink_of};
+    ghost use Rattle.packet_format.specs.Writer.{LeavesOutput, Puts};
+    ghost use Rattle.packet_format.specs.Writer.{format_in, has_failed, sink_after, sink_of};
 
     /// Writes what a capture in the format begins with, which [`head_of`] made. An `Err` gives the sink back,
     /// which failed after a prefix of it.
