@@ -13,7 +13,7 @@ import subprocess
 import tempfile
 from fractions import Fraction
 
-from harness import FAULT, PROGRAM, SUCCESS, ended, frame, run, run_at_terminal, say
+from harness import FAULT, PROGRAM, SUCCESS, difference, ended, frame, run, run_at_terminal, say
 from report import ledger_in, table_of
 from report_reference import reference
 from texts import advice_on
@@ -311,6 +311,27 @@ def empty(folder):
     judged(folder, "90 links that are new", links, flight(links, 3), flight(links, 3, absent=range(110, 190)), None)
 
 
+def stopped(flights, path, lines):
+    """A baseline whose run was stopped: a note tells so, and one without a frame is compared with nothing."""
+    for name, text, end in (
+        ("without its line total", "".join(lines[:-1]), f"ends after line {len(lines) - 1}, without its total"),
+        ("that ends within a line", "".join(lines[:4])[:-3], "ends within line 4"),
+        ("without a frame", lines[0], "ends after line 1, without its total"),
+        ("that is empty", "", "is empty"),
+    ):
+        with open(path, "w", encoding="ascii") as file:
+            file.write(text)
+        whole = text.count("\n")
+        note = f"afdxmon: note: {path} {end}: its run was stopped, or goes on; whole lines: {whole}"
+        ran = run([*flights.command[:5], "--baseline", path, "--json"], stdout=subprocess.PIPE)
+        fault = difference(ran, SUCCESS, note)
+        if not fault:
+            told, alone = json.loads(ran.stdout), json.loads(run([*flights.command[:5], "--json"], stdout=subprocess.PIPE).stdout)
+            compared = told.pop("baseline", None)
+            fault = "" if told == alone and (compared is None if whole < 2 else compared["whole"] is False) else repr(compared)
+        say(f"baseline: one {name}", fault)
+
+
 def faults(folder):
     """A baseline that isn't one, and files that are one."""
     links = [link(50)]
@@ -336,6 +357,9 @@ def faults(folder):
     with_line(0, "2", "1", "report 6 Baseline 1 Ledger at 1 head")
     with_line(3, "regular", "irregular", "report 6 Baseline 1 Ledger at 4 class")
     with_line(2, " 50 ", " 51 ", "report 6 Baseline 2 Contradiction at 3 link")
+    ran = run_at_terminal([*flights.command[:5], "--baseline", changed])
+    wanted = f"afdxmon: report 6 Baseline 2 Contradiction at 3 link\n{changed}: line 3: link 51 isn't in the table {flights.table}: is it the table of the run?\n"
+    say("baseline: a terminal is told of its link", "" if ran.stderr == wanted else f"{ran.stderr!r} in place of {wanted!r}")
     with_line(len(lines) - 1, "delivered ", "delivered 1", f"report 6 Baseline 2 Contradiction at {len(lines)} counts")
     ran = run_at_terminal([*flights.command[:5], "--baseline", changed])
     wanted = f"afdxmon: report 6 Baseline 2 Contradiction at {len(lines)} counts\n{changed}: {advice_on('report 2 Contradiction at 3 counts')}\n"
@@ -352,11 +376,9 @@ def faults(folder):
         say("baseline: it is as it was", "" if file.read() == "".join(lines) else "it is written over")
     ran = run([*flights.command[:3], "--ledger", "-", "--baseline", "-"], stdout=subprocess.PIPE, stdin=subprocess.DEVNULL)
     say("baseline: standard input twice", "" if (ran.returncode, ran.stderr) == (FAULT, b"afdxmon: file --baseline\n") else f"{ran.stderr!r}")
-    with open(changed, "w", encoding="ascii") as file:
-        file.write("".join(lines[:-1]))
-    ran = run([*flights.command[:5], "--baseline", changed, "--json"], stdout=subprocess.PIPE)
-    say("baseline: one without its line total", "" if ran.returncode == SUCCESS and json.loads(ran.stdout)["baseline"]["whole"] is False
-        else f"status {ran.returncode}: {ran.stderr!r}")
+    stopped(flights, changed, lines)
+    with open("/dev/full", "wb") as full:
+        say("baseline: a full output", difference(run(flights.command, stdout=full), FAULT, "afdxmon: file -"))
     with open(flights.before, "rb") as file:
         ran = run([*flights.command[:5], "--baseline", "-", "-o", output], stdin=file, stdout=subprocess.PIPE)
     with open(output, "rb") as file:

@@ -13,6 +13,7 @@ import tempfile
 import pairs
 from harness import EVERY, FAULT, FIRST_64, SUCCESS, PROGRAM, difference, frame, header, record, run, say
 from reference import HEADER, disorder, parse, record_of
+from texts import CHOOSE
 from watching import TABLE
 
 SECTION, INTERFACE, OLD_PACKET, SIMPLE, NAMES, STATISTICS, PACKET, CUSTOM = 0x0A0D0D0A, 1, 2, 3, 4, 5, 6, 0xBAD
@@ -393,6 +394,9 @@ def absent(bench):
         reader = Reader(9)
         reader.read(large.bytes())
         fault = difference(ran, FAULT, f"afdxmon: interfaces --a: {reader.listed()}", b"")
+        full = run([name, "-v", *(places.get(word, word) for word in words)], stdin=subprocess.DEVNULL, stdout=subprocess.PIPE)
+        isnt = f"{bench.path('in.pcapng')}: the chosen interface isn't there: {CHOOSE}"
+        fault = fault or difference(full, FAULT, f"afdxmon: interfaces --a: {reader.listed()}\n{isnt}", b"")
         with open(places["OUT"], "rb") as out:
             say(f"pcapng: {name} of an interface that isn't there", fault or ("" if out.read() == b"older" else "an output was begun"))
 
@@ -564,7 +568,7 @@ def other_commands(bench):
         fault = difference(ran, FAULT, f"afdxmon: interfaces --{network.lower()}: 0 eth0, 2 eth1", b"")
         say(f"pcapng: several interfaces of network {network}", fault or ("" if older == b"older" else "the ledger was touched"))
     ran = run(["watch", "--config", bench.path("config"), "--a", both + ":0", "--b", both + ":1", "--ledger", "-"], stdin=subprocess.DEVNULL, stdout=subprocess.PIPE)
-    told = note_of("clean 0", 4, "B")
+    told = "afdxmon: note: no frame of network B\n" + note_of("clean 0", 4, "B")
     say("pcapng: packets that are not of Ethernet", difference(ran, SUCCESS, told))
     ran = run(["watch", "--config", bench.path("config"), "--a", both + ":0", "--ledger", both], stdin=subprocess.DEVNULL, stdout=subprocess.PIPE)
     say("pcapng: an output that is an input", difference(ran, FAULT, "afdxmon: file --ledger", b""))

@@ -441,15 +441,17 @@ def toml_of(links, constant=50331648, late=0):
 def expected(config, links, recordings, constant=50331648, late=0, kinds=()):
     """The answer on a sound table and recordings, by network (path, bytes)."""
     text = f"table: {config}: {counted(len(links), 'link')}, constant {constant}\n"
-    taps, faults = {"A": [], "B": []}, 0
+    taps, faults, empty = {"A": [], "B": []}, 0, {}
     for network, (path, recording) in recordings.items():
         taps[network], ending = parse(recording, late)
         text += network_line(network, path, recording, taps[network], ending, dict(kinds).get(network))
         faults += ending.startswith("bad")
+        empty[network] = ending == "clean 0"
     about = Reference(links, taps["A"], taps["B"], constant)
     text += {True: "overlap: the recordings overlap in time\n", False: "overlap: none\n", None: ""}[about.overlap()]
     questions = about.questions()
-    text += "".join(f"question: {question}\n" for question in questions) + about.notes()
+    text += "".join(f"question: {question}\n" for question in questions)
+    text += "".join(f"note: no frame of network {network}\n" for network in recordings if empty[network]) + about.notes()
     sound = "yes" if not questions and not faults else f"no, {counted(faults, 'fault')} and {counted(len(questions), 'question')}"
     return text + f"sound: {sound}\n"
 

@@ -19,7 +19,7 @@ from analyser import table_of
 from harness import EVERY, FAULT, SUCCESS, USAGE, PROGRAM, difference, frame, header, record, run, say
 from reference import HEADER, parse, record_of
 from streams import at_terminal
-from texts import TO_A_TERMINAL
+from texts import TO_A_TERMINAL, advice_on
 from watching import TABLE, tap
 
 # Every line that standard error may have: the words are settled here, and nowhere else in these tests.
@@ -481,6 +481,8 @@ def other_recordings(bench):
     refused(bench, "networks swapped", LINES["absent"].format(4), third, b, a)
     bench.put(a=tap((NOON, frame(5, 60, 1))), b=b)
     refused(bench, "another recording", LINES["absent"].format(4), third, tap((NOON, frame(5, 60, 1))), b)
+    told = f"{LINES['absent'].format(4)}\n{bench.path('a')}: network A: {advice_on('cut 3 Absent')}"
+    say("cut: a person is told which recording lacks the frame", difference(bench.cut(None, "ab", "-v"), FAULT, told))
     bench.put(a=a)
     for network in "AB":
         bench.put(ledger=b"".join(lines), a=a, b=b)

@@ -162,7 +162,9 @@ class Desk:
         arguments = self.arguments(document, a, b, more)
         text, told = expected(rows, a, b, wanted)
         ran = run(arguments, stdout=subprocess.PIPE)
-        say(f"icd: {name}", difference(ran, SUCCESS, "", text.encode()))
+        notes = "".join(f"afdxmon: note: no frame of network {network}\n" for network, recording in (("A", a), ("B", b)) if recording == header())
+        say(f"icd: {name}", difference(ran, SUCCESS, notes.rstrip("\n"), text.encode()))
+        told = notes + told
         at_terminal = run_at_terminal(arguments, stdin=subprocess.DEVNULL)
         say(f"icd: {name}, at a terminal", "" if at_terminal.stderr == told else f"{at_terminal.stderr!r}, not {told!r}")
         self.put("draft.toml", text)

@@ -347,6 +347,7 @@ def cases():
             early = re.search("truncated|can't be read", text)
             cut = re.search("# Links that aren't here, since all their frames are cut short: (.*)\\.\n", text)
             note = f"afdxmon: note: not drafted, since all their frames are cut short: links {cut[1]}" if cut else ""
+            note = "\n".join([note] * bool(note) + [f"afdxmon: note: no frame of network {n}" for n in re.findall("# Network ([AB]): 0 frames", text)])
             note = (lambda told: told.startswith("afdxmon: note: ")) if early else note
             say(f"links: {name}", difference(ran, SUCCESS, note, text.encode()))
             judged(work, name, text, a, b)

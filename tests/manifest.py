@@ -122,7 +122,8 @@ def watched(desk, name, given, *more, **elsewhere):
     for options in ((), ("--digest",), ("--digest", "--workers", "8")):
         it = Run(desk, given, *more, *options, **elsewhere)
         ran = it.run()
-        fault = difference(ran, SUCCESS, notes_on(written["ledger"], {"A": a, "B": b}), b"") or it.compared(written)
+        recorded = "".join(network.upper() for network in "ab" if elsewhere.get(network, "") is not None)
+        fault = difference(ran, SUCCESS, notes_on(written["ledger"], {"A": a, "B": b}, recorded), b"") or it.compared(written)
         say(" ".join(["manifest:", name, *options]), fault or desk.compared("ledger", written["ledger"]))
 
 

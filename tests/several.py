@@ -87,6 +87,8 @@ def told_of(ledger, counts):
     """How the note on each recording begins that its ledger doesn't call clean, and the note on its files."""
     lines = []
     for line in ledger.decode().splitlines():
+        if re.fullmatch("tap [AB] clean 0", line):
+            lines.append(f"afdxmon: note: no frame of network {line.split()[1]}")
         if line.startswith("tap ") and " clean " not in line:
             network, way, count, *reason = line.split()[1:]
             frames = f"{count} frame{'' if count == '1' else 's'}"
@@ -238,6 +240,21 @@ def endings(desk):
     desk.lay(config=TABLE, filter=EVERY)
     ran = desk.watch("--a", *lay(desk.directory, "first", [b"1", *THREE]), a=None, b=None, capture=None, filter=None)
     say("several: the first file has no header", difference(ran, FAULT, "afdxmon: watch 2 Header A 1 Short", b"") or desk.compared("ledger", b"older"))
+
+
+def of_two_networks(desk):
+    """A later file that begins before the end of the one before: a terminal is asked whether they are of two networks."""
+    desk.lay(config=TABLE, filter=EVERY)
+    files = [header() + b"".join(record(10**18 + start + i * 10**9, frame(5, 60, i + 1)) for i in range(40)) for start in (0, 5000)]
+    paths = lay(desk.directory, "networks", files)
+    note = "afdxmon: note: recording of network A ends bad after 40 frames: timestamp out of order by 38.999 s"
+    where = f"afdxmon: note: it ended in {paths[1]}, the last of its 2 files"
+    asked = f"{paths[1]}: it begins before the end of the file before: do they overlap, or are they of two networks?"
+    for more, told in (((), [note, where]), (("-v",), [note, where, asked])):
+        ran = desk.watch("--a", *paths, *more, a=None, b=None, capture=None, filter=None)
+        fault = difference(ran, SUCCESS, lambda text, told=told, more=more: [
+            line for line in text.splitlines() if "summary" not in line] == told, b"")
+        say(" ".join(["several: files of two networks", *more]), fault)
 
 
 def refused(desk):
@@ -400,6 +417,6 @@ def recorders(desk):
 
 
 def cases():
-    for part in (generated, long_list, other_commands, endings, refused, gaps, windows, lists, manifests, pipes, at_terminal, recorders):
+    for part in (generated, long_list, other_commands, endings, of_two_networks, refused, gaps, windows, lists, manifests, pipes, at_terminal, recorders):
         with tempfile.TemporaryDirectory() as directory:
             part(Desk(directory))

@@ -8,6 +8,7 @@ COUNTS = (1, 2, 256, 257, 1000, 1001, 2000, 3000, 4095, 4096)
 MEGABYTE = 10**6
 LARGE = (MEGABYTE, 3 * MEGABYTE, 8 * MEGABYTE, 12 * MEGABYTE, 16 * MEGABYTE, 16_777_215)
 ONE_FRAME = header() + record(0, frame(5, 60, 1))
+EMPTY_B = "afdxmon: note: no frame of network B"
 
 
 def numeric(count):
@@ -29,7 +30,7 @@ def filters(desk):
         judge(f"debug: {count} instructions", run(arguments, input=b"disassemble\ntally\n", stdout=subprocess.PIPE), SUCCESS, "", expected.encode())
         ran = desk.watch()
         kept = desk.left("ledger").split(b"\n")[1:2] == [b"0 A 0 5 1 regular within first deliver 60 03"]
-        judge(f"watch: {count} instructions", ran, SUCCESS, "", b"")
+        judge(f"watch: {count} instructions", ran, SUCCESS, EMPTY_B, b"")
         say(f"watch: {count} instructions, its line", "" if kept else f"{desk.left('ledger')[:80]!r}")
 
 
@@ -40,7 +41,7 @@ def large_texts(desk):
         judge(f"asm: a source of {size} bytes", run(["asm"], input=comment, stdout=subprocess.PIPE), SUCCESS, "", b"1,6 0 0 0,\n")
         code = " " * (size - len(EVERY)) + EVERY
         desk.lay(config="#" * (size - len(TABLE) - 1) + "\n" + TABLE, filter=code, a=ONE_FRAME, b=header())
-        judge(f"watch: a table and a filter of {size} bytes", desk.watch(), SUCCESS, "", b"")
+        judge(f"watch: a table and a filter of {size} bytes", desk.watch(), SUCCESS, EMPTY_B, b"")
         arguments = ["debug", "--filter", desk.paths["filter"], "--tap", desk.paths["a"]]
         commands = b" " * (size - 6) + b"\ntally"
         ran = run(arguments, input=commands, stdout=subprocess.PIPE)

@@ -46,7 +46,8 @@ def left_out(desk):
             desk.lay(**{**GIVEN, "config": config})
             ran = desk.watch("--workers", workers, **dict.fromkeys(absent))
             written = OLDER if "capture" in absent else expected.capture
-            say(f"watch: without {name}, --workers {workers}", desk.agrees(ran, written, ledger_of(expected)))
+            given = "".join(network for network in "AB" if network.lower() not in absent)
+            say(f"watch: without {name}, --workers {workers}", desk.agrees(ran, written, ledger_of(expected), given))
     for name, absent in (
         ("--capture without --filter", ["filter"]),
         ("neither --a nor --b", ["a", "b"]),

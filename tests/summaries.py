@@ -48,7 +48,7 @@ NUMBERS = "more than one frame in eight is out: does a recording hold check sequ
 OTHER_TABLE = "more than half of the frames are unconfigured: is the table that of another aircraft?"
 CUT_FRAMES = "more than one frame in a hundred is cut short: record frames whole, tcpdump -s 0"
 FEW_COPIES = "hardly a frame is a copy of another: do the clocks of the taps drift? afdxmon check tells"
-ONE_RECORDING = "each frame has its copy: are --a and --b two names of one recording?"
+ONE_RECORDING = "the recordings begin alike and have as many frames: are --a and --b two names of one recording?"
 
 
 def frames(count, start=0, size=60, first=0):
@@ -61,9 +61,12 @@ def checked(frames):
     return [(stamp, data + zlib.crc32(data).to_bytes(4, "little")) for stamp, data in frames]
 
 
-def tap_of(note):
-    """The option of the recording that a note is on."""
-    return re.search(r"of network ([AB])", note)[1].lower()
+def told_of(desk, note):
+    """A note, and at a terminal what to do with the recording that it is on, if that has frames."""
+    if "no frame of" in note:
+        return note + "\n"
+    path = desk.paths[re.search(r"of network ([AB])", note)[1].lower()]
+    return f"{note}\n{path}: {advice_on_ending(note)}\n"
 
 
 def summed(desk, name, config, a, b, hint):
@@ -71,7 +74,7 @@ def summed(desk, name, config, a, b, hint):
     expected = watch(config, EVERY, a, b)
     ledger = expected.lines + expected.summary
     notes = notes_on(ledger, {"A": a, "B": b})
-    told = "".join(f"{note}\n{desk.paths[tap_of(note)]}: {advice_on_ending(note)}\n" for note in notes.splitlines())
+    told = "".join(told_of(desk, note) for note in notes.splitlines())
     for more, whole in (((), told + summary_of(ledger, hint)), (("--quiet",), told)):
         desk.lay(config=config, filter=EVERY, a=a, b=b)
         ran = run_at_terminal([*desk.arguments(), *more], stdin=subprocess.DEVNULL)
@@ -146,6 +149,12 @@ def cases():
             near = [one if i < apart else (one[0] + 86_400 * 10**9, one[1]) for i, one in enumerate(frames(64))]
             summed(desk, f"{apart} copies of 64 frames", TABLE, tap(*frames(64)), tap(*near), hint)
         summed(desk, "one recording twice", TABLE, tap(*sound), tap(*sound), ONE_RECORDING)
+        unmanaged = TABLE + LINK_5.replace("= 5", "= 6").replace("brake", "flaps").replace("redundancy = true", "redundancy = false")
+        mixed = [(stamp + 1000 * (link - 5), frame(link, 60, i % 255 + 1)) for i, (stamp, _) in enumerate(sound) for link in (5, 6)]
+        summed(desk, "one recording twice, a link without redundancy management", unmanaged, tap(*mixed), tap(*mixed), ONE_RECORDING)
+        # Both taps of a sound flight by one clock differ in the interface's byte of the source address.
+        other = [(stamp, data[:11] + b"\x40" + data[12:]) for stamp, data in sound]
+        summed(desk, "networks that differ in their source addresses alone", TABLE, tap(*sound), tap(*other), None)
         summed(desk, "each frame with its copy a nanosecond later", TABLE, tap(*sound), tap(*frames(20, start=1)), None)
         summed(desk, "one recording and its start", TABLE, tap(*sound), tap(*sound)[:-1], None)
         example = [read(os.path.join(TOP, "examples", "flight" + end)) for end in (".toml", "_a.pcap", "_b.pcap")]

@@ -129,6 +129,8 @@ TABLES = (
     (TABLE + "smax = 200\n", "1 Text", ":12:1: duplicate key\nsmax = 200\n^\n", NO_DOCUMENT),
     (LINK_5, "2 Missing top", ": constant is missing\n", ALLOWED["constant"]),
     (TABLE + LINK_6.replace("smax = 200\n", ""), "2 Missing link 1", f":13:1: {FLAPS}: smax is missing\n[[link]]\n^\n", ALLOWED["smax"]),
+    (TABLE.replace("smax", "smaxx"), "2 Missing link 0", f":3:1: {BRAKE}: smax is missing; unknown key smaxx\n[[link]]\n^\n", ALLOWED["smax"]),
+    (TABLE.replace("constant", "constants"), "2 Missing top", ": constant is missing; unknown key constants\n", ALLOWED["constant"]),
     (TABLE + "[[link]]\n", "2 Missing link 1", ":12:1: link 1: id is missing\n[[link]]\n^\n", ALLOWED["id"]),
     ("constant = true", "3 Kind top", ":1:1: constant = true\nconstant = true\n^\n", ALLOWED["constant"]),
     ("constant = 50331648\nlink = [5]\n", "3 Kind top", ":2:1: link = a value of type array\nlink = [5]\n^\n", ALLOWED["link"]),
@@ -222,6 +224,7 @@ def faults(desk):
     told.append("check 1 Unsound")  # check.py has it, beside the answer
     told += ["file --manifest", "watch 4 Write manifest"]  # manifest.py has these
     told += ["order --a", "repeated --a"]  # several.py has these
+    told.append("cut 3 Absent")  # cut.py has it
     told += [f"report 5 Manifest {what}" for what in ("at 1 form", "version", "table", "ledger")]
     told += little_memory(desk)
     for key in ADVICE:

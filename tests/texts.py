@@ -71,6 +71,7 @@ ADVICE = {
     "watch 4 Write ledger": "the ledger can't be written: is the disk full, or the pipe closed?",
     "watch 4 Write manifest": "the manifest can't be written: is the disk full, or the pipe closed?",
     "watch 7": NO_MEMORY,
+    "cut 3 Absent": "the recording has no such frame: give those that the ledger was written of",
     "links 1 Constant": "--constant is a number of 32 bits with bits 24 and 25 set, as 0x03000000 or 50331648",
     "check 1 Unsound": "a run with these inputs would not be sound: the answer says why",
     "report 1 Ledger": "a line of no frame's form: was the ledger changed?",

@@ -4,6 +4,7 @@ What it writes is compared with the texts of worked examples, and with the slow 
 """
 import os
 import random
+import re
 import subprocess
 import tempfile
 import threading
@@ -50,10 +51,12 @@ REASONS = {
 }
 
 
-def notes_on(ledger, files=None):
-    """What standard error has of the recordings of this ledger, without the last newline. Of files it tells how late a frame was."""
+def notes_on(ledger, files=None, given="AB"):
+    """What standard error has of the given recordings of this ledger, without the last newline. Of files it tells how late a frame was."""
     notes = []
     for line in ledger.decode().splitlines():
+        if re.fullmatch(f"tap [{given}] clean 0", line):
+            notes.append(f"afdxmon: note: no frame of network {line.split()[1]}")
         if line.startswith("tap ") and " clean " not in line:
             network, way, count, *reason = line.split()[1:]
             why = REASONS[reason[0]] if reason else "truncated within a record"
@@ -99,10 +102,10 @@ class Desk:
         begin = max(0, same - 40)
         return f"the {option} differs at byte {same}: {found[begin : same + 40]!r}, not {expected[begin : same + 40]!r}"
 
-    def agrees(self, ran, capture, ledger):
-        """How a run that should succeed differs from that. It notes each recording that its ledger doesn't call clean."""
+    def agrees(self, ran, capture, ledger, given="AB"):
+        """How a run that should succeed differs from that. It notes each given recording that its ledger doesn't call clean, or has no frame of."""
         files = {network: self.left(network.lower()) if os.path.exists(self.paths[network.lower()]) else b"" for network in "AB"}
-        return difference(ran, SUCCESS, notes_on(ledger, files), b"") or self.compared("capture", capture) or self.compared("ledger", ledger)
+        return difference(ran, SUCCESS, notes_on(ledger, files, given), b"") or self.compared("capture", capture) or self.compared("ledger", ledger)
 
     def refused(self, name, ran, line, capture, ledger):
         """A run that should end with a fault, and leave these outputs."""

@@ -74,6 +74,7 @@ impl<'a> Watcher<'a> {
             source: None,
             reason,
             unread: None,
+            baseline: None,
             taps: self.taps,
             at: [0, 0],
             full: self.full,

@@ -149,6 +149,7 @@ fn settle<'p>(
         skipped: Skipped::two(skipped_in(&a), skipped_in(&b)),
         reason: capture_fails.or(ledger_fails),
         unread: None,
+        baseline: None,
     };
     let read = [a.map(|end| end.sums), b.map(|end| end.sums)];
     (ended, RunSums::new(read, sums, ledger.into_spans()))

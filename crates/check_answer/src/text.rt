@@ -119,6 +119,14 @@ fn push_bad(out: &mut String, network: &str, tap: &TapAnswer<'_>) -> Result<(), 
     Ok(())
 }
 
+/// The note on a recording that has no frame.
+fn push_empty(out: &mut String, network: &str, tap: &TapAnswer<'_>) -> Result<(), AllocError> {
+    match tap.recorded.ending {
+        Ending::Clean(0) => writeln!(out, "note: no frame of network {network}"),
+        _ => Ok(()),
+    }
+}
+
 fn push_taps(out: &mut String, alloc: Global, answer: &Answer<'_>) -> Result<(), AllocError> {
     for (network, tap) in [("A", answer.a), ("B", answer.b)] {
         if let Some(tap) = tap {
@@ -170,6 +178,11 @@ pub fn text_of(alloc: Global, answer: &Answer<'_>) -> Result<String, AllocError>
     for question in answer.questions {
         let asked = Asked(question);
         writeln!(out, "question: {asked}")?;
+    }
+    for (network, tap) in [("A", answer.a), ("B", answer.b)] {
+        if let Some(tap) = tap {
+            push_empty(&mut out, network, &tap)?;
+        }
     }
     if answer.a.is_some() || answer.b.is_some() {
         push_absent(&mut out, answer.inputs)?;

@@ -3,7 +3,7 @@
 use crate::scan::{key_offset, link_offset};
 use std::alloc::{AllocError, Global};
 use std::fmt;
-use std::fmt::{Display, Formatter};
+use std::fmt::{Display, Formatter, Write};
 use toml::{Table, Value};
 use vl_config::{ConfigFault, FaultyKey, Key, MAX_LINKS, MAX_TABLE_FILTERS, faulty_key};
 
@@ -212,7 +212,22 @@ fn offset_of(alloc: Global, text: &str, link: Option<u32>, key: FaultyKey<'_>) -
 fn slip_of_key(alloc: Global, text: &str, document: &Table, fault: ConfigFault) -> Option<Slip> {
     let subject = subject_of(document, fault)?;
     let key = faulty_key(fault, subject.table)?;
-    slip_at(alloc, text, document, fault, key)
+    let mut slip = slip_at(alloc, text, document, fault, key)?;
+    if let Some(name) = misspelled(fault, subject.table) {
+        write!(slip.found, "; unknown key {name}").ok()?;
+    }
+    Some(slip)
+}
+
+/// A key that isn't known, in a table that lacks another: it may be that one, misspelled.
+fn misspelled(fault: ConfigFault, table: &Table) -> Option<&str> {
+    let ConfigFault::Missing { link } = fault else {
+        return None;
+    };
+    match faulty_key(ConfigFault::UnknownKey { link }, table)? {
+        FaultyKey::Unknown(name) => Some(name),
+        FaultyKey::Known(_) => None,
+    }
 }
 
 /// What a person is told of the fault of one key, in a table's text and the document that it is. None: there

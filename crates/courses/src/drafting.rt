@@ -1,12 +1,13 @@
 //! The table of virtual links that is drafted from recordings and a document.
 use crate::given::{MAX_LATE, text_of};
+use afdx_frame::Network;
 use command_line::{Exit, Fault, FileOption, LinksArguments};
 use icd_links::IcdLinks;
 use pcap_io::Ending;
 use run_outputs::Ended;
 use std::io;
 use table_draft::{Comparison, DraftFault, LeftOut, Recordings, Sources, draft_of};
-use tap_inputs::{NO_RUN, Refused, Skipped, Taps, end_of, open_both};
+use tap_inputs::{NO_RUN, Refused, Skipped, Taps, end_of, open_both, tell_empty};
 use traffic_survey::{GROUP_BITS, SurveyRun, survey_recordings};
 use vl_config::ConfigFault;
 
@@ -112,6 +113,9 @@ pub fn links<'x>(
             };
             let comparison = print_draft(rt, &sources)?;
             let _ = note_left_out(rt, LeftOut(&sources));
+            for (network, ending) in [(Network::A, a.ending), (Network::B, b.ending)] {
+                let _ = tell_empty(rt, network, taps.of_network(network), ending);
+            }
             if full {
                 let _ = tell_comparison(rt, comparison);
             }

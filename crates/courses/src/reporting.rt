@@ -2,7 +2,8 @@
 use crate::files::refuse_shared;
 use crate::given::{is_at_terminal, text_of};
 use command_line::{
-    Contradiction, Exit, Fault, FileOption, Invocation, ManifestFault, ReportArguments, ReportFault,
+    Contradiction, Exit, Fault, FileOption, Invocation, ManifestFault, ReportArguments,
+    ReportFault, is_standard,
 };
 use commands::read_config;
 use ledger_report::{Report, WrongLine, read_report};
@@ -142,6 +143,20 @@ fn text_for(
     text.ok_or(NO_REPORT)
 }
 
+/// Is today's flight compared with this one? A baseline that was stopped before its first frame says nothing.
+fn is_compared(baseline: &Report) -> bool {
+    baseline.stop.is_none() || baseline.counts.all().frames > 0
+}
+
+/// What the output is called where it can't be written.
+fn written_as(output: &str) -> FileOption {
+    if is_standard(output) {
+        FileOption::Standard
+    } else {
+        FileOption::Output
+    }
+}
+
 /// How the program ends that has told of a ledger.
 fn exit_at(stop: Option<LedgerStop>) -> Exit {
     match stop {
@@ -170,17 +185,21 @@ pub fn report(
     )?;
     refuse_other(rt, manifest, ledger.tally.end())?;
     let baseline = baseline_of(rt, baseline, &config)?;
-    let text = text_for(rt, given, &report, &config, manifest, baseline.as_ref())?;
+    let compared = baseline.as_ref().filter(|baseline| is_compared(baseline));
+    let text = text_for(rt, given, &report, &config, manifest, compared)?;
     let mut output = create(rt, given.output, FileOption::Output)?;
     let written = match output.write_all(text.as_bytes()) {
         Ok(()) => output.flush(),
         Err(error) => Err(error),
     };
     match written {
-        Ok(()) => Ok(Ended::from(exit_at(report.stop))),
+        Ok(()) => Ok(Ended {
+            baseline: baseline.and_then(|baseline| baseline.stop),
+            ..Ended::from(exit_at(report.stop))
+        }),
         Err(error) => Err(Refused {
             reason: Some(error),
-            ..Refused::from(Fault::File(FileOption::Output))
+            ..Refused::from(Fault::File(written_as(given.output)))
         }),
     }
 }

@@ -1,6 +1,7 @@
 //! How a command ended, or why it wasn't begun.
 use afdx_frame::Network;
 use command_line::{Exit, Fault, Summary, hint_of};
+use ledger_text::LedgerStop;
 use std::io;
 use tap_inputs::{Skipped, TapEnd, Taps};
 
@@ -14,6 +15,8 @@ pub struct Ended {
     pub reason: Option<io::Error>,
     /// Why a recording wasn't read that the answer of `check` is about.
     pub unread: Option<Fault>,
+    /// Where the baseline of a report ends, if it ends before its line `total`.
+    pub baseline: Option<LedgerStop>,
     /// The numbers of the files that were read last of the recordings.
     pub at: [usize; 2],
 }
@@ -26,6 +29,7 @@ impl From<Exit> for Ended {
             skipped: Skipped::none(),
             reason: None,
             unread: None,
+            baseline: None,
             at: [0, 0],
         }
     }
@@ -48,20 +52,21 @@ const FEW_COPIES: &str =
 
 /// What a person is told where both recordings may be one.
 const ONE_RECORDING: &str =
-    "afdxmon: hint: each frame has its copy: are --a and --b two names of one recording?";
+    "afdxmon: hint: the recordings begin alike and have as many frames: are --a and --b two names of \
+     one recording?";
 
 /// What is likely wrong with both recordings, where the counts alone give no hint: fewer frames than one in
-/// sixteen of the shorter recording are copies, or each that is delivered has one, and both begin alike.
+/// sixteen of the shorter recording are copies, or both begin alike and have as many.
 fn hint_at_both(rt: &HostRuntime, summary: &Summary, taps: &Taps) -> Option<&'static str> {
     let totals = &summary.totals;
     if hint_of(summary.a, summary.b, totals).is_some() {
         return None;
     }
     let shorter = summary.a.frames().min(summary.b.frames());
-    if totals.copy < shorter / 16 {
-        Some(FEW_COPIES)
-    } else if totals.copy > 0 && totals.copy == totals.delivered && taps.may_be_one(rt) {
+    if summary.a.frames() == summary.b.frames() && taps.may_be_one(rt) {
         Some(ONE_RECORDING)
+    } else if totals.copy < shorter / 16 {
+        Some(FEW_COPIES)
     } else {
         None
     }

@@ -1,5 +1,5 @@
 //! By how much the frame that ends a recording is out of order, and which option takes it.
-use crate::recordings::{Reading, files_of};
+use crate::recordings::{Reading, end_of, files_of};
 use crate::streams::Input;
 use crate::taps::Tap;
 use afdx_frame::Network;
@@ -21,6 +21,8 @@ enum Taken {
 pub struct Disorder {
     late: u64,
     taken: Taken,
+    /// Is it the first frame of a file after the first?
+    pub begins_file: bool,
 }
 
 impl Disorder {
@@ -31,15 +33,19 @@ impl Disorder {
         tap: &Tap,
         count: u64,
     ) -> Option<Disorder> {
-        let late = lateness_after(rt, tap, count)?;
+        let (late, begins_file) = lateness_after(rt, tap, count)?;
         let taken = taken_by(command, late);
-        Some(Disorder { late, taken })
+        Some(Disorder {
+            late,
+            taken,
+            begins_file,
+        })
     }
 }
 
 /// By how many nanoseconds the frame after the first `count` of a recording lies below the greatest
-/// timestamp.
-fn lateness_after(rt: &HostRuntime, tap: &Tap, count: u64) -> Option<u64> {
+/// timestamp, and whether a file ends before it.
+fn lateness_after(rt: &HostRuntime, tap: &Tap, count: u64) -> Option<(u64, bool)> {
     if !tap.is_of_regular_files(rt) {
         return None;
     }
@@ -55,7 +61,7 @@ fn lateness_after(rt: &HostRuntime, tap: &Tap, count: u64) -> Option<u64> {
         late = high.saturating_sub(stamp);
         high = high.max(stamp);
     }
-    Some(late)
+    Some((late, end_of(rt, reader.into_source()).ends_file_at(count)))
 }
 
 /// The option of a command that takes a frame so late.

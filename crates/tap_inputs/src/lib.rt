@@ -29,6 +29,6 @@ pub use pauses::Pauses;
 pub use progress::{Progress, Recording};
 pub use recordings::{FileList, Reading, TapEnd, TapFiles, end_of, files_of, open_both};
 pub use refused::{NO_RUN, Refused};
-pub use seams::tell_gaps;
+pub use seams::{tell_empty, tell_gaps};
 pub use streams::{Input, Noting, OutputFile, OutputStream};
 pub use taps::{Tap, TapFile, Taps, option_of};

@@ -181,6 +181,11 @@ impl TapEnd {
             .min(self.file)
     }
 
+    /// Does a file that was read to its end end after so many frames?
+    pub fn ends_file_at(&self, count: u64) -> bool {
+        self.frames.contains(&count)
+    }
+
     /// A file was read too.
     fn add(&mut self, file: FileSource<'_>) -> Result<(), AllocError> {
         self.skipped = self.skipped.saturating_add(file.skipped());

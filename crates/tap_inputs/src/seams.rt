@@ -1,9 +1,10 @@
-//! Gaps between the files of a recording, as a person is told of them.
+//! Gaps between the files of a recording, and one without a frame, as a person is told of them.
 use crate::disorder::Amount;
 use crate::recordings::TapEnd;
 use crate::taps::Tap;
 use afdx_frame::Network;
 use command_line::FileOption;
+use pcap_io::Ending;
 use std::io;
 
 /// The longest gap that is no news, in nanoseconds.
@@ -21,6 +22,17 @@ fn gap_after(rt: &HostRuntime, tap: &Tap, end: &TapEnd, number: usize) -> Option
         return None;
     }
     Some(first.saturating_sub(last))
+}
+
+/// Notes that a recording, which was read to its end, has no frame.
+pub fn tell_empty(rt: &HostRuntime, network: Network, tap: &Tap, ending: Ending) -> io::Result<()> {
+    let letter = network.letter();
+    match ending {
+        Ending::Clean(0) if !tap.files.is_empty() => {
+            eprintln!(rt; "afdxmon: note: no frame of network {letter}")
+        }
+        _ => Ok(()),
+    }
 }
 
 /// Notes where nothing was recorded for more than a second between two files that were read.

@@ -11,9 +11,10 @@ use pcap_io::{Found, ReadSource, TapReader, TapSource};
 use pcapng::Choice;
 use std::alloc::AllocError;
 use std::fmt::Write;
-use std::fs;
 use std::fs::File;
+use std::io::Read;
 use std::os::unix::fs::MetadataExt;
+use std::{fs, io};
 
 /// A file of a recording, and the interface that is read of it.
 #[derive(Drop)]
@@ -101,6 +102,14 @@ impl Tap {
         Some(file.path.as_str())
     }
 
+    /// Is an interface of the file of this number chosen?
+    pub fn is_chosen_at(&self, number: usize) -> bool {
+        match self.files.get(number) {
+            Some(file) => !matches!(file.choice, Choice::Any),
+            None => false,
+        }
+    }
+
     /// Are all its files regular ones, which may be read again?
     pub fn is_of_regular_files(&self, rt: &HostRuntime) -> bool {
         self.files.iter().all(|file| fs::metadata(rt, &file.path).is_ok_and(
@@ -155,15 +164,18 @@ impl Taps {
         Ok([a, b])
     }
 
-    /// May both recordings be one? Their first files are regular ones of one length, and their first frames
-    /// have one timestamp.
+    /// May both recordings be one? Their first files are regular ones of one length that begin with the same
+    /// bytes, and have a frame.
     pub fn may_be_one(&self, rt: &HostRuntime) -> bool {
-        let (Some(a), Some(b)) = (self.a.files.first(), self.b.files.first()) else {
+        let (Some(of_a), Some(of_b)) = (self.a.files.first(), self.b.files.first()) else {
             return false;
         };
-        match (a.look(rt, FileOption::A), b.look(rt, FileOption::B)) {
+        match (of_a.look(rt, FileOption::A), of_b.look(rt, FileOption::B)) {
             (Ok(Some(a)), Ok(Some(b))) => {
-                a.length == b.length && a.first.is_some() && a.first == b.first
+                a.length == b.length
+                    && a.first.is_some()
+                    && a.first == b.first
+                    && begin_alike(rt, &of_a.path, &of_b.path)
             }
             _ => false,
         }
@@ -192,6 +204,21 @@ impl Taps {
 
 /// How many bytes at the start of a file are read at once, for its first frame.
 const LOOKED_AT: usize = 4096;
+
+/// The first bytes of a file, and zeros after its end.
+fn start_bytes(rt: &HostRuntime, path: &str) -> io::Result<[u8; LOOKED_AT]> {
+    let mut start = [0; LOOKED_AT];
+    File::open(rt, path)?.read(&mut start)?;
+    Ok(start)
+}
+
+/// Do two files begin with the same bytes?
+fn begin_alike(rt: &HostRuntime, a: &str, b: &str) -> bool {
+    match (start_bytes(rt, a), start_bytes(rt, b)) {
+        (Ok(a), Ok(b)) => a == b,
+        _ => false,
+    }
+}
 
 /// How many files are listed at most.
 const MAX_LISTED: usize = 32;

@@ -56,7 +56,7 @@ impl<'c, 't> Disputed<'c, 't> {
 }
 
 /// The line of a frame with this number. None: the ledger is no regular file, or has changed.
-fn line_again(rt: &HostRuntime, path: &str, number: u64) -> Option<FrameLine> {
+pub fn line_again(rt: &HostRuntime, path: &str, number: u64) -> Option<FrameLine> {
     if !fs::metadata(rt, path).ok()?.is_file() {
         return None;
     }

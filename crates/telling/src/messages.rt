@@ -1,6 +1,6 @@
 //! What standard error is told of a command's end: the fault line or the notes, and at a terminal which file
 //! it is about, why, and what to do. What a file is found to be by then is only told, and decides nothing.
-use crate::disputed::Disputed;
+use crate::disputed::{Disputed, line_again};
 use afdx_frame::Network;
 use bpf_asm::AsmFault;
 use command_line::{
@@ -13,7 +13,7 @@ use commands::MAX_TEXT;
 use config_place::{key_offset, slip_of};
 use cut_run::CutFault;
 use icd_links::IcdFault;
-use ledger_text::LedgerStop;
+use ledger_text::{FrameLine, LedgerStop};
 use pcap_io::{BadReason, Ending, HeaderFault};
 use run_fault::WatchFault;
 use run_manifest::read_manifest;
@@ -21,7 +21,7 @@ use std::fmt::{Display, Formatter};
 use std::fs::File;
 use std::io::Read;
 use std::{fmt, fs, io};
-use tap_inputs::{Disorder, OutputStream, Tap, Taps};
+use tap_inputs::{Disorder, OutputStream, Tap, Taps, option_of, tell_empty};
 use vl_config::{Config, ConfigFault};
 
 /// Why a file can't be read or written.
@@ -81,6 +81,8 @@ pub struct Known<'a> {
     pub reason: Option<io::Error>,
     /// Why a recording wasn't read that the answer of `check` is about.
     pub unread: Option<Fault>,
+    /// Where the baseline of a report ends, if it ends before its line `total`.
+    pub baseline: Option<LedgerStop>,
     pub taps: &'a Taps,
     /// The numbers of the files that were read last.
     pub at: [usize; 2],
@@ -359,10 +361,10 @@ fn explain_manifest(
 fn explain_link(
     rt: &HostRuntime,
     command: Invocation<'_>,
-    line: u64,
+    (ledger, line): (FileOption, u64),
     fault: &Fault,
 ) -> io::Result<()> {
-    let (ledger, table) = (FileOption::Ledger, FileOption::Config);
+    let table = FileOption::Config;
     let (Some(ledger), Some(table)) = (path_of(command, ledger), path_of(command, table)) else {
         return advise(rt, name_of(command, ledger), Advice(fault));
     };
@@ -374,6 +376,45 @@ fn explain_link(
     match disputed {
         Some(disputed) => eprintln!(rt; "{ledger}: line {line}: {disputed}"),
         None => advise(rt, Some(ledger), Advice(fault)),
+    }
+}
+
+/// Tells which recording lacks the frame of a ledger's line, where the ledger can be read again.
+fn explain_absent(
+    rt: &HostRuntime,
+    command: Invocation<'_>,
+    line: u64,
+    fault: &Fault,
+) -> io::Result<()> {
+    let ledger = FileOption::Ledger;
+    let found = path_of(command, ledger).and_then(|path| line_again(rt, path, line));
+    let Some(FrameLine { network, .. }) = found else {
+        return advise(rt, name_of(command, ledger), Advice(fault));
+    };
+    let letter = network.letter();
+    let name = name_of(command, option_of(command, network)).unwrap_or("recording");
+    let advice = Advice(fault);
+    eprintln!(rt; "{name}: network {letter}: {advice}")
+}
+
+/// Tells which interface is to be chosen of a recording's file, or that the chosen one isn't there.
+fn explain_interfaces(
+    rt: &HostRuntime,
+    name: Option<&str>,
+    file: FileOption,
+    known: Known<'_>,
+) -> io::Result<()> {
+    let (network, at) = match file {
+        FileOption::B => (Network::B, known.at[1]),
+        _ => (Network::A, known.at[0]),
+    };
+    let fault = Fault::Interfaces(file);
+    let advice = Advice(&fault);
+    match name {
+        Some(name) if known.taps.of_network(network).is_chosen_at(at) => {
+            eprintln!(rt; "{name}: the chosen interface isn't there: {advice}")
+        }
+        _ => advise(rt, name, advice),
     }
 }
 
@@ -533,8 +574,13 @@ fn explain(
         (Fault::Report(ReportFault::Manifest(ManifestFault::Form { .. })), _) => {
             explain_manifest(rt, command, name, fault)
         }
-        (Fault::Report(ReportFault::Contradiction { line, found }), _)
-            if found == Contradiction::Link => explain_link(rt, command, line, fault),
+        (
+            Fault::Report(ReportFault::Contradiction { line, found })
+            | Fault::Baseline(ReportFault::Contradiction { line, found }),
+            Some(ledger),
+        ) if found == Contradiction::Link => explain_link(rt, command, (ledger, line), fault),
+        (Fault::Cut(CutFault::Absent { line }), _) => explain_absent(rt, command, line, fault),
+        (Fault::Interfaces(file), _) => explain_interfaces(rt, name, file, known),
         (Fault::Config(fault), _) => explain_table(rt, command, fault),
         (Fault::Icd(fault), _) => explain_icd(rt, name, fault),
         (Fault::Asm(fault), _) => explain_source(rt, command, fault, known.source),
@@ -545,14 +591,14 @@ fn explain(
     }
 }
 
-/// Notes how a recording ended, and where a frame out of order ended it, by how much.
+/// Notes how a recording ended, and where a frame out of order ended it, by how much: that it returns.
 fn tell_ending<D: Display + Drop>(
     rt: &HostRuntime,
     command: Invocation<'_>,
     (tap, at): (&Tap, usize),
     ending: Ending,
     note: D,
-) -> io::Result<()> {
+) -> io::Result<Option<Disorder>> {
     let disorder = match ending {
         Ending::Bad(count, BadReason::StampBack) => Disorder::of(rt, command, tap, count),
         _ => None,
@@ -561,7 +607,8 @@ fn tell_ending<D: Display + Drop>(
         Some(disorder) => eprintln!(rt; "{note}{disorder}")?,
         None => rt.eprintln(note)?,
     }
-    tell_unread(rt, tap, at)
+    tell_unread(rt, tap, at)?;
+    Ok(disorder)
 }
 
 /// Notes which of a recording's files ended it, and how many after it weren't read.
@@ -585,15 +632,22 @@ fn tell_unread(rt: &HostRuntime, tap: &Tap, at: usize) -> io::Result<()> {
     }
 }
 
+/// What a person is asked where the frame that is out of order is the first of a later file.
+const OVERLAPPING: &str =
+    "it begins before the end of the file before: do they overlap, or are they of two networks?";
+
 /// Tells a person what to do with a recording that ended early.
 fn explain_ending(
     rt: &HostRuntime,
     command: Invocation<'_>,
     file: FileOption,
-    ending: Ending,
+    (ending, disorder): (Ending, Option<Disorder>),
     full: bool,
 ) -> io::Result<()> {
     match name_of(command, file) {
+        Some(name) if full && disorder.is_some_and(|disorder| disorder.begins_file) => {
+            eprintln!(rt; "{name}: {OVERLAPPING}")
+        }
         Some(name) if full => {
             let advice = EndingAdvice(ending);
             eprintln!(rt; "{name}: {advice}")
@@ -610,16 +664,28 @@ fn note_ending(
     ending: Ending,
     known: Known<'_>,
 ) -> io::Result<()> {
+    let tap = known.taps.of_network(network);
     if let Ending::Clean(_) = ending {
-        return Ok(());
+        return tell_empty(rt, network, tap, ending);
     }
     let (file, at) = match network {
         Network::A => (FileOption::A, known.at[0]),
         Network::B => (FileOption::B, known.at[1]),
     };
-    let recording = (known.taps.of_network(network), at);
-    tell_ending(rt, command, recording, ending, TapNote(network, ending))?;
-    explain_ending(rt, command, file, ending, known.full)
+    let note = TapNote(network, ending);
+    let disorder = tell_ending(rt, command, (tap, at), ending, note)?;
+    explain_ending(rt, command, file, (ending, disorder), known.full)
+}
+
+/// Notes where a ledger ends whose run was stopped, or goes on.
+fn note_stop(
+    rt: &HostRuntime,
+    command: Invocation<'_>,
+    file: FileOption,
+    stop: LedgerStop,
+) -> io::Result<()> {
+    let name = name_of(command, file).unwrap_or("ledger");
+    rt.eprintln(StopNote { name, stop })
 }
 
 /// Tells standard error how a command ended: the fault line or the notes, and in full which file it is about,
@@ -630,22 +696,33 @@ pub fn tell(
     exit: &Exit,
     known: Known<'_>,
 ) -> io::Result<()> {
+    tell_exit(rt, command, exit, known)?;
+    match known.baseline {
+        Some(stop) => note_stop(rt, command, FileOption::Baseline, stop),
+        None => Ok(()),
+    }
+}
+
+/// Tells standard error how a command ended, but for its baseline.
+fn tell_exit(
+    rt: &HostRuntime,
+    command: Invocation<'_>,
+    exit: &Exit,
+    known: Known<'_>,
+) -> io::Result<()> {
     match exit {
         Exit::Success => Ok(()),
         Exit::Terminal => rt.eprintln(TO_A_TERMINAL),
         Exit::Note(ending) => {
             let recording = (known.taps.of_network(Network::A), known.at[0]);
-            tell_ending(rt, command, recording, *ending, Note(*ending))?;
-            explain_ending(rt, command, FileOption::A, *ending, known.full)
+            let disorder = tell_ending(rt, command, recording, *ending, Note(*ending))?;
+            explain_ending(rt, command, FileOption::A, (*ending, disorder), known.full)
         }
         Exit::Watched(run) => {
             note_ending(rt, command, Network::A, run.a, known)?;
             note_ending(rt, command, Network::B, run.b, known)
         }
-        Exit::WithoutTotal(stop) => {
-            let name = name_of(command, FileOption::Ledger).unwrap_or("ledger");
-            rt.eprintln(StopNote { name, stop: *stop })
-        }
+        Exit::WithoutTotal(stop) => note_stop(rt, command, FileOption::Ledger, *stop),
         Exit::Fault(fault) => {
             match (fault, known.source) {
                 (Fault::Interfaces(_) | Fault::Order(_), Some(listed)) => {
