@@ -8,7 +8,7 @@ use std::process::Abort;
 use std::test::Fail;
 use test_support::{FIRST_RUN, SOUND};
 
-// further: mod stops;
+mod stops;
 
 /// `ld #7`, `st M[3]`, `ldx M[3]`, `txa`, `ret a`
 const STORING: &str = "5,0 0 0 7,2 0 0 3,97 0 0 3,135 0 0 0,22 0 0 0,";

@@ -1,10 +1,26 @@
 //! The loader by one program for each fault, and by paths.
 
-use crate::machine::{Word, words_of};
 use bpf_isa::Packed;
 use bpf_loader::{LoadFault, Program};
+use std::alloc::{AllocError, Global};
 use std::process::Abort;
 use std::test::Fail;
+
+/// A packed instruction: its code, jt, jf and k.
+pub(crate) type Word = (u16, u8, u8, u32);
+
+pub(crate) fn words_of(alloc: Global, words: &[Word]) -> Result<Vec<Packed>, AllocError> {
+    let mut packed = Vec::new(alloc);
+    for (code, jt, jf, k) in words {
+        packed.push(Packed {
+            code: *code,
+            jt: *jt,
+            jf: *jf,
+            k: *k,
+        })?;
+    }
+    Ok(packed)
+}
 
 /// `ret #0`
 const RETURN_0: Word = (6, 0, 0, 0);

@@ -2,7 +2,7 @@
 //!
 //! A ledger is written as a letter a line: its link, or a dash for none. A selected line has a capital
 //! letter, or a plus. What is taken is written beside it, a mark a line.
-use crate::selection::everything;
+use crate::selection::choices::everything;
 use afdx_frame::{Network, Stamp, VlId};
 use ledger_query::{Chooser, Neighbours, Selection};
 use ledger_text::FrameLine;

@@ -1,6 +1,6 @@
 //! The numeric form by worked examples.
 
-use crate::machine::{Word, words_of};
+use crate::machine::loading::{Word, words_of};
 use bpf_isa::NumericFault::{self, Character, Count, Form, Number, TooMany};
 use bpf_isa::{read_numeric, write_numeric};
 use std::test::Fail;

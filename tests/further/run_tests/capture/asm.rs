@@ -7,7 +7,7 @@ use std::alloc::{AllocError, Global};
 use std::test::Fail;
 use test_support::{SOUND, WIDE};
 
-// further: mod stops;
+mod stops;
 
 /// The ethertype filter's source, and its numeric form as it is printed.
 pub(crate) const SOURCE: &[u8] = b"ldh [12]\njne #0x806, drop\nret #-1\ndrop: ret #0\n";

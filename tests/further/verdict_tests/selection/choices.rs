@@ -1,5 +1,4 @@
 //! Worked examples.
-use crate::selection::everything;
 use afdx_frame::{Network, Stamp, VlId};
 use integrity::Integrity;
 use ledger_query::{LinkSet, Moment, Selection, Word, WordFault, matches, read_mask, read_words};
@@ -10,6 +9,18 @@ use std::process::Abort;
 use std::test::Fail;
 use vl_config::Class;
 use vl_judge::Verdict;
+
+/// Every line is taken.
+pub(crate) fn everything() -> Selection {
+    Selection {
+        links: None,
+        network: None,
+        words: None,
+        from: None,
+        to: None,
+        filters: None,
+    }
+}
 
 /// Three hours into the second day.
 const NOW: u64 = 97_200_000_000_000;
