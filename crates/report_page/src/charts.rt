@@ -105,10 +105,8 @@ pub fn push_stair(page: &mut Page, class: &str, columns: &Columns, scale: Scale,
     let base = stair.base();
     let mut at = base;
     for (column, value) in columns.values.iter().take(columns.count).enumerate() {
-        let (x, y) = (
-            column.saturating_mul(columns.per) as u64,
-            stair.y(scale, *value),
-        );
+        let x = column.saturating_mul(columns.per) as u64;
+        let y = stair.y(scale, *value);
         if y != at && at == base {
             page.path(&[("M", x), (" ", at), ("V", y)]);
         } else if y != at {
@@ -244,10 +242,8 @@ pub fn push_row(
     let empty = Columns::new(view, drawing.kind, drawing.per);
     let (a, b) = (empty.with(series.0), empty.with(series.1));
     let (peak, base) = (a.peak().max(b.peak()).max(1), drawing.height / 2);
-    let (top, high) = (
-        peak.max(share(drawing.limit, 115, 100)),
-        base.saturating_sub(1),
-    );
+    let top = peak.max(share(drawing.limit, 115, 100));
+    let high = base.saturating_sub(1);
     let (above, below) = (Stair::Above(base), Stair::Below(base));
     begin_row(page, view, texts, drawing.height);
     push_blind_half(page, view, Network::A, (0, base));

@@ -126,10 +126,8 @@ fn silent_on(view: &View<'_>, network: Network) -> Part<'static> {
 fn push_skew(page: &mut Page, view: &View<'_>) {
     let mut worst: Option<(u64, &LinkReport, &Link)> = None;
     for (link, configured) in view.report.links.iter().zip(view.config.links().iter()) {
-        let ratio = quotient(
-            greatest_skew(link).saturating_mul(1000),
-            link.skew_max.max(1),
-        );
+        let skew = greatest_skew(link).saturating_mul(1000);
+        let ratio = quotient(skew, link.skew_max.max(1));
         if link.copies > 0 && worst.is_none_or(|(most, _, _)| ratio > most) {
             worst = Some((ratio, link, configured));
         }
@@ -144,9 +142,7 @@ fn push_skew(page: &mut Page, view: &View<'_>) {
 
 /// Is the recording read to its end, and whole?
 pub fn is_clean(ending: &Option<TapEnding>) -> bool {
-    ending
-        .as_ref()
-        .is_some_and(|ending| ending.end == TapEnd::Clean)
+    matches!(ending, Some(ending) if ending.end == TapEnd::Clean)
 }
 
 /// How a recording ends, in a word.

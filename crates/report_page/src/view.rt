@@ -89,12 +89,11 @@ impl<'a> View<'a> {
         })
     }
 
-    /// How many frames each filter of the run accepted: the one given to it, and those of the table.
+    /// How many frames each filter accepted: that of `--filter`, and those of the table.
     pub fn filters(&self) -> &'a [u64] {
-        let filters = self.report.counts.filters();
-        &filters[..filters
-            .len()
-            .min(self.config.filters().len().saturating_add(1))]
+        let accepted = self.report.counts.filters();
+        let filters = self.config.filters().len().saturating_add(1);
+        &accepted[..filters.min(accepted.len())]
     }
 
     /// The counts of a sign on both networks.
@@ -110,10 +109,8 @@ impl<'a> View<'a> {
 
     /// A link's report and its configuration.
     pub fn link(&self, index: usize) -> Option<(&'a LinkReport, &'a Link)> {
-        self.report
-            .links
-            .get(index)
-            .zip(self.config.links().get(index))
+        let link = self.report.links.get(index);
+        link.zip(self.config.links().get(index))
     }
 
     /// How many links have a level.
