@@ -2,9 +2,8 @@
 
 use crate::words::fault_word;
 use command_line::{Place, place_at};
-use config_place::{Slip, link_of, link_table, slip_at, slip_of};
 use std::alloc::{AllocError, Global};
-use table_check::TableFault;
+use table_check::{Slip, TableFault, link_of, link_table, slip_at, slip_of};
 use toml::Table;
 use vl_config::{FaultyKey, Key};
 

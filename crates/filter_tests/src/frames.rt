@@ -161,26 +161,39 @@ fn keys_by_stamp_then_network_then_number(rt: HostRuntime) {
     key_order();
 }
 
+const CONSTANT: Option<u32> = Some(0x0300_0000);
+
+const LINK: Option<VlId> = Some(VlId(5));
+
+/// How many bytes of the frame a view has, its constant field, its link, its sequence number and its body.
+type Shortest = (
+    usize,
+    Option<u32>,
+    Option<VlId>,
+    Option<u8>,
+    Option<&'static [u8]>,
+);
+
+const SHORTEST: [Shortest; 9] = [
+    (0, None, None, None, None),
+    (1, None, None, Some(3), None),
+    (3, None, None, Some(0), None),
+    (4, CONSTANT, None, Some(0), None),
+    (5, CONSTANT, None, Some(0), None),
+    (6, CONSTANT, LINK, Some(5), None),
+    (14, CONSTANT, LINK, Some(0), None),
+    (15, CONSTANT, LINK, Some(0x45), Some(&[])),
+    (17, CONSTANT, LINK, Some(42), Some(&[0x45, 0x46])),
+];
+
 #[test]
 fn views_at_their_shortest_lengths(rt: HostRuntime) {
-    let constant = Some(0x0300_0000);
-    let link = Some(VlId(5));
-    let empty: &[u8] = &[];
-    for (bytes, constant, link, sequence, body) in [
-        (&FRAME[..0], None, None, None, None),
-        (&FRAME[..1], None, None, Some(3), None),
-        (&FRAME[..3], None, None, Some(0), None),
-        (&FRAME[..4], constant, None, Some(0), None),
-        (&FRAME[..5], constant, None, Some(0), None),
-        (&FRAME[..6], constant, link, Some(5), None),
-        (&FRAME[..14], constant, link, Some(0), None),
-        (&FRAME[..15], constant, link, Some(0x45), Some(empty)),
-        (&FRAME[..], constant, link, Some(42), Some(&FRAME[14..16])),
-    ] {
+    for (len, constant, link, sequence, body) in &SHORTEST {
+        let bytes = &FRAME[..(*len).min(17)];
         let view = FrameView::new(bytes);
-        assert!(rt; view.bytes() == bytes && view.body() == body);
+        assert!(rt; view.bytes() == bytes && view.body() == *body);
         assert!(rt;
-            view.constant() == constant && view.vl() == link && view.sequence() == sequence
+            view.constant() == *constant && view.vl() == *link && view.sequence() == *sequence
         );
     }
 }

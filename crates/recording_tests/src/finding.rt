@@ -84,7 +84,7 @@ const SOUND_ASKED: [(&[u32], &[Asked]); 9] = [
 
 #[test]
 fn frames_by_timestamp_and_index(rt: HostRuntime) -> Result<(), AllocError> {
-    for (seconds, asked) in SOUND_ASKED {
+    for (seconds, asked) in &SOUND_ASKED {
         let source = MemSource::new(recording(rt.alloc(), seconds)?, SOUND);
         asks(&rt, source, asked);
     }

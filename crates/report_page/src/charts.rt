@@ -45,7 +45,7 @@ impl Columns {
     pub fn with(mut self, series: &Series) -> Columns {
         let (kind, per) = (self.kind, self.per);
         for (bin, value) in series.bins().iter().enumerate() {
-            if let Some(held) = self.values.get_mut(quotient_of(bin, per)) {
+            if let Some(held) = self.values.get_mut(bin.checked_div(per).unwrap_or(0)) {
                 *held = match kind {
                     Kind::Sum => held.saturating_add(*value),
                     Kind::Least => (*held).min(*value),
@@ -63,54 +63,60 @@ impl Columns {
     }
 }
 
-fn quotient_of(bin: usize, per: usize) -> usize {
-    if per == 0 { 0 } else { bin / per }
-}
+/// The number and the height of the greatest column that a drawing has room for.
+pub type Scale = (u64, u64);
 
-/// Where a shape of steps stands: the number and the height of its greatest column, its base line, and
-/// whether it is drawn upwards.
+/// Where the base line of a shape of steps is, and whether the shape is above or below it.
 #[derive(Clone, Copy)]
-pub struct Stair {
-    pub top: u64,
-    pub height: u64,
-    pub base: u64,
-    pub up: bool,
+pub enum Stair {
+    Above(u64),
+    Below(u64),
 }
 
 impl Stair {
-    /// Where a number stands.
-    fn y(&self, value: u64) -> u64 {
-        let height = share(value.min(self.top), self.height, self.top);
-        let height = height.max(value.min(1));
-        if self.up {
-            self.base.saturating_sub(height)
-        } else {
-            self.base.saturating_add(height)
+    fn base(self) -> u64 {
+        match self {
+            Stair::Above(base) | Stair::Below(base) => base,
         }
+    }
+
+    /// What is so far from the base line.
+    fn at(self, height: u64) -> u64 {
+        match self {
+            Stair::Above(base) => base.saturating_sub(height),
+            Stair::Below(base) => base.saturating_add(height),
+        }
+    }
+
+    /// Where a number stands.
+    fn y(self, (top, height): Scale, value: u64) -> u64 {
+        self.at(share(value.min(top), height, top).max(value.min(1)))
     }
 }
 
 const PATH: &str = "<path class=\"$class$\" d=\"";
 
 /// Appends the path of an area in steps, if it isn't empty.
-pub fn push_stair(page: &mut Page, class: &str, columns: &Columns, stair: Stair) {
+pub fn push_stair(page: &mut Page, class: &str, columns: &Columns, scale: Scale, stair: Stair) {
     if columns.peak() == 0 {
         return;
     }
     fill!(page; PATH; class = Text(class));
-    let mut at = stair.base;
+    let base = stair.base();
+    let mut at = base;
     for (column, value) in columns.values.iter().take(columns.count).enumerate() {
-        let (x, y) = (column.saturating_mul(columns.per) as u64, stair.y(*value));
-        if y != at && at == stair.base {
+        let x = column.saturating_mul(columns.per) as u64;
+        let y = stair.y(scale, *value);
+        if y != at && at == base {
             page.path(&[("M", x), (" ", at), ("V", y)]);
         } else if y != at {
             page.path(&[("H", x), ("V", y)]);
         }
         at = y;
     }
-    if at != stair.base {
+    if at != base {
         let end = columns.count.saturating_mul(columns.per);
-        page.path(&[("H", end as u64), ("V", stair.base)]);
+        page.path(&[("H", end as u64), ("V", base)]);
     }
     page.text("\"/>");
 }
@@ -236,28 +242,20 @@ pub fn push_row(
     let empty = Columns::new(view, drawing.kind, drawing.per);
     let (a, b) = (empty.with(series.0), empty.with(series.1));
     let (peak, base) = (a.peak().max(b.peak()).max(1), drawing.height / 2);
-    let up = Stair {
-        top: peak.max(share(drawing.limit, 115, 100)),
-        height: base.saturating_sub(1),
-        base,
-        up: true,
-    };
+    let top = peak.max(share(drawing.limit, 115, 100));
+    let high = base.saturating_sub(1);
+    let (above, below) = (Stair::Above(base), Stair::Below(base));
     begin_row(page, view, texts, drawing.height);
     push_blind_half(page, view, Network::A, (0, base));
     push_blind_half(page, view, Network::B, (base, base));
-    push_stair(page, drawing.classes.0, &a, up);
-    push_stair(page, drawing.classes.1, &b, Stair { up: false, ..up });
+    push_stair(page, drawing.classes.0, &a, (top, high), above);
+    push_stair(page, drawing.classes.1, &b, (top, high), below);
     page.text("<path class=\"zl\" d=\"");
     page.path(&[("M0 ", base), ("H", view.used as u64)]);
     page.text("\"/>");
     if drawing.limit > 0 {
-        let high = share(drawing.limit.min(up.top), up.height, up.top);
-        push_limits(
-            page,
-            view,
-            base.saturating_sub(high),
-            base.saturating_add(high),
-        );
+        let high = share(drawing.limit.min(top), high, top);
+        push_limits(page, view, above.at(high), below.at(high));
     }
     page.text("</svg><span class=\"vl\">");
     peak

@@ -1,7 +1,7 @@
 //! Whether the clocks of the taps drift: the skews of nearly all links move steadily, and alike.
 
 use crate::numbers::{SECOND, quotient, share};
-use afdx_frame::Network;
+use afdx_frame::Network::{self, A, B};
 use ledger_report::{BINS, LinkReport, Report, Series};
 use std::alloc::{AllocError, Global};
 
@@ -47,9 +47,12 @@ struct Rate {
 /// What a bin of two series has at most.
 fn greatest_in(copies: &Series, late: &Series, bin: u64) -> u64 {
     let bin = bin as usize;
-    let copy = copies.bins().get(bin).map_or(0, |skew| *skew);
-    let late = late.bins().get(bin).map_or(0, |skew| *skew);
-    copy.max(late)
+    copies
+        .bins()
+        .get(bin)
+        .max(late.bins().get(bin))
+        .copied()
+        .unwrap_or(0)
 }
 
 /// Where a link's skews stand in a bin. None: no second frame came there.
@@ -76,35 +79,27 @@ fn marks_of(alloc: Global, link: &LinkReport, used: u64) -> Result<Vec<Mark>, Al
 
 /// The level of a bin on the line from one mark to another.
 fn line_at(first: Mark, last: Mark, bin: u64) -> u64 {
-    let moved = first.level.abs_diff(last.level);
-    let passed = share(
-        moved,
+    let (passed, all) = (
         bin.saturating_sub(first.bin),
         last.bin.saturating_sub(first.bin),
     );
+    let moved = share(first.level.abs_diff(last.level), passed, all);
     if first.level < last.level {
-        first.level.saturating_add(passed)
+        first.level.saturating_add(moved)
     } else {
-        first.level.saturating_sub(passed)
+        first.level.saturating_sub(moved)
     }
 }
 
 /// The rate of marks that are so far apart, if all stand on the line from the first to the last, to a quarter
 /// of what they move.
 fn rate_of(marks: &[Mark], first: Mark, last: Mark, time: u64) -> Option<Rate> {
-    let faster = if first.level < last.level {
-        Network::B
-    } else {
-        Network::A
-    };
+    let faster = if first.level < last.level { B } else { A };
     let moved = first.level.abs_diff(last.level);
     let parts = share(moved, 1_000_000_000_000, time);
     let is_on = |mark: &Mark| mark.level.abs_diff(line_at(first, last, mark.bin)) <= moved / 4;
-    if (LEAST_DRIFT..=MAX_DRIFT).contains(&parts) && marks.iter().all(is_on) {
-        Some(Rate { faster, parts })
-    } else {
-        None
-    }
+    let is_drift = (LEAST_DRIFT..=MAX_DRIFT).contains(&parts) && marks.iter().all(is_on);
+    is_drift.then_some(Rate { faster, parts })
 }
 
 /// The rates of links whose skews move steadily, and how many links could have one.
@@ -113,10 +108,8 @@ fn rates_of(alloc: Global, report: &Report, used: u64) -> Result<(Vec<Rate>, u64
     for link in report.links.iter().filter(|link| link.redundancy) {
         let marks = marks_of(alloc, link, used)?;
         if let (Some(first), Some(last)) = (marks.first(), marks.last()) {
-            let time = last
-                .bin
-                .saturating_sub(first.bin)
-                .saturating_mul(report.width);
+            let bins = last.bin.saturating_sub(first.bin);
+            let time = bins.saturating_mul(report.width);
             if time >= SECOND {
                 of = of.saturating_add(1);
                 if let Some(rate) = rate_of(&marks, *first, *last, time) {

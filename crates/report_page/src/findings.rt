@@ -1,6 +1,7 @@
 //! What to look at first: sentences of fixed forms in a fixed order.
 
-use crate::causes::CAUSES;
+use self::Which::{Ends, Gap, Has, LostOnBoth, NeverOn, StoppedOn};
+use crate::causes::{causes_of, push_cause};
 use crate::gaps::{
     end_of, gap_of, is_lower_bound, is_told, missing_between, silence_of, silent_on_both, stop_of,
 };
@@ -8,7 +9,7 @@ use crate::page::{is_clean, push_ending};
 use crate::ranks::Level::{self, Notice, Trouble};
 use crate::ranks::{Rank, is_never_on, open_on_both};
 use crate::tables::worse_word;
-use crate::view::{NETWORKS, View, counts_of, first_of, first_parts, has_strip, links_word};
+use crate::view::{View, counts_of, first_of, first_parts, has_strip, links_word};
 use crate::writer::Part::{Both, Duration, Grouped, Letter, Number, Text, Thousandths, Utc};
 use crate::writer::{Named, Page, flag};
 use afdx_frame::Network::{self, A, B};
@@ -105,28 +106,26 @@ impl Findings<'_> {
         }
     }
 
-    /// How recordings end.
-    fn endings(&mut self, view: &View<'_>) {
-        for network in NETWORKS {
-            let ending = view.report.endings.of(network);
-            let parts = parts! { n = Letter(network) };
-            if !is_clean(ending) && self.begin(Trouble) {
-                self.page.fill(ENDS, &parts);
-                push_ending(self.page, ending);
-                self.page.text("</b>");
-                self.end();
-            }
-            if view.report.networks.of(network).frames == 0 {
-                self.say(NO_FRAME, &parts);
-            }
+    /// How a recording ends.
+    fn ending(&mut self, view: &View<'_>, network: Network) {
+        let ending = view.report.endings.of(network);
+        let parts = parts! { n = Letter(network) };
+        if !is_clean(ending) && self.begin(Trouble) {
+            self.page.fill(ENDS, &parts);
+            push_ending(self.page, ending);
+            self.page.text("</b>");
+            self.end();
+        }
+        if view.report.networks.of(network).frames == 0 {
+            self.say(NO_FRAME, &parts);
         }
     }
 
     /// What is wrong with the table or a recording.
     fn causes(&mut self, view: &View<'_>) {
-        for cause in CAUSES {
-            if cause.is_shown(view) && self.begin(Trouble) {
-                cause.push(self.page, view, "<b>", "</b>");
+        for cause in causes_of(view).iter().flatten() {
+            if self.begin(Trouble) {
+                push_cause(self.page, *cause, "<b>", "</b>");
                 self.end();
             }
         }
@@ -156,24 +155,31 @@ impl Findings<'_> {
         }
     }
 
+    /// A link's name, which leads to its strip where it has one.
+    fn name(&mut self, view: &View<'_>, rank: &Rank, strip: bool, follows: bool) {
+        if let Some((_, link)) = view.link(rank.index) {
+            fill!(self.page; NAME; follows = flag(follows), strip = flag(strip), plain = flag(!strip),
+                name = Text(&link.name), id = Number(u64::from(link.id.0)));
+        }
+    }
+
     /// A sentence that names the first links for which a test holds, worst first.
     fn links(&mut self, view: &View<'_>, which: Which, title: &str, word: &str) {
         let mut named = 0usize;
         for (at, rank) in view.ranks.iter().enumerate() {
-            let Some((report, link)) = view.link(rank.index) else {
+            let Some(said) = which.said(view, rank) else {
                 continue;
             };
-            let Some(said) = which.said(view, report, rank) else {
-                continue;
-            };
-            if named == 0 && !self.begin(which.level()) {
-                return;
+            if named == 0 {
+                if !self.begin(which.level()) {
+                    return;
+                }
+                self.page.text("<b>");
+                fill!(self.page; title; word = Text(word));
+                self.page.text(":</b> ");
             }
             if named < NAMED {
-                let strip = has_strip(rank, at);
-                fill!(self.page; if named == 0 { title } else { "; " }; word = Text(word));
-                fill!(self.page; NAME; strip = flag(strip), plain = flag(!strip), name = Text(&link.name),
-                    id = Number(u64::from(link.id.0)));
+                self.name(view, rank, has_strip(rank, at), named > 0);
                 let parts = said.1;
                 self.page.fill(said.0, &parts);
             }
@@ -224,10 +230,8 @@ impl Findings<'_> {
             return;
         }
         let (a, b) = (&view.report.networks.a.signs, &view.report.networks.b.signs);
-        let first = match (a.of(sign).first, b.of(sign).first) {
-            (Some(place), _) => Some((A, place)),
-            (None, place) => place.map(|place| (B, place)),
-        };
+        let (a, b) = (a.of(sign).first, b.of(sign).first);
+        let first = a.map(|place| (A, place)).or(b.map(|place| (B, place)));
         let [n, at, number] = first_parts(view, first);
         fill!(self.page; "<b>$about$:</b> $counts$$?n$, first at $at$ s ($n$ #$number$)$/$";
             about = Text(about), counts = Both(counts), n, at, number);
@@ -235,8 +239,8 @@ impl Findings<'_> {
     }
 }
 
-/// A link's name, which leads to its strip where it has one.
-const NAME: &str = "$?strip$<a href=\"#v$id$\">$name$</a>$/$$?plain$<b>$name$</b>$/$";
+const NAME: &str = "\
+$?follows$; $/$$?strip$<a href=\"#v$id$\">$name$</a>$/$$?plain$<b>$name$</b>$/$";
 
 const NEW_OUTSIDE: &str = "\
 $?first$<b>New since the baseline, outside the table:</b> $/$link $id$; ";
@@ -260,38 +264,33 @@ enum Which {
 
 /// The sentences on links, in their order.
 const ON_LINKS: [(Which, &str); 14] = [
-    (Which::NeverOn(A), "<b>Never seen on A:</b> "),
-    (Which::NeverOn(B), "<b>Never seen on B:</b> "),
-    (Which::StoppedOn(A), "<b>Stops on A, goes on on B:</b> "),
-    (Which::StoppedOn(B), "<b>Stops on B, goes on on A:</b> "),
-    (Which::Ends, "<b>Not delivered to the end (gap):</b> "),
-    (Which::Gap, "<b>Not delivered (gap):</b> "),
+    (NeverOn(A), "Never seen on A"),
+    (NeverOn(B), "Never seen on B"),
+    (StoppedOn(A), "Stops on A, goes on on B"),
+    (StoppedOn(B), "Stops on B, goes on on A"),
+    (Ends, "Not delivered to the end (gap)"),
+    (Gap, "Not delivered (gap)"),
+    (LostOnBoth, "Missing on both networks (lost)"),
+    (Has(Excess), "Above its allocation (excess)"),
+    (Has(TooLong), "Longer than Smax (toolong)"),
     (
-        Which::LostOnBoth,
-        "<b>Missing on both networks (lost):</b> ",
+        Has(Late),
+        "Second copy beyond SkewMax, delivered twice (late)",
     ),
-    (Which::Has(Excess), "<b>Above its allocation (excess):</b> "),
-    (Which::Has(TooLong), "<b>Longer than Smax (toolong):</b> "),
-    (Which::Has(Late), BEYOND_SKEW_MAX),
-    (Which::Has(Lost), "<b>Numbers missing (lost):</b> "),
-    (Which::Has(Repeat), AGAIN),
-    (Which::Has(Reset), "<b>Sender reset to 0 (reset):</b> "),
-    (Which::Silent, "<b>In the table, never seen:</b> "),
+    (Has(Lost), "Numbers missing (lost)"),
+    (Has(Repeat), "Same number again on one network (repeat)"),
+    (Has(Reset), "Sender reset to 0 (reset)"),
+    (Which::Silent, "In the table, never seen"),
 ];
-
-const BEYOND_SKEW_MAX: &str = "<b>Second copy beyond SkewMax, delivered twice (late):</b> ";
-
-const AGAIN: &str = "<b>Same number again on one network (repeat):</b> ";
 
 /// What begins the sentence on links that got worse so.
 fn title_of(how: Worse) -> &'static str {
     match how {
-        Worse::LostCopies => "<b>Lost its copies since the baseline:</b> ",
-        Worse::New => "<b>New since the baseline:</b> ",
-        Worse::Silent => "<b>Silent since the baseline:</b> ",
-        Worse::Grew(Count::LostBoth) =>
-            "<b>More missing on both networks (lost) than in the baseline:</b> ",
-        Worse::Grew(_) => "<b>More $word$ than in the baseline:</b> ",
+        Worse::LostCopies => "Lost its copies since the baseline",
+        Worse::New => "New since the baseline",
+        Worse::Silent => "Silent since the baseline",
+        Worse::Grew(Count::LostBoth) => "More missing on both networks (lost) than in the baseline",
+        Worse::Grew(_) => "More $word$ than in the baseline",
     }
 }
 
@@ -314,36 +313,37 @@ impl Which {
     fn level(self) -> Level {
         match self {
             Which::Silent => Level::Silent,
-            Which::Has(Reset) | Which::Worse(Worse::New | Worse::Grew(Count::Reset)) => Notice,
+            Has(Reset) | Which::Worse(Worse::New | Worse::Grew(Count::Reset)) => Notice,
             _ => Trouble,
         }
     }
 
     /// What is said of a link beside its name; nothing where it isn't so.
-    fn said(self, view: &View<'_>, link: &LinkReport, rank: &Rank) -> Option<Said> {
+    fn said(self, view: &View<'_>, rank: &Rank) -> Option<Said> {
+        let (link, _) = view.link(rank.index)?;
         match self {
-            Which::NeverOn(network) if is_never_on(view.report, link, network) => {
+            NeverOn(network) if is_never_on(view.report, link, network) => {
                 let twin = network.other();
                 said!(" ($frames$ frames on $n$)"; frames = Grouped(link.lanes.of(twin).frames),
                     n = Letter(twin))
             }
-            Which::StoppedOn(network) if has_stopped(link, network) => {
+            StoppedOn(network) if has_stopped(link, network) => {
                 said!(" at $last$ s"; last = view.since(link.lanes.of(network).last))
             }
-            Which::Ends => said_gap(view, link, stop_of(view.report, link)?),
-            Which::Gap => said_gap(view, link, gap_of(link)?),
-            Which::LostOnBoth if link.lost_both > 0 => {
+            Ends => said_gap(view, link, stop_of(view.report, link)?),
+            Gap => said_gap(view, link, gap_of(link)?),
+            LostOnBoth if link.lost_both > 0 => {
                 let open = open_on_both(view.report, link);
                 let [n, at, number] = first_parts(view, link.first_lost_both);
                 said!(LOST_ON_BOTH; lost = Grouped(link.lost_both), open = Grouped(open), n, at, number)
             }
-            Which::Has(sign) if counts_of(link, sign).sum() > 0 => {
+            Has(sign) if counts_of(link, sign).sum() > 0 => {
                 let bound = sign == Lost && (is_lower_bound(link, A) || is_lower_bound(link, B));
                 let [n, at, number] = first_parts(view, first_of(link, sign));
                 said!(SIGNS; bound = flag(bound), counts = Both(counts_of(link, sign)), n, at, number)
             }
             Which::Silent if rank.level == Level::Silent => said!("";),
-            Which::Worse(how) => said_worse(&view.compared(rank.index)?, how),
+            Which::Worse(how) => said_worse(&view.compared(rank.index)?.0, how),
             _ => None,
         }
     }
@@ -376,12 +376,9 @@ fn said_worse(link: &LinkComparison, how: Worse) -> Option<Said> {
             said!(" ($frames$ frames in the baseline)"; frames = Grouped(before.frames))
         }
         (Worse::Grew(count), Some(today), Some(before)) => {
-            let (share, past) = (
-                today.share(count).unwrap_or(0),
-                before.share(count).unwrap_or(0),
-            );
-            said!(GREW; now = Grouped(today.count(count)), share = Thousandths(share),
-                then = Grouped(before.count(count)), past = Thousandths(past))
+            let (share, past) = (today.share(count), before.share(count));
+            said!(GREW; now = Grouped(today.count(count)), share = Thousandths(share.unwrap_or(0)),
+                then = Grouped(before.count(count)), past = Thousandths(past.unwrap_or(0)))
         }
         _ => said!("";),
     }
@@ -391,28 +388,26 @@ fn said_worse(link: &LinkComparison, how: Worse) -> Option<Said> {
 pub fn push_findings(page: &mut Page, view: &View<'_>) {
     let mut found = Findings { page, count: 0 };
     if view.baseline.is_some() {
-        for how in WORSE {
+        for &how in &WORSE {
             found.links(view, Which::Worse(how), title_of(how), worse_word(how));
         }
         found.outside(view, view.baseline, NEW_OUTSIDE);
     }
-    found.endings(view);
+    found.ending(view, A);
+    found.ending(view, B);
     found.causes(view);
     found.silences(view, A);
     found.silences(view, B);
     found.end_of(view, A);
     found.end_of(view, B);
-    for (which, title) in ON_LINKS {
+    for &(which, title) in &ON_LINKS {
         found.links(view, which, title, "");
     }
     found.outside(view, None, OUTSIDE);
-    for (sign, about) in ON_CLASSES {
+    for &(sign, about) in &ON_CLASSES {
         found.class(view, sign, about);
     }
-    let (none, more) = (
-        found.count == 0,
-        found.count.saturating_sub(SENTENCES) as u64,
-    );
+    let count = found.count;
     fill!(page; "</ol>$?none$<p class=\"none\">nothing</p>$/$$?more$<p class=\"none\">$more$ more</p>$/$";
-        none = flag(none), more = Number(more));
+        none = flag(count == 0), more = Number(count.saturating_sub(SENTENCES) as u64));
 }

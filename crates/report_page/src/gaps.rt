@@ -36,21 +36,15 @@ pub fn silence_of(silence: &Silence) -> Interval {
 /// The longest time between deliveries of a link that may be usual, where that is known.
 fn most_usual(link: &LinkReport) -> Option<u64> {
     let gaps = &link.gaps;
-    if gaps.count < KNOWN_TIMES || gaps.fourth >= NOT_APART {
-        return None;
-    }
+    let is_known = gaps.count >= KNOWN_TIMES && gaps.fourth < NOT_APART;
     let habit = gaps.fourth > gaps.usual.saturating_mul(HABIT);
     let times = if habit { LONGER_BY_HABIT } else { LONGER };
-    Some(gaps.fourth.max(link.bag).saturating_mul(times))
+    is_known.then_some(gaps.fourth.max(link.bag).saturating_mul(times))
 }
 
 /// The interval, if it is longer than what may be usual of the link.
 fn unusual(link: &LinkReport, interval: Interval) -> Option<Interval> {
-    if interval.time() > most_usual(link)? {
-        Some(interval)
-    } else {
-        None
-    }
+    (interval.time() > most_usual(link)?).then_some(interval)
 }
 
 /// The longest time between two deliveries of a link, where it is longer than what may be usual.
@@ -63,12 +57,12 @@ pub fn gap_of(link: &LinkReport) -> Option<Interval> {
 pub fn stop_of(report: &Report, link: &LinkReport) -> Option<Interval> {
     let from = link.gaps.last?;
     let mut to = 0u64;
-    for network in NETWORKS {
+    for &network in &NETWORKS {
         if link.lanes.of(network).frames > 0 {
             to = to.max(report.networks.of(network).last);
         }
     }
-    unusual(link, Interval { from, to })
+    unusual(link, between(from, to))
 }
 
 /// The time from a network's last line to the ledger's, where it is as long as a silence by its length.
@@ -77,11 +71,7 @@ pub fn end_of(report: &Report, network: Network) -> Option<Interval> {
     let interval = between(side.last, report.end);
     let time = interval.time();
     let long = time >= LONG_TIME && time >= side.usual.saturating_mul(LONG_TIMES);
-    if side.frames >= SILENT_LINES && long {
-        Some(interval)
-    } else {
-        None
-    }
+    (side.frames >= SILENT_LINES && long).then_some(interval)
 }
 
 /// Is the network silent by its length alone?
@@ -89,32 +79,18 @@ fn is_pause(silence: &Silence) -> bool {
     silence.lines < SILENT_LINES
 }
 
-/// Is it silent by its length so often that this is a habit of it?
-fn pauses_often(side: &NetworkReport) -> bool {
-    let pauses = side.silences.iter().filter(|one| is_pause(one));
-    pauses.count() > MAX_PAUSES
-}
-
-/// Is this silence told?
+/// Is this silence told? One by its length alone isn't where the network has so many that this is a habit.
 pub fn is_told(side: &NetworkReport, silence: &Silence) -> bool {
-    !is_pause(silence) || !pauses_often(side)
+    let pauses = side.silences.iter().filter(|one| is_pause(one));
+    !is_pause(silence) || pauses.count() <= MAX_PAUSES
 }
 
 /// The part of a network's silence in which the other network is silent too, where that is a second or more.
 pub fn silent_on_both(report: &Report, network: Network, silence: &Silence) -> Option<Interval> {
-    for held in report.networks.of(network.other()).silences.iter() {
-        let both = between(held.from.max(silence.from), held.to.min(silence.to));
-        if both.time() >= LONG_TIME {
-            return Some(both);
-        }
-    }
-    None
-}
-
-/// Is the link's rate known, so that a time tells how many of its frames fall into it?
-fn has_rate(link: &LinkReport) -> bool {
-    let gaps = &link.gaps;
-    gaps.count >= KNOWN_TIMES && gaps.fourth <= gaps.usual.saturating_mul(REGULAR)
+    let others = report.networks.of(network.other()).silences.iter();
+    others
+        .map(|other| between(other.from.max(silence.from), other.to.min(silence.to)))
+        .find(|both| both.time() >= LONG_TIME)
 }
 
 /// How long a lane was recorded in this time, from its first line to its last.
@@ -122,9 +98,14 @@ fn within(lane: &LaneReport, interval: Interval) -> u64 {
     between(interval.from.max(lane.first), interval.to.min(lane.last)).time()
 }
 
-/// About how many frames of a lane fall into a time, by the mean of its intervals.
-fn about(lane: &LaneReport, time: u64) -> u64 {
-    rounded(time, lane.intervals, lane.interval_sum)
+/// About how many numbers of a link are missing in a time on a network, by the mean of its intervals there.
+/// None: its rate isn't known.
+fn missing_in(link: &LinkReport, lane: &LaneReport, time: u64) -> Option<u64> {
+    let gaps = &link.gaps;
+    let is_none = time == 0 || lane.frames == 0 || !link.integrity;
+    let has_rate = gaps.count >= KNOWN_TIMES && gaps.fourth <= gaps.usual.saturating_mul(REGULAR);
+    let about = rounded(time, lane.intervals, lane.interval_sum);
+    (is_none || has_rate).then_some(if is_none { 0 } else { about })
 }
 
 /// About how many numbers of the links whose rate is known are missing in a time on a network, and how many
@@ -133,13 +114,9 @@ pub fn missing_between(report: &Report, network: Network, interval: Interval) ->
     let (mut missing, mut unknown) = (0u64, 0u64);
     for link in report.links.iter() {
         let lane = link.lanes.of(network);
-        let time = within(lane, interval);
-        if link.integrity && lane.frames > 0 && time > 0 {
-            if has_rate(link) {
-                missing = missing.saturating_add(about(lane, time));
-            } else {
-                unknown = unknown.saturating_add(1);
-            }
+        match missing_in(link, lane, within(lane, interval)) {
+            Some(more) => missing = missing.saturating_add(more),
+            None => unknown = unknown.saturating_add(1),
         }
     }
     (missing, unknown)
@@ -158,11 +135,5 @@ pub fn missing_in_silences(report: &Report, link: &LinkReport, network: Network)
     for silence in report.networks.of(network).silences.iter() {
         time = time.saturating_add(within(lane, silence_of(silence)));
     }
-    if time == 0 || lane.frames == 0 || !link.integrity {
-        Some(0)
-    } else if has_rate(link) {
-        Some(about(lane, time))
-    } else {
-        None
-    }
+    missing_in(link, lane, time)
 }

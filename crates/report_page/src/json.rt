@@ -1,16 +1,18 @@
 //! The report as JSON.
 
-use self::Value::{Flag, Known, Null, Number, Quoted, Stamp, Stamped};
+use self::Value::{Flag, Known, Number, Quoted, Stamp, Stamped};
 use crate::gaps::{gap_of, missing_in_silences, stop_of};
 use crate::page::end_word;
 use crate::ranks::{level_of, open_signs, signs_of};
 use crate::tables::{count_word, worse_word};
-use crate::view::{NETWORKS, SIGNS, View};
+use crate::view::{SIGNS, View};
 use crate::writer::{Page, Part};
-use afdx_frame::{Network, VlId};
+use afdx_frame::Network::{self, A, B};
+use afdx_frame::VlId;
 use ledger_report::{
-    Anomalies, COUNTS, FramePlace, Interval, LinkComparison, LinkCounts, LinkNumbers, LinkReport,
-    NetworkReport, Report, Series, Totals, WORSE, is_new_outside,
+    Anomalies, Anomaly, AnomalyTally, COUNTS, FramePlace, Interval, LinkComparison, LinkCounts,
+    LinkNumbers, LinkReport, NetworkReport, OutsideLink, Report, Series, Totals, WORSE,
+    is_new_outside,
 };
 use run_manifest::Manifest;
 use serde_json::Error;
@@ -23,7 +25,6 @@ const BESIDE: u64 = 20;
 /// A value without members.
 #[derive(Clone, Copy)]
 enum Value<'a> {
-    Null,
     Flag(bool),
     Number(u64),
     /// A number, if it is known.
@@ -66,9 +67,21 @@ macro_rules! object_if {
     ($json:expr; $name:expr; $some:expr => $held:ident; $($members:tt)*) => {
         match $some {
             Some($held) => object!($json; $name; $($members)*),
-            None => $json.value($name, Null),
+            None => $json.value($name, Known(None)),
         }
     };
+}
+
+/// Appends an array, or an object, of what a call appends for each of several:
+/// `each!(json; "signs", "[", "]"; &sign in &SIGNS => json.sign(sign))`.
+macro_rules! each {
+    ($json:expr; $name:expr, $open:expr, $close:expr; $one:pat in $all:expr => $call:expr) => {{
+        $json.open($name, $open);
+        for $one in $all {
+            $call;
+        }
+        $json.close($close);
+    }};
 }
 
 impl Json {
@@ -93,7 +106,7 @@ impl Json {
     fn value(&mut self, name: &str, value: Value<'_>) {
         self.name(name);
         match value {
-            Null | Known(None) | Stamped(None) => self.page.text("null"),
+            Known(None) | Stamped(None) => self.page.text("null"),
             Flag(holds) => self.page.text(if holds { "true" } else { "false" }),
             Number(number) | Known(Some(number)) => self.page.path(&[("", number)]),
             Stamp(stamp) | Stamped(Some(stamp)) => {
@@ -102,6 +115,10 @@ impl Json {
             }
             Quoted(text) => fill!(self.page; "\"$text$\""; text = Part::Text(text)),
         }
+    }
+
+    fn list(&mut self, name: &str, numbers: &[u64]) {
+        each!(self; name, "[", "]"; number in numbers => self.value("", Number(*number)));
     }
 
     fn interval(&mut self, name: &str, interval: Option<Interval>) {
@@ -132,28 +149,27 @@ impl Json {
         });
     }
 
-    /// The signs that occur.
-    fn signs(&mut self, signs: &Anomalies) {
-        self.open("signs", "[");
-        for sign in SIGNS {
-            let mark = signs.of(sign);
-            if mark.count > 0 {
-                self.open("", "{");
-                members!(self; sign = Quoted(sign.word()), count = Number(mark.count));
-                self.place("first", mark.first);
-                self.place("last", mark.last);
-                self.close("}");
-            }
+    /// A sign, if it occurs.
+    fn sign(&mut self, sign: Anomaly, tally: &AnomalyTally) {
+        if tally.count > 0 {
+            self.open("", "{");
+            members!(self; sign = Quoted(sign.word()), count = Number(tally.count));
+            self.place("first", tally.first);
+            self.place("last", tally.last);
+            self.close("}");
         }
-        self.close("]");
+    }
+
+    fn signs(&mut self, signs: &Anomalies) {
+        each!(self; "signs", "[", "]"; &sign in &SIGNS => self.sign(sign, signs.of(sign)));
     }
 
     fn lane(&mut self, report: &Report, link: &LinkReport, network: Network, sizes: bool) {
         let lane = link.lanes.of(network);
         let some = lane.intervals > 0;
         self.open(member_of(network), "{");
-        members!(self; frames = Number(lane.frames), bytes = known(sizes, lane.bytes),
-            least = known(some, lane.least), greatest = known(some, lane.greatest));
+        members!(self; frames = Number(lane.frames), bytes = Known(sizes.then_some(lane.bytes)),
+            least = Known(some.then_some(lane.least)), greatest = Known(some.then_some(lane.greatest)));
         members!(self; lane: interval_sum, intervals, excess_lead, lost_after_silence);
         members!(self; missing_in_silences = Known(missing_in_silences(report, link, network)));
         members!(self; lane: out_after_silence, uncovered);
@@ -180,19 +196,15 @@ impl Json {
         self.close("}");
         self.interval("gap", gap_of(link));
         self.interval("stop", stop_of(report, link));
-        for network in NETWORKS {
-            self.lane(report, link, network, sizes);
-        }
+        self.lane(report, link, A, sizes);
+        self.lane(report, link, B, sizes);
         self.close("}");
     }
 
     fn silences(&mut self, side: &NetworkReport) {
-        self.open("silences", "[");
-        for silence in side.silences.iter() {
+        each!(self; "silences", "[", "]"; silence in side.silences.iter() =>
             object!(self; ""; after = Number(silence.after), from = Stamp(silence.from),
-                to = Stamp(silence.to), lines = Number(silence.lines));
-        }
-        self.close("]");
+                to = Stamp(silence.to), lines = Number(silence.lines)));
         members!(self; side: more_silences, usual);
     }
 
@@ -201,60 +213,55 @@ impl Json {
         if !series.bins().is_empty() {
             self.open("", "{");
             members!(self; row = Quoted(row));
-            self.open("bins", "[");
-            for number in series.bins() {
-                self.value("", Number(*number));
-            }
-            self.close("]}");
+            self.list("bins", series.bins());
+            self.close("}");
         }
     }
 
     fn network(&mut self, report: &Report, network: Network, sizes: bool) {
         let (side, counts) = (report.networks.of(network), report.counts.network(network));
         let some = side.frames > 0;
-        let bytes = side
-            .bytes
-            .saturating_sub(counts.accepted.saturating_mul(BESIDE));
+        let beside = counts.accepted.saturating_mul(BESIDE);
+        let bytes = side.bytes.saturating_sub(beside);
         self.open(member_of(network), "{");
-        members!(self; frames = Number(side.frames), first = stamped(some, side.first),
-            last = stamped(some, side.last), bytes = known(sizes, bytes));
+        members!(self; frames = Number(side.frames), first = Stamped(some.then_some(side.first)),
+            last = Stamped(some.then_some(side.last)), bytes = Known(sizes.then_some(bytes)));
         self.counts(counts);
         self.silences(side);
         object_if!(self; "ending"; report.endings.of(network) => held; end = Quoted(end_word(held.end)),
             frames = Number(held.frames), reason = Quoted(&held.reason));
         self.signs(&side.signs);
         self.open("timeline", "[");
-        for (row, series) in [
-            ("frames", &side.lines),
-            ("load", &side.loads),
-            ("skew", &side.skews),
-        ] {
-            self.row(row, series);
-        }
-        for sign in SIGNS {
+        self.row("frames", &side.lines);
+        self.row("load", &side.loads);
+        self.row("skew", &side.skews);
+        for &sign in &SIGNS {
             self.row(sign.word(), &side.signs.of(sign).bins);
         }
         self.close("]}");
     }
 
     fn outside(&mut self, report: &Report) {
-        self.open("outside", "[");
-        for id in 0..=u16::MAX {
-            if let Some(link) = report.outside_link(VlId(id)) {
-                self.open("", "{");
-                members!(self; id = Number(u64::from(id)), frames = Number(link.frames),
-                    network = Quoted(link.network.letter()));
-                self.place("first", Some(link.first));
-                self.close("}");
-            }
+        each!(self; "outside", "[", "]"; id in 0..=u16::MAX =>
+            self.outside_link(id, report.outside_link(VlId(id))));
+    }
+
+    /// A link outside the table, if it is there.
+    fn outside_link(&mut self, id: u16, link: Option<OutsideLink>) {
+        if let Some(link) = link {
+            self.open("", "{");
+            members!(self; id = Number(u64::from(id)), frames = Number(link.frames),
+                network = Quoted(link.network.letter()));
+            self.place("first", Some(link.first));
+            self.close("}");
         }
-        self.close("]");
     }
 
     /// When a flight begins and ends.
     fn flight(&mut self, report: &Report) {
         let some = report.counts.all().frames > 0;
-        members!(self; start = stamped(some, report.start), end = stamped(some, report.end));
+        members!(self; start = Stamped(some.then_some(report.start)),
+            end = Stamped(some.then_some(report.end)));
     }
 
     /// What stands before the networks.
@@ -270,26 +277,18 @@ impl Json {
         self.flight(report);
         members!(self; report: width);
         self.counts(report.counts.all());
-        self.open("filters", "[");
-        let filters = view.config.filters().len().saturating_add(1);
-        for accepted in report.counts.filters().iter().take(filters) {
-            self.value("", Number(*accepted));
-        }
-        self.close("]");
+        self.list("filters", view.filters());
     }
 
     fn report(&mut self, view: &View<'_>, manifest: &str) {
         let report = view.report;
         self.open("", "{");
         self.head(view);
-        for network in NETWORKS {
-            self.network(report, network, view.sizes);
-        }
-        self.open("links", "[");
-        for (link, configured) in report.links.iter().zip(view.config.links().iter()) {
-            self.link(report, link, configured, view.sizes);
-        }
-        self.close("]");
+        self.network(report, A, view.sizes);
+        self.network(report, B, view.sizes);
+        let links = report.links.iter().zip(view.config.links().iter());
+        each!(self; "links", "[", "]"; (link, configured) in links =>
+            self.link(report, link, configured, view.sizes));
         self.outside(report);
         self.name("manifest");
         self.page.text(manifest);
@@ -302,32 +301,26 @@ impl Json {
     /// A link in a flight, and how often what is counted comes in a thousand frames, in thousandths.
     fn numbers(&mut self, name: &str, numbers: Option<LinkNumbers>) {
         let Some(numbers) = numbers else {
-            return self.value(name, Null);
+            return self.value(name, Known(None));
         };
         self.open(name, "{");
         members!(self; frames = Number(numbers.frames), rate = Known(numbers.rate()),
             copies = Number(numbers.copies), least = Known(numbers.least), skew = Known(numbers.skew));
-        self.open("counts", "{");
-        for count in COUNTS {
-            self.value(count_word(count), Number(numbers.count(count)));
-        }
-        self.close("}");
-        self.open("shares", "{");
-        for count in COUNTS {
-            self.value(count_word(count), Number(numbers.share(count).unwrap_or(0)));
-        }
-        self.close("}}");
+        each!(self; "counts", "{", "}"; &count in &COUNTS =>
+            self.value(count_word(count), Number(numbers.count(count))));
+        each!(self; "shares", "{", "}}"; &count in &COUNTS =>
+            self.value(count_word(count), Number(numbers.share(count).unwrap_or(0))));
     }
 
     /// A link in both flights.
-    fn compared(&mut self, link: &LinkComparison, configured: &Link) {
+    fn compared(&mut self, compared: Option<(LinkComparison, &Link)>) {
+        let Some((link, configured)) = compared else {
+            return;
+        };
         self.open("", "{");
         members!(self; id = Number(u64::from(configured.id.0)), name = Quoted(&configured.name));
-        self.open("worse", "[");
-        for how in WORSE.iter().filter(|how| link.is_worse(**how)) {
-            self.value("", Quoted(worse_word(*how)));
-        }
-        self.close("]");
+        let worse = WORSE.iter().filter(|how| link.is_worse(**how));
+        each!(self; "worse", "[", "]"; how in worse => self.value("", Quoted(worse_word(*how))));
         self.numbers("today", link.today);
         self.numbers("baseline", link.baseline);
         self.close("}");
@@ -339,36 +332,18 @@ impl Json {
         members!(self; whole = Flag(baseline.whole));
         self.flight(baseline);
         self.counts(baseline.counts.all());
-        self.open("links", "[");
-        for (index, configured) in view.config.links().iter().enumerate() {
-            if let Some(link) = view.compared(index) {
-                self.compared(&link, configured);
-            }
-        }
-        self.close("]");
-        self.open("new_outside", "[");
-        for id in 0..=u16::MAX {
-            if is_new_outside(view.report, baseline, VlId(id)) {
-                self.value("", Number(u64::from(id)));
-            }
-        }
-        self.close("]}");
+        each!(self; "links", "[", "]"; index in 0..view.config.links().len() =>
+            self.compared(view.compared(index)));
+        let ids = (0..=u16::MAX).filter(|id| is_new_outside(view.report, baseline, VlId(*id)));
+        each!(self; "new_outside", "[", "]}"; id in ids => self.value("", Number(u64::from(id))));
     }
 }
 
 fn member_of(network: Network) -> &'static str {
     match network {
-        Network::A => "a",
-        Network::B => "b",
+        A => "a",
+        B => "b",
     }
-}
-
-fn known(is: bool, number: u64) -> Value<'static> {
-    if is { Number(number) } else { Null }
-}
-
-fn stamped(is: bool, stamp: u64) -> Value<'static> {
-    if is { Stamp(stamp) } else { Null }
 }
 
 /// The report's numbers as one JSON object, with the manifest of the ledger's run, if it is known, and beside

@@ -1,7 +1,7 @@
 //! The report as a page, as lines for a terminal, and as JSON.
 //!
 //! - [`page_of`]: one HTML page with no script and no link out, which prints on A4.
-//! - [`summary_of`]: at most [`SUMMARY_LINES`] lines: what to look at first.
+//! - [`summary_of`]: at most 28 lines: what to look at first.
 //! - [`has_sizes`]: whether the ledger tells the sizes of frames.
 //! - [`json_of`]: the same numbers as one JSON object; docs/REPORT.md has its members.
 //!
@@ -49,4 +49,4 @@ mod writer;
 pub use json::json_of;
 pub use page::page_of;
 pub use sizes::has_sizes;
-pub use summary::{SUMMARY_LINES, summary_of};
+pub use summary::summary_of;

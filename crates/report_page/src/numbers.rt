@@ -6,7 +6,7 @@ pub const SECOND: u64 = 1_000_000_000;
 /// A quotient, 0 where there is nothing to divide by.
 #[inline]
 pub fn quotient(value: u64, by: u64) -> u64 {
-    if by == 0 { 0 } else { value / by }
+    value.checked_div(by).unwrap_or(0)
 }
 
 /// `value * of / by`, rounded down, at most 2^64 - 1; 0 where there is nothing to divide by.
@@ -20,13 +20,6 @@ pub fn rounded(value: u64, of: u64, by: u64) -> u64 {
 }
 
 fn divided(product: u128, by: u64) -> u64 {
-    if by == 0 {
-        return 0;
-    }
-    let wide = product / u128::from(by);
-    if wide > u128::from(u64::MAX) {
-        u64::MAX
-    } else {
-        wide as u64
-    }
+    let wide = product.checked_div(u128::from(by)).unwrap_or(0);
+    u64::try_from(wide).unwrap_or(u64::MAX)
 }

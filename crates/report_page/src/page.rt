@@ -6,36 +6,36 @@ use crate::numbers::{quotient, share};
 use crate::rows::{push_strips, push_timeline};
 use crate::tables::{push_comparison, push_links};
 use crate::text;
-use crate::view::{DISCARDS, NETWORKS, SIGNS, View};
+use crate::view::{DISCARDS, SIGNS, View, greatest_skew};
 use crate::writer::Part::{self, Both, Duration, Given, Grouped, Number, Tenths, Text, Utc};
 use crate::writer::{Named, Page, Pair, flag};
 use afdx_frame::Network::{self, A, B};
 use ledger_report::Anomaly::{Alone, Cut, Late, Lost};
-use ledger_report::{Report, TapEnd, TapEnding};
+use ledger_report::{LinkReport, Report, TapEnd, TapEnding};
 use ledger_text::LedgerStop;
 use run_manifest::{FileRecord, Manifest, RecordingRecord};
 use std::alloc::{AllocError, Global};
-use vl_config::Config;
+use vl_config::{Config, Link};
 
 /// A text that may be absent.
 fn given_if(text: &Option<String>) -> Part<'_> {
-    match text {
-        Some(text) => Given(text),
-        None => Text(""),
+    text.as_ref().map_or(Text(""), |text| Given(text))
+}
+
+fn push_file<'x>(page: &mut Page, word: &'x str, file: Option<&'x FileRecord>) {
+    if let Some(file) = file {
+        fill!(page; text::FILE; word = Text(word), path = Given(&file.path), bytes = Grouped(file.bytes),
+            sha256 = given_if(&file.sha256));
     }
 }
 
-fn push_file<'x>(page: &mut Page, word: &'x str, file: &'x FileRecord) {
-    fill!(page; text::FILE; word = Text(word), path = Given(&file.path), bytes = Grouped(file.bytes),
-        sha256 = given_if(&file.sha256));
-}
-
-fn push_recording<'x>(page: &mut Page, word: &'x str, file: &'x RecordingRecord) {
-    let (first, last) = match (&file.first_utc, &file.last_utc) {
-        (Some(first), Some(last)) => (Given(first), Given(last)),
-        _ => (Text(""), Text("")),
+fn push_recording<'x>(page: &mut Page, word: &'x str, file: Option<&'x RecordingRecord>) {
+    let Some(file) = file else {
+        return;
     };
-    fill!(page; text::FILE; word = Text(word), path = Given(&file.path), first, last,
+    let spans = file.first_utc.is_some() && file.last_utc.is_some();
+    fill!(page; text::FILE; word = Text(word), path = Given(&file.path), spans = flag(spans),
+        first = given_if(&file.first_utc), last = given_if(&file.last_utc),
         bytes = Grouped(file.bytes.unwrap_or(0)), frames = Grouped(file.frames.unwrap_or(0)),
         counted = flag(file.frames.is_some()), end = given_if(&file.end), reason = given_if(&file.reason),
         sha256 = given_if(&file.sha256));
@@ -53,33 +53,18 @@ fn push_run(page: &mut Page, manifest: Option<&Manifest>) {
         fill!(page; "$argument$ "; argument = Given(argument));
     }
     fill!(page; "</code>$?fault$<br/>it met a fault: $fault$$/$"; fault = given_if(&manifest.fault));
-    push_file(page, "table", &inputs.config);
-    if let Some(filter) = &inputs.filter {
-        push_file(page, "filter", filter);
-    }
-    for (word, recording) in [("A", &inputs.a), ("B", &inputs.b)] {
-        if let Some(recording) = recording {
-            push_recording(page, word, recording);
-        }
-    }
-    if let Some(capture) = &outputs.capture {
-        push_file(page, "capture", capture);
-    }
-    push_file(page, "ledger", &outputs.ledger);
+    push_file(page, "table", Some(&inputs.config));
+    push_file(page, "filter", inputs.filter.as_ref());
+    push_recording(page, "A", inputs.a.as_ref());
+    push_recording(page, "B", inputs.b.as_ref());
+    push_file(page, "capture", outputs.capture.as_ref());
+    push_file(page, "ledger", Some(&outputs.ledger));
     page.text("</p>");
 }
 
 /// Appends how many frames each filter of the table accepted.
 fn push_filters(page: &mut Page, view: &View<'_>) {
-    let filters = view.config.filters().len().saturating_add(1);
-    for (filter, accepted) in view
-        .report
-        .counts
-        .filters()
-        .iter()
-        .take(filters)
-        .enumerate()
-    {
+    for (filter, accepted) in view.filters().iter().enumerate() {
         fill!(page; " &#183; filter $filter$ accepted $accepted$"; filter = Number(filter as u64),
             accepted = Grouped(*accepted));
     }
@@ -139,32 +124,25 @@ fn silent_on(view: &View<'_>, network: Network) -> Part<'static> {
 
 /// Appends the greatest skew in ratio to SkewMax, and the link that has it.
 fn push_skew(page: &mut Page, view: &View<'_>) {
-    let mut worst: Option<(usize, u64)> = None;
-    let mut most = 0u64;
-    for (index, link) in view.report.links.iter().enumerate() {
-        let skew = link.skew_greatest.max(link.late_greatest);
-        let ratio = quotient(skew.saturating_mul(1000), link.skew_max.max(1));
-        if link.copies > 0 && (worst.is_none() || ratio > most) {
-            worst = Some((index, skew));
-            most = ratio;
+    let mut worst: Option<(u64, &LinkReport, &Link)> = None;
+    for (link, configured) in view.report.links.iter().zip(view.config.links().iter()) {
+        let skew = greatest_skew(link).saturating_mul(1000);
+        let ratio = quotient(skew, link.skew_max.max(1));
+        if link.copies > 0 && worst.is_none_or(|(most, _, _)| ratio > most) {
+            worst = Some((ratio, link, configured));
         }
     }
-    let link = worst.and_then(|(index, _)| view.link(index));
-    match (worst, link) {
-        (Some((_, skew)), Some((report, link))) => fill!(page;
-            "$skew$</p><p class=\"sub\">$name$, SkewMax $most$ &#183; $late$ late"; skew = Duration(skew),
-            name = Text(&link.name), most = Duration(report.skew_max),
-            late = Grouped(view.total(Late).sum())),
-        _ => page.text("&#8211;</p><p class=\"sub\">no pair of copies"),
-    }
+    let Some((_, link, configured)) = worst else {
+        return page.text("&#8211;</p><p class=\"sub\">no pair of copies");
+    };
+    fill!(page; "$skew$</p><p class=\"sub\">$name$, SkewMax $most$ &#183; $late$ late";
+        skew = Duration(greatest_skew(link)), name = Text(&configured.name), most = Duration(link.skew_max),
+        late = Grouped(view.total(Late).sum()));
 }
 
 /// Is the recording read to its end, and whole?
 pub fn is_clean(ending: &Option<TapEnding>) -> bool {
-    match ending {
-        Some(ending) => ending.end == TapEnd::Clean,
-        None => false,
-    }
+    matches!(ending, Some(ending) if ending.end == TapEnd::Clean)
 }
 
 /// How a recording ends, in a word.
@@ -228,12 +206,8 @@ fn parts_of(view: &View<'_>, manifest: Option<&Manifest>) -> [Named<'static>; 30
     let (lost, alone, cut) = (view.total(Lost), view.total(Alone), view.total(Cut));
     let (a, b) = (missing_of(view, A), missing_of(view, B));
     let (about, least) = (Pair(a.0, b.0), Pair(a.1, b.1));
-    let ends = NETWORKS
-        .iter()
-        .any(|network| !is_clean(report.endings.of(*network)));
-    let bound = NETWORKS
-        .iter()
-        .any(|network| has_lower_bound(view, *network));
+    let ends = !is_clean(&report.endings.a) || !is_clean(&report.endings.b);
+    let bound = has_lower_bound(view, A) || has_lower_bound(view, B);
     let (discards, none) = (discards_of(view), all.frames == 0);
     let [links, trouble, notice, silent, clean] = view.levels();
     parts! { style = Text(text::STYLE), start = if none { Text("no frames") } else { Utc(report.start) },

@@ -34,7 +34,7 @@ pub struct Rank {
 /// How many signs count against a link.
 pub fn signs_of(link: &LinkReport) -> u64 {
     let mut signs = 0u64;
-    for sign in TROUBLES {
+    for &sign in &TROUBLES {
         signs = signs.saturating_add(counts_of(link, sign).sum());
     }
     signs
@@ -54,7 +54,7 @@ fn cut_on(report: &Report, network: Network) -> u64 {
 /// numbers are lost, where a frame is out after those, or that didn't bring what is alone.
 pub fn open_signs(report: &Report, link: &LinkReport) -> u64 {
     let mut open = 0u64;
-    for network in NETWORKS {
+    for &network in &NETWORKS {
         let cut = cut_on(report, network);
         let lane = &link.lanes.of(network).signs;
         let alone = &link.lanes.of(network.other()).signs.of(Anomaly::Alone);
@@ -82,9 +82,7 @@ pub fn is_never_on(report: &Report, link: &LinkReport, network: Network) -> bool
 /// How bad a link is.
 pub fn level_of(report: &Report, link: &LinkReport) -> Level {
     let (frames, signs) = (frames_of(link), signs_of(link));
-    let never = NETWORKS
-        .iter()
-        .any(|network| is_never_on(report, link, *network));
+    let never = is_never_on(report, link, Network::A) || is_never_on(report, link, Network::B);
     let sure = signs.saturating_sub(open_signs(report, link));
     let many = sure >= TROUBLE_SIGNS && sure.saturating_mul(TROUBLE_SHARE) >= frames;
     let gap = gap_of(link).is_some() || stop_of(report, link).is_some();

@@ -5,11 +5,11 @@ use crate::charts::{Classes, Drawing, push_axis, push_intervals, push_row};
 use crate::numbers::{quotient, share};
 use crate::ranks::Level;
 use crate::view::{
-    DISCARDS, LOSSES, NETWORKS, SIGNS, STRIPS, View, counts_of, first_of, first_parts,
+    DISCARDS, LOSSES, SIGNS, STRIPS, View, counts_of, first_of, first_parts, greatest_skew,
 };
 use crate::writer::Part::{self, Both, Duration, Grouped, Letter, Millionths, Number, Text};
 use crate::writer::{Page, Pair, flag};
-use afdx_frame::Network;
+use afdx_frame::Network::{self, A, B};
 use ledger_report::Anomaly::{self, Alone, Excess, Late, Lost, Out, Repeat, Reset, TooLong};
 use ledger_report::LinkReport;
 use vl_config::Link;
@@ -90,16 +90,15 @@ fn push_signs(page: &mut Page, view: &View<'_>, (skip, count): (usize, usize), c
     push_absent(page, view, (skip, count));
 }
 
+/// What begins a line of signs that don't occur.
+const ABSENT: &str = "<p class=\"none\">none: ";
+
 /// Appends a line that names those that don't.
 fn push_absent(page: &mut Page, view: &View<'_>, (skip, count): (usize, usize)) {
     let mut none = false;
     for sign in SIGNS.iter().skip(skip).take(count) {
         if view.total(*sign).sum() == 0 {
-            page.text(if none {
-                ", "
-            } else {
-                "<p class=\"none\">none: "
-            });
+            page.text(if none { ", " } else { ABSENT });
             page.text(sign.word());
             none = true;
         }
@@ -160,7 +159,7 @@ const INTERVALS_TITLE: &str =
 const INTERVALS: &str = "\
 $least$ &#8211; $most$ ms<small>mean $mean$, $early$ early</small></span></div>";
 
-/// Appends the row of a link's intervals on a network.
+/// Appends the row of a link's intervals on a network, if there are some.
 fn push_link_intervals(
     page: &mut Page,
     view: &View<'_>,
@@ -169,10 +168,13 @@ fn push_link_intervals(
     per: usize,
 ) {
     let (label, class) = match network {
-        Network::A => ("interval A", "fa"),
-        Network::B => ("interval B", "fb"),
+        A => ("interval A", "fa"),
+        B => ("interval B", "fb"),
     };
     let lane = link.lanes.of(network);
+    if lane.intervals == 0 {
+        return;
+    }
     let texts = (label, "dashed: BAG &#177; J", INTERVALS_TITLE);
     push_intervals(page, view, texts, sums(36, (class, ""), per, 0), link, lane);
     fill!(page; INTERVALS; least = Millionths(lane.least), most = Millionths(lane.greatest),
@@ -186,7 +188,7 @@ fn push_link_skews(page: &mut Page, view: &View<'_>, link: &LinkReport, per: usi
     let drawing = skews(44, per, link.skew_max);
     push_row(page, view, texts, drawing, (&link.skews.a, &link.skews.b));
     fill!(page; "$median$<small>median; most $most$</small></span></div>";
-        median = Duration(link.skew_median), most = Duration(link.skew_greatest.max(link.late_greatest)));
+        median = Duration(link.skew_median), most = Duration(greatest_skew(link)));
 }
 
 /// Appends the row of a link's sign, if it occurs.
@@ -198,14 +200,8 @@ fn push_link_sign(page: &mut Page, view: &View<'_>, link: &LinkReport, sign: Ano
     }
     let is_discard = SIGNS.iter().take(DISCARDS).any(|discard| *discard == sign);
     let classes = if is_discard { DISCARDED } else { FRAMES };
-    let texts = (sign.word(), "", "per column");
-    push_row(
-        page,
-        view,
-        texts,
-        sums(20, classes, per, 0),
-        (&a.bins, &b.bins),
-    );
+    let (texts, drawing) = ((sign.word(), "", "per column"), sums(20, classes, per, 0));
+    push_row(page, view, texts, drawing, (&a.bins, &b.bins));
     let [n, at, number] = first_parts(view, first_of(link, sign));
     fill!(page; FIRST; counts = Both(counts), n, at, number);
 }
@@ -218,15 +214,12 @@ fn push_link_rows(page: &mut Page, view: &View<'_>, link: &LinkReport, per: usiz
     if view.sizes {
         push_link_bytes(page, view, link, per);
     }
-    for network in NETWORKS {
-        if link.lanes.of(network).intervals > 0 {
-            push_link_intervals(page, view, link, network, per);
-        }
-    }
+    push_link_intervals(page, view, link, A, per);
+    push_link_intervals(page, view, link, B, per);
     if link.redundancy && (link.copies > 0 || link.late_greatest > 0) {
         push_link_skews(page, view, link, per);
     }
-    for sign in STRIP_SIGNS {
+    for &sign in &STRIP_SIGNS {
         push_link_sign(page, view, link, sign, per);
     }
 }
@@ -240,9 +233,8 @@ $?lead$ &#183; an excess on $n$ came $lead$ sooner than BAG less jitter$/$";
 
 fn push_facts(page: &mut Page, view: &View<'_>, link: &LinkReport) {
     fill!(page; "<p class=\"facts\">lost on both networks: $lost$"; lost = Grouped(link.lost_both));
-    for network in NETWORKS {
-        push_facts_on(page, view, link, network);
-    }
+    push_facts_on(page, view, link, A);
+    push_facts_on(page, view, link, B);
     page.text("</p>");
 }
 

@@ -14,12 +14,8 @@ fn takes_whole(filter: &str) -> bool {
     let count = parts.next().unwrap_or("").trim();
     let mut fields = parts.next().unwrap_or("").split_whitespace();
     let code = fields.next().unwrap_or("");
-    let _true = fields.next();
-    let _false = fields.next();
-    let kept = match fields.next().unwrap_or("").parse::<u64>() {
-        Ok(kept) => kept,
-        Err(_) => 0,
-    };
+    // After the jumps of a condition.
+    let kept = fields.nth(2).unwrap_or("").parse::<u64>().unwrap_or(0);
     count == "1" && code == RETURN && kept >= WHOLE
 }
 

@@ -1,25 +1,23 @@
 //! The first part of the report as lines for a terminal.
 
-use crate::causes::CAUSES;
+use crate::causes::{causes_of, push_cause};
 use crate::gaps::{end_of, gap_of, is_told, silent_on_both, stop_of};
 use crate::page::push_stop;
 use crate::ranks::{Level, Rank, frames_of, open_signs};
 use crate::tables::{count_word, worse_word};
-use crate::view::{NETWORKS, TROUBLES, View, counts_of, links_word};
+use crate::view::{TROUBLES, View, counts_of, links_word};
 use crate::writer::Page;
 use crate::writer::Part::{Letter, Number, Seconds, Text, Thousandths};
 use afdx_frame::Network;
-use ledger_report::{Anomaly, Interval, LinkComparison, LinkReport, Report, WORSE, Worse};
+use ledger_report::{Anomaly, LinkComparison, LinkReport, Report, WORSE, Worse};
 use std::alloc::{AllocError, Global};
 use vl_config::Config;
 
-/// The most lines, without those on what got worse since a baseline.
-pub const SUMMARY_LINES: usize = 28;
-/// How many of them are links.
+/// How many links have a line.
 const LINKS: usize = 13;
 /// How many links that got worse since a baseline have a line.
 const WORSE_LINKS: usize = 14;
-/// How many are silences, on each network.
+/// How many silences of a network have one.
 const SILENCES: usize = 2;
 
 fn push_head(page: &mut Page, view: &View<'_>) {
@@ -32,14 +30,6 @@ fn push_head(page: &mut Page, view: &View<'_>) {
         links, trouble, notice, silent, clean);
     if let Some(stop) = view.report.stop {
         push_stop(page, stop);
-        page.text("\n");
-    }
-}
-
-/// Appends what is wrong with the table or a recording, a line each.
-fn push_causes(page: &mut Page, view: &View<'_>) {
-    for cause in CAUSES.iter().filter(|cause| cause.is_shown(view)) {
-        cause.push(page, view, "", "");
         page.text("\n");
     }
 }
@@ -63,13 +53,6 @@ fn push_silences(page: &mut Page, view: &View<'_>, network: Network) {
     }
 }
 
-/// Appends a time of a link without a delivery.
-fn push_gap(page: &mut Page, view: &View<'_>, gap: Option<Interval>) {
-    if let Some(gap) = gap {
-        fill!(page; " gap $time$ s from $from$ s"; time = Seconds(gap.time()), from = view.since(gap.from));
-    }
-}
-
 fn push_link(page: &mut Page, view: &View<'_>, rank: &Rank) {
     let Some((report, link)) = view.link(rank.index) else {
         return;
@@ -86,9 +69,14 @@ fn push_link(page: &mut Page, view: &View<'_>, rank: &Rank) {
     push_losses(page, view, report);
 }
 
+/// Appends the times of a link without a delivery, and what it lost on both networks.
 fn push_losses(page: &mut Page, view: &View<'_>, report: &LinkReport) {
-    push_gap(page, view, gap_of(report));
-    push_gap(page, view, stop_of(view.report, report));
+    for gap in [gap_of(report), stop_of(view.report, report)]
+        .iter()
+        .flatten()
+    {
+        fill!(page; " gap $time$ s from $from$ s"; time = Seconds(gap.time()), from = view.since(gap.from));
+    }
     fill!(page; "$?lost$ lost_both $lost$$/$$?open$ open $open$$/$\n"; lost = Number(report.lost_both),
         open = Number(open_signs(view.report, report)));
 }
@@ -120,10 +108,7 @@ fn push_comparison(page: &mut Page, view: &View<'_>) {
     fill!(page; "links worse than in the baseline: $worse$\n"; worse = Number(worse as u64));
     let ranks = view.ranks.iter().filter(|rank| view.is_worse(rank.index));
     for rank in ranks.take(WORSE_LINKS) {
-        if let (Some(link), Some((_, configured))) = (
-            view.compared(rank.index),
-            view.link(rank.index),
-        ) {
+        if let Some((link, configured)) = view.compared(rank.index) {
             push_worse(page, view, &link, &configured.name);
         }
     }
@@ -132,9 +117,8 @@ fn push_comparison(page: &mut Page, view: &View<'_>) {
         links = links_word(more));
 }
 
-/// The first part of a report as text: at most [`SUMMARY_LINES`] lines. Where there is a baseline,
-/// the report of an earlier flight against the same table, a line for each of the first links that
-/// got worse stands after the head.
+/// The first part of a report as text: at most 28 lines. Where there is a baseline, the report of an earlier
+/// flight against the same table, a line for each of the first links that got worse stands after the head.
 pub fn summary_of(
     alloc: Global,
     report: &Report,
@@ -147,10 +131,12 @@ pub fn summary_of(
     if baseline.is_some() {
         push_comparison(&mut page, &view);
     }
-    push_causes(&mut page, &view);
-    for network in NETWORKS {
-        push_silences(&mut page, &view, network);
+    for cause in causes_of(&view).iter().flatten() {
+        push_cause(&mut page, *cause, "", "");
+        page.text("\n");
     }
+    push_silences(&mut page, &view, Network::A);
+    push_silences(&mut page, &view, Network::B);
     let bad = view.ranks.iter().filter(|rank| rank.level != Level::Clean);
     let bad = bad.count();
     for rank in view.ranks.iter().take(bad.min(LINKS)) {

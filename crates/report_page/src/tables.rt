@@ -1,15 +1,17 @@
 //! The tables of links: all, worst first; and beside those of a baseline.
 
-use crate::charts::{Columns, Kind, Stair, push_stair};
+use crate::charts::Stair::{Above, Below};
+use crate::charts::{Columns, Kind, push_stair};
 use crate::numbers::share;
 use crate::ranks::{LEVELS, Level, Rank, frames_of, level_of};
-use crate::view::{ROWS, TROUBLES, View, counts_of, has_strip};
+use crate::view::{ROWS, TROUBLES, View, counts_of, greatest_skew, has_strip};
 use crate::writer::Part::{
-    self, Both, Duration, Grouped, Millionths, Milliseconds, Number, Tenths, Text, Thousandths, Utc,
+    self, Both, Cell, Duration, Grouped, Millionths, Milliseconds, Number, Tenths, Text,
+    Thousandths, Utc,
 };
 use crate::writer::{Page, Pair, flag};
 use afdx_frame::Network;
-use ledger_report::Anomaly::{Alone, Early, Excess, Late, Lost, Out, TooLong};
+use ledger_report::Anomaly::{self, Alone, Early, Excess, Late, Lost, Out, TooLong};
 use ledger_report::{COUNTS, Count, LinkNumbers, LinkReport, WORSE, Worse};
 
 /// How many links a row of the map has.
@@ -27,47 +29,19 @@ const SPARK: &str = "\
 /// Appends a link's activity: A over B, and a strip under the columns with signs.
 fn push_spark(page: &mut Page, view: &View<'_>, link: &LinkReport) {
     let empty = Columns::new(view, Kind::Sum, view.column(link).max(2));
-    let (a, b) = (
-        empty.with(&link.lanes.a.lines),
-        empty.with(&link.lanes.b.lines),
-    );
+    let (lines_a, lines_b) = (&link.lanes.a.lines, &link.lanes.b.lines);
+    let (a, b) = (empty.with(lines_a), empty.with(lines_b));
     let mut marks = empty;
-    for sign in TROUBLES {
+    for &sign in &TROUBLES {
         marks = marks.with(&link.lanes.a.signs.of(sign).bins);
         marks = marks.with(&link.lanes.b.signs.of(sign).bins);
     }
-    let up = Stair {
-        top: a.peak().max(b.peak()).max(1),
-        height: 11,
-        base: 11,
-        up: true,
-    };
-    let down = Stair {
-        base: 12,
-        up: false,
-        ..up
-    };
-    let strip = Stair {
-        top: 1,
-        height: 3,
-        base: 28,
-        ..up
-    };
+    let scale = (a.peak().max(b.peak()).max(1), 11);
     fill!(page; SPARK; used = Number(view.used as u64));
-    push_stair(page, "fa", &a, up);
-    push_stair(page, "fb", &b, down);
-    push_stair(page, "mt", &marks, strip);
+    push_stair(page, "fa", &a, scale, Above(11));
+    push_stair(page, "fb", &b, scale, Below(12));
+    push_stair(page, "mt", &marks, (1, 3), Above(28));
     page.text("</svg>");
-}
-
-/// Appends a cell of counts, or `off` where the rule is off for the link.
-fn push_counts(page: &mut Page, on: bool, counts: Pair) {
-    let template = match (on, counts.sum()) {
-        (false, _) => "<td class=\"p z\">off</td>",
-        (true, 0) => "<td class=\"p\"><i class=\"z\">&#183;</i></td>",
-        (true, _) => "<td class=\"p\">$counts$</td>",
-    };
-    fill!(page; template; counts = Both(counts));
 }
 
 /// The class of a cell with a number, which may be wrong.
@@ -75,25 +49,20 @@ fn class_of(wrong: bool) -> Part<'static> {
     Text(if wrong { "r w" } else { "r" })
 }
 
+/// The cell of a sign's counts, of which there are none where the rule is off for the link.
+fn counted(link: &LinkReport, is_on: bool, sign: Anomaly) -> Part<'static> {
+    Cell(is_on.then_some(counts_of(link, sign)))
+}
+
 /// Appends the cells of what was judged.
 fn push_judged(page: &mut Page, view: &View<'_>, link: &LinkReport) {
-    if view.total(TooLong).sum() > 0 {
-        push_counts(page, true, counts_of(link, TooLong));
-    }
-    push_counts(page, true, counts_of(link, Excess));
-    push_counts(page, true, counts_of(link, Out));
-    push_counts(page, link.integrity, counts_of(link, Lost));
-    push_counts(page, link.redundancy, counts_of(link, Alone));
-    push_counts(page, link.redundancy, counts_of(link, Late));
-    let skew = link.skew_greatest.max(link.late_greatest);
+    let skew = greatest_skew(link);
     let known = link.copies > 0 || skew > 0;
-    let most = if known {
-        Grouped(skew / 1_000)
-    } else {
-        UNKNOWN
-    };
-    let class = class_of(skew > link.skew_max);
-    fill!(page; "<td class=\"$class$\">$most$</td></tr>"; class, most);
+    fill!(page; JUDGED; some = flag(view.total(TooLong).sum() > 0), toolong = counted(link, true, TooLong),
+        excess = counted(link, true, Excess), out = counted(link, true, Out),
+        lost = counted(link, link.integrity, Lost), alone = counted(link, link.redundancy, Alone),
+        late = counted(link, link.redundancy, Late), class = class_of(skew > link.skew_max),
+        most = if known { Grouped(skew / 1_000) } else { UNKNOWN });
 }
 
 /// The first cells of a link's row, and those after the drawing of its activity.
@@ -104,6 +73,9 @@ $?strip$<a href=\"#v$id$\">$/$$name$$?strip$</a>$/$</td><td class=\"spk\">";
 const NUMBERS: &str = "\
 $?none$<i class=\"z\">no frame</i>$/$</td><td class=\"p\">$frames$</td><td class=\"r\">$bag$</td>\
 <td class=\"$early$\">$least$</td><td class=\"r ms\">$most$</td>$?sizes$<td class=\"r u\">$used$</td>$/$";
+
+const JUDGED: &str = "\
+$?some$$toolong$$/$$excess$$out$$lost$$alone$$late$<td class=\"$class$\">$most$</td></tr>";
 
 /// How much of its allocation a link uses on a network, in tenths of a percent.
 fn used_tenths(view: &View<'_>, link: &LinkReport, network: Network) -> u64 {
@@ -117,17 +89,13 @@ fn used_tenths(view: &View<'_>, link: &LinkReport, network: Network) -> u64 {
 fn push_numbers(page: &mut Page, view: &View<'_>, link: &LinkReport) {
     let (a, b) = (&link.lanes.a, &link.lanes.b);
     let used = used_tenths(view, link, Network::A).max(used_tenths(view, link, Network::B));
-    let (least, most) = if a.intervals == 0 && b.intervals == 0 {
-        (UNKNOWN, UNKNOWN)
-    } else {
-        (
-            Millionths(a.least.min(b.least)),
-            Milliseconds(a.greatest.max(b.greatest)),
-        )
-    };
+    let (least, most) = (a.least.min(b.least), a.greatest.max(b.greatest));
+    let known = a.intervals > 0 || b.intervals > 0;
     let whole = used == 0 || used >= 100;
     fill!(page; NUMBERS; none = flag(frames_of(link) == 0), frames = Both(Pair(a.frames, b.frames)),
-        bag = Number(link.bag / 1_000_000), early = class_of(counts_of(link, Early).sum() > 0), least, most,
+        bag = Number(link.bag / 1_000_000), early = class_of(counts_of(link, Early).sum() > 0),
+        least = if known { Millionths(least) } else { UNKNOWN },
+        most = if known { Milliseconds(most) } else { UNKNOWN },
         sizes = flag(view.sizes), used = if whole { Number(used / 10) } else { Tenths(used) });
 }
 
@@ -204,14 +172,14 @@ fn push_map(page: &mut Page, view: &View<'_>) {
     let links = view.report.links.len();
     fill!(page; "<h3 class=\"mh\">All $links$ links by rising id, $columns$ to a row";
         links = Grouped(links as u64), columns = Number(MAP_COLUMNS as u64));
-    for level in LEVELS {
+    for &level in &LEVELS {
         fill!(page; ", <svg class=\"mk $mark$</svg> $count$ $word$"; mark = Text(level.mark()),
             count = Grouped(view.count_of(level)), word = Text(level.word()));
     }
     let height = links.div_ceil(MAP_COLUMNS).saturating_mul(10) as u64;
     fill!(page; "</h3><svg class=\"rest\" viewBox=\"0 0 $width$ $height$\">";
         width = Number(MAP_COLUMNS as u64 * 10), height = Number(height));
-    for level in LEVELS {
+    for &level in &LEVELS {
         push_squares(page, view, level);
     }
     page.text("</svg>");
@@ -271,10 +239,7 @@ const CELL: &str = "<td class=\"$class$\">$today$<br/><i>$before$</i></td>";
 
 /// Thousandths, where they are known.
 fn thousandths(number: Option<u64>) -> Part<'static> {
-    match number {
-        Some(number) => Thousandths(number),
-        None => UNKNOWN,
-    }
+    number.map_or(UNKNOWN, |number| Thousandths(number))
 }
 
 /// How many there are in a thousand frames of a link in a flight.
@@ -297,7 +262,7 @@ fn cells_of(numbers: Option<LinkNumbers>) -> [Part<'static>; 4] {
 
 /// Appends the row of a link beside that of the baseline.
 fn push_compared(page: &mut Page, view: &View<'_>, index: usize) {
-    let (Some(link), Some((_, configured))) = (view.compared(index), view.link(index)) else {
+    let Some((link, configured)) = view.compared(index) else {
         return;
     };
     fill!(page; "<tr><td class=\"r id\">$id$</td><td class=\"nm\">$name$</td><td class=\"w\">";
@@ -310,7 +275,7 @@ fn push_compared(page: &mut Page, view: &View<'_>, index: usize) {
     for (today, before) in cells.iter().zip(past.iter()) {
         fill!(page; CELL; class = Text("r"), today = *today, before = *before);
     }
-    for count in COUNTS {
+    for &count in &COUNTS {
         fill!(page; CELL; class = class_of(link.is_worse(Worse::Grew(count))),
             today = share_in(link.today, count), before = share_in(link.baseline, count));
     }
@@ -319,11 +284,11 @@ fn push_compared(page: &mut Page, view: &View<'_>, index: usize) {
 
 /// Appends the rows of the first links that got worse, or of the first others, so many at most.
 fn push_rows(page: &mut Page, view: &View<'_>, is_worse: bool, most: usize) {
-    let ranks = view
-        .ranks
-        .iter()
-        .filter(|rank| view.is_worse(rank.index) == is_worse);
-    for rank in ranks.take(most) {
+    let ranks = view.ranks.iter();
+    for rank in ranks
+        .filter(|rank| view.is_worse(rank.index) == is_worse)
+        .take(most)
+    {
         push_compared(page, view, rank.index);
     }
 }
@@ -337,7 +302,7 @@ pub fn push_comparison(page: &mut Page, view: &View<'_>) {
     fill!(page; COMPARISON; start = Utc(baseline.start), frames = Grouped(baseline.counts.all().frames),
         length = Duration(baseline.end.saturating_sub(baseline.start)), worse = Grouped(worse as u64),
         links = Grouped(links as u64));
-    for count in COUNTS {
+    for &count in &COUNTS {
         let word = Text(count_word(count));
         fill!(page; "<th class=\"r\">$word$<small>in 1000 frames</small></th>"; word);
     }

@@ -83,7 +83,7 @@ pub const RUN: &str = "<p class=\"of\">$name$ $version$ (commit $commit$): <code
 /// A file of the run. The facts after its size are those of a recording.
 pub const FILE: &str = "\
 <br/>$word$ <b>$path$</b>: $bytes$ bytes$?counted$, $frames$ frames$/$\
-$?first$ from $first$ to $last$$/$$?end$, ends $end$$/$$?reason$ ($reason$)$/$\
+$?spans$ from $first$ to $last$$/$$?end$, ends $end$$/$$?reason$ ($reason$)$/$\
 $?sha256$, SHA-256 <code>$sha256$</code>$/$";
 
 /// What the page says where it has no manifest, and where it has one.

@@ -89,6 +89,13 @@ impl<'a> View<'a> {
         })
     }
 
+    /// How many frames each filter accepted: that of `--filter`, and those of the table.
+    pub fn filters(&self) -> &'a [u64] {
+        let accepted = self.report.counts.filters();
+        let filters = self.config.filters().len().saturating_add(1);
+        &accepted[..filters.min(accepted.len())]
+    }
+
     /// The counts of a sign on both networks.
     pub fn total(&self, sign: Anomaly) -> Pair {
         let (a, b) = (&self.report.networks.a, &self.report.networks.b);
@@ -102,10 +109,8 @@ impl<'a> View<'a> {
 
     /// A link's report and its configuration.
     pub fn link(&self, index: usize) -> Option<(&'a LinkReport, &'a Link)> {
-        match (self.report.links.get(index), self.config.links().get(index)) {
-            (Some(report), Some(link)) => Some((report, link)),
-            _ => None,
-        }
+        let link = self.report.links.get(index);
+        link.zip(self.config.links().get(index))
     }
 
     /// How many links have a level.
@@ -126,17 +131,16 @@ impl<'a> View<'a> {
         ]
     }
 
-    /// A link's numbers beside those of the baseline, if there is one.
-    pub fn compared(&self, index: usize) -> Option<LinkComparison> {
-        comparison_at(self.report, self.baseline?, index)
+    /// A link's numbers beside those of the baseline, if there is one, and its configuration.
+    pub fn compared(&self, index: usize) -> Option<(LinkComparison, &'a Link)> {
+        let compared = comparison_at(self.report, self.baseline?, index);
+        compared.zip(self.config.links().get(index))
     }
 
     /// Did a link get worse since the baseline?
     pub fn is_worse(&self, index: usize) -> bool {
-        match self.compared(index) {
-            Some(link) => WORSE.iter().any(|how| link.is_worse(*how)),
-            None => false,
-        }
+        let compared = self.compared(index);
+        compared.is_some_and(|(link, _)| WORSE.iter().any(|how| link.is_worse(*how)))
     }
 
     /// How many links got worse since the baseline.
@@ -170,6 +174,11 @@ pub fn counts_of(link: &LinkReport, sign: Anomaly) -> Pair {
     Pair(a.of(sign).count, b.of(sign).count)
 }
 
+/// The greatest skew of a link's copies, late ones too.
+pub fn greatest_skew(link: &LinkReport) -> u64 {
+    link.skew_greatest.max(link.late_greatest)
+}
+
 /// The word for so many links.
 pub fn links_word(count: u64) -> Part<'static> {
     Part::Text(if count == 1 { "link" } else { "links" })
@@ -186,8 +195,7 @@ pub fn first_of(link: &LinkReport, sign: Anomaly) -> Option<(Network, FramePlace
     match (a.of(sign).first, b.of(sign).first) {
         (Some(a), Some(b)) if b.stamp < a.stamp => Some((Network::B, b)),
         (Some(a), _) => Some((Network::A, a)),
-        (None, Some(b)) => Some((Network::B, b)),
-        (None, None) => None,
+        (None, first) => first.map(|b| (Network::B, b)),
     }
 }
 

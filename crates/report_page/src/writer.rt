@@ -51,7 +51,12 @@ pub enum Part<'a> {
     /// A timestamp in UTC, as `cut --from` takes it.
     Utc(u64),
     Both(Pair),
+    /// A cell of counts; `off` where there are none.
+    Cell(Option<Pair>),
 }
+
+/// A cell of counts that are 0.
+const NO_COUNT: &str = "<td class=\"p\"><i class=\"z\">&#183;</i></td>";
 
 /// A part with the name of the holes where it stands.
 pub type Named<'a> = (&'a str, Part<'a>);
@@ -108,23 +113,16 @@ impl Page {
         }
     }
 
-    /// Notes whether an append failed.
-    fn note(&mut self, failed: bool) {
-        self.failed = self.failed || failed;
-    }
-
     /// Appends a text.
     pub fn text(&mut self, text: &str) {
-        let failed = self.written.push_str(text).is_err();
-        self.note(failed);
+        self.failed |= self.written.push_str(text).is_err();
     }
 
     /// Appends a text in which nothing means anything to a browser.
     fn given(&mut self, text: &str) {
         for character in text.chars() {
             if matches!(character, ' '..='~') && !matches!(character, '&' | '<' | '>' | '"') {
-                let failed = self.written.push(character).is_err();
-                self.note(failed);
+                self.failed |= self.written.push(character).is_err();
             } else {
                 self.path(&[("&#", u64::from(u32::from(character)))]);
                 self.text(";");
@@ -163,14 +161,23 @@ impl Page {
             Part::Duration(value) => self.duration(value),
             Part::Milliseconds(value) => self.three_digits(value, 1_000_000),
             Part::Seconds(value) => self.decimal(rounded(value, 1, 1_000_000), 1000, 3),
-            Part::Tick(value) => self.tick(value),
+            Part::Tick(value) => self.short(value / 1_000_000),
             Part::Utc(stamp) => self.utc(stamp),
-            Part::Both(Pair(a, b)) => {
-                self.side("a", a);
-                self.text("<i>/</i>");
-                self.side("b", b);
+            Part::Both(counts) => self.both(counts),
+            Part::Cell(None) => self.text("<td class=\"p z\">off</td>"),
+            Part::Cell(Some(counts)) if counts.sum() == 0 => self.text(NO_COUNT),
+            Part::Cell(Some(counts)) => {
+                self.text("<td class=\"p\">");
+                self.both(counts);
+                self.text("</td>");
             }
         }
+    }
+
+    fn both(&mut self, counts: Pair) {
+        self.side("a", counts.0);
+        self.text("<i>/</i>");
+        self.side("b", counts.1);
     }
 
     /// Appends steps of a path: texts, each before a number.
@@ -184,14 +191,12 @@ impl Page {
     /// Appends a word on the left of a field of eight columns, and a number on the right of one of five after
     /// a space.
     pub fn columns(&mut self, word: &str, value: u64) {
-        let failed = write!(self.written, "{word:<8} {value:>5}").is_err();
-        self.note(failed);
+        self.failed |= write!(self.written, "{word:<8} {value:>5}").is_err();
     }
 
     /// Appends a number with so many digits at least.
     fn number(&mut self, value: u64, digits: usize) {
-        let failed = write!(self.written, "{value:0digits$}").is_err();
-        self.note(failed);
+        self.failed |= write!(self.written, "{value:0digits$}").is_err();
     }
 
     /// Appends a number of parts, of which `of` make one.
@@ -224,14 +229,16 @@ impl Page {
         self.text("</span>");
     }
 
-    /// Appends hundredths with no zero at the end.
-    fn short(&mut self, hundredths: u64) {
-        if hundredths % 10 > 0 {
-            self.decimal(hundredths, 100, 2);
-        } else if hundredths % 100 > 0 {
-            self.decimal(hundredths / 10, 10, 1);
+    /// Appends thousandths with no zero at the end.
+    fn short(&mut self, thousandths: u64) {
+        if thousandths % 10 > 0 {
+            self.decimal(thousandths, 1000, 3);
+        } else if thousandths % 100 > 0 {
+            self.decimal(thousandths / 10, 100, 2);
+        } else if thousandths % 1000 > 0 {
+            self.decimal(thousandths / 100, 10, 1);
         } else {
-            self.number(hundredths / 100, 1);
+            self.number(thousandths / 1000, 1);
         }
     }
 
@@ -241,9 +248,9 @@ impl Page {
         if hundredths >= 10_000 {
             self.grouped(rounded(value, 1, unit));
         } else if hundredths >= 1_000 {
-            self.short(rounded(value, 10, unit).saturating_mul(10));
+            self.short(rounded(value, 10, unit).saturating_mul(100));
         } else {
-            self.short(hundredths);
+            self.short(hundredths.saturating_mul(10));
         }
     }
 
@@ -259,19 +266,9 @@ impl Page {
         self.text(name);
     }
 
-    fn tick(&mut self, at: u64) {
-        let thousandths = at / 1_000_000;
-        if thousandths % 10 > 0 {
-            self.decimal(thousandths, 1000, 3);
-        } else {
-            self.short(thousandths / 10);
-        }
-    }
-
     fn utc(&mut self, stamp: u64) {
         if let Ok(moment) = Timestamp::from_nanosecond(i128::from(stamp)) {
-            let failed = write!(self.written, "{moment:.9}").is_err();
-            self.note(failed);
+            self.failed |= write!(self.written, "{moment:.9}").is_err();
         }
     }
 }

@@ -6,7 +6,7 @@ ghost use Rattle.run_manifest.specs.Manifest.{may_be_of};
 use crate::digesting::Sum;
 use jiff::Timestamp;
 use serde::{Deserialize, Serialize};
-use serde_json::Error;
+use serde_json::{Error, Value};
 use std::alloc::{AllocError, Global};
 use std::fmt::Write;
 
@@ -239,10 +239,10 @@ pub enum ManifestFault {
     Version,
 }
 
-/// What is looked at first.
-#[derive(Drop, Deserialize)]
-struct Head {
-    manifest: u32,
+/// The version that a JSON text has, if it has one.
+fn version_of(alloc: Global, text: &str) -> Result<Option<u64>, Error> {
+    let value = Value::from_str(alloc, text)?;
+    Ok(value.get("manifest").and_then(Value::as_u64))
 }
 
 /// Reads a manifest. Members that it doesn't know are passed over.
@@ -251,9 +251,11 @@ struct Head {
 ///
 /// The text isn't a manifest of [`MANIFEST_VERSION`], or the system is out of memory.
 pub fn read_manifest(alloc: Global, text: &str) -> Result<Manifest, ManifestFault> {
-    match serde_json::from_str::<Head>(alloc, text) {
+    match version_of(alloc, text) {
         Err(error) => return Err(ManifestFault::Form(error)),
-        Ok(head) if head.manifest != MANIFEST_VERSION => return Err(ManifestFault::Version),
+        Ok(Some(version)) if version != u64::from(MANIFEST_VERSION) => {
+            return Err(ManifestFault::Version);
+        }
         Ok(_) => {}
     }
     match serde_json::from_str(alloc, text) {

@@ -1,2 +1,3 @@
 pub mod First
+mod KeyPlaces
 pub mod Steps

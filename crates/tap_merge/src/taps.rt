@@ -155,8 +155,8 @@ impl<S: TapSource, T: TapSource> Taps<S, T> {
         (a.into_source(), b.into_source())
     }
 
-    /// Merges what comes next of the network whose turn it is: at most `most` frames, or its ending. False: both
-    /// have ended.
+    /// Merges what comes next of the network whose turn it is: at most `most` frames, or its ending.
+    /// False: both have ended.
     fn merge_one(&mut self, alloc: Global, most: usize) -> Result<bool, WatchFault>
         requires { Agree self.old }
         ensures agree { OnOk result (Agree self.new) }

@@ -10,7 +10,6 @@ use command_line::{
     source_offset, written_as,
 };
 use commands::MAX_TEXT;
-use config_place::{key_offset, slip_of};
 use cut_run::CutFault;
 use icd_links::IcdFault;
 use ledger_text::LedgerStop;
@@ -21,6 +20,7 @@ use std::fmt::{Display, Formatter};
 use std::fs::File;
 use std::io::Read;
 use std::{fmt, fs, io};
+use table_check::{key_offset, slip_of};
 use tap_inputs::{Disorder, OutputStream, Tap, Taps};
 use vl_config::{Config, ConfigFault};
 

@@ -1,20 +1,7 @@
-//! Which lines of a ledger are taken: by words, moments and masks, by links, and with their neighbours.
+//! Ledgers that fail while frames are selected. Which lines are taken, by words, moments and masks, by links,
+//! and with their neighbours, are cases of the program (`tests/cut.py`).
 
-mod choices;
+// further: mod choices;
 mod devices;
-mod link_lists;
-mod neighbours;
-
-use ledger_query::Selection;
-
-/// Every line is taken.
-pub fn everything() -> Selection {
-    Selection {
-        links: None,
-        network: None,
-        words: None,
-        from: None,
-        to: None,
-        filters: None,
-    }
-}
+// further: mod link_lists;
+// further: mod neighbours;

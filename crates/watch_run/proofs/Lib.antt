@@ -1,6 +1,7 @@
 pub mod Aborting
 pub mod Feeding
 pub mod Finishing
+pub mod ReadBack
 pub mod Returned
 pub mod RoundsTaken
 pub mod SameBytes

@@ -1,7 +1,9 @@
 pub mod Feeds
 pub mod Laws
+pub mod ReadBack
 pub mod Ready
 pub mod Run
+pub mod RunLedger
 pub mod Running
 pub mod Sized
 pub mod Watch

@@ -14,7 +14,10 @@ mod sizes;
 mod threads;
 
 pub use gate::{OpenGate, RunObserver};
-pub use laws::same_bytes_in_same_bytes_out;
+pub use laws::{
+    reads_first_lines, run_ledger_is_read, same_bytes_in_same_bytes_out, verdicts_are_shown,
+    written_ledger_is_read, written_lines_are_not_refused,
+};
 pub use one_thread::{Watched, sized_watch_whole, watch_whole};
 pub use round_writer::{Plan, pcap_has_accepted_frames};
 pub use sizes::RunSizes;

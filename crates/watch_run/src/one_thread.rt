@@ -169,7 +169,8 @@ fn finish<S: TapSource, T: TapSource, W: OutSink, L: OutSink>(
 /// `Filters` if there are not 1 to 8 programs; `Header` or `Read` if a recording can't be opened, that of
 /// A first. Up to there nothing was written. Later `Read`, `Write` or `Memory`: each output has a prefix of
 /// what belongs to the frames that were read; after `Read` it ends with a whole packet and a whole line, and
-/// the capture ends with a whole packet unless it couldn't be written.
+/// the capture ends with a whole packet or its file header unless it couldn't be written; after `Memory` it
+/// may have nothing yet.
 pub fn watch_whole<S: TapSource, T: TapSource, W: OutSink, L: OutSink>(
     alloc: Global,
     config: &Config,

@@ -239,10 +239,10 @@ impl<S, T, W, L> Ready<S, T, W, L> {
 /// `Memory` before the threads start: of the recordings the file headers alone were read.
 ///
 /// Later `Read`, `Write` or `Memory`: each output has a prefix of what belongs to the frames that were read,
-/// after `Read` with whole packets and lines, and the capture with a whole packet unless it couldn't be
-/// written. Both recordings were read on to their endings, or until they
-/// failed; of several faults one is told. All devices come back. A source may have been read ahead by no more
-/// than 262144 bytes, and after a fault by a packet more.
+/// after `Read` with whole packets and lines, and the capture with a whole packet or its file header unless
+/// it couldn't be written; after `Memory` it may have nothing yet. Both recordings were read on to their
+/// endings, or until they failed; of several faults one is told. All devices come back. A source may have
+/// been read ahead by no more than 262144 bytes, and after a fault by a packet more.
 ///
 /// `RingLost` if the items of a ring aren't what its reader put into it, or what a worker made was
 /// lost: sources may be lost.

@@ -33,10 +33,10 @@ fn cuts_all(rt: &impl Abort, merger: &mut Merger) -> bool {
 fn merges(rt: &(impl Abort + AllocGlobal)) -> bool {
     let mut merger = Merger::new(rt.alloc(), 5);
     let mut ample = true;
-    for (network, number, stamp) in [(A, 0, 10), (A, 1, 5), (B, 0, 12), (A, 2, 7)] {
-        if !fetch(rt, &mut merger, network, number, stamp) {
+    for (network, number, stamp) in &[(A, 0, 10), (A, 1, 5), (B, 0, 12), (A, 2, 7)] {
+        if !fetch(rt, &mut merger, *network, *number, *stamp) {
             ample = false;
-            assert!(rt; fetch(rt, &mut merger, network, number, stamp));
+            assert!(rt; fetch(rt, &mut merger, *network, *number, *stamp));
         }
     }
     merger.end(A);
@@ -98,8 +98,8 @@ fn runs_a_core(rt: &(impl Abort + AllocGlobal)) -> bool {
         return false;
     };
     let mut ample = true;
-    for event in EVENTS {
-        ample = happens(rt, &mut core, event) && ample;
+    for event in &EVENTS {
+        ample = happens(rt, &mut core, *event) && ample;
     }
     assert!(rt; core.output().len() == 4);
     is_prefix(rt, &core, &[(5, A), (7, A), (10, A), (12, B)]);

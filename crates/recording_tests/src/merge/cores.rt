@@ -1,11 +1,13 @@
-//! The core over a list of events, of which some can't happen.
+//! The core over recordings, and its output.
 
 use crate::merge::frame_at;
 use afdx_frame::Network::{self, A, B};
 use afdx_frame::TapFrame;
-use ordered_merge::{Core, CoreSizes, Event, Work, is_recording};
+use ordered_merge::{Core, CoreSizes, Work, is_recording};
 use std::alloc::AllocError;
 use std::process::Abort;
+
+// further: pub mod events;
 
 /// Answers each frame by the last digits of its stamp.
 pub struct Digits;
@@ -55,11 +57,6 @@ pub fn core_of(
     Core::new(rt.alloc(), sizes, a, b, 2, late)
 }
 
-/// Lets an event happen, if it can.
-pub fn step(core: &mut Core, event: Event) -> Result<bool, AllocError> {
-    core.event(&Digits, event)
-}
-
 /// Compares the output with the order: stamp and network of each frame.
 pub fn is_prefix(rt: &impl Abort, core: &Core, order: &[(u64, Network)]) {
     assert!(rt; core.output().len() <= order.len());
@@ -69,43 +66,4 @@ pub fn is_prefix(rt: &impl Abort, core: &Core, order: &[(u64, Network)]) {
         assert!(rt; key.network == *network);
         assert!(rt; u64::from(answered.answer) == *stamp % 1000);
     }
-}
-
-/// Events of a recording of one frame and an empty one, and which of them can happen.
-const EVENTS: [(Event, bool); 24] = [
-    (Event::Fetch(A), false),
-    (Event::End(A), false),
-    (Event::Put(A), true),
-    (Event::Put(A), false),
-    (Event::End(A), true),
-    (Event::End(A), false),
-    (Event::Fetch(A), true),
-    (Event::Cut, false),
-    (Event::End(B), true),
-    (Event::Fetch(B), true),
-    (Event::Claim(0), false),
-    (Event::Cut, true),
-    (Event::Cut, false),
-    (Event::Post(0), false),
-    (Event::Claim(0), true),
-    (Event::Claim(0), false),
-    (Event::Claim(1), true),
-    (Event::Claim(2), false),
-    (Event::Gather, false),
-    (Event::Post(0), true),
-    (Event::Gather, false),
-    (Event::Claim(0), true),
-    (Event::Gather, true),
-    (Event::Gather, false),
-];
-
-#[test]
-fn events_that_happen(rt: HostRuntime) -> Result<(), AllocError> {
-    let mut core = core_of(&rt, AMPLE, 0, &[1], &[])?;
-    for (event, happens) in EVENTS {
-        assert!(rt; step(&mut core, event) == Ok(happens));
-    }
-    is_prefix(&rt, &core, &[(1, A)]);
-    assert!(rt; core.output().len() == 1);
-    Ok(())
 }

@@ -19,6 +19,23 @@ enum Step {
     Cuts(&'static [(u64, Network, u64)]),
 }
 
+/// Takes a step.
+fn takes_step(
+    rt: &(impl Abort + AllocGlobal),
+    merger: &mut Merger,
+    step: Step,
+) -> Result<(), AllocError> {
+    match step {
+        Step::Wants(network) => assert!(rt; merger.wants() == network),
+        Step::Fetch(network, number, stamp) => {
+            assert!(rt; fetch(rt, merger, network, number, stamp));
+        }
+        Step::End(network) => merger.end(network),
+        Step::Cuts(expected) => is_round(rt, &merger.cut(256)?, expected),
+    }
+    Ok(())
+}
+
 /// Takes these steps from the beginning.
 fn takes_steps(
     rt: &(impl Abort + AllocGlobal),
@@ -27,14 +44,7 @@ fn takes_steps(
 ) -> Result<(), AllocError> {
     let mut merger = Merger::new(rt.alloc(), late);
     for step in steps {
-        match *step {
-            Step::Wants(network) => assert!(rt; merger.wants() == network),
-            Step::Fetch(network, number, stamp) => {
-                assert!(rt; fetch(rt, &mut merger, network, number, stamp));
-            }
-            Step::End(network) => merger.end(network),
-            Step::Cuts(expected) => is_round(rt, &merger.cut(256)?, expected),
-        }
+        takes_step(rt, &mut merger, *step)?;
     }
     Ok(())
 }
@@ -81,16 +91,26 @@ fn frames_merged_step_by_step(rt: HostRuntime) {
     assert!(rt; takes_steps(&rt, 5, &LATE_FRAMES).is_ok());
 }
 
+/// May the frame of this network, number and timestamp come next?
+fn may_come(
+    rt: &(impl Abort + AllocGlobal),
+    merger: &Merger,
+    network: Network,
+    number: u64,
+    stamp: u64,
+) -> bool {
+    merger.can_fetch(&frame_at(rt, network, number, stamp))
+}
+
 #[test]
 fn frames_that_may_not_come(rt: HostRuntime) {
     let mut merger = Merger::new(rt.alloc(), 5);
     fetch(&rt, &mut merger, A, 0, 10);
     // number, stamp, within the window and the next
-    for (number, stamp, fits) in [(1, 5, true), (1, 4, false), (2, 10, false), (0, 10, false)] {
-        let frame = frame_at(&rt, A, number, stamp);
-        assert!(rt; merger.can_fetch(&frame) == fits);
+    for (number, stamp, fits) in &[(1, 5, true), (1, 4, false), (2, 10, false), (0, 10, false)] {
+        assert!(rt; may_come(&rt, &merger, A, *number, *stamp) == *fits);
     }
     merger.end(A);
-    assert!(rt; !merger.can_fetch(&frame_at(&rt, A, 1, 10)));
-    assert!(rt; merger.can_fetch(&frame_at(&rt, B, 0, 0)));
+    assert!(rt; !may_come(&rt, &merger, A, 1, 10));
+    assert!(rt; may_come(&rt, &merger, B, 0, 0));
 }

@@ -84,9 +84,13 @@ const CUT: [(usize, usize); 4] = [(176, 2), (175, 1), (251, 2), (252, 3)];
 
 #[test]
 fn frames_that_were_read_together_before_a_fault(rt: HostRuntime) -> Result<(), AllocError> {
-    for (most, count) in CUT {
-        let mut reader = reader_of(&rt, &[60; 3], Script { most, ..SOUND })?;
-        come(&rt, &mut reader, 512, 0, count);
+    for (most, count) in &CUT {
+        let script = Script {
+            most: *most,
+            ..SOUND
+        };
+        let mut reader = reader_of(&rt, &[60; 3], script)?;
+        come(&rt, &mut reader, 512, 0, *count);
         stops(&rt, &mut reader, None);
     }
     Ok(())

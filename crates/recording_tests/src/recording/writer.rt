@@ -1,10 +1,12 @@
 //! The writer: what it puts of frames and of packets that were made in memory, also to a sink that fails.
 
 use afdx_frame::{Network, Stamp, TapFrame};
-use pcap_io::{CaptureWriter, MemSink, Script, WriteFault, append_packet};
+use pcap_io::{CaptureWriter, MemSink, Script, WriteFault};
 use std::alloc::{AllocError, Global};
 use std::process::Abort;
 use test_support::{HEADER, SOUND};
+
+// further: mod after;
 
 /// A frame of two bytes at 258 ns.
 pub(crate) fn frame_of_two(alloc: Global) -> Result<TapFrame, AllocError> {
@@ -63,6 +65,7 @@ fn fails(rt: &impl Abort, writer: &mut CaptureWriter<MemSink>, frame: &TapFrame,
 /// written after.
 fn keeps_a_prefix(
     rt: &(impl Abort + AllocGlobal),
+    frame: &TapFrame,
     script: Script,
     written: usize,
     as_packet: bool,
@@ -74,7 +77,7 @@ fn keeps_a_prefix(
         }
         Ok(mut writer) => {
             assert!(rt; written >= 24);
-            fails(rt, &mut writer, &frame_of_two(rt.alloc())?, as_packet);
+            fails(rt, &mut writer, frame, as_packet);
             writer.finish()
         }
     };
@@ -85,6 +88,7 @@ fn keeps_a_prefix(
 
 #[test]
 fn a_sink_that_fails(rt: HostRuntime) -> Result<(), AllocError> {
+    let frame = frame_of_two(rt.alloc())?;
     for as_packet in [false, true] {
         for most in 0..42 {
             for piece in [1, usize::MAX] {
@@ -93,7 +97,7 @@ fn a_sink_that_fails(rt: HostRuntime) -> Result<(), AllocError> {
                     most,
                     ..SOUND
                 };
-                keeps_a_prefix(&rt, script, most, as_packet)?;
+                keeps_a_prefix(&rt, &frame, script, most, as_packet)?;
             }
         }
         // At one call alone, in pieces that divide the file header and the packet.
@@ -104,7 +108,7 @@ fn a_sink_that_fails(rt: HostRuntime) -> Result<(), AllocError> {
                     most: 4096,
                     miss: Some(call as u64),
                 };
-                keeps_a_prefix(&rt, script, piece * call, as_packet)?;
+                keeps_a_prefix(&rt, &frame, script, piece * call, as_packet)?;
             }
         }
     }
@@ -128,37 +132,5 @@ fn packets_are_put_in_one_go(rt: HostRuntime) -> Result<(), AllocError> {
     assert!(rt; sink.taken().len() == 60);
     assert!(rt; sink.taken().starts_with(&HEADER));
     assert!(rt; sink.taken().ends_with(&PACKETS));
-    Ok(())
-}
-
-#[test]
-fn a_frame_after_a_packet(rt: HostRuntime) -> Result<(), AllocError> {
-    let frame = frame_of_two(rt.alloc())?;
-    let captured = frame.view().bytes().len() as u32;
-    let mut writer = begun(&rt, Script { most: 100, ..SOUND })?;
-    assert!(rt; writer.put_packets(&PACKET) == Ok(()));
-    assert!(rt; writer.put(&frame, captured) == Ok(()));
-    let sink = writer.finish();
-    assert!(rt; sink.taken().len() == 60);
-    assert!(rt; sink.taken().ends_with(&PACKETS));
-    Ok(())
-}
-
-/// What stood there before, the frame's packet, and the packet of which one byte is kept.
-const APPENDED: [u8; 41] = [
-    0x62, 0x65, 0x66, 0x6f, 0x72, 0x65, 0, 0, 0, 0, 2, 1, 0, 0, 2, 0, 0, 0, 2, 0, 0, 0, 9, 9, 0, 0,
-    0, 0, 2, 1, 0, 0, 1, 0, 0, 0, 2, 0, 0, 0, 9,
-];
-
-#[test]
-fn a_packet_is_appended_to_what_stands_there(rt: HostRuntime) -> Result<(), AllocError> {
-    let frame = frame_of_two(rt.alloc())?;
-    let captured = frame.view().bytes().len() as u32;
-    let mut bytes = Vec::from_slice(rt.alloc(), &APPENDED[..6])?;
-    for (most, len) in [(2, 24), (1, 41)] {
-        assert!(rt; append_packet(&mut bytes, &frame.lent(), captured.min(most)) == Ok(()));
-        assert!(rt; bytes.len() == len);
-        assert!(rt; APPENDED.starts_with(&bytes));
-    }
     Ok(())
 }

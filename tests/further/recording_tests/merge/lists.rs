@@ -1,7 +1,8 @@
 //! The core over many lists of events: its output is a prefix of the order, and in the end all of it. Its
 //! rings and rounds hold as much as they should.
 
-use crate::merge::cores::{core_of, is_prefix, step};
+use crate::merge::cores::events::step;
+use crate::merge::cores::{core_of, is_prefix};
 use crate::merge::numbers::Numbers;
 use afdx_frame::Network::{self, A, B};
 use ordered_merge::{Core, CoreSizes, Event};

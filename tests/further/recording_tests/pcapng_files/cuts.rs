@@ -1,9 +1,8 @@
 //! Recordings that are cut anywhere, that are read in small buffers from sources that fail, that describe
 //! many interfaces, and that have long blocks.
 
-use super::{
-    COMMENTED, CUSTOM, ETHERNET, FRAME, LITTLE, NONE, ONE, PACKET, TWO, holds, joined, refuses,
-};
+use super::kinds::{FRAME, NONE, ONE, TWO, refuses};
+use super::{COMMENTED, CUSTOM, ETHERNET, LITTLE, PACKET, holds, joined};
 use pcap_io::{BadReason, Ending, HeaderFault, MemSource, Script, TapSource};
 use pcapng::{Choice, RecordingSource};
 use std::test::Fail;

@@ -1,0 +1,8 @@
+//! The command `capture` over devices: devices that fail, and refused allocations.
+
+mod allocation;
+// further: mod arguments;
+// further: mod asm;
+mod devices;
+// further: mod lines;
+// further: mod real_size;

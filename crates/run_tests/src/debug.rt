@@ -1,0 +1,4 @@
+//! The command `debug` over devices: refused allocations.
+
+mod allocation;
+// further: mod sessions;
