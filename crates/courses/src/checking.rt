@@ -16,7 +16,7 @@ use traffic_survey::{Extent, Pass, Recorded, show_recordings};
 use vl_config::Config;
 
 /// How many frames of each recording are read at most, where they aren't read whole.
-const MAX_FRAMES: u64 = 1_000_000;
+const MAX_LOOKED_AT: u64 = 1_000_000;
 
 /// What a pass over the recordings came to.
 #[derive(Clone, Copy)]
@@ -81,7 +81,11 @@ fn read_recordings<'a>(
     inputs: &mut Inputs<'_>,
 ) -> Result<Passed<'a>, Refused> {
     let extent = Extent {
-        frames: if given.whole { MAX_FRAMES } else { MAX_FRAMES },
+        frames: if given.whole {
+            MAX_FRAMES
+        } else {
+            MAX_LOOKED_AT
+        },
         late: config.map_or(MAX_LATE, |config| config.late()),
     };
     let (a, b) = open_both(rt, (given.a, given.b), taps, extent.late)?;
