@@ -389,7 +389,7 @@ def wrong_manifests(desk):
     refused("a list", b"[]", "report 5 Manifest at 1 form", f"{changed}: missing field `manifest` at line 1 column 2", form)
     refused("no version", without("manifest"), f"report 5 Manifest at {len(text_of(without('manifest')).splitlines())} form",
             f"{changed}: missing field `manifest` at line {len(text_of(without('manifest')).splitlines())} column 1", form)
-    for version in (0, 2, 4294967295):
+    for version in (0, 2, 4294967295, 4294967296):
         refused(f"version {version}", {**reports.manifest, "manifest": version}, "report 5 Manifest version",
                 f"{changed}: {advice_on('report 5 Manifest version')}")
     refused("another version without its members", b'{"manifest": 2}', "report 5 Manifest version", f"{changed}: {advice_on('report 5 Manifest version')}")
