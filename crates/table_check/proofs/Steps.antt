@@ -1,11 +1,10 @@
--- What is left of a list after its first elements, for the loops over it; and the items of an array as a list.
+-- What is left of a list after its first elements, for the loops over it.
 use Rattle.std.proofs.Common.{◌≡◌, Bool, ◌||◌, String, Global, string_bytes, ℕ, ◌+◌, ◌<◌, List, [], ◌∷◌, ◌++◌, length, map, get_or, take, drop, refl, ap}
 use Rattle.std.proofs.lemmas.List.{take_more, drop_more, map-append}
 use Rattle.std.specs.List.{flat_map, list_any}
 use Rattle.std.specs.Map.{keys_of}
-use Rattle.toml.specs.View.{view, items_view, members_view}
+use Rattle.toml.specs.View.{view, members_view}
 use Rattle.toml.specs.declared.value.Value.{Value}
-use Rattle.vl_config.specs.Document.{data_of}
 use Rattle.table_check.specs.declared.links.Own.{Own}
 use Rattle.table_check.specs.Faults.{FoundFault, OwnWords, link_faults, links_faults, names_of, twice_here, twice_faults}
 use Rattle.table_check.specs.Own.{own_words}
@@ -19,10 +18,6 @@ pub twice_faults_more : (owns : List Own) (i : ℕ) (own : Own) → i < length o
     ≡ twice_here i (map own_words (take i owns)) (own_words own)
     ++ twice_faults (i + 1) (map own_words (take (i + 1) owns)) (map own_words (drop (i + 1) owns))
 twice_faults_more owns i own h e = rw (drop_more owns i own h, take_more owns i own h, ← e, map-append) refl
-
-pub data_of_view : (values : List Value) → data_of (items_view values) ≡ map view values
-data_of_view [] = refl
-data_of_view (v ∷ vs) = ap (λ more. view v ∷ more) (data_of_view vs)
 
 pub any_of_words : (test : OwnWords → Bool) (owns : List Own) → list_any (λ own. test (own_words own)) owns ≡ list_any test (map own_words owns)
 any_of_words test [] = refl

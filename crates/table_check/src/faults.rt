@@ -7,11 +7,11 @@ ghost use Rattle.vl_config.specs.Document.{first_fault};
 ghost use Rattle.table_check.specs.Faults.{checked_links, count_faults, document_faults, first_of, text_faults};
 
 use crate::fault::{TableFault, of_whole};
-use crate::keys::{TOP_KEYS, tell_keys, values_at};
+use crate::keys::tell_keys;
 use crate::links::{owns_of, tell_links, tell_twice};
 use std::alloc::{AllocError, Global};
 use toml::{Table, Value};
-use vl_config::{ConfigFault, Key, MAX_LINKS, MAX_TABLE_FILTERS};
+use vl_config::{ConfigFault, Key, MAX_LINKS, MAX_TABLE_FILTERS, TOP_KEYS, values_at};
 
 /// All faults of the text of a table, in the order in which [`vl_config::Config::read`] looks for the first.
 /// That takes the text exactly where there is none.

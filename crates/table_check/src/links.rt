@@ -8,10 +8,10 @@ ghost use Rattle.table_check.specs.Own.{name_words, own_words};
 ghost use Rattle.table_check.specs.Faults.{id_in, is_again_id, is_again_name, is_id, is_name, link_faults, links_faults, name_in, own_of, twice_faults, twice_here};
 
 use crate::fault::{TableFault, tell_key};
-use crate::keys::{LINK_KEYS, is_good, number_at, tell_keys, text_at};
+use crate::keys::{is_good, tell_keys};
 use std::alloc::{AllocError, Global};
 use toml::{Table, Value};
-use vl_config::{ConfigFault, Key};
+use vl_config::{ConfigFault, Key, LINK_KEYS, number_at, text_at};
 
 fn tell_link(
     alloc: Global,

@@ -34,5 +34,8 @@ pub use class::{CHECK_LENGTH, Class, class_by};
 pub use config::{Config, MAX_LINKS, MAX_TABLE_FILTERS};
 pub use fault::ConfigFault;
 pub use faulty::{FaultyKey, faulty_key};
-pub use key::Key;
+pub use key::{Key, LINK_KEYS, TOP_KEYS};
 pub use link::Link;
+pub use tables::{
+    is_missing, is_other_kind, is_out_of_range, is_unknown, number_at, text_at, values_at,
+};
