@@ -8,8 +8,9 @@ mod watcher;
 mod watching;
 
 use analyser::{CommandLine, Exit, Invocation, USAGE, gathered, read_arguments};
-use courses::{asm, capture, check, cut, debug, links, report};
-use run_outputs::{Ended, arguments, summarise};
+use courses::{
+    Ended, Known, arguments, asm, capture, check, cut, debug, links, report, summarise, tell,
+};
 use std::io;
 use std::io::{ErrorKind, IsTerminal};
 use std::process::ExitCode;
@@ -17,7 +18,6 @@ use std::sync::Wait;
 use std::sync::atomic::{AtomicBool, Ordering};
 use std::thread::Threads;
 use tap_inputs::{NO_RUN, Refused, Taps, status_of};
-use telling::{Known, tell};
 use watching::watch;
 
 /// Why the arguments can't be had as text.

@@ -2,12 +2,12 @@
 //! more, and a fault is told before the program waits for its threads.
 use afdx_frame::Network;
 use analyser::{Exit, Fault, Invocation, RunObserver, WatchArguments, WatchFault};
+use courses::{Known, tell};
 use filter_workers::RunGate;
 use std::io;
 use std::sync::atomic::{AtomicBool, Ordering};
 use tap_inputs::{Pauses, Progress, SharedBlocks, Taps};
 use tap_queue::TapGate;
-use telling::{Known, tell};
 
 /// Watches a run over two recordings: before it waits for them, what was written is handed to the system,
 /// and before it waits for the threads that read them, its fault is told.

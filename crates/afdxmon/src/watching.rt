@@ -6,14 +6,14 @@ use analyser::{
     Watched, load_filters, read_config, sized_watch,
 };
 use bpf_loader::Program;
-use courses::{MAX_LATE, is_at_terminal, refuse_closed, refuse_shared, text_of};
+use courses::{
+    Ended, LedgerWriter, MAX_LATE, RunSums, Spans, TextSums, blocks_of, create, create_hashed,
+    file_in, format_of, is_at_terminal, refuse_closed, refuse_shared, shared, text_of,
+    with_manifest, worst_links,
+};
 use pcap_io::WriteSink;
 use pcapng::Interfaces;
 use run_manifest::sum_of;
-use run_outputs::{
-    Ended, LedgerWriter, RunSums, Spans, TextSums, blocks_of, create, create_hashed, file_in,
-    format_of, shared, with_manifest, worst_links,
-};
 use std::sync::Wait;
 use std::sync::atomic::AtomicBool;
 use std::thread;

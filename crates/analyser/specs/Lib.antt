@@ -1,0 +1,11 @@
+pub mod Asm
+pub mod Capture
+pub mod CaptureLaws
+pub mod Copy
+pub mod Inputs
+pub mod Laws
+pub mod OneCapture
+pub mod Selections
+pub mod Sessions
+pub mod Text
+pub mod WholeTap

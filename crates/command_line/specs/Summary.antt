@@ -8,7 +8,7 @@ use Rattle.vl_config.specs.Class.{class_word}
 use Rattle.vl_config.specs.declared.class.Class.TheVariants as class
 use Rattle.pcap_io.specs.Word.{frames_before}
 use Rattle.pcap_io.specs.declared.recording.Ending.{Ending}
-use Rattle.recording_check.specs.Decide.{is_nearly_all}
+use Rattle.traffic_survey.specs.Decide.{is_nearly_all}
 use Rattle.verdict_ledger.specs.declared.totals.Totals.{Totals}
 use Rattle.command_line.specs.declared.summary.Hint.{Hint}
 use Rattle.command_line.specs.declared.summary.Hint.TheVariants as hint

@@ -5,9 +5,9 @@ ghost use Rattle.command_line.specs.Summary.{hint_of, hint_words};
 use integrity::Integrity;
 use pcap_io::Ending;
 use policing::Policing;
-use recording_check::is_nearly_all;
 use std::fmt;
 use std::fmt::{Display, Formatter};
+use traffic_survey::is_nearly_all;
 use verdict_ledger::Totals;
 use vl_config::Class;
 

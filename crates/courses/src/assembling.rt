@@ -1,6 +1,6 @@
 //! A filter's source, assembled.
+use analyser::{AsmRun, run_asm};
 use command_line::Exit;
-use commands::{AsmRun, run_asm};
 use pcap_io::{ReadSource, WriteSink};
 use tap_inputs::{Noting, Refused};
 

@@ -1,12 +1,12 @@
 //! The frames of a recording that a filter accepts.
 use crate::files::refuse_shared;
 use crate::given::{filter, is_at_terminal, late_of};
+use crate::outputs::{Ended, create, file_in, format_of, live_output};
 use afdx_frame::Network;
+use analyser::{CaptureRun, capture_by};
 use command_line::{CaptureArguments, Exit, FileOption, Invocation};
-use commands::{CaptureRun, capture_by};
 use pcap_io::WriteSink;
 use pcapng::Interfaces;
-use run_outputs::{Ended, create, file_in, format_of, live_output};
 use tap_inputs::{Reading, Refused, Skipped, Taps, end_of, files_of, open};
 
 /// Copies the frames of a recording that the filter accepts. What was written before a fault is handed to

@@ -1,18 +1,22 @@
 //! Whether a run of `watch` would be sound, told on standard output.
+use crate::check_answer::{
+    Answer, FilterAnswer, TapAnswer, json_of, text_of as answer_text, verdict_of,
+};
 use crate::given::{MAX_LATE, text_of};
+use crate::outputs::Ended;
 use afdx_frame::Network;
+use analyser::filter_of;
 use bpf_loader::Program;
-use check_answer::{Answer, FilterAnswer, TapAnswer, json_of, text_of as answer_text, verdict_of};
 use command_line::{CheckArguments, Exit, Fault, FileOption, is_standard};
-use commands::filter_of;
-use recording_check::{Inputs, Look, Question, Reach, link_questions, questions_of};
 use run_fault::{MAX_FRAMES, WatchFault};
-use run_outputs::Ended;
 use std::alloc::{AllocError, Global};
 use std::fmt::Write;
 use table_check::{TableFault, table_faults};
 use tap_inputs::{NO_RUN, Refused, Tap, TapFiles, Taps, end_of, open_both, tell_gaps};
-use traffic_survey::{Extent, Pass, Recorded, show_recordings};
+use traffic_survey::{
+    Extent, Inputs, Look, Pass, Question, Reach, Recorded, link_questions, questions_of,
+    show_recordings,
+};
 use vl_config::Config;
 
 /// How many frames of each recording are read at most, where they aren't read whole.

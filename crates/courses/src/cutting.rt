@@ -1,19 +1,19 @@
 //! The frames of a ledger's lines, cut from its recordings.
 use crate::files::refuse_shared;
 use crate::given::{MAX_LATE, is_at_terminal, table_of};
+use crate::outputs::{Ended, Seen, create, format_of, live_output};
 use afdx_frame::Network;
+use analyser::selection_of;
 use command_line::{
     CutArguments, Exit, Fault, FileOption, Invocation, SelectionOption, is_standard,
 };
-use commands::selection_of;
 use cut_run::{
     CutEnding, CutFault, LinesRun, NeighboursRun, cut_frames, neighbours_of, print_lines,
 };
-use ledger_query::{Neighbours, Selection};
+use ledger_text::{Neighbours, Selection};
 use packet_format::PacketFormat;
 use pcap_io::{ReadSource, WriteSink};
 use pcapng::Interfaces;
-use run_outputs::{Ended, Seen, create, format_of, live_output};
 use tap_inputs::{
     Blocks, LiveInput, NO_RUN, Reading, Refused, Skipped, TapFiles, Taps, end_of, files_of, open,
     open_tap,

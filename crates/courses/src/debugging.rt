@@ -1,12 +1,12 @@
 //! Sessions of the debugger: commands of standard input, or typed at a terminal.
 use crate::given::{filter, late_of};
+use crate::outputs::{Ended, file_in};
 use afdx_frame::{Network, TapFrame};
+use analyser::{HeldTap, TapRead, answer_line, begin_session, read_tap, run_session};
 use bpf_debugger::DebugFault;
 use bpf_loader::Program;
 use command_line::{DebugArguments, Exit, Fault, FileOption};
-use commands::{HeldTap, TapRead, answer_line, begin_session, read_tap, run_session};
 use pcap_io::{Ending, ReadSource, WriteSink};
-use run_outputs::{Ended, file_in};
 use std::alloc::Global;
 use std::io::{BufRead, BufReader, BufWriter, ErrorKind, IsTerminal, Stdout, Write};
 use tap_inputs::{

@@ -1,9 +1,9 @@
 //! The table of virtual links that is drafted from recordings and a document.
 use crate::given::{MAX_LATE, text_of};
+use crate::outputs::Ended;
 use command_line::{Exit, Fault, FileOption, LinksArguments};
 use icd_links::IcdLinks;
 use pcap_io::Ending;
-use run_outputs::Ended;
 use std::io;
 use table_draft::{Comparison, DraftFault, LeftOut, Recordings, Sources, draft_of};
 use tap_inputs::{NO_RUN, Refused, Skipped, Taps, end_of, open_both};

@@ -1,7 +1,7 @@
 //! What a command is given as text: filters, a table, a window for late timestamps.
+use analyser::{filter_of, filter_of_source, read_config, read_file};
 use bpf_loader::Program;
 use command_line::{Fault, FileOption, FilterArgument, Lateness, MAX_LATE_MICROS, is_standard};
-use commands::{filter_of, filter_of_source, read_config, read_file};
 use pcap_io::ReadSource;
 use std::io::IsTerminal;
 use tap_inputs::{Refused, open};

@@ -1,16 +1,16 @@
 //! The page on what a ledger says.
 use crate::files::refuse_shared;
 use crate::given::{is_at_terminal, text_of};
+use crate::outputs::{Ended, create};
+use analyser::read_config;
 use command_line::{
     Contradiction, Exit, Fault, FileOption, Invocation, ManifestFault, ReportArguments, ReportFault,
 };
-use commands::read_config;
 use ledger_report::{Report, WrongLine, read_report};
 use ledger_text::{LedgerStop, LineFault};
 use pcap_io::ReadSource;
 use report_page::{has_sizes, json_of, page_of, summary_of};
 use run_manifest::{Digesting, Manifest, Sum, read_manifest, sum_of};
-use run_outputs::{Ended, create};
 use std::io::Write;
 use tap_inputs::{Input, Refused, Taps, open};
 use vl_config::Config;

@@ -9,7 +9,7 @@ use Rattle.afdx_frame.specs.declared.key.Network.{Network}
 use Rattle.afdx_frame.specs.declared.key.Network.TheVariants.{A, B}
 use Rattle.cut_run.specs.Finder.{finding_of}
 use Rattle.ledger_text.specs.declared.frame.FrameLine.{FrameLine}
-use Rattle.ledger_query.specs.Neighbours.{HasAsked, IsChosen}
+use Rattle.ledger_text.specs.Neighbours.{HasAsked, IsChosen}
 use Rattle.packet_format.specs.Packets.{Format}
 use Rattle.packet_format.specs.Writer.{format_in, has_failed, sink_of}
 use Rattle.run_fault.specs.Device.{SinkMembers, SinkView, SourceMembers, SourceView}

@@ -13,10 +13,10 @@ use Rattle.ledger_text.specs.declared.reader.FoundLine.TheVariants as found
 use Rattle.ledger_text.specs.declared.reader.LedgerReader.{LedgerReader}
 use Rattle.ledger_text.specs.declared.reader.LedgerStop.{LedgerStop}
 use Rattle.ledger_text.proofs.Ledgers.{found_one_more, frame_lines_one_more}
-use Rattle.ledger_query.specs.Neighbours.{HasAsked, HasNoted}
-use Rattle.ledger_query.specs.declared.chooser.Chooser.{Chooser}
-use Rattle.ledger_query.specs.declared.neighbours.Neighbours.{Neighbours}
-use Rattle.ledger_query.specs.declared.selection.Selection.{Selection}
+use Rattle.ledger_text.specs.Neighbours.{HasAsked, HasNoted}
+use Rattle.ledger_text.specs.declared.chooser.Chooser.{Chooser}
+use Rattle.ledger_text.specs.declared.neighbours.Neighbours.{Neighbours}
+use Rattle.ledger_text.specs.declared.selection.Selection.{Selection}
 use Rattle.run_fault.specs.Device.{SourceMembers, SourceView}
 use Rattle.cut_run.specs.Cut.{ledger_fault}
 use Rattle.cut_run.specs.Noting.{EndsNoting, HasNotedLines, StopsNoting}

@@ -10,7 +10,7 @@ use Rattle.afdx_frame.specs.Frame.{Frame}
 use Rattle.afdx_frame.specs.declared.key.Network.TheVariants.{A, B}
 use Rattle.cut_run.specs.Finder.{finding_of}
 use Rattle.ledger_text.specs.declared.frame.FrameLine.{FrameLine}
-use Rattle.ledger_query.specs.Neighbours.{HasAsked}
+use Rattle.ledger_text.specs.Neighbours.{HasAsked}
 use Rattle.pcap_io.specs.Device.{Writes}
 use Rattle.run_fault.specs.Device.{SinkMembers, SourceMembers, SourceView}
 use Rattle.run_fault.specs.Fault.{FailsWhere}

@@ -13,7 +13,7 @@ use Rattle.ledger_text.specs.declared.frame.FrameLine.{FrameLine}
 use Rattle.ledger_text.specs.declared.order.LedgerStage.{LedgerStage}
 use Rattle.ledger_text.specs.declared.order.LedgerStage.TheVariants as stages
 use Rattle.ledger_text.specs.declared.reader.LedgerReader.{LedgerReader}
-use Rattle.ledger_query.specs.Neighbours.{HasAsked, IsChosen}
+use Rattle.ledger_text.specs.Neighbours.{HasAsked, IsChosen}
 use Rattle.packet_format.specs.Packets.{Format}
 use Rattle.packet_format.specs.Writer.{format_in, has_failed, sink_of}
 use Rattle.pcap_io.specs.Device.{AppendsPrefix, CountsFailure}

@@ -7,8 +7,8 @@ use Rattle.afdx_frame.specs.declared.key.Key.{Key}
 use Rattle.afdx_frame.specs.declared.key.Network.{Network}
 use Rattle.afdx_frame.specs.declared.key.Network.TheVariants.{A, B}
 use Rattle.ledger_text.specs.declared.frame.FrameLine.{FrameLine}
-use Rattle.ledger_query.specs.Neighbours.{Around, IsChosen}
-use Rattle.ledger_query.specs.declared.selection.Selection.{Selection}
+use Rattle.ledger_text.specs.Neighbours.{Around, IsChosen}
+use Rattle.ledger_text.specs.declared.selection.Selection.{Selection}
 use Rattle.packet_format.specs.Packets.{Format, head_by, packet_by}
 
 -- where a line's frame stands in the order of both networks

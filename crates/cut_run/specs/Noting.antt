@@ -9,10 +9,10 @@ use Rattle.ledger_text.specs.declared.order.LedgerStage.{LedgerStage}
 use Rattle.ledger_text.specs.declared.order.LedgerStage.TheVariants as stages
 use Rattle.ledger_text.specs.declared.reader.LedgerReader.{LedgerReader}
 use Rattle.ledger_text.specs.declared.reader.LedgerStop.{LedgerStop}
-use Rattle.ledger_query.specs.Neighbours.{Around, HasAsked, HasNoted}
-use Rattle.ledger_query.specs.declared.chooser.Chooser.{Chooser}
-use Rattle.ledger_query.specs.declared.neighbours.Neighbours.{Neighbours}
-use Rattle.ledger_query.specs.declared.selection.Selection.{Selection}
+use Rattle.ledger_text.specs.Neighbours.{Around, HasAsked, HasNoted}
+use Rattle.ledger_text.specs.declared.chooser.Chooser.{Chooser}
+use Rattle.ledger_text.specs.declared.neighbours.Neighbours.{Neighbours}
+use Rattle.ledger_text.specs.declared.selection.Selection.{Selection}
 use Rattle.run_fault.specs.Device.{SourceMembers, SourceView, source_at}
 use Rattle.run_fault.specs.Fault.{FailsWhere}
 use Rattle.cut_run.specs.Cut.{FailsInLine, IsBadNext, StopsAfter}

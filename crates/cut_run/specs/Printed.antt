@@ -16,7 +16,7 @@ use Rattle.ledger_text.specs.declared.order.LedgerLine.TheVariants as lines
 use Rattle.ledger_text.specs.declared.order.LedgerStage.{LedgerStage}
 use Rattle.ledger_text.specs.declared.order.LedgerStage.TheVariants as stages
 use Rattle.ledger_text.specs.declared.reader.LedgerReader.{LedgerReader}
-use Rattle.ledger_query.specs.Neighbours.{HasAsked, IsChosen}
+use Rattle.ledger_text.specs.Neighbours.{HasAsked, IsChosen}
 use Rattle.pcap_io.specs.Device.{Writes}
 use Rattle.run_fault.specs.Device.{SinkMembers, SinkView, SourceMembers, SourceView, sink_at, source_at}
 use Rattle.run_fault.specs.Fault.{FailsWhere}

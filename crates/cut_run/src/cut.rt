@@ -6,7 +6,7 @@ ghost use Rattle.cut_run.specs.Finder.{finder_source, finding_of};
 ghost use Rattle.ledger_text.specs.declared.frame.FrameLine.{FrameLine};
 ghost use Rattle.afdx_frame.specs.declared.key.Network.{Network};
 ghost use Rattle.ledger_text.specs.declared.bounds.TheConstants.{BLOCK_LEN, MAX_LINES};
-ghost use Rattle.ledger_query.specs.Neighbours.{AreNoted, Around, HasAsked};
+ghost use Rattle.ledger_text.specs.Neighbours.{AreNoted, Around, HasAsked};
 ghost use Rattle.packet_format.specs.Packets.{Format, format_of};
 ghost use Rattle.packet_format.specs.Writer.{format_in, has_failed, sink_of};
 ghost use Rattle.run_fault.specs.Device.{SinkView, SourceView};
@@ -21,9 +21,9 @@ use crate::fault::{CutFault, CutSource};
 use crate::observer::LineObserver;
 use crate::recordings::{Recordings, Unopened, is_read};
 use afdx_frame::{Network, TapFrame};
-use ledger_query::{Chooser, Neighbours, Selection};
 use ledger_text::{
-    FoundLine, FrameLine, LedgerLine, LedgerReader, LedgerStop, LinesRefused, ReadFault,
+    Chooser, FoundLine, FrameLine, LedgerLine, LedgerReader, LedgerStop, LinesRefused, Neighbours,
+    ReadFault, Selection,
 };
 use packet_format::{PacketFault, PacketFormat, PacketWriter, head_of};
 use pcap_io::{OutSink, TapSource};

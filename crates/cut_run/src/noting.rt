@@ -6,8 +6,9 @@ ghost use Rattle.cut_run.specs.Noting.{EndsNoting, HasNotedLines, IsNeighboursRu
 
 use crate::cut::{into_ledger, ledger_fault};
 use crate::fault::CutFault;
-use ledger_query::{Chooser, Neighbours, Selection};
-use ledger_text::{FoundLine, LedgerLine, LedgerReader, LinesRefused};
+use ledger_text::{
+    Chooser, FoundLine, LedgerLine, LedgerReader, LinesRefused, Neighbours, Selection,
+};
 use pcap_io::TapSource;
 use std::alloc::{AllocError, Global};
 

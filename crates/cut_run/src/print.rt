@@ -4,7 +4,7 @@ ghost use Rattle.afdx_frame.specs.declared.key.Network.{Network};
 ghost use Rattle.ledger_text.specs.Ledger.{has_failed as ledger_failed};
 ghost use Rattle.ledger_text.specs.declared.bounds.TheConstants.{MAX_LINES};
 ghost use Rattle.ledger_text.specs.declared.frame.FrameLine.{FrameLine};
-ghost use Rattle.ledger_query.specs.Neighbours.{AreNoted, Around, HasAsked};
+ghost use Rattle.ledger_text.specs.Neighbours.{AreNoted, Around, HasAsked};
 ghost use Rattle.pcap_io.specs.Device.{Writes};
 ghost use Rattle.cut_run.specs.Lines.{Choice};
 ghost use Rattle.cut_run.specs.Printed.{GivesBack, HasChecked, HasPrintedLedger, HasPrintedLines};
@@ -17,8 +17,9 @@ use crate::fault::CutFault;
 use crate::observer::LineObserver;
 use crate::recordings::{Recordings, Unopened, is_read};
 use afdx_frame::Network;
-use ledger_query::{Chooser, Neighbours, Selection};
-use ledger_text::{FoundLine, FrameLine, LedgerLine, LedgerReader, LinesRefused};
+use ledger_text::{
+    Chooser, FoundLine, FrameLine, LedgerLine, LedgerReader, LinesRefused, Neighbours, Selection,
+};
 use pcap_io::{DeviceFault, OutSink, TapSource, write_all};
 use std::alloc::Global;
 

@@ -22,20 +22,41 @@
 #![tactic(auto)]
 
 mod bounds;
+mod chooser;
 mod fault;
 mod fields;
 mod frame;
 mod laws;
 mod lines;
+mod link_list;
+mod link_runs;
+mod link_set;
+mod mask;
+mod moment;
+mod neighbours;
 mod number;
 mod order;
+mod pattern;
 mod reader;
+mod selection;
+mod word;
+mod word_list;
 mod words;
 
 pub use bounds::{BLOCK_LEN, MAX_LINES, bounds_are_documented};
+pub use chooser::Chooser;
 pub use fault::{FrameFault, LineFault, ReadFault};
 pub use frame::{FrameLine, read_frame};
 pub use laws::{entries_read_back, line_reads_one_way};
 pub use lines::{LineFound, LineSource, LinesRefused};
+pub use link_list::{ItemFault, LinkSetFault};
+pub use link_set::LinkSet;
+pub use mask::read_mask;
+pub use moment::{Moment, until_of_day};
+pub use neighbours::Neighbours;
 pub use order::{Counts, LedgerLine, LedgerStage, read_line};
+pub use pattern::{MAX_NAME, matches};
 pub use reader::{FoundLine, LedgerReader, LedgerStop};
+pub use selection::Selection;
+pub use word::Word;
+pub use word_list::{WordFault, read_words};

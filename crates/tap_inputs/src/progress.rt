@@ -3,13 +3,13 @@
 use crate::blocks::LiveInput;
 use crate::recordings::Reading;
 use afdx_frame::Network;
-use recording_check::{FORMAT_LEN, Format, format_of};
 use run_manifest::{Digesting, Sum};
 use std::fmt::{Display, Formatter};
 use std::io::{IsTerminal, Read};
 use std::sync::atomic::{AtomicU64, Ordering};
 use std::time::Instant;
 use std::{fmt, io};
+use traffic_survey::{FORMAT_LEN, Format, format_of};
 
 /// How many milliseconds the line stands at least, and after how many it comes first.
 const PERIOD: u64 = 500;

@@ -14,10 +14,10 @@ use afdx_frame::Network;
 use command_line::Fault;
 use pcap_io::{DeviceFault, Ending, ReadSource};
 use pcapng::RecordingSource;
-use recording_check::Format;
 use recording_files::{FileSupply, JoinedSource, ReadFile, RecordingFiles};
 use run_manifest::Sum;
 use std::alloc::AllocError;
+use traffic_survey::Format;
 
 /// Who is told of the reading of a recording.
 #[derive(Clone, Copy)]

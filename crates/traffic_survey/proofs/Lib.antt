@@ -8,9 +8,13 @@ pub mod Keeping
 pub mod Linking
 pub mod Numbered
 pub mod Pairing
+pub mod Questioning
+pub mod Seeing
 pub mod Shortening
 pub mod Showing
+pub mod Steps
 pub mod Surveying
+pub mod TapTallying
 pub mod Tapping
 pub mod Timing
 pub mod Unkept

@@ -4,33 +4,59 @@
 //! and by the frames of a second, since a timestamp may lie so far below one before it: a link costs some
 //! 14 KB from its first frame on. Of the frames that wait for a survey their blocks don't: it counts by seven
 //! bytes of a frame, which frames of one link and number share.
+//!
+//! [`Survey`] says what the frames say of each link's parameters. [`Inputs`] looks at the first frames
+//! beside a table of links, and counts: memory is bounded by the links of the table, some 10 KB each.
+//! [`questions_of`] then asks what looks wrong of the inputs of a run of `watch`: whether the recordings
+//! belong together, and to the table.
 #![tactic(auto)]
 
 mod arrivals;
+mod checksum;
+mod clocks;
 mod copies;
 mod cut_links;
+mod decide;
+mod drift;
+mod format;
 mod gaps;
+mod inputs;
 mod keeper;
+mod last;
+mod link;
 mod links;
 mod need;
 mod needs;
 mod numbering;
 mod observer;
 mod pair;
+mod questions;
 mod recorded;
 mod run;
 mod survey;
 mod tap;
+mod tap_tally;
 
 pub use arrivals::Arrivals;
+pub use checksum::ends_with_check;
+pub use clocks::{Meeting, Sample, first_meeting, most_supported, support};
 pub use copies::Copies;
 pub use cut_links::CutLinks;
+pub use decide::{
+    Marks, Overlap, Reach, Wiring, are_copies_few, is_agreed, is_nearly_all, overlap_of, wiring_of,
+};
+pub use drift::{Drift, link_questions};
+pub use format::{FORMAT_LEN, Format, Order, Unit, format_of};
 pub use gaps::{Gaps, Range};
+pub use inputs::{Constant, Inputs};
+pub use link::{LinkTally, STARTS};
 pub use links::{LinkSurvey, Links, MAX_LINKS};
 pub use need::Need;
 pub use needs::{BAGS, Needs};
 pub use numbering::Numbering;
 pub use observer::Observer;
+pub use questions::{Difference, Look, Question, questions_of};
 pub use recorded::{Extent, Recorded, Span};
 pub use run::{Pass, SurveyRun, show_recordings, survey_recordings};
 pub use survey::{Field, GROUP_BITS, MAX_CONSTANTS, Survey};
+pub use tap_tally::{CHECKED, TapTally};

@@ -5,7 +5,7 @@ use Rattle.std.specs.Io.KnownBytes.{Appends}
 use Rattle.afdx_frame.specs.Frame.{Frame}
 use Rattle.afdx_frame.specs.declared.key.Network.{Network}
 use Rattle.afdx_frame.specs.declared.key.Network.TheVariants.{A, B}
-use Rattle.round_writer.specs.Filters.{Making, capture_by, lines_by}
+use Rattle.watch_run.specs.Filters.{Making, capture_by, lines_by}
 use Rattle.ordered_merge.specs.Merge.{AreOfTap, Tap, new_tap, tap_after}
 use Rattle.ordered_merge.specs.Order.{IsOrder}
 use Rattle.ordered_merge.specs.Recording.{IsRecording as IsTapRecording}
@@ -24,7 +24,7 @@ use Rattle.tap_queue.specs.declared.end.TapEnd.{TapEnd}
 use Rattle.tap_queue.specs.declared.item.TapItem.TheVariants as items
 use Rattle.vl_config.specs.Document.{VlTable}
 use Rattle.run_fault.specs.Recording.{IsRecording, LeavesUnread}
-use Rattle.round_writer.specs.Outputs.{HasPacketsFirst, SinkFails, StopsWriting, effect_of}
+use Rattle.watch_run.specs.Outputs.{HasPacketsFirst, SinkFails, StopsWriting, effect_of}
 use Rattle.tap_merge.specs.Rings.{AreFirst, EndsWith, RingsFault, StopsTaking, WhereFailed}
 use Rattle.watch_run.specs.Running.{AbortsBegun, AbortsRunning, FailsAmong, HasCutSafe, HasMergedFailed, HasWholeRounds, LosesRing, StopsRunning, WroteSafe}
 use Rattle.tap_merge.specs.Threads.{IsLeft, IsSettled, IsStarted}
@@ -43,7 +43,7 @@ use Rattle.tap_queue.specs.declared.item.TapItem.{TapItem}
 use Rattle.tap_merge.proofs.TwoTaps.{high_after, in_time}
 use Rattle.watch_run.proofs.Watching.{first_of_all, wholes_before}
 use Rattle.watch_run.proofs.WholeOrder.{IsFirst, goes_on, recorded}
-use Rattle.round_writer.proofs.Writing.{capture_all, capture_longer, first_all, first_longer, lines_all, lines_longer, packets_longer, whole_longer}
+use Rattle.watch_run.proofs.Writing.{capture_all, capture_longer, first_all, first_longer, lines_all, lines_longer, packets_longer, whole_longer}
 
 -- ---- a tap whose source came back
 

@@ -3,7 +3,7 @@ use Rattle.std.proofs.Common.{◌≡◌, inl, inr, ◌∷◌, [], ℕ, List, Opt
 use Rattle.std.specs.Prelude.{IfErr, IfOk}
 use Rattle.afdx_frame.specs.Frame.{Frame}
 use Rattle.afdx_frame.specs.declared.key.Network.TheVariants.{A, B}
-use Rattle.round_writer.specs.Filters.{Making}
+use Rattle.watch_run.specs.Filters.{Making}
 use Rattle.ordered_merge.specs.Merge.{Tap}
 use Rattle.pcap_io.specs.declared.recording.Ending.{Ending}
 use Rattle.pcap_io.specs.Writer.{sink_of}
@@ -14,18 +14,18 @@ use Rattle.tap_queue.specs.declared.item.TapItem.TheVariants as items
 use Rattle.verdict_ledger.specs.Ledger.{sink_of as ledger_sink}
 use Rattle.verdict_ledger.specs.declared.tally.Tally.{Tally}
 use Rattle.vl_config.specs.Document.{VlTable}
-use Rattle.round_writer.specs.Outputs.{IsFinished, SinkFails, StopsFinishing}
+use Rattle.watch_run.specs.Outputs.{IsFinished, SinkFails, StopsFinishing}
 use Rattle.tap_merge.specs.Rings.{EndsWith, HasEnding, HasTaken, WhereFailed}
 use Rattle.watch_run.specs.Running.{AbortsBegun, FailsAmong, IsRunning, StopsRunning}
 use Rattle.run_fault.specs.Device.{SinkMembers, SinkView, SourceView, sink_at}
 use Rattle.run_fault.specs.Opening.{FailsOnly, WatchDevices, watch_devices}
 use Rattle.watch_run.specs.Watch.{IsRunFault, IsWatched}
-use Rattle.round_writer.specs.Round.{IsFilterCount}
-use Rattle.round_writer.proofs.Writing.{capture_all, first_all, lines_all, packets_all}
+use Rattle.watch_run.specs.Round.{IsFilterCount}
+use Rattle.watch_run.proofs.Writing.{capture_all, first_all, lines_all, packets_all}
 use Rattle.run_fault.specs.declared.fault.Output.TheVariants as output
 use Rattle.run_fault.specs.declared.fault.WatchFault.{WatchFault}
 use Rattle.run_fault.specs.declared.fault.WatchFault.TheVariants as watch
-use Rattle.round_writer.specs.declared.outputs.Outputs.{Outputs}
+use Rattle.watch_run.specs.declared.outputs.Outputs.{Outputs}
 use Rattle.tap_merge.specs.declared.rings.Rings.{Rings}
 use Rattle.watch_run.proofs.Aborting.{IsTapBack}
 use Rattle.watch_run.proofs.Returned.{Returned, StopsAtEnd, stopped_at_the_end, watched}

@@ -1,11 +1,16 @@
 pub mod Aborting
+pub mod Accepted
+pub mod ChunkSharing
 pub mod Feeding
 pub mod Finishing
+pub mod Gathering
 pub mod ReadBack
 pub mod Returned
+pub mod Rounds
 pub mod RoundsTaken
 pub mod SameBytes
 pub mod Sharing
 pub mod Starting
 pub mod Watching
 pub mod WholeOrder
+pub mod Writing

@@ -5,7 +5,7 @@ use Rattle.std.specs.Prelude.{IfSome}
 use Rattle.afdx_frame.specs.Frame.{Frame}
 use Rattle.afdx_frame.specs.declared.key.Network.{Network}
 use Rattle.afdx_frame.specs.declared.key.Network.TheVariants as networks
-use Rattle.round_writer.specs.Filters.{Making, capture_by, ledger_by}
+use Rattle.watch_run.specs.Filters.{Making, capture_by, ledger_by}
 use Rattle.ordered_merge.specs.Merge.{Follows, MergerState}
 use Rattle.ordered_merge.specs.Order.{IsOrder}
 use Rattle.ordered_merge.proofs.Following.{follows_order, one_order}
@@ -15,19 +15,19 @@ use Rattle.pcap_io.specs.declared.recording.Ending.{Ending}
 use Rattle.verdict_ledger.specs.declared.tally.Tally.{Tally}
 use Rattle.vl_config.specs.Document.{VlTable}
 use Rattle.run_fault.specs.Recording.{IsRecording, LeavesUnread}
-use Rattle.round_writer.specs.Outputs.{IsFinished, SinkFails, StopsFinishing}
+use Rattle.watch_run.specs.Outputs.{IsFinished, SinkFails, StopsFinishing}
 use Rattle.watch_run.specs.Run.{StopsWatching, reading_view}
 use Rattle.tap_merge.specs.Taps.{HasRead, ReadsPart}
 use Rattle.run_fault.specs.Device.{AppendsSome, SourceView}
 use Rattle.run_fault.specs.Recording.{IsReadPart, IsReadWhole}
 use Rattle.watch_run.specs.Watch.{AbortsRun, HasFirstOfAll, HasLines, IsRunFault, StopsRun, IsWatched}
 use Rattle.run_fault.specs.Opening.{FailsOnly, WatchDevices, watch_devices}
-use Rattle.round_writer.specs.Round.{IsFilterCount}
+use Rattle.watch_run.specs.Round.{IsFilterCount}
 use Rattle.run_fault.specs.declared.fault.Output.TheVariants as output
 use Rattle.run_fault.specs.declared.fault.WatchFault.{WatchFault}
 use Rattle.run_fault.specs.declared.fault.WatchFault.TheVariants as watch
 use Rattle.tap_merge.proofs.TwoTaps.{part_of}
-use Rattle.round_writer.proofs.Writing.{capture_all, packets_all}
+use Rattle.watch_run.proofs.Writing.{capture_all, packets_all}
 use Rattle.run_fault.proofs.Recording.{complete}
 use Rattle.watch_run.proofs.WholeOrder.{goes_on}
 

@@ -13,7 +13,7 @@ use Rattle.ordered_merge.proofs.Following.{one_order}
 use Rattle.ordered_merge.specs.Order.{IsOrder}
 use Rattle.run_fault.specs.Recording.{IsRecording, most_frames}
 use Rattle.verdict_ledger.specs.Tally.{link_counts, totals_of}
-use Rattle.round_writer.specs.Filters.{capture_by, entries_by, ledger_by}
+use Rattle.watch_run.specs.Filters.{capture_by, entries_by, ledger_by}
 use Rattle.watch_run.specs.Laws.{SameBytesInSameBytesOut}
 use Rattle.afdx_frame.specs.declared.key.Network.TheVariants.{A, B}
 

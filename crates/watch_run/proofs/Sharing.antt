@@ -4,12 +4,12 @@ use Rattle.ordered_merge.specs.Merge.{safe_frames}
 use Rattle.run_fault.specs.declared.fault.WatchFault.{WatchFault}
 use Rattle.run_fault.specs.declared.fault.WatchFault.TheVariants as watch
 use Rattle.afdx_frame.specs.Frame.{Frame}
-use Rattle.round_writer.specs.Filters.{Making}
+use Rattle.watch_run.specs.Filters.{Making}
 use Rattle.pcap_io.specs.Writer.{sink_of}
-use Rattle.round_writer.specs.Outputs.{HasShared, HasWritten, StopsWriting, effect_of, frames_at, outputs_of}
-use Rattle.round_writer.specs.declared.outputs.Outputs.{Outputs}
-use Rattle.round_writer.specs.declared.shared.JudgedRound.{JudgedRound}
-use Rattle.round_writer.proofs.Sharing.{none_shared}
+use Rattle.watch_run.specs.Outputs.{HasShared, HasWritten, StopsWriting, effect_of, frames_at, outputs_of}
+use Rattle.watch_run.specs.declared.outputs.Outputs.{Outputs}
+use Rattle.watch_run.specs.declared.shared.JudgedRound.{JudgedRound}
+use Rattle.watch_run.proofs.ChunkSharing.{none_shared}
 use Rattle.run_fault.specs.Device.{SinkMembers, SinkView, sink_at}
 use Rattle.tap_merge.specs.Rings.{HasTaken, WhereFailed}
 use Rattle.tap_merge.specs.declared.rings.Rings.{Rings}

@@ -5,7 +5,7 @@ use Rattle.std.specs.Io.KnownBytes.{prepend_known}
 use Rattle.afdx_frame.specs.declared.key.Network.{Network}
 use Rattle.afdx_frame.specs.declared.key.Network.TheVariants.{A, B}
 use Rattle.ordered_merge.specs.Merge.{Follows, MergerState, new_state}
-use Rattle.round_writer.specs.Filters.{Making}
+use Rattle.watch_run.specs.Filters.{Making}
 use Rattle.pcap_io.specs.Position.{Opens, Reading}
 use Rattle.pcap_io.specs.Reader.{position_of, reading_of, unread_of}
 use Rattle.pcap_io.specs.Writer.{has_failed}
@@ -20,7 +20,7 @@ use Rattle.tap_queue.specs.declared.item.TapItem.{TapItem}
 use Rattle.tap_queue.specs.declared.ring.TapPut.{TapPut}
 use Rattle.verdict_ledger.specs.Ledger.{has_failed as ledger_has_failed}
 use Rattle.vl_config.specs.Document.{VlTable}
-use Rattle.round_writer.specs.Outputs.{HasWritten}
+use Rattle.watch_run.specs.Outputs.{HasWritten}
 use Rattle.watch_run.specs.Ready.{AreTwoRings, IsReady, ready_of}
 use Rattle.tap_merge.specs.Rings.{HasEnding}
 use Rattle.tap_merge.specs.Taps.{Agree, Agrees, Fits, HasMerged, HasRead}
@@ -30,7 +30,7 @@ use Rattle.tap_merge.specs.Threads.{IsStarted}
 use Rattle.run_fault.specs.Device.{SourceMembers, SinkMembers, SinkView, SourceView}
 use Rattle.run_fault.specs.Recording.{WasOpened, most_frames}
 use Rattle.run_fault.specs.Opening.{WatchDevices}
-use Rattle.round_writer.specs.declared.outputs.Outputs.{Outputs}
+use Rattle.watch_run.specs.declared.outputs.Outputs.{Outputs}
 use Rattle.tap_merge.specs.declared.rings.Rings.{Rings}
 use Rattle.watch_run.specs.declared.threads.Ready.{Ready}
 

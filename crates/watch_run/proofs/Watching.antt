@@ -11,7 +11,7 @@ use Rattle.afdx_frame.specs.Frame.{Frame, key_cmp, key_of}
 use Rattle.afdx_frame.specs.declared.key.Key.{Key}
 use Rattle.afdx_frame.specs.declared.key.Network.{Network}
 use Rattle.afdx_frame.specs.declared.key.Network.TheVariants as networks
-use Rattle.round_writer.specs.Filters.{Making, capture_by, entries_by, ledger_by, lines_by}
+use Rattle.watch_run.specs.Filters.{Making, capture_by, entries_by, ledger_by, lines_by}
 use Rattle.ordered_merge.specs.Order.{IsOrder, IsRising}
 use Rattle.pcap_io.specs.Position.{Reading, Reads, after_frame, start_at}
 use Rattle.pcap_io.specs.declared.position.Position.{Position}
@@ -21,11 +21,11 @@ use Rattle.verdict_ledger.specs.Tally.{totals_of}
 use Rattle.verdict_ledger.specs.declared.totals.Totals.{Totals}
 use Rattle.vl_config.specs.Document.{VlTable}
 use Rattle.vl_judge.specs.Lanes.{last_key}
-use Rattle.round_writer.specs.Outputs.{HasWritten, SinkFails, StopsWriting, IsWholeAfter}
+use Rattle.watch_run.specs.Outputs.{HasWritten, SinkFails, StopsWriting, IsWholeAfter}
 use Rattle.vl_judge.specs.Lanes.{FollowsOn}
 use Rattle.watch_run.specs.Run.{IsWatching, StopsWatching}
 use Rattle.tap_merge.specs.declared.taps.Taps.{Taps}
-use Rattle.round_writer.specs.declared.outputs.Outputs.{Outputs}
+use Rattle.watch_run.specs.declared.outputs.Outputs.{Outputs}
 use Rattle.tap_merge.specs.Taps.{Agree, HasMerged, ReadsPart, SourceFails, StopsMerging}
 use Rattle.run_fault.specs.Device.{SourceMembers, SinkMembers, AppendsSome, SinkView, SourceView}
 use Rattle.run_fault.specs.Recording.{HasReadTap, most_frames}
@@ -36,7 +36,7 @@ use Rattle.run_fault.specs.declared.fault.WatchFault.{WatchFault}
 use Rattle.run_fault.specs.declared.fault.WatchFault.TheVariants as watch
 use Rattle.watch_run.proofs.WholeOrder.{IsFirst}
 use Rattle.verdict_ledger.specs.Text.{ledger_head, lines_text, rest_text}
-use Rattle.round_writer.proofs.Writing.{capture_all, lines_all, some_longer, capture_longer, capture_some, entries_length, first_longer, first_whole, lines_longer, lines_some, packets_longer, whole_longer}
+use Rattle.watch_run.proofs.Writing.{capture_all, lines_all, some_longer, capture_longer, capture_some, entries_length, first_longer, first_whole, lines_longer, lines_some, packets_longer, whole_longer}
 
 -- ---- the number of filters
 

@@ -1,6 +1,6 @@
 -- What is said of any two runs over the same bytes.
 use Rattle.std.specs.Prelude.{◌≡◌, ◌<◌, ℕ, List, Some, slice_index_or}
-use Rattle.round_writer.specs.Filters.{Making}
+use Rattle.watch_run.specs.Filters.{Making}
 use Rattle.pcap_io.specs.declared.recording.Ending.{Ending}
 use Rattle.afdx_frame.specs.declared.key.TheConstants.{VL_ID_COUNT}
 use Rattle.verdict_ledger.specs.declared.link_counts.LinkCounts.{LinkCounts}

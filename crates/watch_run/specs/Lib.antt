@@ -1,9 +1,15 @@
+pub mod CaptureLaws
+pub mod Entries
 pub mod Feeds
+pub mod Filters
 pub mod Laws
+pub mod Outputs
 pub mod ReadBack
 pub mod Ready
+pub mod Round
 pub mod Run
 pub mod RunLedger
 pub mod Running
+pub mod Shared
 pub mod Sized
 pub mod Watch

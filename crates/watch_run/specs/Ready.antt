@@ -2,7 +2,7 @@
 use Rattle.std.specs.Prelude.{◌≡◌, ℕ, false, [], length, None, Result, MatchResult}
 use Rattle.std.specs.Option.{option_map}
 use Rattle.afdx_frame.specs.declared.key.Network.TheVariants.{A, B}
-use Rattle.round_writer.specs.Filters.{Making}
+use Rattle.watch_run.specs.Filters.{Making}
 use Rattle.pcap_io.specs.Reader.{reading_of}
 use Rattle.pcap_io.specs.Writer.{has_failed}
 use Rattle.tap_queue.specs.Ring.{IsRing, late_of, network_of, put_items, taken_items}
@@ -10,17 +10,17 @@ use Rattle.tap_queue.specs.declared.end.TapEnd.{TapEnd}
 use Rattle.tap_queue.specs.declared.ring.TapPut.{TapPut}
 use Rattle.verdict_ledger.specs.Ledger.{has_failed as ledger_has_failed}
 use Rattle.vl_config.specs.Document.{VlTable}
-use Rattle.round_writer.specs.Outputs.{HasWritten}
+use Rattle.watch_run.specs.Outputs.{HasWritten}
 use Rattle.tap_merge.specs.Rings.{HasTaken}
 use Rattle.watch_run.specs.Running.{AbortsBegun}
 use Rattle.tap_merge.specs.Threads.{IsStarted, promise_of}
 use Rattle.watch_run.specs.declared.running.Running.{Running}
 use Rattle.run_fault.specs.Device.{SourceMembers, SinkMembers, sink_at, source_at}
-use Rattle.round_writer.specs.Round.{IsFilterCount}
+use Rattle.watch_run.specs.Round.{IsFilterCount}
 use Rattle.watch_run.specs.Watch.{IsWatched}
 use Rattle.run_fault.specs.Opening.{WatchDevices, devices_at}
 use Rattle.run_fault.specs.declared.refused.WatchRefused.{WatchRefused}
-use Rattle.round_writer.specs.declared.outputs.Outputs.{Outputs}
+use Rattle.watch_run.specs.declared.outputs.Outputs.{Outputs}
 use Rattle.tap_merge.specs.declared.taps.Taps.{Taps}
 use Rattle.watch_run.specs.declared.threads.Ready.{Ready}
 use Rattle.watch_run.specs.declared.one_thread.Watched.{Watched}

@@ -2,19 +2,19 @@
 use Rattle.std.specs.Prelude.{◌≡◌, false, List}
 use Rattle.afdx_frame.specs.Frame.{Frame}
 use Rattle.afdx_frame.specs.declared.key.Network.TheVariants.{A, B}
-use Rattle.round_writer.specs.Filters.{Making, capture_by}
+use Rattle.watch_run.specs.Filters.{Making, capture_by}
 use Rattle.ordered_merge.specs.Order.{IsOrder}
 use Rattle.pcap_io.specs.Position.{Reading}
 use Rattle.pcap_io.specs.Writer.{has_failed}
 use Rattle.verdict_ledger.specs.Ledger.{has_failed as ledger_has_failed}
 use Rattle.vl_config.specs.Document.{VlTable}
-use Rattle.round_writer.specs.Outputs.{HasWritten}
+use Rattle.watch_run.specs.Outputs.{HasWritten}
 use Rattle.tap_merge.specs.Taps.{Agree, HasMerged, ReadsPart}
 use Rattle.run_fault.specs.Device.{SourceMembers, SinkMembers, AppendsSome, SinkView, SourceView}
 use Rattle.run_fault.specs.Opening.{FailsOnly, WatchDevices, watch_devices}
 use Rattle.watch_run.specs.Watch.{HasFirstOfAll, HasLines, HasWholes, IsRunFault}
 use Rattle.run_fault.specs.declared.fault.WatchFault.{WatchFault}
-use Rattle.round_writer.specs.declared.outputs.Outputs.{Outputs}
+use Rattle.watch_run.specs.declared.outputs.Outputs.{Outputs}
 use Rattle.tap_merge.specs.declared.taps.Taps.{Taps}
 
 -- These frames were read, and those that were cut, the first in order, were judged, filtered and written.

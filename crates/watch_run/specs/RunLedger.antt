@@ -6,7 +6,7 @@ use Rattle.ledger_text.specs.Ledger.{ReadLine, ReadsLines}
 use Rattle.ledger_text.specs.declared.order.Counts.TheVariants as counts
 use Rattle.ledger_text.specs.declared.order.LedgerStage.TheVariants as stages
 use Rattle.pcap_io.specs.declared.recording.Ending.{Ending}
-use Rattle.round_writer.specs.Filters.{Making, entries_by, ledger_by}
+use Rattle.watch_run.specs.Filters.{Making, entries_by, ledger_by}
 use Rattle.vl_config.specs.Document.{VlTable}
 use Rattle.pcap_io.specs.Word.{frames_before}
 use Rattle.watch_run.specs.ReadBack.{IsHeld, IsNamed, written_lines}

@@ -3,7 +3,7 @@ use Rattle.std.specs.Prelude.{◌≡◌, ◌⊎◌, ℕ, Bool, true, false, List
 use Rattle.std.specs.Io.KnownBytes.{Appends}
 use Rattle.afdx_frame.specs.Frame.{Frame}
 use Rattle.afdx_frame.specs.declared.key.Network.TheVariants.{A, B}
-use Rattle.round_writer.specs.Filters.{Making, capture_by, lines_by}
+use Rattle.watch_run.specs.Filters.{Making, capture_by, lines_by}
 use Rattle.ordered_merge.specs.Merge.{Follows, MergerState, safe_frames}
 use Rattle.ordered_merge.specs.Order.{IsOrder}
 use Rattle.ordered_merge.specs.Recording.{IsRecording as IsTapRecording}
@@ -15,8 +15,8 @@ use Rattle.tap_queue.specs.declared.end.TapEnd.{TapEnd}
 use Rattle.verdict_ledger.specs.Ledger.{has_failed as ledger_has_failed, sink_of as ledger_sink}
 use Rattle.vl_config.specs.Document.{VlTable}
 use Rattle.pcap_io.specs.Writer.{sink_of}
-use Rattle.round_writer.specs.Outputs.{HasPacketsFirst, HasShared, HasWritten, StopsWriting, effect_of}
-use Rattle.round_writer.specs.declared.shared.JudgedRound.{JudgedRound}
+use Rattle.watch_run.specs.Outputs.{HasPacketsFirst, HasShared, HasWritten, StopsWriting, effect_of}
+use Rattle.watch_run.specs.declared.shared.JudgedRound.{JudgedRound}
 use Rattle.worker_pool.specs.Chunks.{Posted}
 use Rattle.tap_merge.specs.Rings.{HasTaken, RingsFault, StopsTaking, WhereFailed}
 use Rattle.run_fault.specs.Device.{SinkMembers, AppendsSome, SinkView, SourceView, sink_at}
@@ -24,11 +24,11 @@ use Rattle.run_fault.specs.Recording.{WasOpened}
 use Rattle.run_fault.specs.Fault.{MayFail, CaptureSink, Fails, LedgerSink, SourceA, SourceB, names}
 use Rattle.run_fault.specs.Opening.{AbortsAtOpening, WatchDevices, watch_devices}
 use Rattle.watch_run.specs.Watch.{AbortsRun, IsRunFault, StopsRun}
-use Rattle.round_writer.specs.Round.{IsFilterCount, IsWorkerCount}
+use Rattle.watch_run.specs.Round.{IsFilterCount, IsWorkerCount}
 use Rattle.run_fault.specs.declared.fault.WatchFault.{WatchFault}
 use Rattle.run_fault.specs.declared.fault.WatchFault.TheVariants as watch
-use Rattle.round_writer.specs.declared.outputs.Outputs.{Outputs}
-use Rattle.round_writer.specs.declared.outputs.Unwritten.{Unwritten}
+use Rattle.watch_run.specs.declared.outputs.Outputs.{Outputs}
+use Rattle.watch_run.specs.declared.outputs.Unwritten.{Unwritten}
 use Rattle.tap_merge.specs.declared.rings.Rings.{Rings}
 
 -- ---- between the start of the threads and their end

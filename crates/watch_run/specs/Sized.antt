@@ -1,9 +1,9 @@
 -- What runs of given sizes come to: what those of the program do.
 use Rattle.std.specs.Prelude.{ℕ, IfSome}
 use Rattle.std.specs.Option.{option_map}
-use Rattle.round_writer.specs.Filters.{Making}
+use Rattle.watch_run.specs.Filters.{Making}
 use Rattle.vl_config.specs.Document.{VlTable}
-use Rattle.round_writer.specs.Round.{IsWorkerCount}
+use Rattle.watch_run.specs.Round.{IsWorkerCount}
 use Rattle.run_fault.specs.Device.{SourceMembers, SinkMembers, sink_at, source_at}
 use Rattle.run_fault.specs.Opening.{devices_at}
 use Rattle.run_fault.specs.declared.refused.WatchRefused.{WatchRefused}

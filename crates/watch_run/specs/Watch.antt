@@ -3,7 +3,7 @@ use Rattle.std.specs.Prelude.{◌≡◌, ◌⊎◌, ℕ, List, [], ◌∷◌, le
 use Rattle.std.specs.Io.KnownBytes.{Appends}
 use Rattle.afdx_frame.specs.Frame.{Frame}
 use Rattle.afdx_frame.specs.declared.key.Network.TheVariants.{A, B}
-use Rattle.round_writer.specs.Filters.{Making, capture_by, entries_by, ledger_by, lines_by}
+use Rattle.watch_run.specs.Filters.{Making, capture_by, entries_by, ledger_by, lines_by}
 use Rattle.ordered_merge.specs.Order.{IsOrder}
 use Rattle.pcap_io.specs.declared.recording.Ending.{Ending}
 use Rattle.verdict_ledger.specs.Ledger.{IsTallyOf}
@@ -15,8 +15,8 @@ use Rattle.run_fault.specs.declared.fault.Output.TheVariants as output
 use Rattle.run_fault.specs.declared.fault.WatchFault.TheVariants as watch
 use Rattle.run_fault.specs.Device.{AppendsSome, SinkView}
 use Rattle.run_fault.specs.Recording.{IsReadPart, IsReadWhole}
-use Rattle.round_writer.specs.Outputs.{HasPackets, HasPacketsFirst, IsWholeAfter}
-use Rattle.round_writer.specs.Round.{IsFilterCount}
+use Rattle.watch_run.specs.Outputs.{HasPackets, HasPacketsFirst, IsWholeAfter}
+use Rattle.watch_run.specs.Round.{IsFilterCount}
 use Rattle.run_fault.specs.Opening.{AbortsAtOpening, FailsOnly, WatchDevices}
 
 -- ---- a whole run

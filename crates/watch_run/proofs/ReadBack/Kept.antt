@@ -9,7 +9,7 @@ use Rattle.ledger_text.specs.Reads.{Below}
 use Rattle.ledger_text.specs.declared.order.Counts.TheVariants as counts
 use Rattle.ledger_text.specs.declared.order.LedgerStage.TheVariants as stages
 use Rattle.pcap_io.specs.declared.recording.Ending.{Ending}
-use Rattle.round_writer.specs.Filters.{Making, entries_by, keep_by, keep_of, ledger_by}
+use Rattle.watch_run.specs.Filters.{Making, entries_by, keep_by, keep_of, ledger_by}
 use Rattle.verdict_ledger.specs.Entry.{entries_of, entry_with}
 use Rattle.vl_config.specs.Document.{VlTable}
 use Rattle.vl_judge.specs.Judgement.{Judgement}

@@ -3,7 +3,7 @@ use Rattle.afdx_frame.specs.Frame.{Frame}
 use Rattle.ledger_text.specs.Ledger.{ReadLine, has_failed as ledger_failed, number_of}
 use Rattle.ledger_text.specs.declared.frame.FrameLine.{FrameLine}
 use Rattle.ledger_text.specs.declared.bounds.TheConstants.{MAX_LINES}
-use Rattle.ledger_query.specs.Neighbours.{Around}
+use Rattle.ledger_text.specs.Neighbours.{Around}
 use Rattle.packet_format.specs.Packets.{Format}
 use Rattle.packet_format.specs.Writer.{has_failed}
 use Rattle.cut_run.specs.Cut.{CutDevices}

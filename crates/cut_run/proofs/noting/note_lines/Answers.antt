@@ -2,7 +2,7 @@ use Rattle.std.proofs.Common.{◌++◌, ◌∷◌, [], ℕ, None, Some, refl, su
 use Rattle.ledger_text.specs.Ledger.{frame_lines, lent_of}
 use Rattle.ledger_text.specs.declared.order.LedgerLine.TheVariants as lines
 use Rattle.ledger_text.proofs.Ledgers.{found_complete, found_incomplete}
-use Rattle.ledger_query.specs.Neighbours.{HasNoted}
+use Rattle.ledger_text.specs.Neighbours.{HasNoted}
 use Rattle.cut_run.proofs.Ledgers.{few_before}
 use Rattle.cut_run.proofs.Noted.{ends_noting, frame_noted, ledger_stops_noting, no_memory, other_noted}
 use Rattle.cut_run.proofs.noting.note_lines.Goals as goal

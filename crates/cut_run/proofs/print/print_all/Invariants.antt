@@ -1,7 +1,7 @@
 use Rattle.std.proofs.Common.{◌≡◌, ◌-◌, ℕ, List, [], Option, false}
 use Rattle.ledger_text.specs.Ledger.{ReadLine, has_failed as ledger_failed, number_of}
 use Rattle.ledger_text.specs.declared.bounds.TheConstants.{MAX_LINES}
-use Rattle.ledger_query.specs.Neighbours.{Around}
+use Rattle.ledger_text.specs.Neighbours.{Around}
 use Rattle.cut_run.specs.Printed.{HasPrintedLedger, LineDevices}
 use Rattle.cut_run.proofs.print.print_all.Given as goal
 

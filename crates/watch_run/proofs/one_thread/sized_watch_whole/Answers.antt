@@ -6,7 +6,7 @@ use Rattle.watch_run.proofs.Returned.{aborted}
 use Rattle.run_fault.proofs.Results.{with_both, with_ok}
 use Rattle.tap_merge.proofs.TwoTaps.{part_of}
 use Rattle.watch_run.proofs.Watching.{has_begun, none_first, some_filters, stops_by_writing}
-use Rattle.round_writer.specs.Filters.{making_of}
+use Rattle.watch_run.specs.Filters.{making_of}
 use Rattle.watch_run.proofs.one_thread.sized_watch_whole.Goals as goal
 
 pub returns-in-Err-begin-clause-aborted : goal.returns-in-Err-begin-clause-aborted

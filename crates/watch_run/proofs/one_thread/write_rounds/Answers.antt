@@ -3,7 +3,7 @@ use Rattle.std.proofs.lemmas.Result.{err_from_is_err_and}
 use Rattle.tap_merge.proofs.TwoTaps.{part_of}
 use Rattle.watch_run.proofs.Watching.{frames_counted, no_round, room_left, round_follows, some_round, stops_by_merging, stops_by_writing}
 use Rattle.watch_run.proofs.WholeOrder.{cut_is_first}
-use Rattle.round_writer.specs.Filters.{making_of}
+use Rattle.watch_run.specs.Filters.{making_of}
 use Rattle.watch_run.proofs.one_thread.write_rounds.Goals as goal
 
 pub next_round-requires : goal.next_round-requires

@@ -3,7 +3,7 @@ use Rattle.vl_config.specs.Document.{VlTable}
 use Rattle.watch_run.specs.Run.{IsWatching}
 use Rattle.tap_merge.specs.Taps.{work_left}
 use Rattle.run_fault.specs.Opening.{WatchDevices}
-use Rattle.round_writer.specs.Filters.{making_of}
+use Rattle.watch_run.specs.Filters.{making_of}
 use Rattle.watch_run.proofs.one_thread.write_rounds.Given as goal
 
 abbrev pub invariant-loop-entries : goal.invariant-loop-entries

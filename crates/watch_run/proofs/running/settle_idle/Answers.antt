@@ -2,7 +2,7 @@ use Rattle.std.proofs.Common.{inr}
 use Rattle.std.proofs.lemmas.Result.{err_from_is_err_and}
 use Rattle.tap_merge.proofs.RingItems.{stops_with, takes_none}
 use Rattle.watch_run.proofs.Sharing.{no_source, settled_shared, shared_room}
-use Rattle.round_writer.specs.Filters.{making_of}
+use Rattle.watch_run.specs.Filters.{making_of}
 use Rattle.watch_run.proofs.running.settle_idle.Goals as goal
 
 pub returns-then-is_soon_ready-clause-sharing : goal.returns-then-is_soon_ready-clause-sharing

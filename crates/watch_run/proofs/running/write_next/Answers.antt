@@ -3,7 +3,7 @@ use Rattle.std.proofs.lemmas.Result.{err_from_is_err_and}
 use Rattle.tap_merge.proofs.RingItems.{stops_with, takes_none, where_failed}
 use Rattle.watch_run.proofs.RoundsTaken.{none_taken, some_taken}
 use Rattle.watch_run.proofs.Sharing.{cut_safe, no_source, settled_shared, shared_follows, shared_room, whole_rounds}
-use Rattle.round_writer.specs.Filters.{making_of}
+use Rattle.watch_run.specs.Filters.{making_of}
 use Rattle.watch_run.proofs.running.write_next.Goals as goal
 
 pub share_round-requires-clause-follows : goal.share_round-requires-clause-follows

@@ -1,8 +1,8 @@
 use Rattle.std.proofs.Common.{◌≡◌, ◌∙◌, ap, refl, Ok}
-use Rattle.round_writer.proofs.Sharing.{all_written, none_shared}
+use Rattle.watch_run.proofs.ChunkSharing.{all_written, none_shared}
 use Rattle.tap_merge.proofs.RingItems.{same_trans, takes_none}
 use Rattle.watch_run.proofs.Feeding.{begins_feeding, feeding_now, still_feeding}
-use Rattle.round_writer.specs.Filters.{making_of}
+use Rattle.watch_run.specs.Filters.{making_of}
 use Rattle.watch_run.proofs.running.write_rounds.Goals as goal
 
 pub loop-init : goal.loop-init

@@ -6,7 +6,7 @@ use Rattle.tap_queue.specs.Ring.{SameEnd}
 use Rattle.watch_run.specs.Feeds.{KeepFeeding}
 use Rattle.watch_run.specs.Running.{IsRunning, IsSharing}
 use Rattle.run_fault.specs.Device.{SinkView}
-use Rattle.round_writer.specs.Filters.{making_of}
+use Rattle.watch_run.specs.Filters.{making_of}
 use Rattle.watch_run.proofs.running.write_rounds.Given as goal
 
 abbrev pub invariant-loop : goal.invariant-loop

@@ -9,8 +9,8 @@ use Rattle.watch_run.proofs.Returned.{aborted}
 use Rattle.watch_run.proofs.Starting.{ready_made, still_opened}
 use Rattle.tap_merge.proofs.TwoTaps.{part_of}
 use Rattle.watch_run.proofs.Watching.{none_first, stops_by_writing}
-use Rattle.round_writer.proofs.Writing.{capture_all, first_whole, lines_all, packets_all}
-use Rattle.round_writer.specs.Filters.{making_of}
+use Rattle.watch_run.proofs.Writing.{capture_all, first_whole, lines_all, packets_all}
+use Rattle.watch_run.specs.Filters.{making_of}
 use Rattle.watch_run.proofs.threads.prepare.Goals as goal
 
 pub returns-in-Err-begin-clause-refused : goal.returns-in-Err-begin-clause-refused

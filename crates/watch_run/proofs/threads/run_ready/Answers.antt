@@ -1,7 +1,7 @@
 use Rattle.afdx_frame.specs.declared.key.Network.TheVariants.{A, B}
 use Rattle.watch_run.proofs.Feeding.{reads_of}
 use Rattle.watch_run.proofs.Starting.{both_ways, ready_runs, same_run, same_start}
-use Rattle.round_writer.specs.Filters.{making_of}
+use Rattle.watch_run.specs.Filters.{making_of}
 use Rattle.watch_run.proofs.threads.run_ready.Goals as goal
 
 pub finish-requires-clause-going : goal.finish-requires-clause-going

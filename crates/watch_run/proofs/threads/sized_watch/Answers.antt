@@ -1,10 +1,10 @@
 use Rattle.std.proofs.Common.{inr, length, rules}
 use Rattle.run_fault.specs.Device.{sink_at, source_at}
-use Rattle.round_writer.specs.Round.{IsFilterCount}
+use Rattle.watch_run.specs.Round.{IsFilterCount}
 use Rattle.run_fault.specs.Opening.{watch_devices}
 use Rattle.watch_run.proofs.Starting.{err_of, ok_of}
 use Rattle.watch_run.proofs.Watching.{some_filters}
-use Rattle.round_writer.specs.Filters.{making_of}
+use Rattle.watch_run.specs.Filters.{making_of}
 use Rattle.watch_run.proofs.threads.sized_watch.Goals as goal
 
 pub returns-clause-watched : goal.returns-clause-watched

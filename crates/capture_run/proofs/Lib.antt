@@ -1,4 +1,0 @@
-pub mod Accepted
-pub mod Copying
-pub mod Stopping
-pub mod Whole

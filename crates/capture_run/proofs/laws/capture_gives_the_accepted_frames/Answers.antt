@@ -1,5 +1,0 @@
-use Rattle.capture_run.proofs.Accepted.{capture_gives_accepted}
-use Rattle.capture_run.proofs.laws.capture_gives_the_accepted_frames.Goals as goal
-
-pub returns : goal.returns
-returns c = capture_gives_accepted

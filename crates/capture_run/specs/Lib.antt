@@ -1,3 +1,0 @@
-pub mod Capture
-pub mod Copy
-pub mod Laws

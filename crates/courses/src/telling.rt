@@ -1,0 +1,7 @@
+//! What standard error is told of a command's end: the fault line or the notes, and in full which file it is
+//! about, why, and what to do. See [`tell`].
+
+mod disputed;
+mod messages;
+
+pub use messages::{Known, tell};

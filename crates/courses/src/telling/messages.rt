@@ -1,0 +1,666 @@
+//! What standard error is told of a command's end: the fault line or the notes, and at a terminal which file
+//! it is about, why, and what to do. What a file is found to be by then is only told, and decides nothing.
+use crate::telling::disputed::Disputed;
+use afdx_frame::Network;
+use analyser::MAX_TEXT;
+use bpf_asm::AsmFault;
+use command_line::{
+    Advice, Contradiction, EndingAdvice, Exit, Fault, FileOption, GivenFile, HEAD_LEN, Invocation,
+    ManifestFault, Note, ReportFault, TO_A_TERMINAL, TapNote, caret_at, compressed_advice, file_of,
+    header_advice, is_standard, load_offset, numeric_advice, numeric_offset, place_at,
+    source_offset, written_as,
+};
+use cut_run::CutFault;
+use icd_links::IcdFault;
+use ledger_text::LedgerStop;
+use pcap_io::{BadReason, Ending, HeaderFault};
+use run_fault::WatchFault;
+use run_manifest::read_manifest;
+use std::fmt::{Display, Formatter};
+use std::fs::File;
+use std::io::Read;
+use std::{fmt, fs, io};
+use table_check::{key_offset, slip_of};
+use tap_inputs::{Disorder, OutputStream, Tap, Taps};
+use vl_config::{Config, ConfigFault};
+
+/// Why a file can't be read or written.
+#[derive(Clone, Copy)]
+enum Reason {
+    /// What the system says.
+    System(io::Error),
+    /// A text that has so many bytes.
+    TooLong(u64),
+    /// A text that isn't UTF-8 from this byte on.
+    NotUtf8(usize),
+    /// A list of a recording's files that has no path.
+    NoPath,
+}
+
+impl Display for Reason {
+    fn fmt<W: fmt::Write>(&self, f: &mut Formatter<W>) -> fmt::Result {
+        match self {
+            Reason::System(error) => write!(f, "{error}"),
+            Reason::TooLong(len) => write!(f, "it has {len} bytes"),
+            Reason::NotUtf8(at) => write!(f, "not UTF-8 at byte {at}"),
+            Reason::NoPath => f.write_str("the list has no path"),
+        }
+    }
+}
+
+/// Where a ledger ends whose run was stopped, or goes on.
+#[derive(Clone, Copy)]
+struct StopNote<'a> {
+    name: &'a str,
+    stop: LedgerStop,
+}
+
+impl Display for StopNote<'_> {
+    fn fmt<W: fmt::Write>(&self, f: &mut Formatter<W>) -> fmt::Result {
+        let name = self.name;
+        let LedgerStop { lines, within_line } = self.stop;
+        write!(f, "afdxmon: note: {name} ")?;
+        if within_line {
+            let next = lines.saturating_add(1);
+            write!(f, "ends within line {next}")?;
+        } else if lines == 0 {
+            f.write_str("is empty")?;
+        } else {
+            write!(f, "ends after line {lines}, without its total")?;
+        }
+        write!(f, ": its run was stopped, or goes on; whole lines: {lines}")
+    }
+}
+
+/// What the program knows of a command's end, beside how it ended.
+#[derive(Clone, Copy)]
+pub struct Known<'a> {
+    /// The text in which a fault lies, or a list of a file's interfaces.
+    pub source: Option<&'a str>,
+    /// Why the system took an output no longer.
+    pub reason: Option<io::Error>,
+    /// Why a recording wasn't read that the answer of `check` is about.
+    pub unread: Option<Fault>,
+    pub taps: &'a Taps,
+    /// The numbers of the files that were read last.
+    pub at: [usize; 2],
+    /// Is a person told all of it? Else there is the fault line, or the notes.
+    pub full: bool,
+}
+
+/// The path that an option was given, if it is no standard stream.
+fn path_of<'a>(command: Invocation<'a>, file: FileOption) -> Option<&'a str> {
+    let path = command.file_of(file)?.path?;
+    if is_standard(path) { None } else { Some(path) }
+}
+
+/// What a ledger or a manifest that is read needs. None: it is none, or is written.
+fn needs_to_be_read(command: Invocation<'_>, file: FileOption) -> Option<&'static str> {
+    if command.file_of(file).is_some_and(|file| file.is_written) {
+        return None;
+    }
+    match file {
+        FileOption::Ledger => Some(LEDGER_ADVICE),
+        FileOption::Baseline => Some(BASELINE_ADVICE),
+        FileOption::Manifest => Some(MANIFEST_ADVICE),
+        _ => None,
+    }
+}
+
+/// What a person knows a file by: its path, or the stream or option that is in its place.
+fn name_of<'a>(command: Invocation<'a>, file: FileOption) -> Option<&'a str> {
+    match command.file_of(file) {
+        Some(
+            GivenFile {
+                path: Some(path),
+                is_written,
+                ..
+            },
+        ) => Some(if !is_standard(path) {
+            path
+        } else if is_written {
+            "standard output"
+        } else {
+            "standard input"
+        }),
+        _ if file == FileOption::Filter => command.code().map(|_| "--code"),
+        _ => None,
+    }
+}
+
+/// The file of the filter's source.
+fn source_of<'a>(command: Invocation<'a>) -> Option<&'a str> {
+    let file = command.file_of(FileOption::Source)?;
+    if file.option == FileOption::Source {
+        file.path
+    } else {
+        None
+    }
+}
+
+/// Why a text that opens can't be had.
+fn reason_of_text(rt: &HostRuntime, path: &str, len: u64) -> Option<Reason> {
+    if len > MAX_TEXT as u64 {
+        return Some(Reason::TooLong(len));
+    }
+    match fs::read(rt, path) {
+        Err(error) => Some(Reason::System(error)),
+        Ok(bytes) => match str::from_utf8(&bytes) {
+            Err(error) => Some(Reason::NotUtf8(error.valid_up_to())),
+            Ok(_) => None,
+        },
+    }
+}
+
+/// Why a recording can't be opened or read.
+fn reason_of_recording(rt: &HostRuntime, path: &str) -> Option<Reason> {
+    let mut byte = [0];
+    let read = match File::open(rt, path) {
+        Ok(mut file) => file.read(&mut byte),
+        Err(error) => Err(error),
+    };
+    match read {
+        Ok(_) => None,
+        Err(error) => Some(Reason::System(error)),
+    }
+}
+
+/// Why a list of a recording's files can't be had. None: the path isn't that of a list.
+fn reason_of_list(rt: &HostRuntime, path: &str) -> Option<Reason> {
+    match fs::read_to_string(rt, path.strip_prefix('@')?) {
+        Ok(_) => Some(Reason::NoPath),
+        Err(error) => Some(Reason::System(error)),
+    }
+}
+
+/// Why a file that is read can't be had. A pipe or a device isn't opened a second time: that might wait,
+/// and might take what another reader waits for.
+fn reason_of_input(rt: &HostRuntime, path: &str, file: FileOption) -> Option<Reason> {
+    let found = match fs::metadata(rt, path) {
+        Ok(found) => found,
+        Err(error) => {
+            return reason_of_list(rt, path).or(Some(Reason::System(error)));
+        }
+    };
+    if !found.is_file() && !found.is_dir() {
+        return None;
+    }
+    match file {
+        FileOption::Config
+        | FileOption::Filter
+        | FileOption::Source
+        | FileOption::Icd
+        | FileOption::Manifest => reason_of_text(rt, path, found.len()),
+        _ => reason_of_recording(rt, path),
+    }
+}
+
+/// Why a file that is written can't be opened.
+fn reason_of_output(rt: &HostRuntime, path: &str) -> Option<Reason> {
+    match OutputStream::open(rt, path) {
+        Ok(_) => None,
+        Err(error) => Some(Reason::System(error)),
+    }
+}
+
+fn reason_of(rt: &HostRuntime, path: &str, file: FileOption) -> Option<Reason> {
+    match file {
+        FileOption::Capture | FileOption::Ledger | FileOption::Output | FileOption::Manifest => {
+            reason_of_output(rt, path)
+        }
+        _ => reason_of_input(rt, path, file),
+    }
+}
+
+/// The first bytes of a regular file.
+fn head_of(rt: &HostRuntime, path: &str) -> io::Result<[u8; HEAD_LEN]> {
+    let mut head = [0; HEAD_LEN];
+    if fs::metadata(rt, path)?.is_file() {
+        File::open(rt, path)?.read_exact(&mut head)?;
+    }
+    Ok(head)
+}
+
+/// Tells what to do, after the name of the file that it is about.
+fn advise<D: Display + Drop>(rt: &HostRuntime, name: Option<&str>, advice: D) -> io::Result<()> {
+    match name {
+        Some(name) => eprintln!(rt; "{name}: {advice}"),
+        None => rt.eprintln(advice),
+    }
+}
+
+/// The text of a file that was read before, if it is a regular file.
+fn text_again(rt: &HostRuntime, path: &str) -> Option<String> {
+    let found = fs::metadata(rt, path).ok()?;
+    if found.is_file() && found.len() <= MAX_TEXT as u64 {
+        fs::read_to_string(rt, path).ok()
+    } else {
+        None
+    }
+}
+
+/// Shows the line of a text with a place, and what is found there, if that is known.
+fn show_place(
+    rt: &HostRuntime,
+    name: &str,
+    text: &str,
+    at: usize,
+    found: Option<&str>,
+) -> io::Result<()> {
+    match (place_at(text, at), found) {
+        (Some(place), Some(found)) => eprintln!(rt; "{name}:{place}: {found}")?,
+        (Some(place), None) => eprintln!(rt; "{name}:{place}")?,
+        (None, Some(found)) => eprintln!(rt; "{name}: {found}")?,
+        (None, None) => {}
+    }
+    show_caret(rt, text, at)
+}
+
+/// Shows the line of a text with a place, and a caret under that.
+fn show_caret(rt: &HostRuntime, text: &str, at: usize) -> io::Result<()> {
+    match caret_at(rt.alloc(), text, at) {
+        Some(caret) => rt.eprintln(caret),
+        None => Ok(()),
+    }
+}
+
+/// What a ledger that is read needs.
+const LEDGER_ADVICE: &str = "--ledger needs a ledger that can be read: a file of watch, or a pipe";
+
+/// What the ledger of an earlier flight needs.
+const BASELINE_ADVICE: &str =
+    "--baseline needs a ledger that can be read: a file of watch, or a pipe";
+
+/// What a manifest that is read needs.
+const MANIFEST_ADVICE: &str =
+    "--manifest needs a manifest that can be read: a file of watch, at most 16 MiB of UTF-8";
+
+/// Tells why a file can't be opened, read or written, and what it needs.
+fn explain_file(
+    rt: &HostRuntime,
+    command: Invocation<'_>,
+    file: FileOption,
+    fault: &Fault,
+) -> io::Result<()> {
+    let needs = needs_to_be_read(command, file);
+    let reason = path_of(command, file).and_then(|path| {
+        if needs.is_some() {
+            reason_of_input(rt, path, file)
+        } else {
+            reason_of(rt, path, file)
+        }
+    });
+    match (name_of(command, file), reason, needs) {
+        (Some(name), Some(reason), Some(_)) => eprintln!(rt; "{name}: {reason}"),
+        (name, None, Some(needs)) => advise(rt, name, needs),
+        (Some(name), Some(reason), None) => {
+            eprintln!(rt; "{name}: {reason}")?;
+            rt.eprintln(Advice(fault))
+        }
+        (name, ..) => advise(rt, name, Advice(fault)),
+    }
+}
+
+/// Shows what is wrong with a table: the key in its line, what stands there, and what is allowed.
+fn explain_table(rt: &HostRuntime, command: Invocation<'_>, fault: ConfigFault) -> io::Result<()> {
+    let Some(path) = path_of(command, FileOption::Config) else {
+        return rt.eprintln(Advice(&Fault::Config(fault)));
+    };
+    let slip = match text_again(rt, path) {
+        Some(text) => match slip_of(rt.alloc(), &text, fault) {
+            Some(slip) => Some((text, slip)),
+            None => None,
+        },
+        None => None,
+    };
+    let Some((text, slip)) = slip else {
+        return advise(rt, Some(path), Advice(&Fault::Config(fault)));
+    };
+    let found = slip.found.as_str();
+    match slip.at {
+        Some(at) => show_place(rt, path, &text, at, Some(found))?,
+        None => eprintln!(rt; "{path}: {found}")?,
+    }
+    rt.eprintln(slip.allowed.as_str())
+}
+
+/// Tells what is wrong in a line of a document of links.
+fn explain_icd(rt: &HostRuntime, name: Option<&str>, fault: IcdFault) -> io::Result<()> {
+    let advice = Advice(&Fault::Icd(fault));
+    match (name, fault.line()) {
+        (Some(name), Some(line)) => eprintln!(rt; "{name}:{line}: {advice}"),
+        _ => advise(rt, name, advice),
+    }
+}
+
+/// Tells what is wrong with a manifest first, where its text can be had again.
+fn explain_manifest(
+    rt: &HostRuntime,
+    command: Invocation<'_>,
+    name: Option<&str>,
+    fault: &Fault,
+) -> io::Result<()> {
+    let text = path_of(command, FileOption::Manifest).and_then(|path| text_again(rt, path));
+    match (name, text) {
+        (Some(name), Some(text)) => {
+            if let Err(run_manifest::ManifestFault::Form(error)) = read_manifest(
+                rt.alloc(),
+                &text,
+            ) {
+                eprintln!(rt; "{name}: {error}")?;
+            }
+            rt.eprintln(Advice(fault))
+        }
+        _ => advise(rt, name, Advice(fault)),
+    }
+}
+
+/// Tells which link's line contradicts the table, where ledger and table can be read again.
+fn explain_link(
+    rt: &HostRuntime,
+    command: Invocation<'_>,
+    line: u64,
+    fault: &Fault,
+) -> io::Result<()> {
+    let (ledger, table) = (FileOption::Ledger, FileOption::Config);
+    let (Some(ledger), Some(table)) = (path_of(command, ledger), path_of(command, table)) else {
+        return advise(rt, name_of(command, ledger), Advice(fault));
+    };
+    let config = text_again(rt, table).and_then(|text| Config::read(rt.alloc(), &text).ok());
+    let disputed = match &config {
+        Some(config) => Disputed::of(rt, ledger, line, table, config),
+        None => None,
+    };
+    match disputed {
+        Some(disputed) => eprintln!(rt; "{ledger}: line {line}: {disputed}"),
+        None => advise(rt, Some(ledger), Advice(fault)),
+    }
+}
+
+/// Shows where in a filter's source a fault lies.
+fn explain_source(
+    rt: &HostRuntime,
+    command: Invocation<'_>,
+    fault: AsmFault,
+    source: Option<&str>,
+) -> io::Result<()> {
+    let name = name_of(command, FileOption::Source).unwrap_or("standard input");
+    if let Some(source) = source {
+        if let Some(at) = source_offset(rt.alloc(), fault, source) {
+            show_place(rt, name, source, at, None)?;
+        }
+    }
+    rt.eprintln(Advice(&Fault::Asm(fault)))
+}
+
+/// Where in the numeric form of a filter a fault lies. In a blank text it is nowhere.
+fn filter_offset(fault: &Fault, text: &str) -> Option<usize> {
+    match *fault {
+        Fault::Numeric { fault, .. } if !text.trim().is_empty() => numeric_offset(fault, text),
+        Fault::Load { fault, .. } => load_offset(fault, text),
+        _ => None,
+    }
+}
+
+/// Tells what to do with a text that is no filter, by what it looks like.
+fn advise_filter(
+    rt: &HostRuntime,
+    name: Option<&str>,
+    text: &str,
+    fault: &Fault,
+) -> io::Result<()> {
+    match *fault {
+        Fault::Numeric { fault, .. } => {
+            advise(
+                rt,
+                name,
+                numeric_advice(fault, written_as(rt.alloc(), text)),
+            )
+        }
+        _ => advise(rt, name, Advice(fault)),
+    }
+}
+
+/// Shows where in a filter's text a fault lies.
+fn show_filter(rt: &HostRuntime, name: &str, text: &str, fault: &Fault) -> io::Result<()> {
+    match filter_offset(fault, text) {
+        Some(at) => {
+            show_place(rt, name, text, at, None)?;
+            advise_filter(rt, None, text, fault)
+        }
+        None => advise_filter(rt, Some(name), text, fault),
+    }
+}
+
+/// Shows where in a filter of the table a fault lies: the place of the filters, and the filter's own text.
+fn show_table_filter(
+    rt: &HostRuntime,
+    path: &str,
+    table: &str,
+    number: u8,
+    fault: &Fault,
+) -> io::Result<()> {
+    let alloc = rt.alloc();
+    let found = format!(in alloc; "filter {number}")?;
+    match key_offset(alloc, table, None, "filters") {
+        Some(at) => show_place(rt, path, table, at, Some(&found))?,
+        None => eprintln!(rt; "{path}: {found}")?,
+    }
+    let Ok(config) = Config::read(alloc, table) else {
+        return rt.eprintln(Advice(fault));
+    };
+    let Some(text) = config.filters().get(usize::from(number).saturating_sub(1)) else {
+        return rt.eprintln(Advice(fault));
+    };
+    if let Some(at) = filter_offset(fault, text) {
+        show_caret(rt, text, at)?;
+    }
+    advise_filter(rt, None, text, fault)
+}
+
+/// Shows where in a filter a fault lies: in that of the arguments or of a file, or in a numbered one of the
+/// table.
+fn explain_filter(
+    rt: &HostRuntime,
+    command: Invocation<'_>,
+    fault: &Fault,
+    number: Option<u8>,
+) -> io::Result<()> {
+    if let Some(code) = command.code() {
+        return show_filter(rt, "--code", code, fault);
+    }
+    if let Some(path) = source_of(command) {
+        return advise(rt, Some(path), Advice(fault));
+    }
+    let Some(path) = file_of(fault).and_then(|file| path_of(command, file)) else {
+        return rt.eprintln(Advice(fault));
+    };
+    match (text_again(rt, path), number) {
+        (Some(text), None) => show_filter(rt, path, &text, fault),
+        (Some(text), Some(number)) => show_table_filter(rt, path, &text, number, fault),
+        (None, _) => advise(rt, Some(path), Advice(fault)),
+    }
+}
+
+/// Tells what is wrong with a recording's file header.
+fn explain_header(
+    rt: &HostRuntime,
+    command: Invocation<'_>,
+    file: FileOption,
+    fault: HeaderFault,
+) -> io::Result<()> {
+    let name = name_of(command, file);
+    let Some(Ok(head)) = path_of(command, file).map(|path| head_of(rt, path)) else {
+        return advise(rt, name, header_advice(fault, &[]));
+    };
+    let given = command.file_of(file);
+    match given.and_then(|given| compressed_advice(&head, given)) {
+        Some(advice) if fault == HeaderFault::Magic => advise(rt, name, advice),
+        Some(_) | None => advise(rt, name, header_advice(fault, &head)),
+    }
+}
+
+/// Tells a person what a fault line means: the file and the place in it, why it can't be had or taken, and
+/// what to do.
+fn explain(
+    rt: &HostRuntime,
+    command: Invocation<'_>,
+    fault: &Fault,
+    known: Known<'_>,
+) -> io::Result<()> {
+    let file = file_of(fault);
+    let name = file.and_then(|file| name_of(command, file));
+    if let Some(error) = known.reason {
+        // Only an output has one, and that is what failed.
+        let name = name.unwrap_or("standard output");
+        return eprintln!(rt; "{name}: {error}");
+    }
+    match (*fault, file) {
+        (
+            Fault::File(_)
+            | Fault::Watch(WatchFault::Read { .. })
+            | Fault::Cut(CutFault::Read { .. })
+            | Fault::Report(ReportFault::Read)
+            | Fault::Baseline(ReportFault::Read),
+            Some(file),
+        ) => explain_file(rt, command, file, fault),
+        (Fault::Watch(WatchFault::Header { fault, .. }), Some(file)) => {
+            explain_header(rt, command, file, fault)
+        }
+        (Fault::Cut(CutFault::Header { fault, .. }), Some(file)) => {
+            explain_header(rt, command, file, fault)
+        }
+        (Fault::Report(ReportFault::Manifest(ManifestFault::Form { .. })), _) => {
+            explain_manifest(rt, command, name, fault)
+        }
+        (Fault::Report(ReportFault::Contradiction { line, found }), _)
+            if found == Contradiction::Link => explain_link(rt, command, line, fault),
+        (Fault::Config(fault), _) => explain_table(rt, command, fault),
+        (Fault::Icd(fault), _) => explain_icd(rt, name, fault),
+        (Fault::Asm(fault), _) => explain_source(rt, command, fault, known.source),
+        (Fault::Numeric { filter, .. } | Fault::Load { filter, .. }, _) => {
+            explain_filter(rt, command, fault, filter)
+        }
+        _ => advise(rt, name, Advice(fault)),
+    }
+}
+
+/// Notes how a recording ended, and where a frame out of order ended it, by how much.
+fn tell_ending<D: Display + Drop>(
+    rt: &HostRuntime,
+    command: Invocation<'_>,
+    (tap, at): (&Tap, usize),
+    ending: Ending,
+    note: D,
+) -> io::Result<()> {
+    let disorder = match ending {
+        Ending::Bad(count, BadReason::StampBack) => Disorder::of(rt, command, tap, count),
+        _ => None,
+    };
+    match disorder {
+        Some(disorder) => eprintln!(rt; "{note}{disorder}")?,
+        None => rt.eprintln(note)?,
+    }
+    tell_unread(rt, tap, at)
+}
+
+/// Notes which of a recording's files ended it, and how many after it weren't read.
+fn tell_unread(rt: &HostRuntime, tap: &Tap, at: usize) -> io::Result<()> {
+    let (Some(path), true) = (tap.path_at(at), tap.is_of_several()) else {
+        return Ok(());
+    };
+    let (number, count) = (at.saturating_add(1), tap.files.len());
+    match count.saturating_sub(number) {
+        0 => eprintln!(rt; "afdxmon: note: it ended in {path}, the last of its {count} files"),
+        1 => {
+            eprintln!(rt;
+                "afdxmon: note: it ended in {path}, file {number} of {count}: 1 was not read"
+            )
+        }
+        unread => {
+            eprintln!(rt;
+                "afdxmon: note: it ended in {path}, file {number} of {count}: {unread} were not read"
+            )
+        }
+    }
+}
+
+/// Tells a person what to do with a recording that ended early.
+fn explain_ending(
+    rt: &HostRuntime,
+    command: Invocation<'_>,
+    file: FileOption,
+    ending: Ending,
+    full: bool,
+) -> io::Result<()> {
+    match name_of(command, file) {
+        Some(name) if full => {
+            let advice = EndingAdvice(ending);
+            eprintln!(rt; "{name}: {advice}")
+        }
+        Some(_) | None => Ok(()),
+    }
+}
+
+/// Notes how one of two recordings ended, where that wasn't its end.
+fn note_ending(
+    rt: &HostRuntime,
+    command: Invocation<'_>,
+    network: Network,
+    ending: Ending,
+    known: Known<'_>,
+) -> io::Result<()> {
+    if let Ending::Clean(_) = ending {
+        return Ok(());
+    }
+    let (file, at) = match network {
+        Network::A => (FileOption::A, known.at[0]),
+        Network::B => (FileOption::B, known.at[1]),
+    };
+    let recording = (known.taps.of_network(network), at);
+    tell_ending(rt, command, recording, ending, TapNote(network, ending))?;
+    explain_ending(rt, command, file, ending, known.full)
+}
+
+/// Tells standard error how a command ended: the fault line or the notes, and in full which file it is about,
+/// where in it a fault lies, and what to do.
+pub fn tell(
+    rt: &HostRuntime,
+    command: Invocation<'_>,
+    exit: &Exit,
+    known: Known<'_>,
+) -> io::Result<()> {
+    match exit {
+        Exit::Success => Ok(()),
+        Exit::Terminal => rt.eprintln(TO_A_TERMINAL),
+        Exit::Note(ending) => {
+            let recording = (known.taps.of_network(Network::A), known.at[0]);
+            tell_ending(rt, command, recording, *ending, Note(*ending))?;
+            explain_ending(rt, command, FileOption::A, *ending, known.full)
+        }
+        Exit::Watched(run) => {
+            note_ending(rt, command, Network::A, run.a, known)?;
+            note_ending(rt, command, Network::B, run.b, known)
+        }
+        Exit::WithoutTotal(stop) => {
+            let name = name_of(command, FileOption::Ledger).unwrap_or("ledger");
+            rt.eprintln(StopNote { name, stop: *stop })
+        }
+        Exit::Fault(fault) => {
+            match (fault, known.source) {
+                (Fault::Interfaces(_) | Fault::Order(_), Some(listed)) => {
+                    eprintln!(rt; "{fault}: {listed}")?
+                }
+                _ => rt.eprintln(*fault)?,
+            }
+            if !known.full {
+                return Ok(());
+            }
+            explain(rt, command, fault, known)?;
+            match known.unread {
+                Some(unread) => explain(rt, command, &unread, known),
+                None => Ok(()),
+            }
+        }
+    }
+}

@@ -1,8 +1,0 @@
-pub mod Choosing
-pub mod Matching
-pub mod Nearness
-pub mod Ranges
-pub mod Reading
-pub mod Runs
-pub mod Tables
-pub mod Taken

@@ -1,9 +1,0 @@
-pub mod LinkList
-pub mod Links
-pub mod Lines
-pub mod Mask
-pub mod Neighbours
-pub mod Pattern
-pub mod Selection
-pub mod Words
-pub mod Runs

@@ -1,6 +1,0 @@
--- It is the same ring's end.
-use Rattle.tap_queue.specs.Ring.{SameEnd}
-use Rattle.recording_tests.proofs.rings.take_most.Given as goal
-
-abbrev pub invariant-loop : goal.invariant-loop
-invariant-loop g l = SameEnd l.initial.end l.end

@@ -1,5 +1,0 @@
-pub mod Accepted
-pub mod Gathering
-pub mod Rounds
-pub mod Sharing
-pub mod Writing

@@ -1,8 +1,0 @@
-//! What standard error is told of a command's end: the fault line or the notes, and in full which file it is
-//! about, why, and what to do. See [`tell`].
-#![tactic(auto)]
-
-mod disputed;
-mod messages;
-
-pub use messages::{Known, tell};

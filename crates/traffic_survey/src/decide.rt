@@ -1,0 +1,116 @@
+//! What numbers of two recordings say of them. Each is a function of counts alone.
+
+ghost use Rattle.std.specs.Prelude.{◌≡◌};
+ghost use Rattle.traffic_survey.specs.Decide.{are_copies_few, is_agreed, is_marked_a, is_marked_b, is_nearly_all, overlap_after, overlap_of, wiring_of};
+
+/// Are so many of all frames nearly all of them, nine in ten? Of no frame none are.
+pub fn is_nearly_all(count: u64, frames: u64) -> bool
+    ensures { result ≡ is_nearly_all count frames }
+{
+    0 < frames && frames.saturating_sub(count) <= frames / 10
+}
+
+/// The timestamps of what was read of a recording, in nanoseconds, and whether that is all of it.
+#[derive(Clone, Copy)]
+pub struct Reach {
+    pub least: u64,
+    pub greatest: u64,
+    pub whole: bool,
+}
+
+/// Whether two recordings overlap in time.
+#[derive(Clone, Copy, PartialEq, Eq)]
+pub enum Overlap {
+    /// They do.
+    Together,
+    /// One ends before the other begins.
+    Apart,
+    /// What was read of one ends before the other begins, and it goes on.
+    Unknown,
+}
+
+fn overlap_after(is_whole: bool) -> Overlap
+    ensures { result ≡ overlap_after is_whole }
+{
+    if is_whole {
+        Overlap::Apart
+    } else {
+        Overlap::Unknown
+    }
+}
+
+/// Whether two recordings overlap in time.
+pub fn overlap_of(a: Reach, b: Reach) -> Overlap
+    ensures { result ≡ overlap_of a b }
+{
+    if a.greatest < b.least {
+        overlap_after(a.whole)
+    } else if b.greatest < a.least {
+        overlap_after(b.whole)
+    } else {
+        Overlap::Together
+    }
+}
+
+/// How many frames of a recording there are, and how many of them have the source address of an end system on
+/// network A, and on network B.
+#[derive(Clone, Copy)]
+pub struct Marks {
+    pub frames: u64,
+    pub as_a: u64,
+    pub as_b: u64,
+}
+
+/// How recordings are given to other networks than their frames' source addresses name.
+#[derive(Clone, Copy, PartialEq, Eq)]
+pub enum Wiring {
+    /// That of A is given as B's, and that of B as A's.
+    Swapped,
+    /// Both are of network A.
+    BothOfA,
+    /// Both are of network B.
+    BothOfB,
+}
+
+fn is_marked_a(marks: Marks) -> bool
+    ensures { result ≡ is_marked_a marks }
+{
+    is_nearly_all(marks.as_a, marks.frames)
+}
+
+fn is_marked_b(marks: Marks) -> bool
+    ensures { result ≡ is_marked_b marks }
+{
+    is_nearly_all(marks.as_b, marks.frames)
+}
+
+/// How the recordings given as networks A and B are of other networks. None: they aren't, or their source
+/// addresses don't say.
+pub fn wiring_of(a: Marks, b: Marks) -> Option<Wiring>
+    ensures { result ≡ wiring_of a b }
+{
+    if is_marked_b(a) && is_marked_a(b) {
+        Some(Wiring::Swapped)
+    } else if is_marked_a(a) && is_marked_a(b) {
+        Some(Wiring::BothOfA)
+    } else if is_marked_b(a) && is_marked_b(b) {
+        Some(Wiring::BothOfB)
+    } else {
+        None
+    }
+}
+
+/// Are fewer than half of the frames copies that could be, of so many on network A and so many on B?
+pub fn are_copies_few(copies: u64, a: u64, b: u64) -> bool
+    ensures { result ≡ are_copies_few copies a b }
+{
+    let twice = copies as u128 * 2;
+    0 < a && 0 < b && twice < a as u128 && twice < b as u128
+}
+
+/// Do at least half of the links support a difference of the clocks?
+pub fn is_agreed(support: usize, links: usize) -> bool
+    ensures { result ≡ is_agreed support links }
+{
+    0 < links && links as u128 <= support as u128 * 2
+}
