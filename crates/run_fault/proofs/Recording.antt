@@ -9,18 +9,19 @@ use Rattle.pcap_io.specs.declared.layout.Layout.{Layout}
 use Rattle.pcap_io.specs.declared.layout.TheConstants.{FILE_HEADER_LEN}
 use Rattle.pcap_io.specs.declared.position.Position.{Position}
 use Rattle.pcap_io.specs.declared.recording.Ending.{Ending}
+use Rattle.pcap_io.specs.declared.told.Told.{Told}
 use Rattle.pcap_io.proofs.Parse.{reads_to_end}
 use Rattle.run_fault.specs.Recording.{IsRecording}
 
 -- the frames that were read up to the ending are the recording's
-pub complete : (network : Network) (late : ℕ) (before opened left : Option (List ℕ)) (layout : Layout) (frames : List Frame) (position : Position) (ending : Ending) → Opens before opened layout
-    → Reads (start_at network layout (2 ^ 32) late) opened frames position left → IsNext position left None (items.End ending)
-    → IfSome before (λ bytes. IsRecording network late bytes frames ending)
-complete network late None opened left layout frames position ending opens reads ends = tt
-complete network late (Some bytes) opened left layout frames position ending opens reads ends = record {
+pub complete : (network : Network) (late : ℕ) (told : Told) (before opened left : Option (List ℕ)) (layout : Layout) (frames : List Frame) (position : Position) (ending : Ending) → Opens told before opened layout
+    → Reads (start_at network layout (2 ^ 32) late) opened frames position left → IsNext position told left None (items.End ending)
+    → IfSome before (λ bytes. IsRecording network late told bytes frames ending)
+complete network late told None opened left layout frames position ending opens reads ends = tt
+complete network late told (Some bytes) opened left layout frames position ending opens reads ends = record {
   layout = layout;
   header = opens.0;
-  holds = reads_to_end (start_at network layout (2 ^ 32) late) position (drop FILE_HEADER_LEN bytes) left None frames ending (omega arith)
+  holds = reads_to_end (start_at network layout (2 ^ 32) late) position told (drop FILE_HEADER_LEN bytes) left None frames ending (omega arith)
       (subst (λ (x : Option (List ℕ)). Reads (start_at network layout (2 ^ 32) late) x frames position left) opens.1 reads) ends;
 }
 

@@ -64,8 +64,8 @@ returns-in_err-write_accepted-in-Ok-Frame-clause-stopped g c =
     c.loop-reader.invariant.format c.frame-frame.ensures told.written in
     let p = err_from_is_err_and c.from_residual.result c.from_residual.ensures.1 in
     rw (p.1, p.2) (stopped_at format c.args.program.now fault at.0 frame (after_frame here frame.stamp)
-    (copying_of (reading_of g.S.TapSource.remaining g.S.TapSource.failures c.args.reader.now) (unread_of c.args.reader.now) (contents (sink_of c.args.writer.now)) (g.W.OutSink.failures (sink_of c.args.writer.now)))
-    (copying_of (reading_of g.S.TapSource.remaining g.S.TapSource.failures c.advance.new.self) (unread_of c.advance.new.self) (contents (sink_of c.write_accepted.new.writer)) (g.W.OutSink.failures (sink_of c.write_accepted.new.writer)))
+    (copying_of (reading_of g.S.TapSource.remaining g.S.TapSource.failures g.S.TapSource.told c.args.reader.now) (unread_of c.args.reader.now) (contents (sink_of c.args.writer.now)) (g.W.OutSink.failures (sink_of c.args.writer.now)))
+    (copying_of (reading_of g.S.TapSource.remaining g.S.TapSource.failures g.S.TapSource.told c.advance.new.self) (unread_of c.advance.new.self) (contents (sink_of c.write_accepted.new.writer)) (g.W.OutSink.failures (sink_of c.write_accepted.new.writer)))
     (contents (sink_of c.loop-reader.writer)) (g.W.OutSink.failures (sink_of c.loop-reader.writer)) at.1.written
     (reads_more (position_of c.args.reader.now) here before _ after at.0 frame at.1.reads taken)
     (given.no_failure ∙ c.loop-reader.invariant.source) c.loop-reader.invariant.sink left)

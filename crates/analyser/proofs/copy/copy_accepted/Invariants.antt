@@ -11,8 +11,8 @@ abbrev pub invariant-loop-reader : goal.invariant-loop-reader
 invariant-loop-reader g l =
     record {
       copied : (frames : List Frame) × HasCopied (format_in l.fn.writer) l.program frames (position_of l.reader) (remaining_of g.S.TapSource.remaining l.reader)
-          (copying_of (reading_of g.S.TapSource.remaining g.S.TapSource.failures l.fn.reader) (unread_of l.fn.reader) (g.W.OutSink.contents (sink_of l.fn.writer)) (g.W.OutSink.failures (sink_of l.fn.writer)))
-          (copying_of (reading_of g.S.TapSource.remaining g.S.TapSource.failures l.reader) (unread_of l.reader) (g.W.OutSink.contents (sink_of l.writer)) (g.W.OutSink.failures (sink_of l.writer)));
+          (copying_of (reading_of g.S.TapSource.remaining g.S.TapSource.failures g.S.TapSource.told l.fn.reader) (unread_of l.fn.reader) (g.W.OutSink.contents (sink_of l.fn.writer)) (g.W.OutSink.failures (sink_of l.fn.writer)))
+          (copying_of (reading_of g.S.TapSource.remaining g.S.TapSource.failures g.S.TapSource.told l.reader) (unread_of l.reader) (g.W.OutSink.contents (sink_of l.writer)) (g.W.OutSink.failures (sink_of l.writer)));
       reading : (position_of l.reader).stage ≡ Going;
       bounded : (position_of l.reader).count ≤ (position_of l.reader).most;
       writing : has_failed l.writer ≡ false;

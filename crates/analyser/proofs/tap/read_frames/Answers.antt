@@ -12,7 +12,7 @@ loop-frame-preserved g c =
     let taken = rw c.in-Ok-Frame.field-0-is at (given.item at.going) in
     let moved : position_of c.next.new.self ≡ after_frame (position_of c.loop-frame.reader) frame.stamp = rw c.in-Ok-Frame.field-0-is at given.after in
     record {
-      gives = gives_more (reading_of g.S.TapSource.remaining g.S.TapSource.failures c.args.reader.now) c.loop-frame.frames.items c.push.new.self.items
+      gives = gives_more (reading_of g.S.TapSource.remaining g.S.TapSource.failures g.S.TapSource.told c.args.reader.now) c.loop-frame.frames.items c.push.new.self.items
           (position_of c.loop-frame.reader) (position_of c.next.new.self) (remaining_of g.S.TapSource.remaining c.loop-frame.reader)
           (remaining_of g.S.TapSource.remaining c.next.new.self) frame at.gives taken moved c.in-Ok.ensures.items;
       going = rw moved at.going;

@@ -7,7 +7,7 @@ use Rattle.analyser.proofs.tap.read_frames.Given as goal
 
 abbrev pub invariant-loop-frame : goal.invariant-loop-frame
 invariant-loop-frame g l = record {
-  gives : Gives (reading_of g.S.TapSource.remaining g.S.TapSource.failures l.fn.reader) l.frames.items (position_of l.reader) (remaining_of g.S.TapSource.remaining l.reader);
+  gives : Gives (reading_of g.S.TapSource.remaining g.S.TapSource.failures g.S.TapSource.told l.fn.reader) l.frames.items (position_of l.reader) (remaining_of g.S.TapSource.remaining l.reader);
   going : (position_of l.reader).stage ≡ Going;
   no_failure : g.S.TapSource.failures (source_of l.reader) ≡ g.S.TapSource.failures (source_of l.fn.reader);
 }

@@ -14,7 +14,7 @@ returns-clause-found g c = λ o frames h ahead. all_read o frames c.args.place _
 
 pub returns-in-Ok-End-clause-found : goal.returns-in-Ok-End-clause-found
 returns-in-Ok-End-clause-found g c =
-    let view = reading_of g.S.TapSource.remaining g.S.TapSource.failures in
+    let view = reading_of g.S.TapSource.remaining g.S.TapSource.failures g.S.TapSource.told in
     let old = view c.loop-self.self.reader in
     let new = view c.next.new.self in
     let unread = unread_of c.next.new.self in
@@ -26,7 +26,7 @@ returns-in-Ok-End-clause-found g c =
 
 pub returns-in-Err-clause-found : goal.returns-in-Err-clause-found
 returns-in-Err-clause-found g c =
-    let view = reading_of g.S.TapSource.remaining g.S.TapSource.failures in
+    let view = reading_of g.S.TapSource.remaining g.S.TapSource.failures g.S.TapSource.told in
     let old = view c.loop-self.self.reader in
     let new = view c.next.new.self in
     let unread = unread_of c.next.new.self in
@@ -38,7 +38,7 @@ returns-in-Err-clause-found g c =
 
 pub returns-then-is_of-clause-found : goal.returns-then-is_of-clause-found
 returns-then-is_of-clause-found g c =
-    let view = reading_of g.S.TapSource.remaining g.S.TapSource.failures in
+    let view = reading_of g.S.TapSource.remaining g.S.TapSource.failures g.S.TapSource.told in
     let old = view c.loop-self.self.reader in
     let new = view c.next.new.self in
     let unread = unread_of c.next.new.self in
@@ -50,7 +50,7 @@ returns-then-is_of-clause-found g c =
 
 pub returns-then-is_none-clause-found : goal.returns-then-is_none-clause-found
 returns-then-is_none-clause-found g c =
-    let view = reading_of g.S.TapSource.remaining g.S.TapSource.failures in
+    let view = reading_of g.S.TapSource.remaining g.S.TapSource.failures g.S.TapSource.told in
     let old = view c.loop-self.self.reader in
     let new = view c.next.new.self in
     let unread = unread_of c.next.new.self in
@@ -63,7 +63,7 @@ returns-then-is_none-clause-found g c =
 
 pub loop-self-preserved : goal.loop-self-preserved
 loop-self-preserved g c =
-    let view = reading_of g.S.TapSource.remaining g.S.TapSource.failures in
+    let view = reading_of g.S.TapSource.remaining g.S.TapSource.failures g.S.TapSource.told in
     let old = view c.loop-self.self.reader in
     let new = view c.next.new.self in
     let unread = unread_of c.next.new.self in
