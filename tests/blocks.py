@@ -12,7 +12,7 @@ import tempfile
 
 import pairs
 from harness import EVERY, FAULT, FIRST_64, SUCCESS, PROGRAM, difference, frame, header, record, run, say
-from reference import HEADER, disorder, parse, record_of
+from reference import FILE_STARTS, HEADER, disorder, parse, record_of
 from watching import TABLE
 
 SECTION, INTERFACE, OLD_PACKET, SIMPLE, NAMES, STATISTICS, PACKET, CUSTOM = 0x0A0D0D0A, 1, 2, 3, 4, 5, 6, 0xBAD
@@ -32,6 +32,7 @@ REASONS = {
     "toomanyinterfaces": "too many interfaces",
     "nosuchinterface": "the chosen interface isn't there",
     "length": "captured length over 262144 bytes",
+    "fileheader": "another pcap file begins here",
     "stampback": "timestamp out of order",
 }
 
@@ -201,6 +202,8 @@ class Reader:
         stamp = nanoseconds(high << 32 | low, one["resolution"], one["offset"])
         if not 0 <= stamp < LAST_SECOND * 10**9:
             raise Wrong("stamprange")
+        if not captured and not original and record_of(stamp, 0, b"")[:8] in FILE_STARTS:
+            raise Wrong("fileheader")
         if stamp < self.high:
             self.late = self.high - stamp
             raise Wrong("stampback")
@@ -446,6 +449,11 @@ def wrong(bench):
         bench.captured(f"a timestamp before the one before it, {order}", begun(order).packet(later - 2, DATA[1]).bytes())
         bench.captured(f"a resolution of two bytes, {order}", begun(order).interface(more=[(RESOLUTION, b"66")]).bytes())
         bench.captured(f"an offset of four bytes, {order}", begun(order).interface(more=[(OFFSET, b"6666")]).bytes())
+    for seconds, fraction in (struct.unpack("<II", start) for start in FILE_STARTS):
+        stamp = seconds * 10**9 + fraction
+        bench.captured(f"no bytes at {seconds}.{fraction:09}, as a pcap file begins", begun().packet(stamp, b"").packet(stamp, DATA[1]).bytes())
+        bench.captured(f"no bytes a nanosecond after {seconds}.{fraction:09}", plain().packet(stamp + 1, b"").packet(stamp + 1, DATA[1]).bytes())
+        bench.captured(f"no bytes of one on the wire at {seconds}.{fraction:09}", plain().packet(stamp, b"", original=1).bytes())
     for size in (MOST_CAPTURED - 1, MOST_CAPTURED, MOST_CAPTURED + 1):
         bench.captured(f"{size} captured bytes", begun().packet(later, bytes(size)).packet(later, DATA[0]).bytes())
     bench.captured("a long block that isn't read", begun().block(CUSTOM, bytes(3 << 20)).packet(later, DATA[1]).bytes())
@@ -476,8 +484,7 @@ def heads(bench):
             bench.refused(f"a head that says {length} bytes, {order}", Blocks(order).section(length=length).bytes() + bytes(MOST_BLOCK), line.format("7 SectionLength"))
         bench.refused(f"a head of two lengths, {order}", Blocks(order).section(last=32).bytes() + rest, line.format("8 SectionLengthsDiffer"))
         bench.refused(f"a head's option beyond it, {order}", Blocks(order).section(options=struct.pack(order + "HH", 1, 9) + bytes(8)).bytes() + rest, line.format("9 SectionOption"))
-    bench.refused("the magic number of what is converted", b"pcng" + HEADER[4:], line.format("2 Magic"))
-    bench.refused("the other magic number of it", b"gncp" + HEADER[4:], line.format("2 Magic"))
+    bench.refused("the magic number of no recording", b"pcng" + HEADER[4:], line.format("2 Magic"))
 
 
 def cuts(bench):

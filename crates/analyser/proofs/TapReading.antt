@@ -11,7 +11,8 @@ use Rattle.run_fault.specs.Recording.{LeavesUnread}
 use Rattle.run_fault.specs.Recording.{HasReadTap, most_frames}
 use Rattle.run_fault.specs.Device.{SourceView}
 use Rattle.analyser.specs.WholeTap.{Gives, GivesAll, IsTap}
-use Rattle.run_fault.proofs.Recording.{complete}
+use Rattle.pcap_io.specs.Told.{StaysTold}
+use Rattle.run_fault.proofs.Recording.{complete, tells_opened}
 
 -- one frame more
 pub gives_more : (old : Reading) (frames all : List Frame) (q q' : Position) (left after : Option (List ℕ)) (f : Frame) → Gives old frames q left →
@@ -25,8 +26,8 @@ gives_more old frames all q q' left after f gives taken moved same =
     }))
 
 has_read : (late : ℕ) (before : SourceView) (old : Reading) (frames : List Frame) (q : Position) (left : Option (List ℕ)) →
-    old.position ≡ start_at networks.A old.position.layout most_frames late → Opens before.remaining old.remaining old.position.layout → Gives old frames q left →
-    HasReadTap networks.A late before.remaining frames q left
+    old.position ≡ start_at networks.A old.position.layout most_frames late → Opens before.told before.remaining old.remaining old.position.layout → Gives old frames q left →
+    HasReadTap networks.A late before.told before.remaining frames q left
 has_read late before old frames q left start opens gives = record {
   layout = old.position.layout;
   opened = old.remaining;
@@ -39,10 +40,10 @@ has_read late before old frames q left start opens gives = record {
     within n most first less same e = subst (λ k. n ≤ k) (same ∙ e) less
 
 pub whole_tap : (late : ℕ) (before after : SourceView) (old new : Reading) (frames : List Frame) (ending : Ending) (unread : List ℕ) →
-    old.position ≡ start_at networks.A old.position.layout most_frames late → Opens before.remaining old.remaining old.position.layout → old.failures ≡ before.failures →
+    old.position ≡ start_at networks.A old.position.layout most_frames late → Opens before.told before.remaining old.remaining old.position.layout → StaysTold before.remaining before.told old.told → old.failures ≡ before.failures →
     LeavesUnread unread new.remaining after.remaining → after.failures ≡ new.failures → GivesAll old new frames ending → IsTap late before after frames ending
 unfolding has_read
-whole_tap late before after old new frames ending unread start opens same leaves same' all =
+whole_tap late before after old new frames ending unread start opens tells same leaves same' all =
     let read = has_read late before old frames all.position all.left start opens all.gives in
     record {
       part = record {
@@ -54,15 +55,16 @@ whole_tap late before after old new frames ending unread start opens same leaves
         gone = all.ends.gone;
         unread = leaves;
       };
-      complete = complete networks.A late before.remaining old.remaining all.left old.position.layout frames all.position ending opens read.reads all.ends.here;
+      complete = complete networks.A late before.told all.told before.remaining old.remaining all.left old.position.layout frames all.position ending opens read.reads
+          (tells_opened old.position before.told old.told all.told before.remaining old.remaining old.position.layout opens tells all.tells) all.ends.here;
       taken = all.ends.left;
       no_failure = same' ∙ all.no_failure ∙ same;
     }
 
 pub whole_told : {F E : Type 0} (late : ℕ) (frames_of : F → List Frame) (ending_of : F → Ending) (r : Result F E) (before after : SourceView) (old new : Reading) (unread : List ℕ) →
-    old.position ≡ start_at networks.A old.position.layout most_frames late → Opens before.remaining old.remaining old.position.layout → old.failures ≡ before.failures →
+    old.position ≡ start_at networks.A old.position.layout most_frames late → Opens before.told before.remaining old.remaining old.position.layout → StaysTold before.remaining before.told old.told → old.failures ≡ before.failures →
     LeavesUnread unread new.remaining after.remaining → after.failures ≡ new.failures → IfOk r (λ tap. GivesAll old new (frames_of tap) (ending_of tap)) →
     IfOk r (λ tap. IsTap late before after (frames_of tap) (ending_of tap))
-whole_told late frames_of ending_of (Ok tap) before after old new unread start opens same leaves same' all =
-    whole_tap late before after old new (frames_of tap) (ending_of tap) unread start opens same leaves same' all
-whole_told late frames_of ending_of (Err e) before after old new unread start opens same leaves same' all = tt
+whole_told late frames_of ending_of (Ok tap) before after old new unread start opens tells same leaves same' all =
+    whole_tap late before after old new (frames_of tap) (ending_of tap) unread start opens tells same leaves same' all
+whole_told late frames_of ending_of (Err e) before after old new unread start opens tells same leaves same' all = tt

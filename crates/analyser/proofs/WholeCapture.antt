@@ -17,13 +17,15 @@ use Rattle.run_fault.specs.declared.fault.Output.TheVariants as output
 use Rattle.run_fault.specs.declared.fault.WatchFault.{WatchFault}
 use Rattle.run_fault.specs.declared.fault.WatchFault.TheVariants as watch
 use Rattle.analyser.proofs.Copying.{written_after, written_within}
-use Rattle.run_fault.proofs.Recording.{complete, read_within}
+use Rattle.pcap_io.specs.Told.{StaysTold}
+use Rattle.run_fault.proofs.Recording.{complete, read_within, tells_opened}
 
 -- Between `old` and `new` a copy was made: before it the reader was opened and what a capture begins with was written, and after it both
 -- devices were given back.
 pub record Brackets (format : Format) (late : ℕ) (before after : Devices) (old new : Copying) : Type 0 where
   pub start : old.reading.position ≡ start_at networks.A old.reading.position.layout (2 ^ 32) late
-  pub opens : Opens before.source.remaining old.reading.remaining old.reading.position.layout
+  pub opens : Opens before.source.told before.source.remaining old.reading.remaining old.reading.position.layout
+  pub tells : StaysTold before.source.remaining before.source.told old.reading.told
   pub header : Appends before.sink.contents old.contents (head_by format)
   pub source_before : old.reading.failures ≡ before.source.failures
   pub sink_before : old.failures ≡ before.sink.failures
@@ -33,7 +35,7 @@ pub record Brackets (format : Format) (late : ℕ) (before after : Devices) (old
   pub sink_after : after.sink.failures ≡ new.failures
 
 has_read : (format : Format) (late : ℕ) (before after : Devices) (old new : Copying) (frames : List Frame) (position : Position) (left : Option (List ℕ)) → Brackets format late before after old new
-    → Reads old.reading.position old.reading.remaining frames position left → HasReadTap networks.A late before.source.remaining frames position left
+    → Reads old.reading.position old.reading.remaining frames position left → HasReadTap networks.A late before.source.told before.source.remaining frames position left
 has_read format late before after old new frames position left b reads = record {
   layout = old.reading.position.layout;
   opened = old.reading.remaining;
@@ -53,7 +55,8 @@ captured format late p ending before after old new b c =
       left = c.left;
       rest = new.reading.remaining;
       read = read;
-      complete = complete networks.A late before.source.remaining read.opened c.left read.layout c.frames c.position ending read.opens read.reads c.ends;
+      complete = complete networks.A late before.source.told c.told before.source.remaining read.opened c.left read.layout c.frames c.position ending read.opens read.reads
+          (tells_opened old.reading.position before.source.told old.reading.told c.told before.source.remaining old.reading.remaining old.reading.position.layout b.opens b.tells c.tells) c.ends;
       taken = c.taken;
       gone = c.gone;
       ahead = new.unread;

@@ -11,6 +11,8 @@ use Rattle.pcap_io.specs.Device.{AppendsPrefix, CountsFailure}
 use Rattle.pcap_io.specs.Position.{TakesAPacket, EndLeaves, LacksBytes, LacksMemory, Reading, Reads, ending_here}
 use Rattle.pcap_io.specs.declared.position.Position.{Position}
 use Rattle.pcap_io.specs.declared.recording.Ending.{Ending}
+use Rattle.pcap_io.specs.Told.{StaysTold}
+use Rattle.pcap_io.specs.declared.told.Told.{Told}
 use Rattle.analyser.specs.OneCapture.{packet_of, packets_of}
 use Rattle.run_fault.specs.declared.fault.Output.TheVariants as output
 use Rattle.run_fault.specs.declared.fault.WatchFault.{WatchFault}
@@ -39,14 +41,16 @@ pub record HasCopied (format : Format) (p : List Packed) (frames : List Frame) (
   pub reads : Reads old.reading.position old.reading.remaining frames position left
   pub written : Appends old.contents new.contents (packets_of format p frames)
 
--- all was copied up to the ending
+-- all was copied up to the ending, which is with what the source tells
 pub record IsCopied (format : Format) (p : List Packed) (ending : Ending) (old new : Copying) : Type 0 where
   pub frames : List Frame
   pub position : Position
   pub left : Option (List ℕ)
   pub copied : HasCopied format p frames position left old new
   pub bounded : position.count ≤ position.most
-  pub ends : IfSome left (λ bytes. ending_here position bytes ≡ Some ending)
+  pub told : Told
+  pub tells : StaysTold old.reading.remaining old.reading.told told
+  pub ends : IfSome left (λ bytes. ending_here position told bytes ≡ Some ending)
   pub taken : EndLeaves left new.reading.remaining ending
   pub gone : TakesAPacket left new.reading.remaining
   pub source : new.reading.failures ≡ old.reading.failures

@@ -64,8 +64,8 @@ pub record IsCapturedBy (format : Format) (late : ℕ) (p : List Packed) (ending
   pub position : Position
   pub left : Option (List ℕ)
   pub rest : Option (List ℕ)
-  pub read : HasReadTap networks.A late before.source.remaining frames position left
-  pub complete : IfSome before.source.remaining (λ bytes. IsRecording networks.A late bytes frames ending)
+  pub read : HasReadTap networks.A late before.source.told before.source.remaining frames position left
+  pub complete : IfSome before.source.remaining (λ bytes. IsRecording networks.A late before.source.told bytes frames ending)
   pub taken : EndLeaves left rest ending
   pub gone : TakesAPacket left rest
   pub ahead : List ℕ
@@ -78,7 +78,7 @@ pub record IsCapturedBy (format : Format) (late : ℕ) (p : List Packed) (ending
 -- The bytes begin with no file header of this project, and this is the first reason. No more than a file header is gone, and
 -- nothing was written.
 pub record IsHeaderFault (fault : HeaderFault) (before after : Devices) : Type 0 where
-  pub found : IfSome before.source.remaining (λ bytes. header_of bytes ≡ Err fault)
+  pub found : IfSome before.source.remaining (λ bytes. header_of before.source.told bytes ≡ Err fault)
   pub taken : TakesAtMost FILE_HEADER_LEN before.source.remaining after.source.remaining
   pub unwritten : after.sink.contents ≡ before.sink.contents
   pub no_failure : NoFailures before after
@@ -96,7 +96,7 @@ pub record FailsToRead (format : Format) (late : ℕ) (p : List Packed) (before 
   pub position : Position
   pub left : Option (List ℕ)
   pub rest : Option (List ℕ)
-  pub read : HasReadTap networks.A late before.source.remaining frames position left
+  pub read : HasReadTap networks.A late before.source.told before.source.remaining frames position left
   pub ahead : List ℕ
   pub unread : LeavesUnread ahead rest after.source.remaining
   pub lacks : LacksBytes position left rest ahead
@@ -111,7 +111,7 @@ pub record FailsToAllocate (format : Format) (late : ℕ) (p : List Packed) (bef
   pub position : Position
   pub left : Option (List ℕ)
   pub rest : Option (List ℕ)
-  pub read : HasReadTap networks.A late before.source.remaining frames position left
+  pub read : HasReadTap networks.A late before.source.told before.source.remaining frames position left
   pub ahead : List ℕ
   pub unread : LeavesUnread ahead rest after.source.remaining
   pub lacks : LacksBytes position left rest ahead
@@ -123,7 +123,7 @@ pub record FailsToAllocate (format : Format) (late : ℕ) (p : List Packed) (bef
 pub record FailsToBegin (format : Format) (before after : Devices) : Type 0 where
   pub layout : Layout
   pub opened : Option (List ℕ)
-  pub opens : Opens before.source.remaining opened layout
+  pub opens : Opens before.source.told before.source.remaining opened layout
   pub unread : opened ≡ after.source.remaining
   pub written : AppendsPrefix before.sink.contents after.sink.contents (head_by format)
   pub source : after.source.failures ≡ before.source.failures
@@ -137,7 +137,7 @@ pub record FailsToWrite (format : Format) (late : ℕ) (p : List Packed) (before
   pub position : Position
   pub left : Option (List ℕ)
   pub count : ℕ
-  pub read : HasReadTap networks.A late before.source.remaining (frames ++ frame ∷ []) position left
+  pub read : HasReadTap networks.A late before.source.told before.source.remaining (frames ++ frame ∷ []) position left
   pub ahead : List ℕ
   pub unread : LeavesUnread ahead left after.source.remaining
   pub within : count < length (packet_of format p frame)
@@ -151,7 +151,7 @@ pub record FailsToMake (format : Format) (late : ℕ) (p : List Packed) (before 
   pub frame : Frame
   pub position : Position
   pub left : Option (List ℕ)
-  pub read : HasReadTap networks.A late before.source.remaining (frames ++ frame ∷ []) position left
+  pub read : HasReadTap networks.A late before.source.told before.source.remaining (frames ++ frame ∷ []) position left
   pub ahead : List ℕ
   pub unread : LeavesUnread ahead left after.source.remaining
   pub accepted : 0 < answer_for p frame

@@ -6,6 +6,8 @@ use Rattle.pcap_io.specs.Device.{CountsFailure}
 use Rattle.pcap_io.specs.Position.{LacksBytes, LacksMemory, Reading, Reads, TakesFrame}
 use Rattle.pcap_io.specs.declared.position.Position.{Position}
 use Rattle.pcap_io.specs.declared.recording.Ending.{Ending}
+use Rattle.pcap_io.specs.Told.{StaysTold}
+use Rattle.pcap_io.specs.declared.told.Told.{Told}
 use Rattle.run_fault.specs.Recording.{LeavesUnread}
 use Rattle.run_fault.specs.Recording.{Ends}
 use Rattle.run_fault.specs.Recording.{FailsAtHeader, HasHeaderFault, HasReadTap, IsReadWhole}
@@ -27,7 +29,7 @@ pub record FailsInTap (late : ℕ) (before after : SourceView) : Type 0 where
   pub left : Option (List ℕ)
   pub rest : Option (List ℕ)
   pub ahead : List ℕ
-  pub read : HasReadTap networks.A late before.remaining frames position left
+  pub read : HasReadTap networks.A late before.told before.remaining frames position left
   pub lacks : LacksBytes position left rest ahead
   pub unread : LeavesUnread ahead rest after.remaining
 
@@ -38,7 +40,7 @@ pub record LacksTapMemory (late : ℕ) (before after : SourceView) : Type 0 wher
   pub left : Option (List ℕ)
   pub rest : Option (List ℕ)
   pub ahead : List ℕ
-  pub read : HasReadTap networks.A late before.remaining frames position left
+  pub read : HasReadTap networks.A late before.told before.remaining frames position left
   pub lacks : LacksMemory position left rest ⊎ ((f : Frame) × TakesFrame position left rest f)
   pub unread : LeavesUnread ahead rest after.remaining
 
@@ -58,12 +60,14 @@ pub record Gives (old : Reading) (frames : List Frame) (position : Position) (le
   pub bounded : position.count ≤ position.most
   pub same_most : position.most ≡ old.position.most
 
--- it gave these frames, and then this ending of the recording
+-- it gave these frames, and then, with what its source tells there, this ending of the recording
 pub record GivesAll (old new : Reading) (frames : List Frame) (ending : Ending) : Type 0 where
   pub position : Position
   pub left : Option (List ℕ)
   pub gives : Gives old frames position left
-  pub ends : Ends position left new.remaining ending
+  pub told : Told
+  pub tells : StaysTold old.remaining old.told told
+  pub ends : Ends position told left new.remaining ending
   pub no_failure : new.failures ≡ old.failures
 
 -- it gave these frames, and its source failed before the next packet was whole

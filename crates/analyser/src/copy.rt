@@ -56,14 +56,14 @@ fn copy_accepted<S: TapSource, W: OutSink>(
     requires bounded { (position_of reader.old).count ≤ (position_of reader.old).most }
     requires writing { has_failed writer.old ≡ false }
     ensures copied { IfOk result (λ ending. IsCopied (format_in writer.old) program.now ending
-        (copying_of (reading_of S.remaining S.failures reader.old) (unread_of reader.old)
+        (copying_of (reading_of S.remaining S.failures S.told reader.old) (unread_of reader.old)
         (W.contents (sink_of writer.old)) (W.failures (sink_of writer.old)))
-        (copying_of (reading_of S.remaining S.failures reader.new) (unread_of reader.new)
+        (copying_of (reading_of S.remaining S.failures S.told reader.new) (unread_of reader.new)
         (W.contents (sink_of writer.new)) (W.failures (sink_of writer.new)))) }
     ensures stopped { IfErr result (λ fault. StopsCopy (format_in writer.old) program.now fault
-        (copying_of (reading_of S.remaining S.failures reader.old) (unread_of reader.old)
+        (copying_of (reading_of S.remaining S.failures S.told reader.old) (unread_of reader.old)
         (W.contents (sink_of writer.old)) (W.failures (sink_of writer.old)))
-        (copying_of (reading_of S.remaining S.failures reader.new) (unread_of reader.new)
+        (copying_of (reading_of S.remaining S.failures S.told reader.new) (unread_of reader.new)
         (W.contents (sink_of writer.new)) (W.failures (sink_of writer.new)))) }
 {
     loop {

@@ -36,11 +36,11 @@ fn read_frames<S: TapSource>(
     requires going { (position_of reader.old).stage ≡ Going }
     requires bounded { (position_of reader.old).count ≤ (position_of reader.old).most }
     ensures all { IfOk result (λ tap. GivesAll
-        (reading_of S.remaining S.failures reader.old)
-        (reading_of S.remaining S.failures reader.new) tap.frames.items tap.ending) }
+        (reading_of S.remaining S.failures S.told reader.old)
+        (reading_of S.remaining S.failures S.told reader.new) tap.frames.items tap.ending) }
     ensures stopped { IfErr result (λ fault. StopsReading fault
-        (reading_of S.remaining S.failures reader.old)
-        (reading_of S.remaining S.failures reader.new) (unread_of reader.new)) }
+        (reading_of S.remaining S.failures S.told reader.old)
+        (reading_of S.remaining S.failures S.told reader.new) (unread_of reader.new)) }
 {
     let mut frames = Vec::new(alloc);
     loop {

@@ -4,8 +4,9 @@
 //! Of all commands, `watch` too, it has what they write (`outputs`) and what standard error is told of their
 //! end (`telling`), and of `check` its answer (`check_answer`).
 //!
-//! What a command makes of its bytes stands in the crate of the command, with its contract. No contract can
-//! say what a file holds, so these functions have none: they are proved not to panic, and to end.
+//! What a command makes of its bytes stands in the crate of the command, with its contract, and that of
+//! `check`'s answer here. No contract can say what a file holds, so those that open one, hand it on or tell of
+//! it have none: they are proved not to panic, and to end.
 #![tactic(auto)]
 
 mod assembling;

@@ -2,6 +2,7 @@
 //! end, are cases of the program (`tests/several.py`).
 ghost use Rattle.std.specs.Prelude.{IfOk, None, OnErr, OnOk};
 ghost use Rattle.pcap_io.specs.Device.{CountsFailure, NoFailure};
+ghost use Rattle.pcap_io.specs.declared.told.Told.TheVariants.{Nothing};
 ghost use Rattle.recording_files.specs.Supply.{GivesNext, KeepsFiles};
 
 use crate::support::{HEADER, SOUND};
@@ -31,7 +32,7 @@ impl FileSupply<MemSource> for Files {
         &mut self,
         last: Option<ReadFile<MemSource>>,
     ) -> Result<Option<MemSource>, DeviceFault>
-        ensures next { IfOk result (GivesNext (λ _. None) None None) }
+        ensures next { IfOk result (GivesNext (λ _. None) (λ _. Nothing) None None) }
         ensures kept { OnErr result (KeepsFiles None None) }
         ensures no_failure { OnOk result (NoFailure self.old.failures self.new.failures) }
         ensures fault { OnErr result (CountsFailure self.old.failures self.new.failures) }

@@ -96,8 +96,8 @@ stopped_line s t w format choice a b output vs fs taken fa fb v n f faults.Write
     record {
       frames_a = names.0;
       frames_b = names.1;
-      read_a = part_read (opening_at A a) names.0 named.floor_a (finding_of s.remaining s.failures new.recordings.a) named.read_a;
-      read_b = part_read (opening_at B b) names.1 named.floor_b (finding_of t.remaining t.failures new.recordings.b) named.read_b;
+      read_a = part_read (opening_at A a) names.0 named.floor_a (finding_of s new.recordings.a) named.read_a;
+      read_b = part_read (opening_at B b) names.1 named.floor_b (finding_of t new.recordings.b) named.read_b;
       found = h.found;
       rise = h.named.rise;
       named = named_before names.0 names.1 (read_lines choice.skips vs) h.found v f named.named;
@@ -121,8 +121,8 @@ stopped_line s t w format choice a b output vs fs taken fa fb v n f faults.Memor
     record {
       frames_a = names.0;
       frames_b = names.1;
-      read_a = part_read (opening_at A a) names.0 named.floor_a (finding_of s.remaining s.failures new.recordings.a) named.read_a;
-      read_b = part_read (opening_at B b) names.1 named.floor_b (finding_of t.remaining t.failures new.recordings.b) named.read_b;
+      read_a = part_read (opening_at A a) names.0 named.floor_a (finding_of s new.recordings.a) named.read_a;
+      read_b = part_read (opening_at B b) names.1 named.floor_b (finding_of t new.recordings.b) named.read_b;
       found = h.found;
       rise = h.named.rise;
       named = named_before names.0 names.1 (read_lines choice.skips vs) h.found v f named.named;

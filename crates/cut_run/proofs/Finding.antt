@@ -16,6 +16,9 @@ use Rattle.pcap_io.specs.declared.item.ReadFault.TheVariants as reads
 use Rattle.pcap_io.specs.declared.position.Position.{Position}
 use Rattle.pcap_io.specs.declared.recording.Ending.{Ending}
 use Rattle.pcap_io.specs.declared.recording.Stage.TheVariants.{Going, Ended}
+use Rattle.pcap_io.specs.Told.{StaysTold}
+use Rattle.pcap_io.specs.declared.told.Told.{Told}
+use Rattle.run_fault.proofs.Recording.{known_after, tells_on}
 use Rattle.pcap_io.proofs.Parse.{reads_more}
 use Rattle.cut_run.specs.Places.{IsAbove, IsBelow, place_of}
 use Rattle.cut_run.specs.Passed.{AreKept, Forgets, KeepsLater, Takes, passed_at}
@@ -58,12 +61,20 @@ pub record Called (old new : Reading) (unread : List ℕ) (r : Result Item ReadF
   pub unfinished : old.position.stage ≡ Going → r ≡ Err reads.Device → LacksBytes old.position old.remaining new.remaining unread
   pub ended : (e : Ending) → old.position.stage ≡ Ended e → (r ≡ Ok (items.End e)) × (new ≡ old)
 
--- a reader goes on after the frames, or has found the ending there
-on_way : (o : Opening) (fs : List Frame) (position : Position) (left : Option (List ℕ)) (now : Reading) → HasReadFrames o fs position left → StandsAt position left now
-    → HasReadFrames o fs now.position now.remaining ⊎ ((e : Ending) × (now.position.stage ≡ Ended e))
-on_way o fs position left now h (inl (at, rest)) =
-    inl (subst (λ (p : Position). HasReadFrames o fs p now.remaining) (sym at) (subst (λ (b : Option (List ℕ)). HasReadFrames o fs position b) (sym rest) h))
-on_way o fs position left now h (inr (e, ends)) = inr (e, ap (λ (p : Position). p.stage) ends.stands)
+-- a reader goes on after the frames
+pub record GoesOn (o : Opening) (fs : List Frame) (now : Reading) : Type 0 where
+  pub read : HasReadFrames o fs now.position now.remaining
+  pub tells : StaysTold o.remaining o.told now.told
+
+-- or has found the ending there
+on_way : (o : Opening) (fs : List Frame) (position : Position) (told : Told) (left : Option (List ℕ)) (now : Reading) → StaysTold o.remaining o.told told
+    → HasReadFrames o fs position left → StandsAt position told left now → GoesOn o fs now ⊎ ((e : Ending) × (now.position.stage ≡ Ended e))
+on_way o fs position told left now tells h (inl (at, rest, same)) =
+    inl (record {
+      read = subst (λ (p : Position). HasReadFrames o fs p now.remaining) (sym at) (subst (λ (b : Option (List ℕ)). HasReadFrames o fs position b) (sym rest) h);
+      tells = subst (λ (v : Told). StaysTold o.remaining o.told v) (sym same) tells;
+    })
+on_way o fs position told left now tells h (inr (e, ends)) = inr (e, ap (λ (p : Position). p.stage) ends.stands)
 
 going : (o : Opening) (fs : List Frame) (q : Position) (left : Option (List ℕ)) → HasReadFrames o fs q left → q.stage ≡ Going
 going o fs q left h = reads_stage (start_at o.network h.layout most_frames any_late) q h.opened left fs h.reads
@@ -71,12 +82,14 @@ going o fs q left h = reads_stage (start_at o.network h.layout most_frames any_l
 -- one frame more was read
 pub record OneMore (o : Opening) (fs : List Frame) (f : Frame) (new : Reading) : Type 0 where
   pub read : HasReadFrames o (fs ++ f ∷ []) new.position new.remaining
+  pub tells : StaysTold o.remaining o.told new.told
   pub number : f.number ≡ length fs
 
 one_more_by : (o : Opening) (fs : List Frame) (old new : Reading) (unread : List ℕ) (f : Frame) → Called old new unread (Ok (items.Frame f))
-    → HasReadFrames o fs old.position old.remaining ⊎ ((e : Ending) × (old.position.stage ≡ Ended e)) → OneMore o fs f new
+    → GoesOn o fs old ⊎ ((e : Ending) × (old.position.stage ≡ Ended e)) → OneMore o fs f new
 one_more_by o fs old new unread f call (inr (e, at)) = (let no = (call.ended e at).0 in absurd (cc))
-one_more_by o fs old new unread f call (inl h) =
+one_more_by o fs old new unread f call (inl on) =
+    let h = on.read in
     let taken : TakesFrame old.position old.remaining new.remaining f = call.advances.item (going o fs old.position old.remaining h) in
     let start = start_at o.network h.layout most_frames any_late in
     let count = reads_count start old.position h.opened old.remaining fs h.reads in
@@ -90,6 +103,8 @@ one_more_by o fs old new unread f call (inl h) =
         reads = reads_more start old.position h.opened old.remaining new.remaining fs f h.reads taken;
         bounded = (let b = taken.bounded in omega arith);
       });
+      tells = tells_on o.remaining old.remaining o.told old.told new.told (known_after start old.position o.told o.remaining h.opened old.remaining h.layout fs h.opens h.reads)
+          on.tells call.advances.told;
       number = omega arith;
     }
   where
@@ -102,8 +117,8 @@ module _ (o : Opening) (frames : List Frame) (place : SearchPlace) (now : Findin
   abbrev fs : List Frame
   fs = frames ++ way.more
 
-  stood : HasReadFrames o fs now.reading.position now.reading.remaining ⊎ ((e : Ending) × (now.reading.position.stage ≡ Ended e))
-  stood = on_way o fs way.read.position way.read.left now.reading way.read.read way.read.stands
+  stood : GoesOn o fs now.reading ⊎ ((e : Ending) × (now.reading.position.stage ≡ Ended e))
+  stood = on_way o fs way.read.position way.read.told way.read.left now.reading way.read.tells way.read.read way.read.stands
 
   before : length fs ≤ place.number
   before = (let c = way.read.counted in omega arith)
@@ -121,8 +136,10 @@ module _ (o : Opening) (frames : List Frame) (place : SearchPlace) (now : Findin
       (append_assoc frames way.more (f ∷ [])) (record {
         position = new.position;
         left = new.remaining;
+        told = new.told;
+        tells = one.tells;
         read = one.read;
-        stands = inl (refl, refl);
+        stands = inl (refl, refl, refl);
         no_failure = call.advances.no_failure ∙ way.read.no_failure;
         kept = kept_more fs place f now.passed passed number way.read.kept keeps (numbered o fs way.read.position way.read.left way.read.read);
         counted = omega arith;
@@ -170,7 +187,7 @@ module _ (o : Opening) (frames : List Frame) (place : SearchPlace) (now : Findin
       differs_there g number (inr (at, same)) = λ s. apart (same_place (place_of f) place (ap (λ (x : Frame). x.stamp) (sym same) ∙ s) (number ∙ sym at))
 
   ends_by : (e : Ending) (later : Finding) → Called now.reading new unread (Ok (items.End e)) → later ≡ record now { reading = new; unread = unread }
-      → HasReadFrames o fs now.reading.position now.reading.remaining ⊎ ((d : Ending) × (now.reading.position.stage ≡ Ended d)) → FindsNone o frames place later
+      → GoesOn o fs now.reading ⊎ ((d : Ending) × (now.reading.position.stage ≡ Ended d)) → FindsNone o frames place later
   ends_by e later call same (inr (d, at)) =
       let still : new ≡ now.reading = (call.ended d at).1 in
       let first : length fs ≡ length frames + length way.more = length-append frames way.more in
@@ -179,8 +196,10 @@ module _ (o : Opening) (frames : List Frame) (place : SearchPlace) (now : Findin
         read = record {
           position = way.read.position;
           left = way.read.left;
+          told = way.read.told;
+          tells = way.read.tells;
           read = way.read.read;
-          stands = subst (λ (x : Reading). StandsAt way.read.position way.read.left x) (sym still) way.read.stands;
+          stands = subst (λ (x : Reading). StandsAt way.read.position way.read.told way.read.left x) (sym still) way.read.stands;
           no_failure = ap (λ (x : Reading). x.failures) still ∙ way.read.no_failure;
           kept = way.read.kept;
           counted = way.read.counted;
@@ -189,7 +208,8 @@ module _ (o : Opening) (frames : List Frame) (place : SearchPlace) (now : Findin
         lacks = inr (before, (d, ap (λ (x : Reading). x.position.stage) still ∙ at));
         no_more = omega arith;
       })
-  ends_by e later call same (inl h) =
+  ends_by e later call same (inl on) =
+      let h = on.read in
       let going_here = going o fs now.reading.position now.reading.remaining h in
       let first : length fs ≡ length frames + length way.more = length-append frames way.more in
       subst (λ (x : Finding). FindsNone o frames place x) (sym same) (record {
@@ -197,6 +217,8 @@ module _ (o : Opening) (frames : List Frame) (place : SearchPlace) (now : Findin
         read = record {
           position = now.reading.position;
           left = now.reading.remaining;
+          told = now.reading.told;
+          tells = on.tells;
           read = h;
           stands = inr (
             e,
@@ -221,11 +243,12 @@ module _ (o : Opening) (frames : List Frame) (place : SearchPlace) (now : Findin
   ends e later call same = ends_by e later call same stood
 
   fault_by : (fault : ReadFault) (later : Finding) → Called now.reading new unread (Err fault) → later.reading ≡ new → later.unread ≡ unread
-      → HasReadFrames o fs now.reading.position now.reading.remaining ⊎ ((d : Ending) × (now.reading.position.stage ≡ Ended d)) → IsFindFault o frames place later (fault_of fault)
+      → GoesOn o fs now.reading ⊎ ((d : Ending) × (now.reading.position.stage ≡ Ended d)) → IsFindFault o frames place later (fault_of fault)
   fault_by fault later call same unread_same (inr (d, at)) = (let no = (call.ended d at).0 in absurd (cc))
-  fault_by reads.Failed later call same unread_same (inl h) =
-      (let no = call.advances.fault.1 in let here = going o fs now.reading.position now.reading.remaining h in absurd (cc))
-  fault_by reads.Device later call same unread_same (inl h) =
+  fault_by reads.Failed later call same unread_same (inl on) =
+      (let no = call.advances.fault.1 in let here = going o fs now.reading.position now.reading.remaining on.read in absurd (cc))
+  fault_by reads.Device later call same unread_same (inl on) =
+      let h = on.read in
       let here = going o fs now.reading.position now.reading.remaining h in
       record {
         more = way.more;
@@ -239,11 +262,11 @@ module _ (o : Opening) (frames : List Frame) (place : SearchPlace) (now : Findin
         failure = subst (λ (x : Reading). CountsFailure o.failures x.failures) (sym same)
             (subst (λ (n : ℕ). CountsFailure n new.failures) way.read.no_failure call.advances.fault);
       }
-  fault_by reads.Memory later call same unread_same (inl h) = record {
+  fault_by reads.Memory later call same unread_same (inl on) = record {
     more = way.more;
     position = now.reading.position;
     left = now.reading.remaining;
-    read = h;
+    read = on.read;
     lacks = inl (before, subst (λ (x : Reading). LacksMemory now.reading.position now.reading.remaining x.remaining) (sym same) call.advances.fault.1);
     gone = subst (λ (x : Reading). TakesAPacket now.reading.remaining x.remaining) (sym same) call.advances.taken;
     no_failure = ap (λ (x : Reading). x.failures) same ∙ call.advances.fault.0 ∙ way.read.no_failure;
@@ -316,6 +339,8 @@ kept_now : (o : Opening) (frames : List Frame) (floor : Option SearchPlace) (pla
 kept_now o frames floor place old passed h kept = record {
   position = h.position;
   left = h.left;
+  told = h.told;
+  tells = h.tells;
   read = h.read;
   stands = h.stands;
   no_failure = h.no_failure;

@@ -277,8 +277,8 @@ ledger_stops l s t w format choice before rs fs taken fa fb old new taking text 
   frames_a = fa;
   frames_b = fb;
   lines = h.read.lines;
-  read_a = part_read (opening_at A before.a) fa h.took.named.floor_a (finding_of s.remaining s.failures taking.recordings.a) h.took.named.read_a;
-  read_b = part_read (opening_at B before.b) fb h.took.named.floor_b (finding_of t.remaining t.failures taking.recordings.b) h.took.named.read_b;
+  read_a = part_read (opening_at A before.a) fa h.took.named.floor_a (finding_of s taking.recordings.a) h.took.named.read_a;
+  read_b = part_read (opening_at B before.b) fb h.took.named.floor_b (finding_of t taking.recordings.b) h.took.named.read_b;
   found = h.took.found;
   rise = h.took.named.rise;
   named = h.took.named.named;
@@ -300,8 +300,8 @@ ledger_stops l s t w format choice before rs fs taken fa fb old new taking text 
   frames_a = fa;
   frames_b = fb;
   lines = h.read.lines;
-  read_a = part_read (opening_at A before.a) fa h.took.named.floor_a (finding_of s.remaining s.failures taking.recordings.a) h.took.named.read_a;
-  read_b = part_read (opening_at B before.b) fb h.took.named.floor_b (finding_of t.remaining t.failures taking.recordings.b) h.took.named.read_b;
+  read_a = part_read (opening_at A before.a) fa h.took.named.floor_a (finding_of s taking.recordings.a) h.took.named.read_a;
+  read_b = part_read (opening_at B before.b) fb h.took.named.floor_b (finding_of t taking.recordings.b) h.took.named.read_b;
   found = h.took.found;
   rise = h.took.named.rise;
   named = h.took.named.named;

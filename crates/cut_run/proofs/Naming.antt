@@ -17,6 +17,7 @@ use Rattle.pcap_io.specs.declared.position.Position.{Position}
 use Rattle.pcap_io.specs.declared.recording.Ending.{Ending}
 use Rattle.pcap_io.specs.declared.recording.Stage.{Stage}
 use Rattle.pcap_io.specs.declared.recording.Stage.TheVariants.{Going, Ended}
+use Rattle.pcap_io.specs.declared.told.Told.{Told}
 use Rattle.run_fault.specs.Device.{SourceMembers, SourceView}
 use Rattle.run_fault.specs.Fault.{FailsWhere}
 use Rattle.run_fault.specs.Recording.{IsRecording}
@@ -42,7 +43,7 @@ when_err r P Q e is h = rw is at h
 -- both recordings were read so far, and have the line's frame
 named_one : {S T : Type 0} (s : SourceMembers S) (t : SourceMembers T) (a b : SourceView) (vs : List FrameLine) (fs fa fb ga gb : List Frame) (old new : Recordings S T)
     (v : FrameLine) (f : Frame) (floor_a floor_b : Option SearchPlace) → HasNamed s t a b vs fs fa fb old → ComesLater (last_key vs) v
-    → HasRead (opening_at A a) ga floor_a (finding_of s.remaining s.failures new.a) → HasRead (opening_at B b) gb floor_b (finding_of t.remaining t.failures new.b)
+    → HasRead (opening_at A a) ga floor_a (finding_of s new.a) → HasRead (opening_at B b) gb floor_b (finding_of t new.b)
     → FloorWithin A floor_a (Some (key_of_line v)) → FloorWithin B floor_b (Some (key_of_line v)) → Widens fa ga → Widens fb gb → IsFrameOf ga gb v f
     → new.last ≡ Some (key_of_line v) → Names s t a b vs fs v f new
 named_one s t a b vs fs fa fb ga gb old new v f floor_a floor_b h later read_a read_b within_a within_b wider_a wider_b is last = (
@@ -73,21 +74,21 @@ floor_at network v is = subst (λ (n : Network). FloorWithin n (Some (place_at v
 
 pub named_a : {S T : Type 0} (s : SourceMembers S) (t : SourceMembers T) (a b : SourceView) (vs : List FrameLine) (fs fa fb : List Frame) (old new : Recordings S T)
     (v : FrameLine) (f : Frame) → HasNamed s t a b vs fs fa fb old → v.network ≡ A → ComesLater (last_key vs) v
-    → Finds (opening_at A a) fa (place_at v.stamp.0 v.number) f (finding_of s.remaining s.failures new.a) → new.b ≡ old.b → new.last ≡ Some (key_of_line v)
+    → Finds (opening_at A a) fa (place_at v.stamp.0 v.number) f (finding_of s new.a) → new.b ≡ old.b → new.last ≡ Some (key_of_line v)
     → Names s t a b vs fs v f new
 named_a s t a b vs fs fa fb old new v f h is later found same last =
     named_one s t a b vs fs fa fb (fa ++ found.more) fb old new v f (Some (place_at v.stamp.0 v.number)) h.floor_b h later found.read
-    (subst (λ x. HasRead (opening_at B b) fb h.floor_b (finding_of t.remaining t.failures x)) (sym same) h.read_b) (floor_at A v is)
+    (subst (λ x. HasRead (opening_at B b) fb h.floor_b (finding_of t x)) (sym same) h.read_b) (floor_at A v is)
     (within_more B h.floor_b (last_key vs) v h.within_b later) (widens_by fa found.more) (widens_none fb)
     (frame_at A (fa ++ found.more) fb v f is found.is_at (ap (λ (q : SearchPlace). q.stamp.0) found.is_of)) last
 
 pub named_b : {S T : Type 0} (s : SourceMembers S) (t : SourceMembers T) (a b : SourceView) (vs : List FrameLine) (fs fa fb : List Frame) (old new : Recordings S T)
     (v : FrameLine) (f : Frame) → HasNamed s t a b vs fs fa fb old → v.network ≡ B → ComesLater (last_key vs) v
-    → Finds (opening_at B b) fb (place_at v.stamp.0 v.number) f (finding_of t.remaining t.failures new.b) → new.a ≡ old.a → new.last ≡ Some (key_of_line v)
+    → Finds (opening_at B b) fb (place_at v.stamp.0 v.number) f (finding_of t new.b) → new.a ≡ old.a → new.last ≡ Some (key_of_line v)
     → Names s t a b vs fs v f new
 named_b s t a b vs fs fa fb old new v f h is later found same last =
     named_one s t a b vs fs fa fb fa (fb ++ found.more) old new v f h.floor_a (Some (place_at v.stamp.0 v.number)) h later
-    (subst (λ x. HasRead (opening_at A a) fa h.floor_a (finding_of s.remaining s.failures x)) (sym same) h.read_a) found.read
+    (subst (λ x. HasRead (opening_at A a) fa h.floor_a (finding_of s x)) (sym same) h.read_a) found.read
     (within_more A h.floor_a (last_key vs) v h.within_a later) (floor_at B v is) (widens_none fa) (widens_by fb found.more)
     (frame_at B fa (fb ++ found.more) v f is found.is_at (ap (λ (q : SearchPlace). q.stamp.0) found.is_of)) last
 
@@ -100,13 +101,13 @@ none_consumed (Some xs) = refl
 none_taken : (x y : Option (List ℕ)) → y ≡ x → TakesAPacket x y
 none_taken x y same = ([], omega arith, subst (λ (z : Option (List ℕ)). Consumes x z []) (sym same) (none_consumed x))
 
-gone_at : (position : Position) (left : Option (List ℕ)) (o : Opening) (frames : List Frame) (now : Finding) → StandsAt position left now.reading
+gone_at : (position : Position) (told : Told) (left : Option (List ℕ)) (o : Opening) (frames : List Frame) (now : Finding) → StandsAt position told left now.reading
     → TakesAPacket left now.reading.remaining
-gone_at position left o frames now (inl (here, same)) = none_taken left now.reading.remaining same
-gone_at position left o frames now (inr (ending, ended)) = ended.gone
+gone_at position told left o frames now (inl (here, same, tells)) = none_taken left now.reading.remaining same
+gone_at position told left o frames now (inr (ending, ended)) = ended.gone
 
 pub part_read : (o : Opening) (frames : List Frame) (floor : Option SearchPlace) (now : Finding) → HasRead o frames floor now → ReadsPart o frames now
-part_read o frames floor now h = record { position = h.position; left = h.left; read = h.read; gone = gone_at h.position h.left o frames now h.stands }
+part_read o frames floor now h = record { position = h.position; left = h.left; read = h.read; gone = gone_at h.position h.told h.left o frames now h.stands }
 
 -- frames don't end a recording
 reads_stage : (p q : Position) (before after : Option (List ℕ)) (frames : List Frame) → Reads p before frames q after → q.stage ≡ p.stage
@@ -128,18 +129,18 @@ lacks_at network view frames v now floor is h (inr (beyond, (ending, stage))) = 
         beyond,
         (
           ended.0,
-          subst (λ (n : Network). IfSome view.remaining (λ bytes. IsRecording n any_late bytes frames ended.0)) (sym is)
-              (complete network any_late view.remaining h.read.opened h.left h.read.layout frames h.position ended.0 h.read.opens h.read.reads ended.1.here),
+          subst (λ (n : Network). IfSome view.remaining (λ bytes. IsRecording n any_late view.told bytes frames ended.0)) (sym is)
+              (complete network any_late view.told h.told view.remaining h.read.opened h.left h.read.layout frames h.position ended.0 h.read.opens h.read.reads h.tells ended.1.here),
         ),
       )
 ]
 
 -- both recordings were read so far, and the line's frame wasn't found
 stopped_one : {S T : Type 0} (s : SourceMembers S) (t : SourceMembers T) (a b : SourceView) (vs : List FrameLine) (fs fa fb ga gb : List Frame) (old new : Recordings S T)
-    (v : FrameLine) (n : ℕ) (fault : CutFault) → HasNamed s t a b vs fs fa fb old → ReadsPart (opening_at A a) ga (finding_of s.remaining s.failures new.a)
-    → ReadsPart (opening_at B b) gb (finding_of t.remaining t.failures new.b) → Widens fa ga → Widens fb gb → IsNameFault fault n a b vs v ga gb
-    → FailsWhere (names fault (RecordingSource A)) a.failures (finding_of s.remaining s.failures new.a).reading.failures
-    → FailsWhere (names fault (RecordingSource B)) b.failures (finding_of t.remaining t.failures new.b).reading.failures → StopsNaming s t a b vs fs v n fault new
+    (v : FrameLine) (n : ℕ) (fault : CutFault) → HasNamed s t a b vs fs fa fb old → ReadsPart (opening_at A a) ga (finding_of s new.a)
+    → ReadsPart (opening_at B b) gb (finding_of t new.b) → Widens fa ga → Widens fb gb → IsNameFault fault n a b vs v ga gb
+    → FailsWhere (names fault (RecordingSource A)) a.failures (finding_of s new.a).reading.failures
+    → FailsWhere (names fault (RecordingSource B)) b.failures (finding_of t new.b).reading.failures → StopsNaming s t a b vs fs v n fault new
 stopped_one s t a b vs fs fa fb ga gb old new v n fault h read_a read_b wider_a wider_b why a_failures b_failures = record {
   frames_a = ga;
   frames_b = gb;
@@ -162,21 +163,21 @@ few_side network ga gb v is few = subst (λ (m : Network). length (side m ga gb)
 
 -- the other recording stays
 stays_a : {S T : Type 0} (s : SourceMembers S) (t : SourceMembers T) (a b : SourceView) (vs : List FrameLine) (fs fa fb : List Frame) (old new : Recordings S T)
-    → HasNamed s t a b vs fs fa fb old → new.a ≡ old.a → ReadsPart (opening_at A a) fa (finding_of s.remaining s.failures new.a)
-stays_a s t a b vs fs fa fb old new h same = rw same (part_read (opening_at A a) fa h.floor_a (finding_of s.remaining s.failures old.a) h.read_a)
+    → HasNamed s t a b vs fs fa fb old → new.a ≡ old.a → ReadsPart (opening_at A a) fa (finding_of s new.a)
+stays_a s t a b vs fs fa fb old new h same = rw same (part_read (opening_at A a) fa h.floor_a (finding_of s old.a) h.read_a)
 
 stays_b : {S T : Type 0} (s : SourceMembers S) (t : SourceMembers T) (a b : SourceView) (vs : List FrameLine) (fs fa fb : List Frame) (old new : Recordings S T)
-    → HasNamed s t a b vs fs fa fb old → new.b ≡ old.b → ReadsPart (opening_at B b) fb (finding_of t.remaining t.failures new.b)
-stays_b s t a b vs fs fa fb old new h same = rw same (part_read (opening_at B b) fb h.floor_b (finding_of t.remaining t.failures old.b) h.read_b)
+    → HasNamed s t a b vs fs fa fb old → new.b ≡ old.b → ReadsPart (opening_at B b) fb (finding_of t new.b)
+stays_b s t a b vs fs fa fb old new h same = rw same (part_read (opening_at B b) fb h.floor_b (finding_of t old.b) h.read_b)
 
 pub stopped_a : {S T : Type 0} (s : SourceMembers S) (t : SourceMembers T) (a b : SourceView) (vs : List FrameLine) (fs fa fb : List Frame) (old new : Recordings S T)
     (v : FrameLine) (n : ℕ) (fault : FindFault) → HasNamed s t a b vs fs fa fb old → v.network ≡ A
-    → IsFindFault (opening_at A a) fa (place_at v.stamp.0 v.number) (finding_of s.remaining s.failures new.a) fault → new.b ≡ old.b
+    → IsFindFault (opening_at A a) fa (place_at v.stamp.0 v.number) (finding_of s new.a) fault → new.b ≡ old.b
     → StopsNaming s t a b vs fs v n (name_fault v.network n fault) new
 stopped_a s t a b vs fs fa fb old new v n find.Absent h is found same =
     let ga = fa ++ found.more in
     let place = Some (place_at v.stamp.0 v.number) in
-    let now = finding_of s.remaining s.failures new.a in
+    let now = finding_of s new.a in
     stopped_one s t a b vs fs fa fb ga fb old new v n (faults.Absent n) h (part_read (opening_at A a) ga place now found.read) (stays_b s t a b vs fs fa fb old new h same)
     (widens_by fa found.more) (widens_none fb) (refl, lacks_side A a b ga fb v is (lacks_at A a ga v now place is found.read found.lacks)) found.read.no_failure
     (rw same h.read_b.no_failure)
@@ -192,12 +193,12 @@ stopped_a s t a b vs fs fa fb old new v n find.Failed h is found same = absurd f
 
 pub stopped_b : {S T : Type 0} (s : SourceMembers S) (t : SourceMembers T) (a b : SourceView) (vs : List FrameLine) (fs fa fb : List Frame) (old new : Recordings S T)
     (v : FrameLine) (n : ℕ) (fault : FindFault) → HasNamed s t a b vs fs fa fb old → v.network ≡ B
-    → IsFindFault (opening_at B b) fb (place_at v.stamp.0 v.number) (finding_of t.remaining t.failures new.b) fault → new.a ≡ old.a
+    → IsFindFault (opening_at B b) fb (place_at v.stamp.0 v.number) (finding_of t new.b) fault → new.a ≡ old.a
     → StopsNaming s t a b vs fs v n (name_fault v.network n fault) new
 stopped_b s t a b vs fs fa fb old new v n find.Absent h is found same =
     let gb = fb ++ found.more in
     let place = Some (place_at v.stamp.0 v.number) in
-    let now = finding_of t.remaining t.failures new.b in
+    let now = finding_of t new.b in
     stopped_one s t a b vs fs fa fb fa gb old new v n (faults.Absent n) h (stays_a s t a b vs fs fa fb old new h same) (part_read (opening_at B b) gb place now found.read)
     (widens_none fa) (widens_by fb found.more) (refl, lacks_side B a b fa gb v is (lacks_at B b gb v now place is found.read found.lacks)) (rw same h.read_a.no_failure)
     found.read.no_failure

@@ -12,7 +12,7 @@ use Rattle.cut_run.specs.Cut.{FailsOnly, IsUnopened}
 use Rattle.cut_run.specs.Naming.{open_fault}
 
 pub refused_b : (fault : OpenFault) (ledger a a' b b' : SourceView) (output : SinkView) → WasOpened a a' → a'.failures ≡ a.failures
-    → IsOpenFault b.remaining b.failures b'.failures fault → TakesAtMost FILE_HEADER_LEN b.remaining b'.remaining
+    → IsOpenFault b.told b.remaining b.failures b'.failures fault → TakesAtMost FILE_HEADER_LEN b.remaining b'.remaining
     → (fault ≡ opening.Device → TakesFewer FILE_HEADER_LEN b.remaining b'.remaining)
     → FailsOnly (open_fault B fault) (record { ledger = ledger; a = a; b = b; output = output }) (record { ledger = ledger; a = a'; b = b'; output = output })
     × IsUnopened (open_fault B fault) (record { ledger = ledger; a = a; b = b; output = output })

@@ -97,8 +97,8 @@ checked_back s t (Some b) vs (Some r) (Some x) h back =
       h.2,
       h.0,
       record {
-        read_a = rw back.0 (part_of s A b.a h.1 r.a back.2 (part_read (opening_at A b.a) h.1 named.floor_a (finding_of s.remaining s.failures r.a) named.read_a));
-        read_b = rw back.1 (part_of t B b.b h.2 r.b back.3 (part_read (opening_at B b.b) h.2 named.floor_b (finding_of t.remaining t.failures r.b) named.read_b));
+        read_a = rw back.0 (part_of s A b.a h.1 r.a back.2 (part_read (opening_at A b.a) h.1 named.floor_a (finding_of s r.a) named.read_a));
+        read_b = rw back.1 (part_of t B b.b h.2 r.b back.3 (part_read (opening_at B b.b) h.2 named.floor_b (finding_of t r.b) named.read_b));
         rise = named.rise;
         named = named.named;
       },

@@ -50,14 +50,14 @@ reads_nothing {L = L} l source reader same none (stage, number, sound) = record 
 -- ---- the end
 
 pub part_of : {S : Type 0} (s : SourceMembers S) (network : Network) (before : SourceView) (frames : List Frame) (finder : FrameFinder S)
-    → length (finding_of s.remaining s.failures finder).unread ≤ MAX_SNAPLEN
-    → ReadsPart (opening_at network before) frames (finding_of s.remaining s.failures finder)
+    → length (finding_of s finder).unread ≤ MAX_SNAPLEN
+    → ReadsPart (opening_at network before) frames (finding_of s finder)
     → IsReadPart network any_lateness before (source_at s (finder_source finder)) frames
 part_of s network before frames finder few part = record {
   position = part.position;
   left = part.left;
-  rest = (finding_of s.remaining s.failures finder).reading.remaining;
-  ahead = (finding_of s.remaining s.failures finder).unread;
+  rest = (finding_of s finder).reading.remaining;
+  ahead = (finding_of s finder).unread;
   read = record { layout = part.read.layout; opened = part.read.opened; opens = part.read.opens; reads = part.read.reads; bounded = part.read.bounded };
   gone = part.gone;
   unread = (few, refl);
@@ -65,8 +65,8 @@ part_of s network before frames finder few part = record {
 
 pub run_of : {L S T W : Type 0} (l : SourceMembers L) (s : SourceMembers S) (t : SourceMembers T) (w : SinkMembers W) (format : Format) (choice : Choice)
     (outcome : Result CutEnding CutFault) (before : CutDevices) (ledger : LedgerReader L) (taking : Taking S T W)
-    → length (finding_of s.remaining s.failures taking.recordings.a).unread ≤ MAX_SNAPLEN
-    → length (finding_of t.remaining t.failures taking.recordings.b).unread ≤ MAX_SNAPLEN → length (unread_of ledger.lines) ≤ BLOCK_LEN
+    → length (finding_of s taking.recordings.a).unread ≤ MAX_SNAPLEN
+    → length (finding_of t taking.recordings.b).unread ≤ MAX_SNAPLEN → length (unread_of ledger.lines) ≤ BLOCK_LEN
     → MatchResult outcome (λ e. EndsCut l s t w format choice e before ledger taking) (λ fault. StopsCut l s t w format choice fault before ledger taking)
     → IsCutRun format choice outcome before
     (devices_at l s t w (source_of ledger) (finder_source taking.recordings.a) (finder_source taking.recordings.b) (sink_of taking.output))
@@ -83,9 +83,9 @@ run_of l s t w format choice (Ok e) before ledger taking few_a few_b few ends =
       found = record {
         lines = ends.lines;
         read_a = part_of s A before.a ends.frames_a taking.recordings.a few_a
-            (part_read (opening_at A before.a) ends.frames_a named.floor_a (finding_of s.remaining s.failures taking.recordings.a) named.read_a);
+            (part_read (opening_at A before.a) ends.frames_a named.floor_a (finding_of s taking.recordings.a) named.read_a);
         read_b = part_of t B before.b ends.frames_b taking.recordings.b few_b
-            (part_read (opening_at B before.b) ends.frames_b named.floor_b (finding_of t.remaining t.failures taking.recordings.b) named.read_b);
+            (part_read (opening_at B before.b) ends.frames_b named.floor_b (finding_of t taking.recordings.b) named.read_b);
         found = ends.took.found;
         rise = named.rise;
         named = named.named;

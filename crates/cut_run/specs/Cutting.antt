@@ -66,8 +66,8 @@ pub record StopsTaking {S T W : Type 0} (s : SourceMembers S) (t : SourceMembers
     (output : SinkView) (vs : List FrameLine) (fs : List Frame) (taken : List (FrameLine × Frame)) (v : FrameLine) (n : ℕ) (fault : CutFault) (taking : Taking S T W) : Type 0 where
   pub frames_a : List Frame
   pub frames_b : List Frame
-  pub read_a : ReadsPart (opening_at A a) frames_a (finding_of s.remaining s.failures taking.recordings.a)
-  pub read_b : ReadsPart (opening_at B b) frames_b (finding_of t.remaining t.failures taking.recordings.b)
+  pub read_a : ReadsPart (opening_at A a) frames_a (finding_of s taking.recordings.a)
+  pub read_b : ReadsPart (opening_at B b) frames_b (finding_of t taking.recordings.b)
   pub found : List Frame
   pub rise : Rise None (read_lines choice.skips vs)
   pub named : AreFramesOf frames_a frames_b (read_lines choice.skips vs) found
@@ -76,8 +76,8 @@ pub record StopsTaking {S T W : Type 0} (s : SourceMembers S) (t : SourceMembers
   pub read : is_read choice.skips v.network ≡ true
   pub why : IsTakeFault fault n a b (read_lines choice.skips vs) v frames_a frames_b
   pub written : WritesUpTo format choice fault frames_a frames_b vs v taken output.contents (w.contents (sink_of taking.output))
-  pub a_failures : FailsWhere (names fault (RecordingSource A)) a.failures (finding_of s.remaining s.failures taking.recordings.a).reading.failures
-  pub b_failures : FailsWhere (names fault (RecordingSource B)) b.failures (finding_of t.remaining t.failures taking.recordings.b).reading.failures
+  pub a_failures : FailsWhere (names fault (RecordingSource A)) a.failures (finding_of s taking.recordings.a).reading.failures
+  pub b_failures : FailsWhere (names fault (RecordingSource B)) b.failures (finding_of t taking.recordings.b).reading.failures
   pub output_failures : FailsWhere (names fault OutputSink) output.failures (w.failures (sink_of taking.output))
 
 -- What a call that writes the packet of a line's frame leaves of the sink. Where there was no memory for it, nothing was written.
@@ -129,8 +129,8 @@ pub record StopsCut {L S T W : Type 0} (l : SourceMembers L) (s : SourceMembers 
   pub frames_a : List Frame
   pub frames_b : List Frame
   pub lines : ReadsLines stages.Head before.ledger.remaining rs stage left
-  pub read_a : ReadsPart (opening_at A before.a) frames_a (finding_of s.remaining s.failures taking.recordings.a)
-  pub read_b : ReadsPart (opening_at B before.b) frames_b (finding_of t.remaining t.failures taking.recordings.b)
+  pub read_a : ReadsPart (opening_at A before.a) frames_a (finding_of s taking.recordings.a)
+  pub read_b : ReadsPart (opening_at B before.b) frames_b (finding_of t taking.recordings.b)
   pub found : List Frame
   pub rise : Rise None (read_lines choice.skips (frame_lines rs))
   pub named : AreFramesOf frames_a frames_b (read_lines choice.skips (frame_lines rs)) found
@@ -139,6 +139,6 @@ pub record StopsCut {L S T W : Type 0} (l : SourceMembers L) (s : SourceMembers 
   pub why : length (unread_of ledger.lines) ≤ BLOCK_LEN → IsLineFault choice.skips fault before rs stage left (l.remaining (source_of ledger)) frames_a frames_b
   pub written : HasWritten format choice fault rs stage left frames_a frames_b taken before.output.contents (w.contents (sink_of taking.output))
   pub ledger_failures : FailsWhere (names fault LedgerSource) before.ledger.failures (l.failures (source_of ledger))
-  pub a_failures : FailsWhere (names fault (RecordingSource A)) before.a.failures (finding_of s.remaining s.failures taking.recordings.a).reading.failures
-  pub b_failures : FailsWhere (names fault (RecordingSource B)) before.b.failures (finding_of t.remaining t.failures taking.recordings.b).reading.failures
+  pub a_failures : FailsWhere (names fault (RecordingSource A)) before.a.failures (finding_of s taking.recordings.a).reading.failures
+  pub b_failures : FailsWhere (names fault (RecordingSource B)) before.b.failures (finding_of t taking.recordings.b).reading.failures
   pub output_failures : FailsWhere (names fault OutputSink) before.output.failures (w.failures (sink_of taking.output))

@@ -12,6 +12,9 @@ use Rattle.pcap_io.specs.declared.recording.Ending.{Ending}
 use Rattle.pcap_io.specs.declared.recording.Stage.TheVariants.{Ended}
 use Rattle.pcap_io.specs.declared.item.ReadFault.{ReadFault}
 use Rattle.pcap_io.specs.declared.item.ReadFault.TheVariants as reads
+use Rattle.pcap_io.specs.Told.{StaysTold}
+use Rattle.pcap_io.specs.declared.told.Told.{Told}
+use Rattle.run_fault.specs.Device.{SourceMembers}
 use Rattle.cut_run.specs.Places.{IsBelow, place_of}
 use Rattle.cut_run.specs.Passed.{AreKept}
 use Rattle.cut_run.specs.declared.place.SearchPlace.{SearchPlace}
@@ -27,15 +30,17 @@ most_frames = 2 ^ 32
 abbrev pub any_late : ℕ
 any_late = 2 ^ 64 - 1
 
--- The recording that a finder was opened on, as network `network`: the bytes that its source showed, where it exposes them, and how often it
--- had failed.
+-- The recording that a finder was opened on, as network `network`: the bytes that its source showed, where it exposes them, how often it
+-- had failed, and what it tells.
 pub record Opening : Type 0 where
   pub network : Network
   pub remaining : Option (List ℕ)
   pub failures : ℕ
+  pub told : Told
 
-abbrev pub opening_of : {S : Type 0} → (S → Option (List ℕ)) → (S → ℕ) → Network → S → Opening
-opening_of remaining failures network source = record { network = network; remaining = remaining source; failures = failures source }
+abbrev pub opening_of : {S : Type 0} → SourceMembers S → Network → S → Opening
+opening_of s network source =
+    record { network = network; remaining = s.remaining source; failures = s.failures source; told = s.told source }
 
 -- what stands of a finder
 pub record Finding : Type 0 where
@@ -48,9 +53,9 @@ pub record Finding : Type 0 where
   pub next : ℕ
   pub failed : Bool
 
-abbrev pub finding_of : {S : Type 0} → (S → Option (List ℕ)) → (S → ℕ) → FrameFinder S → Finding
-finding_of remaining failures finder = record {
-  reading = reading_of remaining failures finder.reader;
+abbrev pub finding_of : {S : Type 0} → SourceMembers S → FrameFinder S → Finding
+finding_of s finder = record {
+  reading = reading_of s.remaining s.failures s.told finder.reader;
   unread = unread_of finder.reader;
   passed = finder.passed;
   next = finder.next;
@@ -66,29 +71,31 @@ finder_source finder = source_of finder.reader
 pub record HasReadFrames (o : Opening) (frames : List Frame) (position : Position) (left : Option (List ℕ)) : Type 0 where
   pub layout : Layout
   pub opened : Option (List ℕ)
-  pub opens : Opens o.remaining opened layout
+  pub opens : Opens o.told o.remaining opened layout
   pub reads : Reads (start_at o.network layout most_frames any_late) opened frames position left
   pub bounded : position.count ≤ most_frames
 
--- the recording ends here, and its reader has found the ending
-pub record HasEnded (position : Position) (left : Option (List ℕ)) (ending : Ending) (now : Reading) : Type 0 where
+-- the recording ends here, with what its source tells, and its reader has found the ending
+pub record HasEnded (position : Position) (told : Told) (left : Option (List ℕ)) (ending : Ending) (now : Reading) : Type 0 where
   pub stands : now.position ≡ record position { stage = Ended ending }
-  pub here : IfSome left (λ bytes. ending_here position bytes ≡ Some ending)
+  pub here : IfSome left (λ bytes. ending_here position told bytes ≡ Some ending)
   pub leaves : EndLeaves left now.remaining ending
   pub gone : TakesAPacket left now.remaining
 
--- a reader goes on here, or has found the ending here
-abbrev pub StandsAt : Position → Option (List ℕ) → Reading → Type 0
-StandsAt position left now =
-    ((now.position ≡ position) × (now.remaining ≡ left)) ⊎ ((ending : Ending) × HasEnded position left ending now)
+-- a reader, whose source tells this, goes on here, or has found the ending here
+abbrev pub StandsAt : Position → Told → Option (List ℕ) → Reading → Type 0
+StandsAt position told left now =
+    ((now.position ≡ position) × (now.remaining ≡ left) × (now.told ≡ told)) ⊎ ((ending : Ending) × HasEnded position told left ending now)
 
 -- The finder has read these frames of the recording, and no more. The last that was asked for is `floor`, and what may still be asked for of
 -- the frames is kept.
 pub record HasRead (o : Opening) (frames : List Frame) (floor : Option SearchPlace) (now : Finding) : Type 0 where
   pub position : Position
   pub left : Option (List ℕ)
+  pub told : Told
+  pub tells : StaysTold o.remaining o.told told
   pub read : HasReadFrames o frames position left
-  pub stands : StandsAt position left now.reading
+  pub stands : StandsAt position told left now.reading
   pub no_failure : now.reading.failures ≡ o.failures
   pub kept : AreKept frames floor now.passed
   pub counted : now.next ≡ length frames

@@ -38,15 +38,15 @@ FloorWithin network (Some p) (Some k) =
     × (p.stamp.0 ≡ k.stamp.0 → (rank network ≤ rank k.network) × (rank network ≡ rank k.network → p.number ≤ k.number))
 
 abbrev pub opening_at : Network → SourceView → Opening
-opening_at network view = record { network = network; remaining = view.remaining; failures = view.failures }
+opening_at network view = record { network = network; remaining = view.remaining; failures = view.failures; told = view.told }
 
 -- Both recordings were opened on these sources. These lines have named these frames, of those that were read.
 pub record HasNamed {S T : Type 0} (s : SourceMembers S) (t : SourceMembers T) (a b : SourceView) (vs : List FrameLine) (fs frames_a frames_b : List Frame)
     (recordings : Recordings S T) : Type 0 where
   pub floor_a : Option SearchPlace
   pub floor_b : Option SearchPlace
-  pub read_a : HasRead (opening_at A a) frames_a floor_a (finding_of s.remaining s.failures recordings.a)
-  pub read_b : HasRead (opening_at B b) frames_b floor_b (finding_of t.remaining t.failures recordings.b)
+  pub read_a : HasRead (opening_at A a) frames_a floor_a (finding_of s recordings.a)
+  pub read_b : HasRead (opening_at B b) frames_b floor_b (finding_of t recordings.b)
   pub within_a : FloorWithin A floor_a (last_key vs)
   pub within_b : FloorWithin B floor_b (last_key vs)
   pub last : recordings.last ≡ last_key vs
@@ -72,7 +72,7 @@ pub record ReadsPart (o : Opening) (frames : List Frame) (now : Finding) : Type 
 abbrev pub LacksFrame : SourceView → List Frame → FrameLine → Type 0
 LacksFrame view frames v =
     ((f : Frame) × (slice_get frames v.number ≡ Some f) × (f.stamp ≢ v.stamp.0))
-    ⊎ ((length frames ≤ v.number) × ((ending : Ending) × IfSome view.remaining (λ bytes. IsRecording v.network (2 ^ 64 - 1) bytes frames ending)))
+    ⊎ ((length frames ≤ v.number) × ((ending : Ending) × IfSome view.remaining (λ bytes. IsRecording v.network (2 ^ 64 - 1) view.told bytes frames ending)))
 
 abbrev pub view_of : Network → SourceView → SourceView → SourceView
 view_of A a b = a
@@ -93,13 +93,13 @@ pub record StopsNaming {S T : Type 0} (s : SourceMembers S) (t : SourceMembers T
     (n : ℕ) (fault : CutFault) (recordings : Recordings S T) : Type 0 where
   pub frames_a : List Frame
   pub frames_b : List Frame
-  pub read_a : ReadsPart (opening_at A a) frames_a (finding_of s.remaining s.failures recordings.a)
-  pub read_b : ReadsPart (opening_at B b) frames_b (finding_of t.remaining t.failures recordings.b)
+  pub read_a : ReadsPart (opening_at A a) frames_a (finding_of s recordings.a)
+  pub read_b : ReadsPart (opening_at B b) frames_b (finding_of t recordings.b)
   pub rise : Rise None vs
   pub named : AreFramesOf frames_a frames_b vs fs
   pub why : IsNameFault fault n a b vs v frames_a frames_b
-  pub a_failures : FailsWhere (names fault (RecordingSource A)) a.failures (finding_of s.remaining s.failures recordings.a).reading.failures
-  pub b_failures : FailsWhere (names fault (RecordingSource B)) b.failures (finding_of t.remaining t.failures recordings.b).reading.failures
+  pub a_failures : FailsWhere (names fault (RecordingSource A)) a.failures (finding_of s recordings.a).reading.failures
+  pub b_failures : FailsWhere (names fault (RecordingSource B)) b.failures (finding_of t recordings.b).reading.failures
 
 -- the fault of a line whose frame a finder didn't find
 abbrev pub name_fault : Network → ℕ → FindFault → CutFault

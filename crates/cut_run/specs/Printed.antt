@@ -187,13 +187,13 @@ pub record StopsFinding {S T : Type 0} (s : SourceMembers S) (t : SourceMembers 
   pub frames_a : List Frame
   pub frames_b : List Frame
   pub frames : List Frame
-  pub read_a : ReadsPart (opening_at A before.a) frames_a (finding_of s.remaining s.failures recordings.a)
-  pub read_b : ReadsPart (opening_at B before.b) frames_b (finding_of t.remaining t.failures recordings.b)
+  pub read_a : ReadsPart (opening_at A before.a) frames_a (finding_of s recordings.a)
+  pub read_b : ReadsPart (opening_at B before.b) frames_b (finding_of t recordings.b)
   pub rise : Rise None vs
   pub named : AreFramesOf frames_a frames_b vs frames
   pub why : IsTakeFault fault n before.a before.b vs v frames_a frames_b
-  pub a_failures : FailsWhere (names fault (RecordingSource A)) before.a.failures (finding_of s.remaining s.failures recordings.a).reading.failures
-  pub b_failures : FailsWhere (names fault (RecordingSource B)) before.b.failures (finding_of t.remaining t.failures recordings.b).reading.failures
+  pub a_failures : FailsWhere (names fault (RecordingSource A)) before.a.failures (finding_of s recordings.a).reading.failures
+  pub b_failures : FailsWhere (names fault (RecordingSource B)) before.b.failures (finding_of t recordings.b).reading.failures
 
 abbrev pub StopsChecking : {S T : Type 0} → SourceMembers S → SourceMembers T → Option Sources → List FrameLine → FrameLine → ℕ → CutFault
     → Option (Recordings S T) → Type 0
@@ -252,8 +252,8 @@ abbrev pub GivesBack : {S T : Type 0} → SourceMembers S → SourceMembers T �
 GivesBack s t None None = ⊤
 GivesBack s t (Some recordings) (Some (a, b)) =
     (a ≡ finder_source recordings.a) × (b ≡ finder_source recordings.b)
-    × (length (finding_of s.remaining s.failures recordings.a).unread ≤ MAX_SNAPLEN)
-    × (length (finding_of t.remaining t.failures recordings.b).unread ≤ MAX_SNAPLEN)
+    × (length (finding_of s recordings.a).unread ≤ MAX_SNAPLEN)
+    × (length (finding_of t recordings.b).unread ≤ MAX_SNAPLEN)
 GivesBack s t recordings sources = ⊥
 
 -- Whatever recordings come back, the devices are left so.

@@ -174,9 +174,9 @@ impl<S: TapSource, T: TapSource, W: OutSink> Taking<'_, S, T, W> {
           finder_source self.entry.recordings.b,
           sink_of self.entry.output,
         ) }
-        ensures lost { (length (finding_of S.remaining S.failures self.entry.recordings.a).unread
+        ensures lost { (length (finding_of S.TapSource self.entry.recordings.a).unread
             ≤ MAX_SNAPLEN)
-            × (length (finding_of T.remaining T.failures self.entry.recordings.b).unread ≤ MAX_SNAPLEN) }
+            × (length (finding_of T.TapSource self.entry.recordings.b).unread ≤ MAX_SNAPLEN) }
     {
         let Taking {
             recordings,

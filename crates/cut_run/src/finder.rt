@@ -62,12 +62,12 @@ impl<S: TapSource> FrameFinder<S> {
         network: Network,
     ) -> Result<FrameFinder<S>, OpenRefused<S>>
         ensures opened { IfOk result (λ finder. HasRead
-            (opening_of S.remaining S.failures network source) [] None
-            (finding_of S.remaining S.failures finder)) }
+            (opening_of S.TapSource network source) [] None
+            (finding_of S.TapSource finder)) }
         // Nothing more than the file header is gone.
         ensures fresh { IfOk result (λ finder. (layout : Layout)
-            × Opens (S.remaining source) (S.remaining (finder_source finder)) layout) }
-        ensures fault { IfErr result (λ e. IsOpenFault (S.remaining source)
+            × Opens (S.told source) (S.remaining source) (S.remaining (finder_source finder)) layout) }
+        ensures fault { IfErr result (λ e. IsOpenFault (S.told source) (S.remaining source)
             (S.failures source) (S.failures e.source) e.fault) }
         ensures taken { IfErr result (λ e.
             TakesAtMost FILE_HEADER_LEN (S.remaining source) (S.remaining e.source)) }
@@ -101,11 +101,11 @@ impl<S: TapSource> FrameFinder<S> {
     /// Reads on to the frame at the place, and keeps those that may still be asked for.
     fn read_to(&mut self, alloc: Global, place: SearchPlace) -> Result<TapFrame, FindFault>
         ensures found { (o : Opening) (frames : List Frame)
-            → HasRead o frames (Some place) (finding_of S.remaining S.failures self.old)
+            → HasRead o frames (Some place) (finding_of S.TapSource self.old)
             → length frames ≤ place.number
             → MatchResult result
-            (λ f. Finds o frames place f (finding_of S.remaining S.failures self.new))
-            (IsFindFault o frames place (finding_of S.remaining S.failures self.new)) }
+            (λ f. Finds o frames place f (finding_of S.TapSource self.new))
+            (IsFindFault o frames place (finding_of S.TapSource self.new)) }
         // After a fault of the reader, or one of memory, it has failed.
         ensures failed { IfErr result (λ fault. fault ≢ FindFault.Absent → self.new.failed ≡ true) }
     {
@@ -139,14 +139,14 @@ impl<S: TapSource> FrameFinder<S> {
     #[inline]
     pub fn find(&mut self, alloc: Global, stamp: Stamp, number: u64) -> Result<TapFrame, FindFault>
         ensures found { (o : Opening) (frames : List Frame) (floor : Option SearchPlace)
-            → HasRead o frames floor (finding_of S.remaining S.failures self.old)
+            → HasRead o frames floor (finding_of S.TapSource self.old)
             → IsAbove floor (place_at stamp.0 number)
             → MatchResult result
-            (λ f. Finds o frames (place_at stamp.0 number) f (finding_of S.remaining S.failures self.new))
-            (IsFindFault o frames (place_at stamp.0 number) (finding_of S.remaining S.failures self.new)) }
+            (λ f. Finds o frames (place_at stamp.0 number) f (finding_of S.TapSource self.new))
+            (IsFindFault o frames (place_at stamp.0 number) (finding_of S.TapSource self.new)) }
         ensures failed { IfErr result (λ fault. fault ≢ FindFault.Absent
-            → (finding_of S.remaining S.failures self.new).failed ≡ true) }
-        ensures refused { (finding_of S.remaining S.failures self.old).failed ≡ true
+            → (finding_of S.TapSource self.new).failed ≡ true) }
+        ensures refused { (finding_of S.TapSource self.old).failed ≡ true
             → (result ≡ Err FindFault.Failed) × (self.new ≡ self.old) }
     {
         if self.failed {
@@ -164,7 +164,7 @@ impl<S: TapSource> FrameFinder<S> {
     /// bytes.
     pub fn into_source(self) -> S
         ensures source { result ≡ finder_source self }
-        ensures lost { length (finding_of S.remaining S.failures self).unread ≤ MAX_SNAPLEN }
+        ensures lost { length (finding_of S.TapSource self).unread ≤ MAX_SNAPLEN }
     {
         self.reader.into_source()
     }

@@ -161,8 +161,8 @@ impl<S: TapSource, T: TapSource> Recordings<S, T> {
     /// The sources. What was read ahead of them is lost.
     pub(crate) fn into_sources(self) -> (S, T)
         ensures sources { result ≡ (finder_source self.a, finder_source self.b) }
-        ensures lost { (length (finding_of S.remaining S.failures self.a).unread ≤ MAX_SNAPLEN)
-            × (length (finding_of T.remaining T.failures self.b).unread ≤ MAX_SNAPLEN) }
+        ensures lost { (length (finding_of S.TapSource self.a).unread ≤ MAX_SNAPLEN)
+            × (length (finding_of T.TapSource self.b).unread ≤ MAX_SNAPLEN) }
     {
         let Recordings { a, b, last: _ } = self;
         (a.into_source(), b.into_source())

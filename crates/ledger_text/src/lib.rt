@@ -17,6 +17,8 @@
 //! - [`read_frame`], the values of a frame's line ([`FrameLine`]), or its first wrong field
 //!   ([`FrameFault`]); [`read_line`], a line at its place ([`LedgerStage`]).
 //! - [`LineSource`], the lines of any source, with [`LineFound`].
+//! - [`Selection`], which lines are taken, by words and fields, with the links of a [`LinkSet`]; [`Chooser`],
+//!   which of a ledger's lines it takes, with [`Neighbours`]: those around the taken ones.
 //! - Laws: a line has one reading ([`line_reads_one_way`]), and what `verdict_ledger` writes of an entry
 //!   reads back as what its line shows ([`entries_read_back`]).
 #![tactic(auto)]

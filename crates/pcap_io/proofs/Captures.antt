@@ -12,6 +12,7 @@ use Rattle.pcap_io.specs.declared.layout.TheConstants.{FILE_HEADER_LEN}
 use Rattle.pcap_io.specs.declared.position.Position.{Position}
 use Rattle.pcap_io.specs.declared.recording.Ending.TheVariants.{Clean}
 use Rattle.pcap_io.specs.declared.recording.Stage.TheVariants.{Going}
+use Rattle.pcap_io.specs.declared.told.Told.TheVariants.{Nothing}
 use Rattle.pcap_io.proofs.FileHeader.{header-append}
 use Rattle.pcap_io.proofs.Parse.{holds_end, holds_more}
 
@@ -29,13 +30,13 @@ unfolding packet_text
 text_is f keep within =
     ap (λ (n : ℕ). header_bytes capture_layout (f.stamp / 1000000000) (f.stamp % 1000000000) n f.whole ++ take keep f.bytes) (sym (length-take-le keep f.bytes within))
 
-is_good : (f : Frame) (keep late high : ℕ) → IsFrame f → keep ≤ length f.bytes → high ≤ f.stamp → f.whole < 2 ^ 32 → is_file_header capture_layout (kept_fields f keep) ≡ false → IsGood capture_layout late high (cut_packet f keep)
+is_good : (f : Frame) (keep late high : ℕ) → IsFrame f → keep ≤ length f.bytes → high ≤ f.stamp → f.whole < 2 ^ 32 → is_file_header (kept_fields f keep) ≡ false → IsGood capture_layout late high (cut_packet f keep)
 is_good f keep late high fits within in_time whole packet = record {
   few_bytes = omega (arith, length-take-le keep f.bytes within, fits.few_bytes);
   seconds_fit = omega (arith, fits.stamp_fits);
   original_len_fits = whole;
   within_second = omega arith;
-  no_file_header = ap (λ (n : ℕ). is_file_header capture_layout (kept_fields f n)) (length-take-le keep f.bytes within) ∙ packet;
+  no_file_header = ap (λ (n : ℕ). is_file_header (kept_fields f n)) (length-take-le keep f.bytes within) ∙ packet;
   in_time = omega arith;
 }
 
@@ -71,32 +72,32 @@ takes_first network most late n high keep f more can few = record {
 }
 
 packets_hold : (network : Network) (most late n high : ℕ) (keep : Frame → ℕ) (frames : List Frame) → AreCapturable keep high frames → n + length frames ≤ most
-    → Holds (position_at network most late n high) (flat_map (λ f. packet_text f (keep f)) frames) (capture_frames network n keep frames) (Clean (n + length frames))
+    → Holds (position_at network most late n high) Nothing (flat_map (λ f. packet_text f (keep f)) frames) (capture_frames network n keep frames) (Clean (n + length frames))
 packets_hold network most late n high keep [] can few =
-    rw add-zero (holds_end (position_at network most late n high) [] (Clean n) (omega arith) refl)
+    rw add-zero (holds_end (position_at network most late n high) Nothing [] (Clean n) (omega arith) refl)
 packets_hold network most late n high keep (f ∷ fs) can few =
     let all : n + 1 + length fs ≡ n + length (f ∷ fs) = omega arith in
     let more : List ℕ = flat_map (λ g. packet_text g (keep g)) fs in
     let next = packets_hold network most late (n + 1) (max high f.stamp) keep fs can.1 (omega arith) in
-    subst (λ (m : ℕ). Holds (position_at network most late n high) (packet_text f (keep f) ++ more) (capture_frames network n keep (f ∷ fs)) (Clean m)) all
-    (holds_more (position_at network most late n high) (packet_text f (keep f) ++ more) more _ _ _ (takes_first network most late n high keep f more can.0 (omega arith)) next)
+    subst (λ (m : ℕ). Holds (position_at network most late n high) Nothing (packet_text f (keep f) ++ more) (capture_frames network n keep (f ∷ fs)) (Clean m)) all
+    (holds_more (position_at network most late n high) Nothing (packet_text f (keep f) ++ more) more _ _ _ (takes_first network most late n high keep f more can.0 (omega arith)) next)
 
 header_size : length capture_header ≡ FILE_HEADER_LEN
 unfolding capture_header
 header_size = refl
 
-header_is_read : header_of capture_header ≡ Ok capture_layout
+header_is_read : header_of Nothing capture_header ≡ Ok capture_layout
 unfolding capture_header
 header_is_read = refl
 
 pub whole_capture : (network : Network) (most late : ℕ) (keep : Frame → ℕ) (frames : List Frame) → AreCapturable keep 0 frames → length frames ≤ most
-    → (header_of (capture_of keep frames) ≡ Ok capture_layout)
-    × Holds (start_at network capture_layout most late) (drop FILE_HEADER_LEN (capture_of keep frames)) (capture_frames network 0 keep frames) (Clean (length frames))
+    → (header_of Nothing (capture_of keep frames) ≡ Ok capture_layout)
+    × Holds (start_at network capture_layout most late) Nothing (drop FILE_HEADER_LEN (capture_of keep frames)) (capture_frames network 0 keep frames) (Clean (length frames))
 whole_capture network most late keep frames can few =
     let packets : List ℕ = flat_map (λ f. packet_text f (keep f)) frames in
     let zero : 0 + length frames ≡ length frames = omega arith in
     let behind : packets ≡ drop FILE_HEADER_LEN (capture_header ++ packets) = sym (drop_at capture_header packets FILE_HEADER_LEN header_size) in
     let held = rw zero at (packets_hold network most late 0 0 keep frames can (omega arith)) in (
-      header-append capture_header packets header_size ∙ header_is_read,
-      subst (λ (b : List ℕ). Holds (start_at network capture_layout most late) b (capture_frames network 0 keep frames) (Clean (length frames))) behind held,
+      header-append Nothing capture_header packets header_size ∙ header_is_read,
+      subst (λ (b : List ℕ). Holds (start_at network capture_layout most late) Nothing b (capture_frames network 0 keep frames) (Clean (length frames))) behind held,
     )

@@ -1,5 +1,5 @@
 -- A packet that stands whole among the unread bytes, and frames that are added to a batch.
-use Rattle.std.proofs.Common.{◌≡◌, ℕ, ◌+◌, ◌-◌, ◌<◌, ◌≤◌, List, [], ◌∷◌, ◌++◌, length, slice_range, Option, None, Ok, refl, sym, ap, ◌∙◌, subst, arith, append_assoc, append-nil}
+use Rattle.std.proofs.Common.{◌≡◌, ℕ, ◌+◌, ◌-◌, ◌<◌, ◌≤◌, List, [], ◌∷◌, ◌++◌, length, slice_range, Option, None, Some, Ok, refl, sym, ap, ◌∙◌, subst, arith, append_assoc, append-nil}
 use Rattle.std.proofs.lemmas.List.{map-append}
 use Rattle.std.specs.Io.KnownBytes.{Consumes, prepend_known}
 use Rattle.afdx_frame.specs.Frame.{Frame}
@@ -14,11 +14,14 @@ use Rattle.pcap_io.specs.declared.item.Item.TheVariants as items
 use Rattle.pcap_io.specs.declared.packet_header.PacketHeader.{PacketHeader}
 use Rattle.pcap_io.specs.declared.position.Position.{Position}
 use Rattle.pcap_io.specs.declared.position.Start.TheVariants as starts
+use Rattle.pcap_io.specs.Told.{StaysTold}
+use Rattle.pcap_io.specs.declared.told.Told.{Told}
+use Rattle.pcap_io.specs.declared.told.Told.TheVariants.{Nothing}
 use Rattle.pcap_io.proofs.Draws.{consumes_prefix, length-between, split_at}
 use Rattle.pcap_io.proofs.Steps.{step_frame, takes_packet}
 
 -- no more packets were read than are read at most
-held_room : (p : Position) (head : List ℕ) (fields : PacketHeader) → p.count ≤ p.most → IsStartOf p head 16 (starts.Header fields) → p.count < p.most
+held_room : (p : Position) (head : List ℕ) (fields : PacketHeader) → p.count ≤ p.most → IsStartOf p Nothing head 16 (starts.Header fields) → p.count < p.most
 held_room p head fields within (all, few, read, fine) = omega (arith, few)
 
 -- where in the bytes of a block the header, the captured bytes and what is left stand
@@ -27,7 +30,7 @@ record Held (p : Position) (xs : List ℕ) (start from to end : ℕ) (fields : P
   pub ordered : from ≤ to
   pub unread : to ≤ end
   pub within : end ≤ length xs
-  pub begins : IsStartOf p (slice_range xs start from) 16 (starts.Header fields)
+  pub begins : IsStartOf p Nothing (slice_range xs start from) 16 (starts.Header fields)
   pub are_bytes : IsBytes (slice_range xs start from)
   pub size : to - from ≡ fields.captured_len
 
@@ -56,13 +59,17 @@ frame_held p source xs start from to end fields few h =
     (size ∙ ap (λ (x : PacketHeader). x.captured_len) h.begins.2) (body_held source xs from to end h.ordered h.unread h.within)
     (ap (λ (x : PacketHeader). frame_at p x (slice_range xs from to)) h.begins.2)
 
+stays_same : (left : Option (List ℕ)) (old new : Told) → new ≡ old → StaysTold left old new
+stays_same None old new e = tt
+stays_same (Some xs) old new e = e
+
 -- the frame of a packet that stands whole in the block is the next
-held_advances : (p q : Position) (source after : Option (List ℕ)) (xs : List ℕ) (start from to end failures still : ℕ) (fields : PacketHeader) (f : Frame) → p.count ≤ p.most
+held_advances : (p q : Position) (tells tells_on : Told) (source after : Option (List ℕ)) (xs : List ℕ) (start from to end failures still : ℕ) (fields : PacketHeader) (f : Frame) → p.count ≤ p.most
     → Held p xs start from to end fields → f ≡ frame_at p fields (slice_range xs from to) → q ≡ after_frame p f.stamp → after ≡ prepend_known (slice_range xs to end) source
-    → still ≡ failures
-    → Advances (λ item. item) (record { position = p; remaining = prepend_known (slice_range xs start end) source; failures = failures })
-    (record { position = q; remaining = after; failures = still }) (Ok (items.Frame f))
-held_advances p q source after xs start from to end failures still fields f few h same place left count =
+    → still ≡ failures → tells_on ≡ tells
+    → Advances (λ item. item) (record { position = p; remaining = prepend_known (slice_range xs start end) source; failures = failures; told = tells })
+    (record { position = q; remaining = after; failures = still; told = tells_on }) (Ok (items.Frame f))
+held_advances p q tells tells_on source after xs start from to end failures still fields f few h same place left count tells_same =
     let takes = frame_held p source xs start from to end fields few h in
     let body = body_held source xs from to end h.ordered h.unread h.within in
     let size : length (slice_range xs from to) ≡ fields.captured_len = length-between from to xs (omega (arith, h.unread, h.within)) ∙ h.size in
@@ -72,6 +79,7 @@ held_advances p q source after xs start from to end failures still fields f few 
       after = place;
       after_fault = tt;
       bounded = omega (arith, few, held_room p _ fields few h.begins, ap (λ (x : Position). x.count) place, ap (λ (x : Position). x.most) place);
+      told = stays_same (prepend_known (slice_range xs start end) source) tells tells_on tells_same;
       no_failure = count;
       fault = tt;
       taken = subst (λ (x : Option (List ℕ)). TakesAtMost 262160 (prepend_known (slice_range xs start end) source) x) (sym left)
@@ -81,14 +89,14 @@ held_advances p q source after xs start from to end failures still fields f few 
     }
 
 -- the same of what a reader finds in the block and puts into a batch
-pub held_added : (p q : Position) (source after : Option (List ℕ)) (xs bytes block : List ℕ) (s e start from to end failures still stamp : ℕ) (fields : PacketHeader) (r : FrameRecord)
+pub held_added : (p q : Position) (tells tells_on : Told) (source after : Option (List ℕ)) (xs bytes block : List ℕ) (s e start from to end failures still stamp : ℕ) (fields : PacketHeader) (r : FrameRecord)
     → p.count ≤ p.most → start ≡ s → end ≡ e → bytes ≡ xs → block ≡ xs → from ≡ start + 16 → to ≡ from + fields.captured_len → from ≤ end → fields.captured_len ≤ end - from
-    → end ≤ length xs → IsBytes (slice_range bytes start from) → IsStartOf p (slice_range bytes start from) 16 (starts.Header fields)
+    → end ≤ length xs → IsBytes (slice_range bytes start from) → IsStartOf p Nothing (slice_range bytes start from) 16 (starts.Header fields)
     → record_frame bytes r ≡ frame_at p fields (slice_range bytes from to) → q ≡ after_frame p stamp → stamp ≡ r.stamp.0
-    → after ≡ prepend_known (slice_range xs (s + (16 + fields.captured_len)) e) source → still ≡ failures
-    → Advances (λ item. item) (record { position = p; remaining = prepend_known (slice_range xs s e) source; failures = failures })
-    (record { position = q; remaining = after; failures = still }) (Ok (items.Frame (record_frame block r)))
-held_added p q source after xs bytes block s e start from to end failures still stamp fields r few at_start at_end same_bytes same_block is_from is_to room enough within are begins frame place stamped left count =
+    → after ≡ prepend_known (slice_range xs (s + (16 + fields.captured_len)) e) source → still ≡ failures → tells_on ≡ tells
+    → Advances (λ item. item) (record { position = p; remaining = prepend_known (slice_range xs s e) source; failures = failures; told = tells })
+    (record { position = q; remaining = after; failures = still; told = tells_on }) (Ok (items.Frame (record_frame block r)))
+held_added p q tells tells_on source after xs bytes block s e start from to end failures still stamp fields r few at_start at_end same_bytes same_block is_from is_to room enough within are begins frame place stamped left count tells_same =
     let to_is : s + (16 + fields.captured_len) ≡ to = omega (arith, at_start, is_from, is_to) in
     let head : slice_range bytes start from ≡ slice_range xs s from =
     ap (λ (b : List ℕ). slice_range b start from) same_bytes ∙ ap (λ (n : ℕ). slice_range xs n from) at_start in
@@ -97,13 +105,13 @@ held_added p q source after xs bytes block s e start from to end failures still 
       ordered = omega (arith, is_to);
       unread = omega (arith, is_to, at_end, room, enough);
       within = omega (arith, at_end, within);
-      begins = subst (λ (h : List ℕ). IsStartOf p h 16 (starts.Header fields)) head begins;
+      begins = subst (λ (h : List ℕ). IsStartOf p Nothing h 16 (starts.Header fields)) head begins;
       are_bytes = subst IsBytes head are;
       size = omega (arith, is_to);
     } in
-    held_advances p q source after xs s from to e failures still fields (record_frame block r) few held
+    held_advances p q tells tells_on source after xs s from to e failures still fields (record_frame block r) few held
     (ap (λ (b : List ℕ). record_frame b r) (same_block ∙ sym same_bytes) ∙ frame ∙ ap (λ (b : List ℕ). frame_at p fields (slice_range b from to)) same_bytes)
-    (place ∙ ap (after_frame p) stamped) (left ∙ ap (λ (n : ℕ). prepend_known (slice_range xs n e) source) to_is) count
+    (place ∙ ap (after_frame p) stamped) (left ∙ ap (λ (n : ℕ). prepend_known (slice_range xs n e) source) to_is) count tells_same
 
 -- ---- frames one after another
 

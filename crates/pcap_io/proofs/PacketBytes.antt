@@ -12,9 +12,10 @@ use Rattle.pcap_io.specs.Recording.{Packet, IsGood, header_bytes, packet_bytes, 
 use Rattle.pcap_io.specs.declared.layout.ByteOrder.{ByteOrder}
 use Rattle.pcap_io.specs.declared.layout.ByteOrder.TheVariants.{Little, Big}
 use Rattle.pcap_io.specs.declared.layout.Precision.{Precision}
-use Rattle.pcap_io.specs.declared.layout.Precision.TheVariants.{Nanoseconds, Microseconds, Converted}
+use Rattle.pcap_io.specs.declared.layout.Precision.TheVariants.{Nanoseconds, Microseconds}
 use Rattle.pcap_io.specs.declared.layout.Layout.{Layout}
 use Rattle.pcap_io.specs.declared.packet_header.PacketHeader.{PacketHeader}
+use Rattle.pcap_io.specs.declared.told.Told.{Told}
 
 -- ---- numbers of four bytes
 
@@ -123,7 +124,7 @@ header_bytes_read_back l head size fits =
 
 -- what is wrong with a packet's fields
 
-pub reason_none : (l : Layout) (late high : ℕ) (head : PacketHeader) → is_file_header l head ≡ false → head.captured_len ≤ MAX_SNAPLEN → head.fraction < fractions_of l.precision
+pub reason_none : (l : Layout) (late high : ℕ) (head : PacketHeader) → is_file_header head ≡ false → head.captured_len ≤ MAX_SNAPLEN → head.fraction < fractions_of l.precision
     → high ≤ stamp_at l head.seconds head.fraction + late → reason_at l late high head ≡ None
 reason_none l late high head packet few within in_time =
     let long : nat_lt MAX_SNAPLEN head.captured_len ≡ false = le-ltb MAX_SNAPLEN head.captured_len few in
@@ -137,7 +138,7 @@ none_of false x o e = (refl, e)
 
 -- nothing is wrong with the fields
 pub record IsFine (l : Layout) (late high : ℕ) (head : PacketHeader) : Type 0 where
-  pub no_file_header : is_file_header l head ≡ false
+  pub no_file_header : is_file_header head ≡ false
   pub few : head.captured_len ≤ MAX_SNAPLEN
   pub within : head.fraction < fractions_of l.precision
   pub in_time : high ≤ stamp_at l head.seconds head.fraction + late
@@ -153,7 +154,6 @@ fine_from_none l late high head e =
 pub fractions_fit : (p : Precision) (n : ℕ) → n < fractions_of p → n < 2 ^ 32
 fractions_fit Nanoseconds n h = omega arith
 fractions_fit Microseconds n h = omega arith
-fractions_fit Converted n h = omega arith
 
 -- ---- what a packet is to a reader
 
@@ -166,9 +166,9 @@ header-packet_bytes l r more ps pf ph pw =
     ap (header_fields l) front ∙ header_reads_back l r.seconds r.fraction (length r.bytes) r.original_len ps pf ph pw
 
 -- where a good packet stands nothing ends
-pub good_goes_on : (l : Layout) (most late n high : ℕ) (r : Packet) (more : List ℕ) → IsGood l late high r → n < most
-    → ending_at l most late n high (packet_bytes l r ++ more) ≡ None
-good_goes_on l most late n high r more good few =
+pub good_goes_on : (l : Layout) (most late : ℕ) (told : Told) (n high : ℕ) (r : Packet) (more : List ℕ) → IsGood l late high r → n < most
+    → ending_at l most late told n high (packet_bytes l r ++ more) ≡ None
+good_goes_on l most late told n high r more good few =
     let rest : List ℕ = packet_bytes l r ++ more in
     let head = header-packet_bytes l r more good.seconds_fit (fractions_fit l.precision r.fraction good.within_second) (omega (arith, good.few_bytes)) good.original_len_fits in
     let size : length rest ≡ 16 + length r.bytes + length more = length-append (packet_bytes l r) more ∙ ap (λ (x : ℕ). x + length more) (length-packet_bytes l r) in

@@ -14,20 +14,21 @@ use Rattle.pcap_io.specs.declared.recording.BadReason.{BadReason}
 use Rattle.pcap_io.specs.declared.recording.Ending.{Ending}
 use Rattle.pcap_io.specs.declared.position.Position.{Position}
 use Rattle.pcap_io.specs.declared.item.Item.TheVariants as items
+use Rattle.pcap_io.specs.declared.told.Told.{Told}
 
 -- ---- one more packet before the others
 
-pub parses_end : (l : Layout) (most late n high : ℕ) (bytes : List ℕ) (e : Ending) → n ≤ most → ending_at l most late n high bytes ≡ Some e
-    → Parses l most late n high bytes [] bytes e
-parses_end l most late n high bytes e few ends = record { complete = refl; good = tt; bounded = omega arith; ends = rw add-zero ends }
+pub parses_end : (l : Layout) (most late : ℕ) (told : Told) (n high : ℕ) (bytes : List ℕ) (e : Ending) → n ≤ most → ending_at l most late told n high bytes ≡ Some e
+    → Parses l most late told n high bytes [] bytes e
+parses_end l most late told n high bytes e few ends = record { complete = refl; good = tt; bounded = omega arith; ends = rw add-zero ends }
 
-pub parses_more : (l : Layout) (most late n high : ℕ) (r : Packet) (bytes : List ℕ) (rs : List Packet) (rest : List ℕ) (e : Ending) → IsGood l late high r
-    → Parses l most late (n + 1) (max high (stamp_of l r)) bytes rs rest e → Parses l most late n high (packet_bytes l r ++ bytes) (r ∷ rs) rest e
-parses_more l most late n high r bytes rs rest e good s = record {
+pub parses_more : (l : Layout) (most late : ℕ) (told : Told) (n high : ℕ) (r : Packet) (bytes : List ℕ) (rs : List Packet) (rest : List ℕ) (e : Ending) → IsGood l late high r
+    → Parses l most late told (n + 1) (max high (stamp_of l r)) bytes rs rest e → Parses l most late told n high (packet_bytes l r ++ bytes) (r ∷ rs) rest e
+parses_more l most late told n high r bytes rs rest e good s = record {
   complete = ap (λ (b : List ℕ). packet_bytes l r ++ b) s.complete ∙ sym (append_assoc (packet_bytes l r) (flat_map (packet_bytes l) rs) rest);
   good = (good, s.good);
   bounded = omega (arith, s.bounded);
-  ends = subst (λ (m : ℕ). ending_at l most late m (high_after l (max high (stamp_of l r)) rs) rest ≡ Some e) (omega arith) s.ends;
+  ends = subst (λ (m : ℕ). ending_at l most late told m (high_after l (max high (stamp_of l r)) rs) rest ≡ Some e) (omega arith) s.ends;
 }
 
 -- ---- only one parse
@@ -73,37 +74,37 @@ none_some : {A : Type 0} (o : Option A) (x : A) → o ≡ None → o ≡ Some x 
 none_some o x p q = cc
 
 -- the parse after the first packet
-pub tail_parse : (l : Layout) (most late n high : ℕ) (bytes : List ℕ) (r : Packet) (rs : List Packet) (rest : List ℕ) (e : Ending)
-    → Parses l most late n high bytes (r ∷ rs) rest e → Parses l most late (n + 1) (max high (stamp_of l r)) (flat_map (packet_bytes l) rs ++ rest) rs rest e
-tail_parse l most late n high bytes r rs rest e s = record {
+pub tail_parse : (l : Layout) (most late : ℕ) (told : Told) (n high : ℕ) (bytes : List ℕ) (r : Packet) (rs : List Packet) (rest : List ℕ) (e : Ending)
+    → Parses l most late told n high bytes (r ∷ rs) rest e → Parses l most late told (n + 1) (max high (stamp_of l r)) (flat_map (packet_bytes l) rs ++ rest) rs rest e
+tail_parse l most late told n high bytes r rs rest e s = record {
   complete = refl;
   good = s.good.1;
   bounded = omega (arith, s.bounded);
-  ends = subst (λ (m : ℕ). ending_at l most late m (high_after l (max high (stamp_of l r)) rs) rest ≡ Some e) (omega arith) s.ends;
+  ends = subst (λ (m : ℕ). ending_at l most late told m (high_after l (max high (stamp_of l r)) rs) rest ≡ Some e) (omega arith) s.ends;
 }
 
-pub same_parse : (l : Layout) (most late n high : ℕ) (bytes : List ℕ) (rs ss : List Packet) (rest other : List ℕ) (e f : Ending)
-    → Parses l most late n high bytes rs rest e → Parses l most late n high bytes ss other f → IsSame rs ss rest other e f
-same_parse l most late n high bytes [] [] rest other e f s t =
+pub same_parse : (l : Layout) (most late : ℕ) (told : Told) (n high : ℕ) (bytes : List ℕ) (rs ss : List Packet) (rest other : List ℕ) (e f : Ending)
+    → Parses l most late told n high bytes rs rest e → Parses l most late told n high bytes ss other f → IsSame rs ss rest other e f
+same_parse l most late told n high bytes [] [] rest other e f s t =
     let same : rest ≡ other = sym s.complete ∙ t.complete in
-    record { same_packets = refl; same_rest = same; same_ending = some_same e f (sym s.ends ∙ ap (λ (x : List ℕ). ending_at l most late (n + 0) high x) same ∙ t.ends) }
-same_parse l most late n high bytes [] (q ∷ ss) rest other e f s t =
+    record { same_packets = refl; same_rest = same; same_ending = some_same e f (sym s.ends ∙ ap (λ (x : List ℕ). ending_at l most late told (n + 0) high x) same ∙ t.ends) }
+same_parse l most late told n high bytes [] (q ∷ ss) rest other e f s t =
     let text : rest ≡ packet_bytes l q ++ (flat_map (packet_bytes l) ss ++ other) = sym s.complete ∙ t.complete ∙ append_assoc (packet_bytes l q) (flat_map (packet_bytes l) ss) other in
-    let goes = good_goes_on l most late (n + 0) high q (flat_map (packet_bytes l) ss ++ other) t.good.0 (omega (arith, t.bounded)) in
-    absurd (none_some _ e (ap (ending_at l most late (n + 0) high) text ∙ goes) s.ends)
-same_parse l most late n high bytes (r ∷ rs) [] rest other e f s t =
+    let goes = good_goes_on l most late told (n + 0) high q (flat_map (packet_bytes l) ss ++ other) t.good.0 (omega (arith, t.bounded)) in
+    absurd (none_some _ e (ap (ending_at l most late told (n + 0) high) text ∙ goes) s.ends)
+same_parse l most late told n high bytes (r ∷ rs) [] rest other e f s t =
     let text : other ≡ packet_bytes l r ++ (flat_map (packet_bytes l) rs ++ rest) = sym t.complete ∙ s.complete ∙ append_assoc (packet_bytes l r) (flat_map (packet_bytes l) rs) rest in
-    let goes = good_goes_on l most late (n + 0) high r (flat_map (packet_bytes l) rs ++ rest) s.good.0 (omega (arith, s.bounded)) in
-    absurd (none_some _ f (ap (ending_at l most late (n + 0) high) text ∙ goes) t.ends)
-same_parse l most late n high bytes (r ∷ rs) (q ∷ ss) rest other e f s t =
+    let goes = good_goes_on l most late told (n + 0) high r (flat_map (packet_bytes l) rs ++ rest) s.good.0 (omega (arith, s.bounded)) in
+    absurd (none_some _ f (ap (ending_at l most late told (n + 0) high) text ∙ goes) t.ends)
+same_parse l most late told n high bytes (r ∷ rs) (q ∷ ss) rest other e f s t =
     let first = same_front l late high r q (flat_map (packet_bytes l) rs ++ rest) (flat_map (packet_bytes l) ss ++ other) s.good.0 t.good.0
     (sym (append_assoc (packet_bytes l r) (flat_map (packet_bytes l) rs) rest) ∙ sym s.complete ∙ t.complete ∙ append_assoc (packet_bytes l q) (flat_map (packet_bytes l) ss) other) in
-    let left : Parses l most late (n + 1) (max high (stamp_of l r)) (flat_map (packet_bytes l) rs ++ rest) rs rest e = tail_parse l most late n high bytes r rs rest e s in
-    let right : Parses l most late (n + 1) (max high (stamp_of l q)) (flat_map (packet_bytes l) ss ++ other) ss other f = tail_parse l most late n high bytes q ss other f t in
-    let moved : Parses l most late (n + 1) (max high (stamp_of l r)) (flat_map (packet_bytes l) rs ++ rest) ss other f =
-    subst (λ (x : List ℕ). Parses l most late (n + 1) (max high (stamp_of l r)) x ss other f) (sym first.1)
-    (subst (λ (x : Packet). Parses l most late (n + 1) (max high (stamp_of l x)) (flat_map (packet_bytes l) ss ++ other) ss other f) (sym first.0) right) in
-    let more = same_parse l most late (n + 1) (max high (stamp_of l r)) (flat_map (packet_bytes l) rs ++ rest) rs ss rest other e f left moved in
+    let left : Parses l most late told (n + 1) (max high (stamp_of l r)) (flat_map (packet_bytes l) rs ++ rest) rs rest e = tail_parse l most late told n high bytes r rs rest e s in
+    let right : Parses l most late told (n + 1) (max high (stamp_of l q)) (flat_map (packet_bytes l) ss ++ other) ss other f = tail_parse l most late told n high bytes q ss other f t in
+    let moved : Parses l most late told (n + 1) (max high (stamp_of l r)) (flat_map (packet_bytes l) rs ++ rest) ss other f =
+    subst (λ (x : List ℕ). Parses l most late told (n + 1) (max high (stamp_of l r)) x ss other f) (sym first.1)
+    (subst (λ (x : Packet). Parses l most late told (n + 1) (max high (stamp_of l x)) (flat_map (packet_bytes l) ss ++ other) ss other f) (sym first.0) right) in
+    let more = same_parse l most late told (n + 1) (max high (stamp_of l r)) (flat_map (packet_bytes l) rs ++ rest) rs ss rest other e f left moved in
     record { same_packets = ap (λ (x : Packet). x ∷ rs) first.0 ∙ ap (λ (xs : List Packet). q ∷ xs) more.same_packets; same_rest = more.same_rest; same_ending = more.same_ending }
 
 -- ---- some parse
@@ -133,8 +134,8 @@ record Standing (l : Layout) (most late n high : ℕ) (bytes : List ℕ) : Type 
   fine : IsFine l late high (header_fields l (take 16 bytes))
   whole : (header_fields l (take 16 bytes)).captured_len ≤ length bytes - 16
 
-standing : (l : Layout) (most late n high : ℕ) (bytes : List ℕ) → ending_at l most late n high bytes ≡ None → Standing l most late n high bytes
-standing l most late n high bytes e =
+standing : (l : Layout) (most late : ℕ) (told : Told) (n high : ℕ) (bytes : List ℕ) → ending_at l most late told n high bytes ≡ None → Standing l most late n high bytes
+standing l most late told n high bytes e =
     let some = none_of _ _ _ e in
     let other = none_of _ _ _ some.1 in
     let long = none_of _ _ _ other.1 in
@@ -146,9 +147,9 @@ standing l most late n high bytes e =
       whole = behind.1;
     }
 
-pub goes_on : (l : Layout) (most late n high : ℕ) (bytes : List ℕ) → IsBytes bytes → ending_at l most late n high bytes ≡ None → StandsGood l most late n high bytes
-goes_on l most late n high bytes fits e =
-    let stands = standing l most late n high bytes e in
+pub goes_on : (l : Layout) (most late : ℕ) (told : Told) (n high : ℕ) (bytes : List ℕ) → IsBytes bytes → ending_at l most late told n high bytes ≡ None → StandsGood l most late n high bytes
+goes_on l most late told n high bytes fits e =
+    let stands = standing l most late told n high bytes e in
     let head : List ℕ = take 16 bytes in
     let fields : PacketHeader = header_fields l head in
     let size : length head ≡ 16 = length-take-le 16 bytes stands.enough in
@@ -166,7 +167,7 @@ goes_on l most late n high bytes fits e =
         seconds_fit = number_fits l.order head head_fits;
         original_len_fits = number_fits l.order (drop 12 head) (IsBytes-drop 12 head head_fits);
         within_second = stands.fine.within;
-        no_file_header = ap (λ (n : ℕ). is_file_header l (header_with fields.seconds fields.fraction n fields.original_len)) held ∙ stands.fine.no_file_header;
+        no_file_header = ap (λ (n : ℕ). is_file_header (header_with fields.seconds fields.fraction n fields.original_len)) held ∙ stands.fine.no_file_header;
         in_time = stands.fine.in_time;
       };
       few = stands.few;
@@ -177,8 +178,8 @@ goes_on l most late n high bytes fits e =
     }
 
 -- a parse
-abbrev pub HasParse : Layout → ℕ → ℕ → ℕ → ℕ → List ℕ → Type 0
-HasParse l most late n high bytes = (packets : List Packet) × (rest : List ℕ) × (ending : Ending) × Parses l most late n high bytes packets rest ending
+abbrev pub HasParse : Layout → ℕ → ℕ → Told → ℕ → ℕ → List ℕ → Type 0
+HasParse l most late told n high bytes = (packets : List Packet) × (rest : List ℕ) × (ending : Ending) × Parses l most late told n high bytes packets rest ending
 
 option_cases : {A : Type 0} (o : Option A) → ((x : A) × (o ≡ Some x)) ⊎ (o ≡ None)
 option_cases None = inr refl
@@ -193,102 +194,102 @@ more_fit l most late n high bytes g fits =
     let behind : drop (length (packet_bytes l g.first)) bytes ≡ g.more = ap (drop (length (packet_bytes l g.first))) g.same ∙ drop_at (packet_bytes l g.first) g.more (length (packet_bytes l g.first)) refl in
     subst IsBytes behind (IsBytes-drop (length (packet_bytes l g.first)) bytes fits)
 
-pub some_parse : (fuel : ℕ) (l : Layout) (most late n high : ℕ) (bytes : List ℕ) → length bytes ≤ fuel → IsBytes bytes → n ≤ most → HasParse l most late n high bytes
-some_parse zero l most late n high bytes short fits within = elim (option_cases (ending_at l most late n high bytes)) [
-  | inl found ↦ ([], bytes, found.0, parses_end l most late n high bytes found.0 within found.1)
-  | inr none ↦ let g = goes_on l most late n high bytes fits none in absurd (omega (arith, shorter l most late n high 0 bytes g short))
+pub some_parse : (fuel : ℕ) (l : Layout) (most late : ℕ) (told : Told) (n high : ℕ) (bytes : List ℕ) → length bytes ≤ fuel → IsBytes bytes → n ≤ most → HasParse l most late told n high bytes
+some_parse zero l most late told n high bytes short fits within = elim (option_cases (ending_at l most late told n high bytes)) [
+  | inl found ↦ ([], bytes, found.0, parses_end l most late told n high bytes found.0 within found.1)
+  | inr none ↦ let g = goes_on l most late told n high bytes fits none in absurd (omega (arith, shorter l most late n high 0 bytes g short))
 ]
-some_parse (suc fuel) l most late n high bytes short fits within = elim (option_cases (ending_at l most late n high bytes)) [
-  | inl found ↦ ([], bytes, found.0, parses_end l most late n high bytes found.0 within found.1)
+some_parse (suc fuel) l most late told n high bytes short fits within = elim (option_cases (ending_at l most late told n high bytes)) [
+  | inl found ↦ ([], bytes, found.0, parses_end l most late told n high bytes found.0 within found.1)
   | inr none ↦
-      let g = goes_on l most late n high bytes fits none in
+      let g = goes_on l most late told n high bytes fits none in
       let size = shorter l most late n high (suc fuel) bytes g short in
-      let next = some_parse fuel l most late (n + 1) (max high (stamp_of l g.first)) g.more (omega (arith, size)) (more_fit l most late n high bytes g fits) (omega (arith, g.few)) in (
+      let next = some_parse fuel l most late told (n + 1) (max high (stamp_of l g.first)) g.more (omega (arith, size)) (more_fit l most late n high bytes g fits) (omega (arith, g.few)) in (
         g.first ∷ next.0,
         next.1,
         next.2,
-        subst (λ (x : List ℕ). Parses l most late n high x (g.first ∷ next.0) next.1 next.2) (sym g.same)
-            (parses_more l most late n high g.first g.more next.0 next.1 next.2 g.good next.3),
+        subst (λ (x : List ℕ). Parses l most late told n high x (g.first ∷ next.0) next.1 next.2) (sym g.same)
+            (parses_more l most late told n high g.first g.more next.0 next.1 next.2 g.good next.3),
       )
 ]
 
 -- ---- a reader's calls
 
-pub holds_end : (p : Position) (bytes : List ℕ) (e : Ending) → p.count ≤ p.most → ending_here p bytes ≡ Some e → Holds p bytes [] e
-holds_end p bytes e within ends = record {
+pub holds_end : (p : Position) (told : Told) (bytes : List ℕ) (e : Ending) → p.count ≤ p.most → ending_here p told bytes ≡ Some e → Holds p told bytes [] e
+holds_end p told bytes e within ends = record {
   packets = [];
   rest = bytes;
-  parse = parses_end p.layout p.most p.late p.count p.high bytes e within ends;
+  parse = parses_end p.layout p.most p.late told p.count p.high bytes e within ends;
   same = refl;
 }
 
 -- a frame that was read comes before those that follow it
-pub holds_more : (p : Position) (bytes more : List ℕ) (f : Frame) (fs : List Frame) (e : Ending) → TakesFrame p (Some bytes) (Some more) f
-    → Holds (after_item p (items.Frame f)) more fs e → Holds p bytes (f ∷ fs) e
-holds_more p bytes more f fs e t h =
+pub holds_more : (p : Position) (told : Told) (bytes more : List ℕ) (f : Frame) (fs : List Frame) (e : Ending) → TakesFrame p (Some bytes) (Some more) f
+    → Holds (after_item p (items.Frame f)) told more fs e → Holds p told bytes (f ∷ fs) e
+holds_more p told bytes more f fs e t h =
     let l = p.layout in
     let stamp : f.stamp ≡ stamp_of l t.taken = ap (λ (x : Frame). x.stamp) t.same in
-    let parse : Parses l p.most p.late (p.count + 1) (max p.high (stamp_of l t.taken)) more h.packets h.rest e =
-    subst (λ (x : ℕ). Parses l p.most p.late (p.count + 1) (max p.high x) more h.packets h.rest e) stamp h.parse in
+    let parse : Parses l p.most p.late told (p.count + 1) (max p.high (stamp_of l t.taken)) more h.packets h.rest e =
+    subst (λ (x : ℕ). Parses l p.most p.late told (p.count + 1) (max p.high x) more h.packets h.rest e) stamp h.parse in
     record {
       packets = t.taken ∷ h.packets;
       rest = h.rest;
-      parse = subst (λ (x : List ℕ). Parses l p.most p.late p.count p.high x (t.taken ∷ h.packets) h.rest e) (sym t.gone)
-          (parses_more l p.most p.late p.count p.high t.taken more h.packets h.rest e t.good parse);
+      parse = subst (λ (x : List ℕ). Parses l p.most p.late told p.count p.high x (t.taken ∷ h.packets) h.rest e) (sym t.gone)
+          (parses_more l p.most p.late told p.count p.high t.taken more h.packets h.rest e t.good parse);
       same = ap (λ (x : Frame). x ∷ fs) t.same ∙ ap (λ (xs : List Frame). frame_of p.network l p.count t.taken ∷ xs) h.same;
     }
 
 -- no others are held
-pub one_holds : (p : Position) (bytes : List ℕ) (fs gs : List Frame) (e d : Ending) → Holds p bytes fs e → Holds p bytes gs d → (fs ≡ gs) × (e ≡ d)
-one_holds p bytes fs gs e d h k =
-    let one = same_parse p.layout p.most p.late p.count p.high bytes h.packets k.packets h.rest k.rest e d h.parse k.parse in
+pub one_holds : (p : Position) (told : Told) (bytes : List ℕ) (fs gs : List Frame) (e d : Ending) → Holds p told bytes fs e → Holds p told bytes gs d → (fs ≡ gs) × (e ≡ d)
+one_holds p told bytes fs gs e d h k =
+    let one = same_parse p.layout p.most p.late told p.count p.high bytes h.packets k.packets h.rest k.rest e d h.parse k.parse in
     (h.same ∙ ap (frames_of p.network p.layout p.count) one.same_packets ∙ sym k.same, one.same_ending)
 
 -- after the first frame the others are held
-pub tail_holds : (p : Position) (bytes more : List ℕ) (f : Frame) (all : List Frame) (e : Ending) (rs : List Packet) (rest : List ℕ) → TakesFrame p (Some bytes) (Some more) f
-    → Parses p.layout p.most p.late p.count p.high bytes rs rest e → all ≡ frames_of p.network p.layout p.count rs
-    → (others : List Frame) × (all ≡ f ∷ others) × Holds (after_frame p f.stamp) more others e
-tail_holds p bytes more f all e [] rest t s same =
+pub tail_holds : (p : Position) (told : Told) (bytes more : List ℕ) (f : Frame) (all : List Frame) (e : Ending) (rs : List Packet) (rest : List ℕ) → TakesFrame p (Some bytes) (Some more) f
+    → Parses p.layout p.most p.late told p.count p.high bytes rs rest e → all ≡ frames_of p.network p.layout p.count rs
+    → (others : List Frame) × (all ≡ f ∷ others) × Holds (after_frame p f.stamp) told more others e
+tail_holds p told bytes more f all e [] rest t s same =
     let l = p.layout in
     let text : rest ≡ packet_bytes l t.taken ++ more = sym s.complete ∙ t.gone in
-    let goes = good_goes_on l p.most p.late (p.count + 0) p.high t.taken more t.good (omega (arith, t.bounded)) in
-    absurd (none_some _ e (ap (ending_at l p.most p.late (p.count + 0) p.high) text ∙ goes) s.ends)
-tail_holds p bytes more f all e (r ∷ rs) rest t s same =
+    let goes = good_goes_on l p.most p.late told (p.count + 0) p.high t.taken more t.good (omega (arith, t.bounded)) in
+    absurd (none_some _ e (ap (ending_at l p.most p.late told (p.count + 0) p.high) text ∙ goes) s.ends)
+tail_holds p told bytes more f all e (r ∷ rs) rest t s same =
     let l = p.layout in
     let behind : List ℕ = flat_map (packet_bytes l) rs ++ rest in
     let first = same_front l p.late p.high r t.taken behind more s.good.0 t.good (sym (append_assoc (packet_bytes l r) (flat_map (packet_bytes l) rs) rest) ∙ sym s.complete ∙ t.gone) in
     let frame : frame_of p.network l p.count r ≡ f = ap (frame_of p.network l p.count) first.0 ∙ sym t.same in
     let stamp : stamp_of l r ≡ f.stamp = ap (λ (x : Frame). x.stamp) frame in
-    let tail : Parses l p.most p.late (p.count + 1) (max p.high (stamp_of l r)) behind rs rest e = tail_parse l p.most p.late p.count p.high bytes r rs rest e s in
-    let moved : Parses l p.most p.late (p.count + 1) (max p.high f.stamp) more rs rest e =
-    subst (λ (x : ℕ). Parses l p.most p.late (p.count + 1) (max p.high x) more rs rest e) stamp
-    (subst (λ (b : List ℕ). Parses l p.most p.late (p.count + 1) (max p.high (stamp_of l r)) b rs rest e) first.1 tail) in (
+    let tail : Parses l p.most p.late told (p.count + 1) (max p.high (stamp_of l r)) behind rs rest e = tail_parse l p.most p.late told p.count p.high bytes r rs rest e s in
+    let moved : Parses l p.most p.late told (p.count + 1) (max p.high f.stamp) more rs rest e =
+    subst (λ (x : ℕ). Parses l p.most p.late told (p.count + 1) (max p.high x) more rs rest e) stamp
+    (subst (λ (b : List ℕ). Parses l p.most p.late told (p.count + 1) (max p.high (stamp_of l r)) b rs rest e) first.1 tail) in (
       frames_of p.network l (p.count + 1) rs,
       same ∙ ap (λ (x : Frame). x ∷ frames_of p.network l (p.count + 1) rs) frame,
       record { packets = rs; rest = rest; parse = moved; same = refl },
     )
 
 -- calls up to an ending
-pub reads_to_end : (p q : Position) (bytes : List ℕ) (left after : Option (List ℕ)) (frames : List Frame) (e : Ending) → p.count ≤ p.most
-    → Reads p (Some bytes) frames q left → IsNext q left after (items.End e) → Holds p bytes frames e
-reads_to_end p q bytes left after [] e within (here, all) next =
-    let stands : IsNext p left after (items.End e) = subst (λ (x : Position). IsNext x left after (items.End e)) (sym here) next in
-    let found : IsNext p (Some bytes) after (items.End e) = subst (λ (x : Option (List ℕ)). IsNext p x after (items.End e)) (sym all) stands in
-    holds_end p bytes e within found
-reads_to_end p q bytes left after (f ∷ fs) e within (None, t, more) next = absurd t.gone
-reads_to_end p q bytes left after (f ∷ fs) e within (Some mid, t, more) next =
-    holds_more p bytes mid f fs e t (reads_to_end (after_frame p f.stamp) q mid left after fs e (omega (arith, t.bounded)) more next)
+pub reads_to_end : (p q : Position) (told : Told) (bytes : List ℕ) (left after : Option (List ℕ)) (frames : List Frame) (e : Ending) → p.count ≤ p.most
+    → Reads p (Some bytes) frames q left → IsNext q told left after (items.End e) → Holds p told bytes frames e
+reads_to_end p q told bytes left after [] e within (here, all) next =
+    let stands : IsNext p told left after (items.End e) = subst (λ (x : Position). IsNext x told left after (items.End e)) (sym here) next in
+    let found : IsNext p told (Some bytes) after (items.End e) = subst (λ (x : Option (List ℕ)). IsNext p told x after (items.End e)) (sym all) stands in
+    holds_end p told bytes e within found
+reads_to_end p q told bytes left after (f ∷ fs) e within (None, t, more) next = absurd t.gone
+reads_to_end p q told bytes left after (f ∷ fs) e within (Some mid, t, more) next =
+    holds_more p told bytes mid f fs e t (reads_to_end (after_frame p f.stamp) q told mid left after fs e (omega (arith, t.bounded)) more next)
 
 -- calls that come to no ending
-pub reads_prefix : (p q : Position) (bytes : List ℕ) (left : Option (List ℕ)) (frames all : List Frame) (e : Ending) → Reads p (Some bytes) frames q left
-    → Holds p bytes all e → (others : List Frame) × (all ≡ frames ++ others) × IfSome left (λ rest. Holds q rest others e)
-reads_prefix p q bytes left [] all e (here, same) held =
-    let moved : Holds q bytes all e = subst (λ (x : Position). Holds x bytes all e) here held in
-    (all, refl, subst (λ (x : Option (List ℕ)). IfSome x (λ rest. Holds q rest all e)) same moved)
-reads_prefix p q bytes left (f ∷ fs) all e (None, t, more) held = absurd t.gone
-reads_prefix p q bytes left (f ∷ fs) all e (Some mid, t, more) held =
-    let tail = tail_holds p bytes mid f all e held.packets held.rest t held.parse held.same in
-    let next = reads_prefix (after_frame p f.stamp) q mid left fs tail.0 e more tail.2 in
+pub reads_prefix : (p q : Position) (told : Told) (bytes : List ℕ) (left : Option (List ℕ)) (frames all : List Frame) (e : Ending) → Reads p (Some bytes) frames q left
+    → Holds p told bytes all e → (others : List Frame) × (all ≡ frames ++ others) × IfSome left (λ rest. Holds q told rest others e)
+reads_prefix p q told bytes left [] all e (here, same) held =
+    let moved : Holds q told bytes all e = subst (λ (x : Position). Holds x told bytes all e) here held in
+    (all, refl, subst (λ (x : Option (List ℕ)). IfSome x (λ rest. Holds q told rest all e)) same moved)
+reads_prefix p q told bytes left (f ∷ fs) all e (None, t, more) held = absurd t.gone
+reads_prefix p q told bytes left (f ∷ fs) all e (Some mid, t, more) held =
+    let tail = tail_holds p told bytes mid f all e held.packets held.rest t held.parse held.same in
+    let next = reads_prefix (after_frame p f.stamp) q told mid left fs tail.0 e more tail.2 in
     (next.0, tail.1 ∙ ap (λ (x : List Frame). f ∷ x) next.1, next.2)
 
 -- one more call that gave a frame

@@ -1,15 +1,17 @@
 -- What one more read or write adds to those before it.
-use Rattle.std.proofs.Common.{◌≡◌, ℕ, ◌+◌, ◌-◌, ◌^◌, ◌≤◌, min, max, Bool, true, false, ◌||◌, List, ◌++◌, length, take, drop, Option, Result, Ok, Err, IsErr, refl, sym, ap, ◌∙◌, subst, arith, inl, inr, ◌⊎◌}
+use Rattle.std.proofs.Common.{◌≡◌, ℕ, ◌+◌, ◌-◌, ◌^◌, ◌≤◌, min, max, Bool, true, false, ◌||◌, List, ◌++◌, length, take, drop, Option, Result, Ok, Err, IsErr, refl, sym, ap, ◌∙◌, subst, arith, inl, inr, ◌⊎◌, Some, None}
 use Rattle.std.proofs.lemmas.List.{length-take-le, take-append-le, take_at, take-append-drop, take_min, drop-drop, length-drop, length-append}
 use Rattle.std.proofs.Math.Seq.{take-append-add}
 use Rattle.std.proofs.KnownBytes.{Consumes-trans, Appends-trans}
-use Rattle.std.specs.Io.KnownBytes.{Consumes, Appends}
+use Rattle.std.specs.Io.KnownBytes.{Appends, Consumes, Keeps, prepend_known}
 use Rattle.std.proofs.lemmas.Bool.{eqb-false}
 use borrow.Rule.Slice.PartMut.{put_mid, post_of}
 use Rattle.pcap_io.specs.Device.{AppendsPrefix, Writes}
 use Rattle.pcap_io.specs.Script.{fails, answer_of}
 use Rattle.pcap_io.specs.declared.script.ScriptState.{ScriptState}
 use Rattle.pcap_io.specs.declared.device.DeviceFault.{DeviceFault}
+use Rattle.pcap_io.specs.Told.{StaysTold}
+use Rattle.pcap_io.specs.declared.told.Told.{Told}
 
 -- a buffer whose prefix stands, once more was read after it
 pub take-read : (done n k : ℕ) (buf got : List ℕ) → done ≤ length buf → n ≤ length got
@@ -110,3 +112,16 @@ writes_second (Err x) (Ok z) y a b c m n o first second all r_ok e w v = record 
   no_failure = tt;
   fault = v.fault ∙ ap (λ (k : ℕ). min (k + 1) (2 ^ 64 - 1)) w.no_failure;
 }
+
+-- ---- what is told
+
+-- a source that gave bytes still exposes them
+pub stays_consumed : (a b : Option (List ℕ)) (x y z : Told) (bytes : List ℕ) → Consumes a b bytes → StaysTold a x y → StaysTold b y z → StaysTold a x z
+stays_consumed None b x y z bytes gone one two = tt
+stays_consumed (Some u) None x y z bytes gone one two = absurd gone
+stays_consumed (Some u) (Some v) x y z bytes gone one two = two ∙ one
+
+pub stays_prepended : (a b : Option (List ℕ)) (x y z : Told) (us vs : List ℕ) → Keeps (prepend_known us a) (prepend_known vs b) → StaysTold a x y → StaysTold b y z → StaysTold a x z
+stays_prepended None b x y z us vs kept one two = tt
+stays_prepended (Some u) None x y z us vs kept one two = absurd kept
+stays_prepended (Some u) (Some v) x y z us vs kept one two = two ∙ one

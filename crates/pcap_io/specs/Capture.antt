@@ -45,7 +45,7 @@ pub record IsCapturable (keep : Frame → ℕ) (high : ℕ) (f : Frame) : Type 0
   pub whole_fits : f.whole < 2 ^ 32
   pub within : keep f ≤ length f.bytes
   pub in_time : high ≤ f.stamp
-  pub no_file_header : is_file_header capture_layout (kept_fields f (keep f)) ≡ false
+  pub no_file_header : is_file_header (kept_fields f (keep f)) ≡ false
 
 -- each of these can follow those before it
 abbrev pub AreCapturable : (Frame → ℕ) → ℕ → List Frame → Type 0

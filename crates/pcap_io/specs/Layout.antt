@@ -1,16 +1,17 @@
 -- The header of a recording (pcap savefile format 2.4): 24 bytes, of which the first four say in which order and how
 -- finely all numbers are written.
-use Rattle.std.specs.Prelude.{ℕ, Bool, true, false, ◌&&◌, List, length, take, drop, Option, Some, None, Result, Ok, Err, nat_lt, ◌==◌, if◌then◌else◌}
+use Rattle.std.specs.Prelude.{ℕ, ◌&&◌, List, length, take, drop, Option, Some, None, Result, Ok, Err, nat_lt, ◌==◌, if◌then◌else◌}
 use Rattle.byteorder.specs.Endian.{little_number, big_number, little_bytes, big_bytes}
-use Rattle.pcap_io.specs.Converted.{header_fault_of}
 use Rattle.pcap_io.specs.declared.layout.ByteOrder.{ByteOrder}
 use Rattle.pcap_io.specs.declared.layout.ByteOrder.TheVariants.{Little, Big}
 use Rattle.pcap_io.specs.declared.layout.Precision.{Precision}
-use Rattle.pcap_io.specs.declared.layout.Precision.TheVariants.{Nanoseconds, Microseconds, Converted}
+use Rattle.pcap_io.specs.declared.layout.Precision.TheVariants.{Nanoseconds, Microseconds}
 use Rattle.pcap_io.specs.declared.layout.Layout.{Layout}
 use Rattle.pcap_io.specs.declared.layout.TheConstants.{FILE_HEADER_LEN}
 use Rattle.pcap_io.specs.declared.layout.HeaderFault.{HeaderFault}
-use Rattle.pcap_io.specs.declared.layout.HeaderFault.TheVariants.{Short, Magic, Version, LinkType}
+use Rattle.pcap_io.specs.declared.layout.HeaderFault.TheVariants.{Magic, Version, LinkType}
+use Rattle.pcap_io.specs.declared.told.Told.{Told}
+use Rattle.pcap_io.specs.Told.{told_fault}
 
 -- the number in the first `size` bytes
 abbrev pub number_in : ByteOrder → ℕ → List ℕ → ℕ
@@ -26,19 +27,11 @@ bytes_in Big size n = big_bytes size n
 abbrev pub nanoseconds_of : Precision → ℕ
 nanoseconds_of Nanoseconds = 1
 nanoseconds_of Microseconds = 1000
-nanoseconds_of Converted = 1
 
 -- how many of them make a second
 abbrev pub fractions_of : Precision → ℕ
 fractions_of Nanoseconds = 1000000000
 fractions_of Microseconds = 1000000
-fractions_of Converted = 1000000000
-
--- it is a pcap file's own: nothing was converted
-abbrev pub is_pcap : Precision → Bool
-is_pcap Nanoseconds = true
-is_pcap Microseconds = true
-is_pcap Converted = false
 
 -- the layout that the magic number names, read with its most significant byte first
 abbrev pub layout_of_magic : ℕ → Option Layout
@@ -47,28 +40,17 @@ layout_of_magic magic =
     else if magic == 0xa1b23c4d then Some (record { order = Big; precision = Nanoseconds })
     else if magic == 0xd4c3b2a1 then Some (record { order = Little; precision = Microseconds })
     else if magic == 0xa1b2c3d4 then Some (record { order = Big; precision = Microseconds })
-    else if magic == 0x70636e67 then Some (record { order = Little; precision = Converted })
     else None
-
--- what the field sigfigs tells of a recording that was converted
-abbrev pub told_fault : Precision → ℕ → Option HeaderFault
-told_fault Nanoseconds code = None
-told_fault Microseconds code = None
-told_fault Converted code = header_fault_of code
-
-abbrev pub unless_told : Layout → Option HeaderFault → Result Layout HeaderFault
-unless_told layout None = Ok layout
-unless_told layout (Some fault) = Err fault
 
 -- the fields after the magic number: version 2.4, and link type 1, Ethernet
 abbrev pub checked : List ℕ → Option Layout → Result Layout HeaderFault
 checked header None = Err Magic
 checked header (Some layout) =
     if number_in layout.order 2 (drop 4 header) == 2 && number_in layout.order 2 (drop 6 header) == 4
-    then (if number_in layout.order 4 (drop 20 header) == 1 then unless_told layout (told_fault layout.precision (number_in layout.order 4 (drop 12 header))) else Err LinkType)
+    then (if number_in layout.order 4 (drop 20 header) == 1 then Ok layout else Err LinkType)
     else Err Version
 
--- The layout that the bytes of a recording begin with, or the first fault that fits.
-abbrev pub header_of : List ℕ → Result Layout HeaderFault
-header_of bytes =
-    if nat_lt (length bytes) FILE_HEADER_LEN then Err Short else checked (take FILE_HEADER_LEN bytes) (layout_of_magic (big_number 4 (take FILE_HEADER_LEN bytes)))
+-- The layout that the bytes of a recording begin with, of which its source tells this, or the first fault that fits.
+abbrev pub header_of : Told → List ℕ → Result Layout HeaderFault
+header_of told bytes =
+    if nat_lt (length bytes) FILE_HEADER_LEN then Err (told_fault told) else checked (take FILE_HEADER_LEN bytes) (layout_of_magic (big_number 4 (take FILE_HEADER_LEN bytes)))

@@ -2,7 +2,6 @@ pub mod Batches
 pub mod Block
 pub mod Bytes
 pub mod Capture
-pub mod Converted
 pub mod Device
 pub mod Items
 pub mod Laws
@@ -13,5 +12,6 @@ pub mod Recording
 pub mod Script
 pub mod Std
 pub mod Supply
+pub mod Told
 pub mod Word
 pub mod Writer

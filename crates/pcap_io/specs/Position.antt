@@ -13,6 +13,8 @@ use Rattle.pcap_io.specs.declared.packet_header.PacketHeader.{PacketHeader}
 use Rattle.pcap_io.specs.declared.packet_header.TheConstants.{MAX_PACKET_LEN, PACKET_HEADER_LEN}
 use Rattle.pcap_io.specs.declared.recording.Ending.{Ending}
 use Rattle.pcap_io.specs.declared.recording.Ending.TheVariants.{Clean, Cut, Bad}
+use Rattle.pcap_io.specs.Told.{StaysTold}
+use Rattle.pcap_io.specs.declared.told.Told.{Told}
 use Rattle.pcap_io.specs.declared.recording.Stage.TheVariants as stages
 use Rattle.pcap_io.specs.declared.position.Position.{Position}
 use Rattle.pcap_io.specs.declared.position.Start.{Start}
@@ -38,9 +40,9 @@ start_at network layout most late = record {
   stage = stages.Going;
 }
 
--- the ending of the bytes that are left, None where another good packet stands there
-abbrev pub ending_here : Position → List ℕ → Option Ending
-ending_here p rest = ending_at p.layout p.most p.late p.count p.high rest
+-- the ending of the bytes that are left, of which the source tells this, None where another good packet stands there
+abbrev pub ending_here : Position → Told → List ℕ → Option Ending
+ending_here p told rest = ending_at p.layout p.most p.late told p.count p.high rest
 
 -- past a frame of this timestamp
 abbrev pub after_frame : Position → ℕ → Position
@@ -72,9 +74,9 @@ abbrev pub TakesAPacket : Option (List ℕ) → Option (List ℕ) → Type 0
 TakesAPacket before after = TakesAtMost MAX_PACKET_LEN before after
 
 -- what a reader that stands here gives, and what it takes from the bytes left
-abbrev pub IsNext : Position → Option (List ℕ) → Option (List ℕ) → Item → Type 0
-IsNext p before after (items.Frame f) = TakesFrame p before after f
-IsNext p before after (items.End e) = IfSome before (λ bytes. ending_here p bytes ≡ Some e)
+abbrev pub IsNext : Position → Told → Option (List ℕ) → Option (List ℕ) → Item → Type 0
+IsNext p told before after (items.Frame f) = TakesFrame p before after f
+IsNext p told before after (items.End e) = IfSome before (λ bytes. ending_here p told bytes ≡ Some e)
 
 -- A clean and a cut ending leave no bytes. A bad one takes no more of them than a packet's header.
 abbrev pub EndLeaves : Option (List ℕ) → Option (List ℕ) → Ending → Type 0
@@ -119,20 +121,22 @@ IsReadFault p before after old new faults.Device = CountsFailure old new
 IsReadFault p before after old new faults.Memory = (new ≡ old) × LacksMemory p before after
 IsReadFault p before after old new faults.Failed = (new ≡ old) × (p.stage ≡ stages.Failed)
 
--- What stands of a reader: its position, the bytes left, where its source exposes them, and how often its source failed.
+-- What stands of a reader: its position, the bytes left, where its source exposes them, how often its source failed, and what that tells.
 pub record Reading : Type 0 where
   pub position : Position
   pub remaining : Option (List ℕ)
   pub failures : ℕ
+  pub told : Told
 
 -- What a call says that goes on to the next item, of what stood before it and stands after it. `as_item` is the item of what
 -- it returned.
 pub record Advances {A : Type 0} (as_item : A → Item) (old new : Reading) (r : Result A ReadFault) : Type 0 where
   -- the next good packet's frame, or the ending of what is left
-  pub item : old.position.stage ≡ stages.Going → IfOk r (λ a. IsNext old.position old.remaining new.remaining (as_item a))
+  pub item : old.position.stage ≡ stages.Going → IfOk r (λ a. IsNext old.position old.told old.remaining new.remaining (as_item a))
   pub after : IfOk r (λ a. new.position ≡ after_item old.position (as_item a))
   pub after_fault : OnErr r (new.position ≡ record old.position { stage = stages.Failed })
   pub bounded : new.position.count ≤ new.position.most
+  pub told : StaysTold old.remaining old.told new.told
   pub no_failure : OnOk r (new.failures ≡ old.failures)
   pub fault : IfErr r (IsReadFault old.position old.remaining new.remaining old.failures new.failures)
   -- whatever it returns, no more than one packet is gone
@@ -153,32 +157,32 @@ Reads p before [] q after = (p ≡ q) × (before ≡ after)
 Reads p before (f ∷ fs) q after =
     (mid : Option (List ℕ)) × TakesFrame p before mid f × Reads (after_frame p f.stamp) mid fs q after
 
--- From this position on the bytes hold these frames, and then this ending.
-pub record Holds (p : Position) (bytes : List ℕ) (frames : List Frame) (ending : Ending) : Type 0 where
+-- From this position on the bytes hold these frames, and then, with what their source tells, this ending.
+pub record Holds (p : Position) (told : Told) (bytes : List ℕ) (frames : List Frame) (ending : Ending) : Type 0 where
   pub packets : List Packet
   pub rest : List ℕ
-  pub parse : Parses p.layout p.most p.late p.count p.high bytes packets rest ending
+  pub parse : Parses p.layout p.most p.late told p.count p.high bytes packets rest ending
   pub same : frames ≡ frames_of p.network p.layout p.count packets
 
 -- ---- what the parts of a reader find
 
 -- 16 bytes, of which `came` are those left, begin a packet, or the ending is found in them
-abbrev pub IsStartOf : Position → List ℕ → ℕ → Start → Type 0
-IsStartOf p bytes came (starts.Header header) =
+abbrev pub IsStartOf : Position → Told → List ℕ → ℕ → Start → Type 0
+IsStartOf p told bytes came (starts.Header header) =
     (came ≡ PACKET_HEADER_LEN) × (p.count ≢ p.most) × (header ≡ header_fields p.layout bytes)
     × (reason_at p.layout p.late p.high header ≡ None)
-IsStartOf p bytes came (starts.End e) =
-    (more : List ℕ) → (came < PACKET_HEADER_LEN → more ≡ []) → ending_here p (take came bytes ++ more) ≡ Some e
+IsStartOf p told bytes came (starts.End e) =
+    (more : List ℕ) → (came < PACKET_HEADER_LEN → more ≡ []) → ending_here p told (take came bytes ++ more) ≡ Some e
 
 -- the frame of a header and the bytes that follow it
 abbrev pub frame_at : Position → PacketHeader → List ℕ → Frame
 frame_at p header bytes =
     frame_with p.network p.count (stamp_at p.layout header.seconds header.fraction) (max header.original_len (length bytes)) bytes
 
-abbrev pub IsStart : Position → Option (List ℕ) → Option (List ℕ) → Start → Type 0
-IsStart p before after (starts.Header header) =
+abbrev pub IsStart : Position → Told → Option (List ℕ) → Option (List ℕ) → Start → Type 0
+IsStart p told before after (starts.Header header) =
     (bytes : List ℕ) × TakesHeader p before after bytes × (header ≡ header_fields p.layout bytes)
-IsStart p before after (starts.End e) = IfSome before (λ bytes. ending_here p bytes ≡ Some e)
+IsStart p told before after (starts.End e) = IfSome before (λ bytes. ending_here p told bytes ≡ Some e)
 
 -- a clean and a cut ending are found where less than a header is left
 abbrev pub EndsShort : ℕ → Start → Type 0
@@ -194,11 +198,11 @@ StartLeaves before after (starts.End e) = EndLeaves before after e
 -- ---- opening
 
 -- the bytes begin with a file header of this layout, which is gone
-abbrev pub Opens : Option (List ℕ) → Option (List ℕ) → Layout → Type 0
-Opens before after layout =
-    IfSome before (λ bytes. (header_of bytes ≡ Ok layout) × (after ≡ Some (drop FILE_HEADER_LEN bytes)))
+abbrev pub Opens : Told → Option (List ℕ) → Option (List ℕ) → Layout → Type 0
+Opens told before after layout =
+    IfSome before (λ bytes. (header_of told bytes ≡ Ok layout) × (after ≡ Some (drop FILE_HEADER_LEN bytes)))
 
 -- what a refusal says of the bytes, and of how often the source has failed
-abbrev pub IsOpenFault : Option (List ℕ) → ℕ → ℕ → OpenFault → Type 0
-IsOpenFault before old new (openings.Header f) = IfSome before (λ bytes. header_of bytes ≡ Err f) × (new ≡ old)
-IsOpenFault before old new openings.Device = CountsFailure old new
+abbrev pub IsOpenFault : Told → Option (List ℕ) → ℕ → ℕ → OpenFault → Type 0
+IsOpenFault told before old new (openings.Header f) = IfSome before (λ bytes. header_of told bytes ≡ Err f) × (new ≡ old)
+IsOpenFault told before old new openings.Device = CountsFailure old new

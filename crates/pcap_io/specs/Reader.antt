@@ -5,6 +5,7 @@ use Rattle.pcap_io.specs.Block.{block_items, block_source, unread_bytes, drawn_b
 use Rattle.pcap_io.specs.Position.{Reading}
 use Rattle.pcap_io.specs.declared.reader.TapReader.{TapReader}
 use Rattle.pcap_io.specs.declared.position.Position.{Position}
+use Rattle.pcap_io.specs.declared.told.Told.{Told}
 
 -- where it stands in its recording
 abbrev pub position_of : {S : Type 0} → TapReader S → Position
@@ -30,10 +31,11 @@ remaining_of remaining reader = block_remaining remaining reader.input
 abbrev pub lent_of : {S : Type 0} → TapReader S → Frame
 lent_of reader = frame_with reader.position.network reader.number reader.stamp reader.whole (drawn_bytes reader.input)
 
--- what stands of it, for a source that exposes its bytes and its failures so
-abbrev pub reading_of : {S : Type 0} → (S → Option (List ℕ)) → (S → ℕ) → TapReader S → Reading
-reading_of remaining failures reader = record {
+-- what stands of it, for a source that exposes its bytes, its failures and what it tells so
+abbrev pub reading_of : {S : Type 0} → (S → Option (List ℕ)) → (S → ℕ) → (S → Told) → TapReader S → Reading
+reading_of remaining failures told reader = record {
   position = position_of reader;
   remaining = remaining_of remaining reader;
   failures = failures (source_of reader);
+  told = told (source_of reader);
 }

@@ -3,15 +3,16 @@ use Rattle.std.specs.Prelude.{◌≡◌, ℕ, ◌+◌, ◌-◌, ◌*◌, ◌^◌
 use Rattle.afdx_frame.specs.Frame.{Frame, frame_with}
 use Rattle.afdx_frame.specs.declared.bounds.TheConstants.{MAX_SNAPLEN}
 use Rattle.afdx_frame.specs.declared.key.Network.{Network}
-use Rattle.pcap_io.specs.Converted.{fraction_reason}
-use Rattle.pcap_io.specs.Layout.{number_in, bytes_in, nanoseconds_of, fractions_of, is_pcap}
+use Rattle.pcap_io.specs.Layout.{number_in, bytes_in, nanoseconds_of, fractions_of}
 use Rattle.pcap_io.specs.declared.layout.Layout.{Layout}
 use Rattle.pcap_io.specs.declared.packet_header.PacketHeader.{PacketHeader}
 use Rattle.pcap_io.specs.declared.packet_header.TheConstants.{PACKET_HEADER_LEN}
 use Rattle.pcap_io.specs.declared.recording.BadReason.{BadReason}
-use Rattle.pcap_io.specs.declared.recording.BadReason.TheVariants.{FileHeader, Length, StampBack, TooMany}
+use Rattle.pcap_io.specs.declared.recording.BadReason.TheVariants.{FileHeader, Fraction, Length, StampBack, TooMany}
 use Rattle.pcap_io.specs.declared.recording.Ending.{Ending}
-use Rattle.pcap_io.specs.declared.recording.Ending.TheVariants.{Clean, Cut, Bad}
+use Rattle.pcap_io.specs.declared.recording.Ending.TheVariants.{Cut, Bad}
+use Rattle.pcap_io.specs.declared.told.Told.{Told}
+use Rattle.pcap_io.specs.Told.{told_ending}
 
 -- one frame's packet
 pub record Packet : Type 0 where
@@ -56,11 +57,9 @@ is_file_start seconds fraction =
     ((seconds == 0xa1b2c3d4 || seconds == 0xa1b23c4d) && (fraction == 0x00020004 || fraction == 0x00040002))
     || ((seconds == 0xd4c3b2a1 || seconds == 0x4d3cb2a1) && (fraction == 0x02000400 || fraction == 0x04000200))
 
--- A pcap file's header stands where a packet's should, with its fields thiszone and sigfigs at 0. A recording that was converted holds none
--- (this project's rule).
-abbrev pub is_file_header : Layout → PacketHeader → Bool
-is_file_header layout head =
-    is_pcap layout.precision && (head.captured_len == 0 && (head.original_len == 0 && is_file_start head.seconds head.fraction))
+-- A pcap file's header stands where a packet's should, with its fields thiszone and sigfigs at 0 (this project's rule).
+abbrev pub is_file_header : PacketHeader → Bool
+is_file_header head = head.captured_len == 0 && (head.original_len == 0 && is_file_start head.seconds head.fraction)
 
 -- the fields of a packet's header
 abbrev pub fields_of : Packet → PacketHeader
@@ -73,7 +72,7 @@ pub record IsGood (layout : Layout) (late high : ℕ) (r : Packet) : Type 0 wher
   pub seconds_fit : r.seconds < 2 ^ 32
   pub original_len_fits : r.original_len < 2 ^ 32
   pub within_second : r.fraction < fractions_of layout.precision
-  pub no_file_header : is_file_header layout (fields_of r) ≡ false
+  pub no_file_header : is_file_header (fields_of r) ≡ false
   pub in_time : high ≤ stamp_of layout r + late
 
 -- the greatest timestamp, with those of more packets
@@ -98,9 +97,9 @@ header_fields layout bytes = record {
 -- what is wrong with a header: the first reason that fits
 abbrev pub reason_at : Layout → ℕ → ℕ → PacketHeader → Option BadReason
 reason_at layout late high head =
-    if is_file_header layout head then Some FileHeader
+    if is_file_header head then Some FileHeader
     else if nat_lt MAX_SNAPLEN head.captured_len then Some Length
-    else if nat_le (fractions_of layout.precision) head.fraction then Some (fraction_reason layout.precision head.fraction)
+    else if nat_le (fractions_of layout.precision) head.fraction then Some Fraction
     else if nat_lt (stamp_at layout head.seconds head.fraction + late) high then Some StampBack
     else None
 
@@ -109,19 +108,19 @@ abbrev pub ending_after : ℕ → PacketHeader → ℕ → Option BadReason → 
 ending_after n head left (Some reason) = Some (Bad n reason)
 ending_after n head left None = if nat_lt left head.captured_len then Some (Cut n) else None
 
--- The ending after n packets whose greatest timestamp is `high`, where `rest` is left and `most` packets are read: the first that
--- fits. None: another good packet stands there.
-abbrev pub ending_at : Layout → ℕ → ℕ → ℕ → ℕ → List ℕ → Option Ending
-ending_at layout most late n high rest =
-    if length rest == 0 then Some (Clean n)
+-- The ending after n packets whose greatest timestamp is `high`, where `rest` is left, the source tells this at its end, and `most`
+-- packets are read: the first that fits. None: another good packet stands there.
+abbrev pub ending_at : Layout → ℕ → ℕ → Told → ℕ → ℕ → List ℕ → Option Ending
+ending_at layout most late told n high rest =
+    if length rest == 0 then Some (told_ending told most n)
     else if n == most then Some (Bad n TooMany)
     else if nat_lt (length rest) PACKET_HEADER_LEN then Some (Cut n)
     else ending_after n (header_fields layout (take PACKET_HEADER_LEN rest)) (length rest - PACKET_HEADER_LEN)
     (reason_at layout late high (header_fields layout (take PACKET_HEADER_LEN rest)))
 
 -- After n packets whose greatest timestamp is `high` the bytes are these good packets and a rest that ends the recording so.
-pub record Parses (layout : Layout) (most late n high : ℕ) (bytes : List ℕ) (packets : List Packet) (rest : List ℕ) (ending : Ending) : Type 0 where
+pub record Parses (layout : Layout) (most late : ℕ) (told : Told) (n high : ℕ) (bytes : List ℕ) (packets : List Packet) (rest : List ℕ) (ending : Ending) : Type 0 where
   pub complete : bytes ≡ flat_map (packet_bytes layout) packets ++ rest
   pub good : AreGood layout late high packets
   pub bounded : n + length packets ≤ most
-  pub ends : ending_at layout most late (n + length packets) (high_after layout high packets) rest ≡ Some ending
+  pub ends : ending_at layout most late told (n + length packets) (high_after layout high packets) rest ≡ Some ending

@@ -6,6 +6,7 @@ ghost use Rattle.afdx_frame.specs.declared.bounds.TheConstants.{MAX_SNAPLEN};
 ghost use Rattle.pcap_io.specs.Device.{CountsFailure, TakesAtMost, TakesFewer};
 ghost use Rattle.pcap_io.specs.declared.item.ReadFault.TheVariants.{Device};
 ghost use Rattle.pcap_io.specs.Items.{items_of, IsUnshared};
+ghost use Rattle.pcap_io.specs.Told.{StaysTold};
 
 use crate::device::{DeviceFault, TapSource};
 use crate::item::ReadFault;
@@ -65,6 +66,8 @@ fn read_until<S: TapSource>(
     ensures kept { Keeps (prepend_known (take end bytes.old) (S.remaining source.old))
         (prepend_known (take result.0 bytes.new) (S.remaining source.new)) }
     ensures end { OnOk result.1 (result.0 < len → IsAtEnd (S.remaining source.new)) }
+    ensures over { OnOk result.1 (result.0 < len → S.is_over source.new ≡ true) }
+    ensures told { StaysTold (S.remaining source.old) (S.told source.old) (S.told source.new) }
     ensures no_failure { OnOk result.1 (S.failures source.new ≡ S.failures source.old) }
     ensures fault { OnErr result.1 (CountsFailure (S.failures source.old) (S.failures source.new)) }
     ensures unfinished { OnErr result.1 (result.0 < len) }
@@ -155,6 +158,10 @@ impl<S: TapSource> BlockSource<S> {
             (block_remaining S.remaining self.new) (take n buf.new)) }
         ensures end { IfOk result (λ n. n < length buf.new
             → IsAtEnd (block_remaining S.remaining self.new)) }
+        ensures over { IfOk result (λ n. n < length buf.new
+            → S.is_over (block_source self.new) ≡ true) }
+        ensures told { StaysTold (S.remaining (block_source self.old))
+            (S.told (block_source self.old)) (S.told (block_source self.new)) }
         ensures no_failure { OnOk result
             (S.failures (block_source self.new) ≡ S.failures (block_source self.old)) }
         ensures fault { OnErr result (CountsFailure
@@ -185,6 +192,10 @@ impl<S: TapSource> BlockSource<S> {
             (block_remaining S.remaining self.new) (take n buf.new)) }
         ensures end { IfOk result (λ n. n < length buf.new
             → IsAtEnd (block_remaining S.remaining self.new)) }
+        ensures over { IfOk result (λ n. n < length buf.new
+            → S.is_over (block_source self.new) ≡ true) }
+        ensures told { StaysTold (S.remaining (block_source self.old))
+            (S.told (block_source self.old)) (S.told (block_source self.new)) }
         ensures no_failure { OnOk result
             (S.failures (block_source self.new) ≡ S.failures (block_source self.old)) }
         ensures fault { OnErr result (CountsFailure
@@ -215,6 +226,10 @@ impl<S: TapSource> BlockSource<S> {
         ensures short { IfOk result (λ all. all ≡ false
             → (length (drawn_bytes self.new) < len)
             × IsAtEnd (block_remaining S.remaining self.new)) }
+        ensures over { IfOk result (λ all. all ≡ false
+            → S.is_over (block_source self.new) ≡ true) }
+        ensures told { StaysTold (S.remaining (block_source self.old))
+            (S.told (block_source self.old)) (S.told (block_source self.new)) }
         ensures no_failure { OnOk result
             (S.failures (block_source self.new) ≡ S.failures (block_source self.old)) }
         ensures fault { IfErr result (IsDrawFault len
@@ -245,6 +260,10 @@ impl<S: TapSource> BlockSource<S> {
         ensures short { IfOk result (λ all. all ≡ false
             → (length (drawn_bytes self.new) < len)
             × IsAtEnd (block_remaining S.remaining self.new)) }
+        ensures over { IfOk result (λ all. all ≡ false
+            → S.is_over (block_source self.new) ≡ true) }
+        ensures told { StaysTold (S.remaining (block_source self.old))
+            (S.told (block_source self.old)) (S.told (block_source self.new)) }
         ensures no_failure { OnOk result
             (S.failures (block_source self.new) ≡ S.failures (block_source self.old)) }
         ensures fault { IfErr result (IsDrawFault len
@@ -358,6 +377,10 @@ impl<S: TapSource> BlockSource<S> {
             (block_remaining S.remaining self.new) }
         ensures end { OnOk result (self.new.end < len
             → IsAtEnd (S.remaining (block_source self.new))) }
+        ensures over { OnOk result (self.new.end < len
+            → S.is_over (block_source self.new) ≡ true) }
+        ensures told { StaysTold (S.remaining (block_source self.old))
+            (S.told (block_source self.old)) (S.told (block_source self.new)) }
         ensures no_failure { OnOk result
             (S.failures (block_source self.new) ≡ S.failures (block_source self.old)) }
         ensures fault { OnErr result (CountsFailure
@@ -388,6 +411,8 @@ impl<S: TapSource> BlockSource<S> {
         ensures short { result ≡ Ok None → ((gone : List ℕ) × (length gone < len)
             × Consumes (block_remaining S.remaining self.old) (block_remaining S.remaining self.new) gone)
             × IsAtEnd (block_remaining S.remaining self.new) }
+        ensures told { StaysTold (S.remaining (block_source self.old))
+            (S.told (block_source self.old)) (S.told (block_source self.new)) }
         ensures no_failure { OnOk result
             (S.failures (block_source self.new) ≡ S.failures (block_source self.old)) }
         ensures fault { IfErr result (IsDrawFault len

@@ -1,10 +1,14 @@
 //! Where bytes come from and go to.
-ghost use Rattle.std.specs.Prelude.{◌≡◌, ◌<◌, ◌≤◌, ℕ, List, Option, None, length, IfOk, IfSome, OnOk, OnErr};
+ghost use Rattle.std.specs.Prelude.{◌≡◌, ◌<◌, ◌≤◌, ℕ, Bool, true, List, Option, None, Ok, length, IfOk, IfSome, OnOk, OnErr};
 ghost use Rattle.std.specs.Io.KnownBytes.{ReadConsumes, WriteAppends};
 ghost use Rattle.pcap_io.specs.Bytes.{IsBytes};
 ghost use Rattle.pcap_io.specs.Device.{CountsFailure, NoFailure};
 ghost use Rattle.pcap_io.specs.Std.{failures_after};
+ghost use Rattle.pcap_io.specs.Told.{StaysTold, Tells};
+ghost use Rattle.pcap_io.specs.declared.told.Told.{Told};
+ghost use Rattle.pcap_io.specs.declared.told.Told.TheVariants.{Nothing};
 
+use crate::told::Told;
 use thiserror::Error;
 
 /// A device failed. The bytes that it took or gave before stand.
@@ -22,14 +26,27 @@ pub trait TapSource {
     /// How often the device has failed.
     ghost failures: { Self → ℕ };
 
+    /// What it tells of its recording once it has given all bytes.
+    ghost told: { Self → Told } = { λ _. Nothing };
+
+    /// Whether it has come to the end.
+    ghost is_over: { Self → Bool } = { λ _. true };
+
     /// Reads the next bytes into a prefix of the buffer, and returns how many. 0 for a buffer with
     /// room is the end.
     fn read(&mut self, buf: &mut [u8]) -> Result<usize, DeviceFault>
         ensures bound { IfOk result (λ n. n ≤ length buf.new) }
         // What it gives leaves the device, none only at the end; a fault gives nothing.
         ensures bytes { ReadConsumes (remaining self.old) (remaining self.new) result buf.new }
+        ensures told { StaysTold (remaining self.old) (told self.old) (told self.new) }
+        ensures over { result ≡ Ok 0 → 0 < length buf.new → is_over self.new ≡ true }
         ensures no_failure { OnOk result (NoFailure (failures self.old) (failures self.new)) }
         ensures fault { OnErr result (CountsFailure (failures self.old) (failures self.new)) };
+
+    /// What it tells of its recording, at its end. A device tells nothing; what reads a recording of another
+    /// format tells what pcap can't say.
+    fn told(&self) -> Told
+        ensures { is_over self.now ≡ true → Tells (remaining self.now) result (told self.now) };
 
     /// What it exposes is bytes.
     ghost gives_bytes: { (s : Self) → IfSome (remaining s) IsBytes };

@@ -1,6 +1,7 @@
 //! The file header of a recording: its byte order, and the unit of its timestamps.
 ghost use Rattle.std.specs.Prelude.{◌≡◌, ◌≤◌, length, Some};
 ghost use Rattle.pcap_io.specs.Layout.{number_in, layout_of_magic, header_of, checked};
+ghost use Rattle.pcap_io.specs.declared.told.Told.{Told};
 
 use byteorder::{BigEndian, ByteOrder as Endian, LittleEndian};
 use thiserror::Error;
@@ -21,9 +22,6 @@ pub enum Precision {
     Nanoseconds,
     /// The older form.
     Microseconds,
-    /// Nanoseconds, in what a recording of another format was converted to. What can't be converted is
-    /// told by codes: in the file header's field `sigfigs`, and in a fraction from a second on.
-    Converted,
 }
 
 /// How a recording writes its numbers.
@@ -102,7 +100,6 @@ fn layout_of_magic(magic: u32) -> Option<Layout>
         0xa1b2_3c4d => (ByteOrder::Big, Precision::Nanoseconds),
         0xd4c3_b2a1 => (ByteOrder::Little, Precision::Microseconds),
         0xa1b2_c3d4 => (ByteOrder::Big, Precision::Microseconds),
-        0x7063_6e67 => (ByteOrder::Little, Precision::Converted),
         _ => return None,
     };
     Some(Layout { order, precision })
@@ -111,7 +108,7 @@ fn layout_of_magic(magic: u32) -> Option<Layout>
 /// The layout that a header names.
 pub fn layout_of(header: &[u8]) -> Result<Layout, HeaderFault>
     requires { length header.now ≡ FILE_HEADER_LEN }
-    ensures { result ≡ header_of header.now }
+    ensures { (told : Told) → result ≡ header_of told header.now }
 {
     let Some(layout) = layout_of_magic(BigEndian::read_u32(header)) else {
         return Err(HeaderFault::Magic);
@@ -123,11 +120,6 @@ pub fn layout_of(header: &[u8]) -> Result<Layout, HeaderFault>
     }
     if read_u32(layout.order, &header[20..]) != 1 {
         return Err(HeaderFault::LinkType);
-    }
-    if layout.precision == Precision::Converted {
-        if let Some(fault) = HeaderFault::of_code(read_u32(layout.order, &header[12..])) {
-            return Err(fault);
-        }
     }
     Ok(layout)
 }

@@ -29,7 +29,6 @@
 #![tactic(auto)]
 
 mod block;
-mod converted;
 mod device;
 mod item;
 mod laws;
@@ -43,12 +42,12 @@ mod read_source;
 mod reader;
 mod recording;
 mod script;
+mod told;
 mod transfer;
 mod write_sink;
 mod writer;
 
 pub use block::BlockSource;
-pub use converted::CONVERTED_MAGIC;
 pub use device::{DeviceFault, OutSink, TapSource};
 pub use item::{Batched, Found, Item, ReadFault};
 pub use laws::{
@@ -63,6 +62,7 @@ pub use read_source::ReadSource;
 pub use reader::{OpenFault, OpenRefused, TapReader};
 pub use recording::{BadReason, Ending};
 pub use script::Script;
+pub use told::Told;
 pub use transfer::{fill, write_all};
 pub use write_sink::WriteSink;
 pub use writer::{CaptureWriter, WriteFault, append_header, append_packet};

@@ -8,6 +8,7 @@ ghost use Rattle.pcap_io.specs.Supply.{asked};
 
 use crate::device::{DeviceFault, TapSource};
 use crate::script::{Script, ScriptState};
+use crate::told::Told;
 use std::marker::Model;
 
 /// A source that gives bytes of memory as its script says, and exposes them.
@@ -72,5 +73,9 @@ impl TapSource for MemSource {
         buf[..passed].copy_from_slice(&self.bytes[from..from + passed]);
         self.at = from + passed;
         Ok(passed)
+    }
+
+    fn told(&self) -> Told {
+        Told::Nothing
     }
 }

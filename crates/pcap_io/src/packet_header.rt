@@ -50,7 +50,7 @@ impl PacketHeader {
             → result < 1000000000 * 2 ^ 32 }
     {
         let unit = match layout.precision {
-            Precision::Nanoseconds | Precision::Converted => 1,
+            Precision::Nanoseconds => 1,
             Precision::Microseconds => 1000,
         };
         u64::from(self.seconds) * 1_000_000_000 + u64::from(self.fraction) * unit
@@ -72,16 +72,12 @@ impl PacketHeader {
         }
     }
 
-    /// Whether a pcap file's header stands here, with its fields `thiszone` and `sigfigs` at 0. What
-    /// was converted holds none.
+    /// Whether a pcap file's header stands here, with its fields `thiszone` and `sigfigs` at 0.
     #[inline(always)]
-    fn is_file_header(&self, layout: Layout) -> bool
-        ensures { result ≡ is_file_header layout self.now }
+    fn is_file_header(&self) -> bool
+        ensures { result ≡ is_file_header self.now }
     {
-        self.captured_len == 0
-            && self.original_len == 0
-            && layout.precision != Precision::Converted
-            && self.is_file_start()
+        self.captured_len == 0 && self.original_len == 0 && self.is_file_start()
     }
 
     /// What is wrong with the header after packets whose greatest timestamp is `high`, where a timestamp may
@@ -91,15 +87,15 @@ impl PacketHeader {
         ensures { result ≡ reason_at layout late high self.now }
     {
         let fractions = match layout.precision {
-            Precision::Nanoseconds | Precision::Converted => 1_000_000_000,
+            Precision::Nanoseconds => 1_000_000_000,
             Precision::Microseconds => 1_000_000,
         };
-        if self.is_file_header(layout) {
+        if self.is_file_header() {
             Some(BadReason::FileHeader)
         } else if self.captured_len as usize > MAX_SNAPLEN {
             Some(BadReason::Length)
         } else if self.fraction >= fractions {
-            Some(BadReason::of_fraction(layout.precision, self.fraction))
+            Some(BadReason::Fraction)
         } else if self.stamp(layout).saturating_add(late) < high {
             Some(BadReason::StampBack)
         } else {

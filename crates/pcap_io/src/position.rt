@@ -8,6 +8,7 @@ ghost use Rattle.pcap_io.specs.Position.{EndsShort, IsStartOf, frame_at, after_f
 use crate::layout::Layout;
 use crate::packet_header::{PACKET_HEADER_LEN, PacketHeader};
 use crate::recording::{BadReason, Ending, Stage};
+use crate::told::Told;
 use afdx_frame::{MAX_SNAPLEN, Network, Stamp};
 use frame_batch::FrameRecord;
 
@@ -73,18 +74,19 @@ pub enum Start {
     End(Ending),
 }
 
-/// What the bytes at a reader's place begin, the first `came` of which are there.
+/// What the bytes at a reader's place begin, the first `came` of which are there. Where none is, the source
+/// tells this.
 #[inline(always)]
-pub fn start_of(position: &Position, bytes: &[u8], came: usize) -> Start
+pub fn start_of(position: &Position, bytes: &[u8], came: usize, told: Told) -> Start
     requires size { length bytes.now ≡ PACKET_HEADER_LEN }
     requires within { came ≤ PACKET_HEADER_LEN }
-    ensures found { IsStartOf position.now bytes.now came result }
+    ensures found { IsStartOf position.now told bytes.now came result }
     ensures short { EndsShort came result }
     ensures fits { IsBytes bytes.now }
 {
     let count = position.count;
     if came == 0 {
-        return Start::End(Ending::Clean(count));
+        return Start::End(told.ending(count, position.most));
     }
     if count == position.most {
         return Start::End(Ending::Bad(count, BadReason::TooMany));

@@ -4,6 +4,7 @@ ghost use Rattle.pcap_io.specs.Bytes.{known_bytes};
 ghost use Rattle.pcap_io.specs.Std.{read_answer};
 
 use crate::device::{DeviceFault, TapSource, failures_after};
+use crate::told::Told;
 use std::io;
 use std::io::Read;
 
@@ -64,5 +65,9 @@ impl<R: Read> TapSource for ReadSource<R> {
         let answer = read_answer(self.reader.read(buf));
         self.failures = failures_after(self.failures, &answer);
         answer
+    }
+
+    fn told(&self) -> Told {
+        Told::Nothing
     }
 }

@@ -1,5 +1,5 @@
 //! Reads the frames of a recording.
-ghost use Rattle.std.specs.Prelude.{◌≡◌, ◌+◌, ◌<◌, ◌≤◌, ◌^◌, [], length, drop, Some, Ok, Err, IfOk, IfErr, OnOk, OnErr, IfSome, IsFalse, IsTrue, max, ◌↔◌};
+ghost use Rattle.std.specs.Prelude.{◌≡◌, true, ◌+◌, ◌<◌, ◌≤◌, ◌^◌, [], length, drop, Some, Ok, Err, IfOk, IfErr, OnOk, OnErr, IfSome, IsFalse, IsTrue, max, ◌↔◌};
 ghost use Rattle.afdx_frame.specs.Frame.{IsFrame};
 ghost use Rattle.pcap_io.specs.Batches.{AddsFrame, AddsFrames, GivesBatch, HasAtMost, IsHeld, taken_item};
 ghost use Rattle.pcap_io.specs.Device.{CountsFailure, TakesAtMost, TakesFewer};
@@ -8,6 +8,7 @@ ghost use Rattle.afdx_frame.specs.declared.bounds.TheConstants.{MAX_SNAPLEN};
 ghost use Rattle.pcap_io.specs.declared.layout.TheConstants.{FILE_HEADER_LEN};
 ghost use Rattle.pcap_io.specs.declared.packet_header.TheConstants.{PACKET_HEADER_LEN};
 ghost use Rattle.pcap_io.specs.Position.{Advances, HasRoom, HoldsPacket, IsNext, IsOpenFault, IsReadFault, IsStart, ItemLeaves, LacksBytes, Opens, StartLeaves, TakesAPacket, after_item, found_item, start_at};
+ghost use Rattle.pcap_io.specs.Told.{StaysTold, Tells};
 
 use crate::block::BlockSource;
 use crate::device::{DeviceFault, TapSource};
@@ -16,6 +17,7 @@ use crate::layout::{FILE_HEADER_LEN, HeaderFault, Layout, layout_of};
 use crate::packet_header::{PACKET_HEADER_LEN, PacketHeader};
 use crate::position::{Position, Start, start_of};
 use crate::recording::{Ending, Stage};
+use crate::told::Told;
 use crate::transfer::fill;
 use afdx_frame::{LentFrame, Network, Stamp};
 use frame_batch::FrameBatch;
@@ -62,9 +64,11 @@ pub struct OpenRefused<S> {
 
 /// Reads the file header.
 fn read_layout<S: TapSource>(source: &mut S) -> Result<Layout, OpenFault>
-    ensures layout { IfOk result (Opens (S.remaining source.old) (S.remaining source.new)) }
+    ensures layout { IfOk result (Opens (S.told source.old)
+        (S.remaining source.old) (S.remaining source.new)) }
     ensures no_failure { OnOk result (S.failures source.new ≡ S.failures source.old) }
-    ensures fault { IfErr result (IsOpenFault (S.remaining source.old)
+    ensures told { StaysTold (S.remaining source.old) (S.told source.old) (S.told source.new) }
+    ensures fault { IfErr result (IsOpenFault (S.told source.old) (S.remaining source.old)
         (S.failures source.old) (S.failures source.new)) }
     ensures taken { OnErr result
         (TakesAtMost FILE_HEADER_LEN (S.remaining source.old) (S.remaining source.new)) }
@@ -74,7 +78,7 @@ fn read_layout<S: TapSource>(source: &mut S) -> Result<Layout, OpenFault>
     let mut header = [0u8; FILE_HEADER_LEN];
     let came = fill(source, &mut header)?;
     if came < FILE_HEADER_LEN {
-        return Err(OpenFault::Header(HeaderFault::Short));
+        return Err(OpenFault::Header(source.told().fault()));
     }
     Ok(layout_of(&header)?)
 }
@@ -118,7 +122,7 @@ impl<S: TapSource> TapReader<S> {
     ) -> Result<TapReader<S>, OpenRefused<S>>
         requires { most ≤ 2 ^ 32 }
         // The header's layout is kept, and the header is gone. Nothing is read ahead.
-        ensures opened { IfOk result (λ r. Opens (S.remaining source)
+        ensures opened { IfOk result (λ r. Opens (S.told source) (S.remaining source)
             (S.remaining (source_of r)) (position_of r).layout) }
         ensures unread { IfOk result (λ r. unread_of r ≡ []) }
         ensures remaining { IfOk result (λ r.
@@ -126,7 +130,9 @@ impl<S: TapSource> TapReader<S> {
         ensures start { IfOk result (λ r.
             position_of r ≡ start_at network (position_of r).layout most late) }
         ensures no_failure { IfOk result (λ r. S.failures (source_of r) ≡ S.failures source) }
-        ensures fault { IfErr result (λ e. IsOpenFault (S.remaining source)
+        ensures told { IfOk result (λ r. StaysTold (S.remaining source)
+            (S.told source) (S.told (source_of r))) }
+        ensures fault { IfErr result (λ e. IsOpenFault (S.told source) (S.remaining source)
             (S.failures source) (S.failures e.source) e.fault) }
         // No more than a file header is gone from the source that is given back.
         ensures taken { IfErr result (λ e.
@@ -169,12 +175,26 @@ impl<S: TapSource> TapReader<S> {
         reader
     }
 
+    /// What the source tells, where the bytes of a packet's header were to come and none did.
+    #[inline(always)]
+    fn told_after(&self, came: usize) -> Told
+        ensures { came ≡ 0 → S.is_over (source_of self.now) ≡ true
+            → Tells (remaining_of S.remaining self.now) result (S.told (source_of self.now)) }
+    {
+        if came > 0 {
+            return Told::Nothing;
+        }
+        self.input.source().told()
+    }
+
     /// Reads the header of the next packet.
     #[inline(always)]
     fn read_header(&mut self) -> Result<Start, DeviceFault>
-        ensures start { IfOk result (IsStart (position_of self.old)
+        ensures start { IfOk result (IsStart (position_of self.old) (S.told (source_of self.old))
             (remaining_of S.remaining self.old) (remaining_of S.remaining self.new)) }
         ensures position { position_of self.new ≡ position_of self.old }
+        ensures told { StaysTold (remaining_of S.remaining self.old)
+            (S.told (source_of self.old)) (S.told (source_of self.new)) }
         ensures no_failure { OnOk result
             (S.failures (source_of self.new) ≡ S.failures (source_of self.old)) }
         ensures fault { OnErr result (CountsFailure
@@ -189,17 +209,19 @@ impl<S: TapSource> TapReader<S> {
     {
         let mut bytes = [0u8; PACKET_HEADER_LEN];
         let came = self.input.draw_into(&mut bytes)?;
-        Ok(start_of(&self.position, &bytes, came))
+        Ok(start_of(&self.position, &bytes, came, self.told_after(came)))
     }
 
     /// Draws the next packet, or finds the ending.
     #[inline(always)]
     fn find(&mut self, alloc: Global) -> Result<Found, ReadFault>
-        ensures item { IfOk result (λ a. IsNext (position_of self.old)
+        ensures item { IfOk result (λ a. IsNext (position_of self.old) (S.told (source_of self.old))
             (remaining_of S.remaining self.old) (remaining_of S.remaining self.new)
             (found_item (lent_of self.new) a)) }
         ensures room { IfOk result (λ a. HasRoom (position_of self.old) (found_item (lent_of self.new) a)) }
         ensures position { position_of self.new ≡ position_of self.old }
+        ensures told { StaysTold (remaining_of S.remaining self.old)
+            (S.told (source_of self.old)) (S.told (source_of self.new)) }
         ensures no_failure { OnOk result
             (S.failures (source_of self.new) ≡ S.failures (source_of self.old)) }
         ensures fault { IfErr result (IsReadFault (position_of self.old)
@@ -231,11 +253,13 @@ impl<S: TapSource> TapReader<S> {
     #[inline(always)]
     fn take(&mut self, alloc: Global) -> Result<Taken, ReadFault>
         requires { (position_of self.old).stage ≡ Going }
-        ensures item { IfOk result (λ a. IsNext (position_of self.old)
+        ensures item { IfOk result (λ a. IsNext (position_of self.old) (S.told (source_of self.old))
             (remaining_of S.remaining self.old) (remaining_of S.remaining self.new) (taken_item a)) }
         ensures room { IfOk result (λ a. HasRoom (position_of self.old) (taken_item a)) }
         ensures held { IfOk result (IsHeld (position_of self.new) (block_of self.new)) }
         ensures position { position_of self.new ≡ position_of self.old }
+        ensures told { StaysTold (remaining_of S.remaining self.old)
+            (S.told (source_of self.old)) (S.told (source_of self.new)) }
         ensures no_failure { OnOk result
             (S.failures (source_of self.new) ≡ S.failures (source_of self.old)) }
         ensures fault { IfErr result (IsReadFault (position_of self.old)
@@ -270,8 +294,8 @@ impl<S: TapSource> TapReader<S> {
     #[inline(always)]
     pub fn advance(&mut self, alloc: Global) -> Result<Found, ReadFault>
         ensures advances { Advances (found_item (lent_of self.new))
-            (reading_of S.remaining S.failures self.old)
-            (reading_of S.remaining S.failures self.new) result }
+            (reading_of S.remaining S.failures S.told self.old)
+            (reading_of S.remaining S.failures S.told self.new) result }
         // Fewer bytes came than the next packet needs: no frame that came whole is lost.
         ensures unfinished { (position_of self.old).stage ≡ Going → OnErr result
             (LacksBytes (position_of self.old) (remaining_of S.remaining self.old)
@@ -324,8 +348,8 @@ impl<S: TapSource> TapReader<S> {
     /// Goes on to the next frame, which it gives with a share of the block, or to the ending.
     #[inline(always)]
     fn advance_shared(&mut self, alloc: Global) -> Result<Taken, ReadFault>
-        ensures advances { Advances taken_item (reading_of S.remaining S.failures self.old)
-            (reading_of S.remaining S.failures self.new) result }
+        ensures advances { Advances taken_item (reading_of S.remaining S.failures S.told self.old)
+            (reading_of S.remaining S.failures S.told self.new) result }
         ensures held { IfOk result (IsHeld (position_of self.new) (block_of self.new)) }
         ensures unfinished { (position_of self.old).stage ≡ Going → result ≡ Err faults.Device
             → LacksBytes (position_of self.old) (remaining_of S.remaining self.old)
@@ -364,8 +388,8 @@ impl<S: TapSource> TapReader<S> {
     /// come free. `Memory` may come for any packet of at least one byte, as the contract of an `Arc` lets it
     /// refuse another owner at any time.
     pub fn next(&mut self, alloc: Global) -> Result<Item, ReadFault>
-        ensures advances { Advances (λ item. item) (reading_of S.remaining S.failures self.old)
-            (reading_of S.remaining S.failures self.new) result }
+        ensures advances { Advances (λ item. item) (reading_of S.remaining S.failures S.told self.old)
+            (reading_of S.remaining S.failures S.told self.new) result }
         // The source failed before it gave a whole packet: no frame that came whole is lost.
         ensures unfinished { (position_of self.old).stage ≡ Going → result ≡ Err faults.Device
             → LacksBytes (position_of self.old) (remaining_of S.remaining self.old)
@@ -389,8 +413,8 @@ impl<S: TapSource> TapReader<S> {
     /// It gives fewer frames where there is no memory for a table of them, and one alone where the first has
     /// no bytes.
     pub fn next_batch(&mut self, alloc: Global, most: usize) -> Result<Batched, ReadFault>
-        ensures gives { GivesBatch (reading_of S.remaining S.failures self.old)
-            (reading_of S.remaining S.failures self.new) result }
+        ensures gives { GivesBatch (reading_of S.remaining S.failures S.told self.old)
+            (reading_of S.remaining S.failures S.told self.new) result }
         ensures count { IfOk result (HasAtMost most) }
         ensures unfinished { (position_of self.old).stage ≡ Going → result ≡ Err faults.Device
             → LacksBytes (position_of self.old) (remaining_of S.remaining self.old)
@@ -421,8 +445,8 @@ impl<S: TapSource> TapReader<S> {
         requires going { (position_of self.old).stage ≡ Going }
         requires block { batch.old.block ≡ block_of self.old }
         requires one { length batch.old.left ≡ 1 }
-        ensures adds { AddsFrames (reading_of S.remaining S.failures self.old)
-            (reading_of S.remaining S.failures self.new) batch.old batch.new }
+        ensures adds { AddsFrames (reading_of S.remaining S.failures S.told self.old)
+            (reading_of S.remaining S.failures S.told self.new) batch.old batch.new }
         ensures some { 0 < length batch.new.left }
         ensures few { length batch.new.left ≤ max most 1 }
     {
@@ -441,12 +465,12 @@ impl<S: TapSource> TapReader<S> {
     fn add_held(&mut self, batch: &mut FrameBatch) -> bool
         requires going { (position_of self.old).stage ≡ Going }
         requires block { batch.old.block ≡ block_of self.old }
-        ensures added { IsTrue result → AddsFrame (reading_of S.remaining S.failures self.old)
-            (reading_of S.remaining S.failures self.new) batch.old batch.new }
+        ensures added { IsTrue result → AddsFrame (reading_of S.remaining S.failures S.told self.old)
+            (reading_of S.remaining S.failures S.told self.new) batch.old batch.new }
         ensures going { (position_of self.new).stage ≡ Going }
         ensures block { batch.new.block ≡ block_of self.new }
-        ensures unchanged { IsFalse result → (reading_of S.remaining S.failures self.new
-            ≡ reading_of S.remaining S.failures self.old) × (batch.new ≡ batch.old) }
+        ensures unchanged { IsFalse result → (reading_of S.remaining S.failures S.told self.new
+            ≡ reading_of S.remaining S.failures S.told self.old) × (batch.new ≡ batch.old) }
     {
         let (start, end) = self.input.unread_place();
         if end - start < PACKET_HEADER_LEN {
@@ -454,8 +478,12 @@ impl<S: TapSource> TapReader<S> {
         }
         let bytes = self.input.bytes();
         let from = start + PACKET_HEADER_LEN;
-        let Start::Header(header) = start_of(&self.position, &bytes[start..from], PACKET_HEADER_LEN)
-        else {
+        let Start::Header(header) = start_of(
+            &self.position,
+            &bytes[start..from],
+            PACKET_HEADER_LEN,
+            Told::Nothing,
+        ) else {
             return false;
         };
         let captured = header.captured_len as usize;

@@ -1,7 +1,8 @@
 //! Reads and writes in as many calls as the device takes.
-ghost use Rattle.std.specs.Prelude.{◌≡◌, ◌<◌, ◌≤◌, length, take, IfOk, OnOk, OnErr};
+ghost use Rattle.std.specs.Prelude.{◌≡◌, ◌<◌, ◌≤◌, true, length, take, IfOk, OnOk, OnErr};
 ghost use Rattle.std.specs.Io.KnownBytes.{Consumes, IsAtEnd};
 ghost use Rattle.pcap_io.specs.Device.{CountsFailure, TakesAtMost, TakesFewer, Writes};
+ghost use Rattle.pcap_io.specs.Told.{StaysTold};
 
 use crate::device::{DeviceFault, OutSink, TapSource};
 
@@ -11,6 +12,8 @@ pub fn fill<S: TapSource>(source: &mut S, buf: &mut [u8]) -> Result<usize, Devic
     ensures bytes { IfOk result (λ n.
         Consumes (S.remaining source.old) (S.remaining source.new) (take n buf.new)) }
     ensures end { IfOk result (λ n. n < length buf.new → IsAtEnd (S.remaining source.new)) }
+    ensures over { IfOk result (λ n. n < length buf.new → S.is_over source.new ≡ true) }
+    ensures told { StaysTold (S.remaining source.old) (S.told source.old) (S.told source.new) }
     ensures no_failure { OnOk result (S.failures source.new ≡ S.failures source.old) }
     ensures fault { OnErr result (CountsFailure (S.failures source.old) (S.failures source.new)) }
     ensures taken { OnErr result

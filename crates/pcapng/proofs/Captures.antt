@@ -31,6 +31,9 @@ use Rattle.pcapng.specs.Blocks.{Written, capture_bytes, descriptions_of, interfa
 use Rattle.pcapng.specs.Stepping.{AreWritable, IsWritable}
 use Rattle.pcapng.specs.declared.interfaces.Interfaces.{Interfaces}
 use Rattle.pcapng.specs.declared.interfaces.Interfaces.TheVariants.{Networks, One}
+use Rattle.pcapng.specs.Given.{Given, followed}
+use Rattle.pcapng.specs.Given as given
+use Rattle.pcap_io.specs.declared.told.Told.TheVariants.{Nothing}
 
 -- ---- a packet
 
@@ -73,7 +76,7 @@ skips interfaces p k can role =
 
 -- a packet's block, and those after it
 first_is : (interfaces : Interfaces) (p : Written) (k : Known) (read : Read) (more : List ℕ) → IsWritable p → k.order ≡ Little
-    → read_of k (start_for interfaces p) (written_block interfaces p) ≡ Ok read → given_at k (written_block interfaces p ++ more) ≡ read.given ++ given_at read.known more
+    → read_of k (start_for interfaces p) (written_block interfaces p) ≡ Ok read → given_at k (written_block interfaces p ++ more) ≡ followed read.given (given_at read.known more)
 first_is interfaces p k read more can order is =
     let b = written_block interfaces p in
     let size = whole_len interfaces p in
@@ -81,6 +84,10 @@ first_is interfaces p k read more can order is =
     reads_first k b more (start_for interfaces p) read (omega (arith, size)) begun (sym size) is
 
 -- ---- the packets of one interface
+
+-- what is given for packets
+abbrev all_given : List Written → Given
+all_given ps = record { bytes = flat_map given_packet ps; told = Nothing }
 
 taken_of : Bool → Option ℕ
 taken_of false = None
@@ -95,14 +102,14 @@ unfolding taken_of known_one
 takes_one false = refl
 takes_one true = refl
 
-one_given : (some : Bool) (ps : List Written) → AreWritable ps → given_at (known_one some) (flat_map (written_block One) ps) ≡ flat_map given_packet ps
+one_given : (some : Bool) (ps : List Written) → AreWritable ps → given_at (known_one some) (flat_map (written_block One) ps) ≡ all_given ps
 unfolding taken_of known_one blocks_of blocks_within
 one_given some [] can = refl
 one_given some (p ∷ ps) can =
     let k = known_one some in
     first_is One p k (record { given = given_packet p; known = with_taken 0 k }) (flat_map (written_block One) ps) can.0 refl
     (takes One p k can.0 (takes_one some) (sym (stamps 0 p.frame.stamp None can.0.fits.stamp_fits)))
-    ∙ ap (λ (l : List ℕ). given_packet p ++ l) (one_given true ps can.1)
+    ∙ ap (followed (given_packet p)) (one_given true ps can.1)
 
 -- ---- those of a network
 
@@ -130,7 +137,7 @@ stamp_both number taken A stamp fits = sym (stamps 0 stamp (Some (65 ∷ [])) fi
 stamp_both number taken B stamp fits = sym (stamps 1 stamp (Some (66 ∷ [])) fits)
 
 both_given : (number : ℕ) (taken : Option ℕ) (ps : List Written) → AreWritable ps
-    → given_at (known_both number taken) (flat_map (written_block Networks) ps) ≡ flat_map given_packet (filter (is_of number) ps)
+    → given_at (known_both number taken) (flat_map (written_block Networks) ps) ≡ all_given (filter (is_of number) ps)
 unfolding known_both blocks_of blocks_within
 both_given number taken [] can = refl
 both_given number taken (p ∷ ps) can =
@@ -143,7 +150,7 @@ both_given number taken (p ∷ ps) can =
           rw own
           (first_is Networks p k (record { given = given_packet p; known = with_taken i k }) more can.0 refl
           (takes Networks p k can.0 (sym role) (stamp_both number taken p.frame.network p.frame.stamp can.0.fits.stamp_fits))
-          ∙ ap (λ (l : List ℕ). given_packet p ++ l) (both_given number (Some i) ps can.1))
+          ∙ ap (followed (given_packet p)) (both_given number (Some i) ps can.1))
       | inr other ↦
           let role : role_of k i ≡ Ok roles.Skipped = role_both number taken p.frame.network ∙ rw other refl in
           rw other
@@ -153,12 +160,12 @@ both_given number taken (p ∷ ps) can =
 -- ---- whole captures
 
 -- after the section header
-header_given : (choice : Choice) (more : List ℕ) → given_of choice (section_header ++ more) ≡ file_header_bytes None ++ given_at (in_section Little (unknown choice Little)) more
+header_given : (choice : Choice) (more : List ℕ) → given_of choice (section_header ++ more) ≡ followed file_header_bytes (given_at (in_section Little (unknown choice Little)) more)
 unfolding section_header first_of start_of options_of options_within
 header_given choice more =
     let first = first-settled section_header more (Begins Little 28) (omega arith) refl tt in
     given_opened choice (section_header ++ more) (Begins Little 28) (omega arith, refl) first
-    ∙ ap (λ (b : List ℕ). file_header_bytes None ++ given_at (in_section Little (unknown choice Little)) b) (drop_at section_header more 28 refl)
+    ∙ ap (λ (b : List ℕ). followed file_header_bytes (given_at (in_section Little (unknown choice Little)) b)) (drop_at section_header more 28 refl)
 
 one_described : (more : List ℕ) → given_at (in_section Little (unknown Any Little)) (descriptions_of One ++ more) ≡ given_at (known_one false) more
 unfolding taken_of known_one descriptions_of start_of read_of options_of options_within
@@ -193,17 +200,17 @@ both_described (suc zero) more few =
 both_described (suc (suc number)) more few = absurd (omega arith)
 
 pub capture_given : (packets : List Written) → AreWritable packets
-    → given_of Any (capture_bytes One packets) ≡ file_header_bytes None ++ flat_map given_packet packets
+    → given_of Any (capture_bytes One packets) ≡ given.plain (file_header_bytes ++ flat_map given_packet packets)
 capture_given packets can =
     let blocks = flat_map (written_block One) packets in
     ap (given_of Any) (append_assoc section_header (descriptions_of One) blocks)
     ∙ (header_given Any (descriptions_of One ++ blocks)
-    ∙ ap (λ (l : List ℕ). file_header_bytes None ++ l) (one_described blocks ∙ one_given false packets can))
+    ∙ ap (followed file_header_bytes) (one_described blocks ∙ one_given false packets can))
 
 pub network_given : (number : ℕ) (packets : List Written) → number < 2 → AreWritable packets
-    → given_of (Number number) (capture_bytes Networks packets) ≡ file_header_bytes None ++ flat_map given_packet (filter (is_of number) packets)
+    → given_of (Number number) (capture_bytes Networks packets) ≡ given.plain (file_header_bytes ++ flat_map given_packet (filter (is_of number) packets))
 network_given number packets few can =
     let blocks = flat_map (written_block Networks) packets in
     ap (given_of (Number number)) (append_assoc section_header (descriptions_of Networks) blocks)
     ∙ (header_given (Number number) (descriptions_of Networks ++ blocks)
-    ∙ ap (λ (l : List ℕ). file_header_bytes None ++ l) (both_described number blocks few ∙ both_given number None packets can))
+    ∙ ap (followed file_header_bytes) (both_described number blocks few ∙ both_given number None packets can))

@@ -1,5 +1,5 @@
 -- What the steps of a converter do to what is given.
-use Rattle.std.proofs.Common.{◌≡◌, ◌≢◌, ℕ, ◌+◌, ◌-◌, ◌<◌, ◌≤◌, Bool, true, false, if◌then◌else◌, ◌==◌, List, [], ◌∷◌, ◌++◌, length, take, drop, slice_range, nat_lt, nat_eq, None, Result, Ok, Err, Vec, Global, ◌⊎◌, inl, inr, refl, sym, ap, ◌∙◌, subst, arith}
+use Rattle.std.proofs.Common.{◌≡◌, ◌≢◌, ℕ, ◌+◌, ◌-◌, ◌<◌, ◌≤◌, Bool, true, false, if◌then◌else◌, ◌==◌, List, [], ◌∷◌, ◌++◌, length, take, drop, slice_range, nat_lt, nat_eq, Result, Ok, Err, Vec, Global, ◌⊎◌, inl, inr, refl, sym, ap, ◌∙◌, subst, arith}
 use Rattle.std.proofs.lemmas.Bool.{cases_lt, eq-eqb, le-ltb, lt-ltb, ne_eqb}
 use Rattle.std.proofs.lemmas.List.{append-nil, drop-append-le, drop-drop, drop-take, length-append, length-drop, length-take-le, take-append-drop, take-append-le, take-take}
 use Rattle.afdx_frame.specs.declared.bounds.TheConstants.{MAX_SNAPLEN}
@@ -8,6 +8,7 @@ use Rattle.pcap_io.specs.Layout.{number_in}
 use Rattle.pcap_io.specs.declared.layout.ByteOrder.{ByteOrder}
 use Rattle.pcap_io.specs.declared.recording.BadReason.{BadReason}
 use Rattle.pcap_io.specs.declared.recording.BadReason.TheVariants.{BlockLengthsDiffer, SimplePacket}
+use Rattle.pcap_io.specs.declared.told.Told.TheVariants as tolds
 use Rattle.pcapng.proofs.Files.{given_few, given_part, given_whole, given_wrong, number_in-append, opened_whole, start_facts}
 use Rattle.pcapng.proofs.Handed.{at_stage, drop_slice, from_start}
 use Rattle.pcapng.proofs.Orders.{read_order}
@@ -16,7 +17,8 @@ use Rattle.pcapng.specs.File.{Read, blocks_of, described_read, first_of, given_a
 use Rattle.pcapng.specs.Interface.{Described, interface_of}
 use Rattle.pcapng.specs.Handed.{EndsWithin, KeepsRest, block_of, end_at, handed, pending_of, rest_at, skipped_at, unread_of}
 use Rattle.pcapng.specs.Section.{Known, in_section, known_of, next_number, noted, role_of, stamp_of, with_taken}
-use Rattle.pcapng.specs.Text.{cut_bytes, file_header_bytes, packet_header_bytes, reason_bytes}
+use Rattle.pcapng.specs.Given.{Given, followed, only}
+use Rattle.pcapng.specs.Text.{file_header_bytes, packet_header_bytes}
 use Rattle.pcapng.specs.declared.block.BlockKind.{BlockKind}
 use Rattle.pcapng.specs.declared.block.BlockKind.TheVariants as kinds
 use Rattle.pcapng.specs.declared.block.BlockStart.{BlockStart}
@@ -57,7 +59,7 @@ agree_at o len bytes four whole =
 
 other_given : (k : Known) (o : ByteOrder) (len : ℕ) (block rest : List ℕ) (b : Bool) → o ≡ k.order → lengths_agree o block ≡ b
     → given_after (read_of k (record { order = o; kind = kinds.Other; len = len }) block) (λ known. given_for known (blocks_of o rest))
-    ≡ (if b then given_at k rest else reason_bytes BlockLengthsDiffer)
+    ≡ (if b then given_at k rest else only (tolds.Bad BlockLengthsDiffer))
 unfolding read_of
 other_given k o len block rest true same agree = rw agree (ap (λ (p : ByteOrder). given_for k (blocks_of p rest)) same)
 other_given k o len block rest false same agree = rw agree refl
@@ -83,7 +85,7 @@ passes_over k u l start some e other =
           ∙ (ap (λ (s : BlockStart). given_after (read_of k s (take start.len bytes)) (λ known. given_for known (blocks_of start.order (drop start.len bytes)))) known
           ∙ other_given k start.order start.len (take start.len bytes) (drop start.len bytes) test own (agree_at start.order start.len bytes (omega arith) whole)) in
           rw (more, back)
-          (sym (given ∙ ap (λ (o : ByteOrder). if number_in o 4 (drop (start.len - 4) bytes) == start.len then given_at k (drop start.len bytes) else reason_bytes BlockLengthsDiffer) own))
+          (sym (given ∙ ap (λ (o : ByteOrder). if number_in o 4 (drop (start.len - 4) bytes) == start.len then given_at k (drop start.len bytes) else only (tolds.Bad BlockLengthsDiffer)) own))
     ]
 
 -- so many of its bytes are passed
@@ -120,7 +122,7 @@ skipped len k u l four same =
 
 -- they say another
 pub skipped_wrong : (len : ℕ) (k : Known) (u l : List ℕ) → 4 ≤ length u → (number_in k.order 4 u ≡ len → ⊥)
-    → reason_bytes BlockLengthsDiffer ≡ skipped_at 0 len k (u ++ l)
+    → only (tolds.Bad BlockLengthsDiffer) ≡ skipped_at 0 len k (u ++ l)
 skipped_wrong len k u l four other =
     let enough : nat_lt (length (u ++ l)) (0 + 4) ≡ false = le-ltb (length (u ++ l)) (0 + 4) (omega (arith, length-append u l)) in
     let test : nat_eq (number_in k.order 4 (u ++ l)) len ≡ false = ne_eqb _ _ (λ same. other (sym (number_in-append k.order 4 u l four) ∙ same)) in
@@ -129,8 +131,8 @@ skipped_wrong len k u l four other =
 -- ---- a converter
 
 -- nothing was given before
-pub after_none : (before rest all : List ℕ) → before ≡ [] → rest ≡ all → before ++ rest ≡ all
-after_none before rest all none same = ap (λ (l : List ℕ). l ++ rest) none ∙ same
+pub after_none : (before : List ℕ) (rest all : Given) → before ≡ [] → rest ≡ all → followed before rest ≡ all
+after_none before rest all none same = ap (λ (l : List ℕ). followed l rest) none ∙ same
 
 -- n bytes of a block that is passed over are passed
 pub skip_keeps : (c : Converter) (n left len r s : ℕ) (l : List ℕ) → c.stage ≡ stages.Skipping left len → pending_of c ≡ [] → c.start + n ≤ c.end
@@ -162,7 +164,7 @@ skip_ends c left len e l t p four long at read =
 -- they say another
 pub skip_wrong : (c : Converter) (left len : ℕ) (l : List ℕ) → c.stage ≡ stages.Skipping left len → pending_of c ≡ [] → (c.start + left) + 4 ≤ c.end
     → c.end ≤ length c.block.items → (number_in c.section.order 4 (slice_range c.block.items (c.start + left) c.end) ≡ len → ⊥)
-    → reason_bytes BlockLengthsDiffer ≡ handed c l
+    → only (tolds.Bad BlockLengthsDiffer) ≡ handed c l
 skip_wrong c left len l t p four long other =
     let u = slice_range c.block.items (c.start + left) c.end in
     let size : length u ≡ c.end - (c.start + left) = length-between (c.start + left) c.end c.block.items long in
@@ -172,20 +174,20 @@ skip_wrong c left len l t p four long other =
 -- the first section header is there whole
 pub opens_section : (c : Converter) (s : Section) (header : List ℕ) (order : ByteOrder) (len at : ℕ) (l : List ℕ) → c.stage ≡ stages.FirstSection → pending_of c ≡ []
     → 12 ≤ length (unread_of c) → len ≤ length (unread_of c) → c.end ≤ length c.block.items → first_of (unread_of c) ≡ firsts.Begins order len
-    → header ≡ file_header_bytes None → known_of s ≡ in_section order (known_of c.section) → at ≡ c.start + len
-    → (slice_range header 0 24 ++ slice_range c.block.items c.body_from c.body_to) ++ given_at (known_of s) (slice_range c.block.items at c.end ++ l) ≡ handed c l
+    → header ≡ file_header_bytes → known_of s ≡ in_section order (known_of c.section) → at ≡ c.start + len
+    → followed (slice_range header 0 24 ++ slice_range c.block.items c.body_from c.body_to) (given_at (known_of s) (slice_range c.block.items at c.end ++ l)) ≡ handed c l
 opens_section c s header order len at l t p some whole long e is known behind =
     let k = known_of c.section in
-    let rest = slice_range c.block.items at c.end ++ l in
+    let rest = given_at (known_of s) (slice_range c.block.items at c.end ++ l) in
     let body : slice_range c.block.items c.body_from c.body_to ≡ [] = none_second (slice_range c.header c.header_from c.header_to) _ p in
-    let front : slice_range header 0 24 ≡ file_header_bytes None = ap (λ (h : List ℕ). slice_range h 0 24) is in
+    let front : slice_range header 0 24 ≡ file_header_bytes = ap (λ (h : List ℕ). slice_range h 0 24) is in
     let size : length (unread_of c) ≡ c.end - c.start = length-between c.start c.end c.block.items long in
     let unread : slice_range c.block.items at c.end ≡ drop len (unread_of c) =
     ap (λ (m : ℕ). slice_range c.block.items m c.end) behind ∙ sym (drop_slice len c.start c.end c.block.items (omega (arith, size, c.ordered)) long) in
-    ap (λ (b : List ℕ). (slice_range header 0 24 ++ b) ++ given_at (known_of s) rest) body
-    ∙ (ap (λ (h : List ℕ). h ++ given_at (known_of s) rest) (append-nil (slice_range header 0 24) ∙ front)
-    ∙ (ap (λ (m : Known). file_header_bytes None ++ given_at m rest) known
-    ∙ (ap (λ (u : List ℕ). file_header_bytes None ++ given_at (in_section order k) (u ++ l)) unread
+    ap (λ (b : List ℕ). followed (slice_range header 0 24 ++ b) rest) body
+    ∙ (ap (λ (h : List ℕ). followed h rest) (append-nil (slice_range header 0 24) ∙ front)
+    ∙ (ap (λ (m : Known). followed file_header_bytes (given_at m (slice_range c.block.items at c.end ++ l))) known
+    ∙ (ap (λ (u : List ℕ). followed file_header_bytes (given_at (in_section order k) (u ++ l))) unread
     ∙ sym (at_stage c stages.FirstSection l t p ∙ opened_whole k (unread_of c) l order len some whole e))))
 
 -- ---- whole blocks
@@ -293,12 +295,12 @@ ends_part c start t some e part =
     let all : u ++ [] ≡ u = append-nil u in
     let less : length (u ++ []) < start.len = omega (arith, ap length all) in
     let there : nat_eq (length u) 0 ≡ false = ne_eqb (length u) 0 (λ none. omega arith) in
-    let cuts : given_at k u ≡ cut_bytes = ap (given_at k) (sym all) ∙ given_part k u [] start some e less in
+    let cuts : given_at k u ≡ only tolds.Cut = ap (given_at k) (sym all) ∙ given_part k u [] start some e less in
     ends_within c stages.Blocks t (rw there cuts)
 
 -- what stands there starts no block
 pub starts_none : (c : Converter) (fault : StartFault) (l : List ℕ) → c.stage ≡ stages.Blocks → pending_of c ≡ [] → 12 ≤ length (unread_of c)
-    → start_of c.section.order (unread_of c) ≡ Err fault → reason_bytes (start_reason fault) ≡ handed c l
+    → start_of c.section.order (unread_of c) ≡ Err fault → only (tolds.Bad (start_reason fault)) ≡ handed c l
 starts_none c fault l t p some e = sym (at_stage c stages.Blocks l t p ∙ given_wrong (known_of c.section) (unread_of c) l fault some e)
 
 -- a block that isn't read begins
@@ -332,7 +334,7 @@ whole_given c start l r t p some e whole long is =
 -- a whole block ends the reading
 pub reads_bad : (c : Converter) (start : BlockStart) (reason : BadReason) (l : List ℕ) → c.stage ≡ stages.Blocks → pending_of c ≡ []
     → 12 ≤ length (unread_of c) → start_of c.section.order (unread_of c) ≡ Ok start → c.start + start.len ≤ c.end → c.end ≤ length c.block.items
-    → read_of (known_of c.section) start (block_of c start.len) ≡ Err reason → reason_bytes reason ≡ handed c l
+    → read_of (known_of c.section) start (block_of c start.len) ≡ Err reason → only (tolds.Bad reason) ≡ handed c l
 reads_bad c start reason l t p some e whole long is = sym (whole_given c start l (Err reason) t p some e whole long is)
 
 -- a whole block is read
@@ -348,7 +350,7 @@ reads_good c d start l t p some e whole long is rest =
     let facts = start_facts c.section.order u start e in
     let order : m.order ≡ start.order = read_order k start (block_of c start.len) (record { given = pending_of d; known = m }) is facts.1 in
     let unread : unread_of d ++ l ≡ drop start.len (u ++ l) = ap (λ (x : List ℕ). x ++ l) rest.1 ∙ sym (drop-append-le start.len u l (omega (arith, size))) in
-    ap (λ (s : Reached). pending_of d ++ rest_at s m (unread_of d ++ l)) (rest.0 ∙ t)
-    ∙ (ap (λ (x : List ℕ). pending_of d ++ given_for m (blocks_of m.order x)) unread
-    ∙ (ap (λ (o : ByteOrder). pending_of d ++ given_for m (blocks_of o (drop start.len (u ++ l)))) order
+    ap (λ (s : Reached). followed (pending_of d) (rest_at s m (unread_of d ++ l))) (rest.0 ∙ t)
+    ∙ (ap (λ (x : List ℕ). followed (pending_of d) (given_for m (blocks_of m.order x))) unread
+    ∙ (ap (λ (o : ByteOrder). followed (pending_of d) (given_for m (blocks_of o (drop start.len (u ++ l))))) order
     ∙ sym (whole_given c start l (Ok (record { given = pending_of d; known = m })) t p some e whole long is)))

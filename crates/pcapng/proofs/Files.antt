@@ -8,10 +8,12 @@ use Rattle.pcap_io.specs.declared.layout.ByteOrder.{ByteOrder}
 use Rattle.pcap_io.specs.declared.layout.ByteOrder.TheVariants.{Little, Big}
 use Rattle.pcap_io.specs.declared.layout.HeaderFault.{HeaderFault}
 use Rattle.pcap_io.specs.declared.layout.HeaderFault.TheVariants.{Magic}
+use Rattle.pcap_io.specs.declared.told.Told.TheVariants as tolds
 use Rattle.pcapng.specs.Block.{is_length_of, is_short, kind_of, order_of, order_of_magic, section_fault, shortest_of, start_as, start_header_fault, start_in, start_of, start_reason, start_with, unless}
-use Rattle.pcapng.specs.File.{Blocks, block, blocks_from, blocks_of, blocks_within, cut, end_bytes, ended, first_as, first_of, first_with, given_after, given_at, given_for, opened, pcap_of, read_of, section_begun, section_within}
+use Rattle.pcapng.specs.File.{Blocks, block, blocks_from, blocks_of, blocks_within, cut, end_given, ended, first_as, first_of, first_with, given_after, given_at, given_for, opened, pcap_of, read_of, section_begun, section_within}
 use Rattle.pcapng.specs.Section.{Known, in_section}
-use Rattle.pcapng.specs.Text.{cut_bytes, file_header_bytes, reason_bytes}
+use Rattle.pcapng.specs.Given.{followed, only}
+use Rattle.pcapng.specs.Text.{file_header_bytes}
 use Rattle.pcapng.specs.declared.block.BlockKind.{BlockKind}
 use Rattle.pcapng.specs.declared.block.BlockKind.TheVariants as kinds
 use Rattle.pcapng.specs.declared.block.BlockStart.{BlockStart}
@@ -164,7 +166,7 @@ blocks_at order (x ∷ xs) some =
 -- ---- what is given
 
 -- too few bytes for a block's start
-pub given_few : (k : Known) (bytes : List ℕ) → length bytes < 12 → given_at k bytes ≡ (if length bytes == 0 then end_bytes k else cut_bytes)
+pub given_few : (k : Known) (bytes : List ℕ) → length bytes < 12 → given_at k bytes ≡ (if length bytes == 0 then end_given k else only tolds.Cut)
 unfolding blocks_of blocks_within
 given_few k [] few = refl
 given_few k (x ∷ xs) few =
@@ -179,12 +181,12 @@ given_from_start k u l r some e =
 
 -- what stands there starts no block
 pub given_wrong : (k : Known) (u l : List ℕ) (fault : StartFault) → 12 ≤ length u → start_of k.order u ≡ Err fault
-    → given_at k (u ++ l) ≡ reason_bytes (start_reason fault)
+    → given_at k (u ++ l) ≡ only (tolds.Bad (start_reason fault))
 given_wrong k u l fault some e = given_from_start k u l (Err fault) some e
 
 -- the bytes end within the block
 pub given_part : (k : Known) (u l : List ℕ) (start : BlockStart) → 12 ≤ length u → start_of k.order u ≡ Ok start → length (u ++ l) < start.len
-    → given_at k (u ++ l) ≡ cut_bytes
+    → given_at k (u ++ l) ≡ only tolds.Cut
 given_part k u l start some e part = given_from_start k u l (Ok start) some e ∙ rw (lt-ltb (length (u ++ l)) start.len part) refl
 
 -- the bytes begin with the whole block
@@ -234,16 +236,16 @@ opened_as k bytes first some e = rw (le-ltb (length bytes) 12 some) (ap (λ (f :
 
 -- something is wrong with it
 pub opened_wrong : (k : Known) (u l : List ℕ) (fault : HeaderFault) → 12 ≤ length u → first_of u ≡ firsts.Wrong fault
-    → pcap_of k (u ++ l) ≡ file_header_bytes (Some fault)
+    → pcap_of k (u ++ l) ≡ only (tolds.NoHeader fault)
 opened_wrong k u l fault some e =
     opened_as k (u ++ l) (firsts.Wrong fault) (omega (arith, length-append u l)) (first-settled u l (firsts.Wrong fault) some e tt)
 
 -- a section begins
 pub opened_whole : (k : Known) (u l : List ℕ) (order : ByteOrder) (len : ℕ) → 12 ≤ length u → len ≤ length u → first_of u ≡ firsts.Begins order len
-    → pcap_of k (u ++ l) ≡ file_header_bytes None ++ given_at (in_section order k) (drop len u ++ l)
+    → pcap_of k (u ++ l) ≡ followed file_header_bytes (given_at (in_section order k) (drop len u ++ l))
 opened_whole k u l order len some whole e =
     opened_as k (u ++ l) (firsts.Begins order len) (omega (arith, length-append u l)) (first-settled u l (firsts.Begins order len) some e tt)
-    ∙ ap (λ (b : List ℕ). file_header_bytes None ++ given_at (in_section order k) b) (drop-append-le len u l whole)
+    ∙ ap (λ (b : List ℕ). followed file_header_bytes (given_at (in_section order k) b)) (drop-append-le len u l whole)
 
 -- ---- how it is found
 

@@ -1,18 +1,21 @@
 -- The frames that are read of a written capture.
-use Rattle.std.proofs.Common.{◌≡◌, ℕ, suc, ◌+◌, ◌/◌, ◌%◌, ◌<◌, ◌≤◌, max, List, [], ◌∷◌, ◌++◌, length, take, drop, filter, flat_map, None, Some, inl, inr, refl, sym, ap, ◌∙◌, subst, arith}
+use Rattle.std.proofs.Common.{◌≡◌, ℕ, suc, ◌+◌, ◌/◌, ◌%◌, ◌<◌, ◌≤◌, max, List, [], ◌∷◌, ◌++◌, length, take, drop, filter, flat_map, Some, inl, inr, refl, sym, ap, ◌∙◌, subst, arith}
 use Rattle.std.proofs.lemmas.Bool.{cases_Bool}
 use Rattle.std.proofs.lemmas.List.{append-nil, drop_at}
 use Rattle.afdx_frame.specs.Frame.{Frame, frame_with}
 use Rattle.afdx_frame.specs.declared.key.Network.{Network}
 use Rattle.pcap_io.proofs.FileHeader.{header-append}
-use Rattle.pcap_io.specs.Layout.{header_of}
+use Rattle.pcap_io.specs.Position.{Holds, start_at}
 use Rattle.pcap_io.specs.Recording.{AreGood, Packet, frame_of, frames_of, packet_bytes, stamp_of}
 use Rattle.pcap_io.specs.declared.recording.Ending.TheVariants.{Clean}
+use Rattle.pcap_io.specs.declared.told.Told.TheVariants.{Nothing}
+use Rattle.pcap_io.specs.Recording.{fields_of, is_file_header}
+use Rattle.pcapng.specs.Given.{Given, header_given, plain}
 use Rattle.pcapng.specs.Handed.{given_of}
 use Rattle.pcapng.specs.Text.{converted_layout, file_header_bytes, packet_header_bytes}
 use Rattle.pcapng.specs.declared.choice.Choice.TheVariants.{Any, Number}
 use Rattle.pcapng.proofs.Captures.{capture_given, network_given}
-use Rattle.pcapng.specs.Captures.{AreInTime, HoldsFrames, given_packet, is_of, kept_frames}
+use Rattle.pcapng.specs.Captures.{AreInTime, AreNoHeaders, HoldsFrames, given_packet, is_of, kept_frames}
 use Rattle.pcapng.proofs.Stepping.{kept_len}
 use Rattle.pcapng.specs.Blocks.{Written, capture_bytes}
 use Rattle.pcapng.specs.Stepping.{AreWritable}
@@ -48,10 +51,10 @@ texts_are (p ∷ ps) can =
     ap (λ (n : ℕ). (packet_header_bytes p.frame.stamp n p.frame.whole ++ kept) ++ rest) (sym (kept_len p can.0))
     ∙ ap (λ (l : List ℕ). packet_bytes converted_layout (packet_of p) ++ l) (texts_are ps can.1)
 
-good : (late high : ℕ) (ps : List Written) → AreWritable ps → AreInTime late high ps → AreGood converted_layout late high (packets_of ps)
+good : (late high : ℕ) (ps : List Written) → AreWritable ps → AreNoHeaders ps → AreInTime late high ps → AreGood converted_layout late high (packets_of ps)
 unfolding packets_of
-good late high [] can timely = tt
-good late high (p ∷ ps) can timely =
+good late high [] can none timely = tt
+good late high (p ∷ ps) can none timely =
     let size = kept_len p can.0 in
     let stamp = stamp_is p in (
       record {
@@ -59,10 +62,10 @@ good late high (p ∷ ps) can timely =
         seconds_fit = omega (arith, can.0.fits.stamp_fits);
         original_len_fits = can.0.whole_fits;
         within_second = omega arith;
-        no_file_header = refl;
+        no_file_header = ap (λ (n : ℕ). is_file_header (record (fields_of (packet_of p)) { captured_len = n })) (kept_len p can.0) ∙ none.0;
         in_time = omega (arith, stamp, timely.0);
       },
-      subst (λ (h : ℕ). AreGood converted_layout late (max high h) (packets_of ps)) (sym stamp) (good late (max high p.frame.stamp) ps can.1 timely.1),
+      subst (λ (h : ℕ). AreGood converted_layout late (max high h) (packets_of ps)) (sym stamp) (good late (max high p.frame.stamp) ps can.1 none.1 timely.1),
     )
 
 frames_are : (network : Network) (n : ℕ) (ps : List Written) → AreWritable ps → kept_frames network n ps ≡ frames_of network converted_layout n (packets_of ps)
@@ -76,26 +79,26 @@ frames_are network n (p ∷ ps) can =
     ∙ ap (λ (fs : List Frame). frame_of network converted_layout n (packet_of p) ∷ fs) (frames_are network (n + 1) ps can.1))
 
 -- the pcap of packets is read
-holds : (network : Network) (most late : ℕ) (bytes : List ℕ) (ps : List Written) → bytes ≡ file_header_bytes None ++ flat_map given_packet ps → AreWritable ps
-    → AreInTime late 0 ps → length ps ≤ most → HoldsFrames network most late bytes ps
-holds network most late bytes ps given can timely few =
+holds : (network : Network) (most late : ℕ) (g : Given) (ps : List Written) → g ≡ plain (file_header_bytes ++ flat_map given_packet ps) → AreWritable ps → AreNoHeaders ps
+    → AreInTime late 0 ps → length ps ≤ most → HoldsFrames network most late g ps
+holds network most late g ps given can none timely few =
     let texts = flat_map given_packet ps in
     let size = length-packets_of ps in
-    let behind : drop 24 bytes ≡ flat_map (packet_bytes converted_layout) (packets_of ps) ++ [] =
-    ap (drop 24) given ∙ (drop_at (file_header_bytes None) texts 24 refl ∙ (texts_are ps can ∙ sym (append-nil (flat_map (packet_bytes converted_layout) (packets_of ps))))) in
+    let behind : drop 24 (file_header_bytes ++ texts) ≡ flat_map (packet_bytes converted_layout) (packets_of ps) ++ [] =
+    (drop_at file_header_bytes texts 24 refl ∙ (texts_are ps can ∙ sym (append-nil (flat_map (packet_bytes converted_layout) (packets_of ps))))) in
     let count : 0 + length (packets_of ps) ≡ length ps = omega (arith, size) in (
-      ap header_of given ∙ header-append (file_header_bytes None) texts refl,
-      record {
+      ap header_given given ∙ header-append Nothing file_header_bytes texts refl,
+      subst (λ (x : Given). Holds (start_at network converted_layout most late) x.told (drop 24 x.bytes) (kept_frames network 0 ps) (Clean (length ps))) (sym given) (record {
         packets = packets_of ps;
         rest = [];
         parse = record {
           complete = behind;
-          good = good late 0 ps can timely;
+          good = good late 0 ps can none timely;
           bounded = omega (arith, size, few);
           ends = ap (λ (n : ℕ). Some (Clean n)) count;
         };
         same = frames_are network 0 ps can;
-      },
+      }),
     )
 
 some_writable : (number : ℕ) (ps : List Written) → AreWritable ps → AreWritable (filter (is_of number) ps)
@@ -105,15 +108,15 @@ some_writable number (p ∷ ps) can = elim (cases_Bool (is_of number p)) [
   | inr other ↦ rw other (some_writable number ps can.1)
 ]
 
-pub capture_read : (network : Network) (most late : ℕ) (packets : List Written) → AreWritable packets → AreInTime late 0 packets → length packets ≤ most
+pub capture_read : (network : Network) (most late : ℕ) (packets : List Written) → AreWritable packets → AreNoHeaders packets → AreInTime late 0 packets → length packets ≤ most
     → HoldsFrames network most late (given_of Any (capture_bytes One packets)) packets
-capture_read network most late packets can timely few =
-    holds network most late (given_of Any (capture_bytes One packets)) packets (capture_given packets can) can timely few
+capture_read network most late packets can none timely few =
+    holds network most late (given_of Any (capture_bytes One packets)) packets (capture_given packets can) can none timely few
 
 pub network_read : (network : Network) (number most late : ℕ) (packets chosen : List Written) → number < 2 → AreWritable packets
-    → chosen ≡ filter (is_of number) packets → AreInTime late 0 chosen → length chosen ≤ most
+    → chosen ≡ filter (is_of number) packets → AreNoHeaders chosen → AreInTime late 0 chosen → length chosen ≤ most
     → HoldsFrames network most late (given_of (Number number) (capture_bytes Networks packets)) chosen
-network_read network number most late packets chosen two can own timely few =
+network_read network number most late packets chosen two can own none timely few =
     holds network most late (given_of (Number number) (capture_bytes Networks packets)) chosen
-    (network_given number packets two can ∙ ap (λ (ps : List Written). file_header_bytes None ++ flat_map given_packet ps) (sym own))
-    (subst AreWritable (sym own) (some_writable number packets can)) timely few
+    (network_given number packets two can ∙ ap (λ (ps : List Written). plain (file_header_bytes ++ flat_map given_packet ps)) (sym own))
+    (subst AreWritable (sym own) (some_writable number packets can)) none timely few

@@ -10,17 +10,17 @@ use Rattle.pcap_io.specs.Bytes.{IsBytes, bytes_of}
 use Rattle.pcap_io.specs.Recording.{header_bytes}
 use Rattle.pcap_io.specs.declared.layout.ByteOrder.{ByteOrder}
 use Rattle.pcap_io.specs.declared.layout.ByteOrder.TheVariants.{Little}
-use Rattle.pcap_io.specs.declared.layout.HeaderFault.{HeaderFault}
-use Rattle.pcap_io.specs.Converted.{reason_code}
 use Rattle.pcap_io.specs.declared.recording.BadReason.{BadReason}
 use Rattle.pcap_io.specs.declared.recording.BadReason.TheVariants.{NoSuchInterface}
+use Rattle.pcap_io.specs.declared.told.Told.TheVariants as tolds
 use Rattle.pcapng.proofs.Orders.{unless_failed}
-use Rattle.pcapng.specs.Block.{fields_of, interface_fault, lengths_agree, packet_fault, section_fault, start_of, start_reason, unless}
+use Rattle.pcapng.specs.Block.{fields_of, interface_fault, lengths_agree, packet_fault, section_fault, start_of, unless}
 use Rattle.pcapng.specs.File.{Blocks, Read, as_later, block, blocks_from, blocks_of, blocks_within, cut, described_read, ended, first_of, given_at, given_after, given_for, numbered_read, opened, packet_as, packet_bytes, pcap_of, read_as, read_of, read_with, stamped_read, unreadable}
 use Rattle.pcapng.specs.Handed.{given_as, given_of}
 use Rattle.pcapng.specs.Interface.{Described}
 use Rattle.pcapng.specs.Section.{Known, in_section, next_number, role_of, stamp_of, unknown, with_interface, with_taken}
-use Rattle.pcapng.specs.Text.{code_of, converted_layout, file_header_bytes, packet_header_bytes, reason_bytes}
+use Rattle.pcapng.specs.Given.{Given, only, plain}
+use Rattle.pcapng.specs.Text.{converted_layout, file_header_bytes, packet_header_bytes}
 use Rattle.pcapng.specs.declared.block.BlockKind.{BlockKind}
 use Rattle.pcapng.specs.declared.block.BlockKind.TheVariants as kinds
 use Rattle.pcapng.specs.declared.block.BlockStart.{BlockStart}
@@ -65,23 +65,19 @@ header seconds fraction captured original =
     let d = bytes_low_first 0 4 original in
     both a (b ++ (c ++ d)) (low_first 0 4 seconds) (both b (c ++ d) (low_first 0 4 fraction) (both c d (low_first 0 4 captured) (low_first 0 4 original)))
 
-reason : (r : BadReason) → IsBytes (reason_bytes r)
-reason r = header 0 (1000000000 + reason_code r) 0 0
-
-file_header : (fault : Option HeaderFault) → IsBytes (file_header_bytes fault)
-file_header fault =
-    let magic = bytes_high_first 4 0x70636e67 in
+file_header : IsBytes file_header_bytes
+file_header =
+    let magic = bytes_low_first 0 4 0xa1b23c4d in
     let major = bytes_low_first 0 2 2 in
     let minor = bytes_low_first 0 2 4 in
     let zone = bytes_low_first 0 4 0 in
-    let code = bytes_low_first 0 4 (code_of fault) in
     let most = bytes_low_first 0 4 262144 in
     let link = bytes_low_first 0 4 1 in
-    both magic (major ++ (minor ++ (zone ++ (code ++ (most ++ link))))) (high_first 4 0x70636e67)
-    (both major (minor ++ (zone ++ (code ++ (most ++ link)))) (low_first 0 2 2)
-    (both minor (zone ++ (code ++ (most ++ link))) (low_first 0 2 4)
-    (both zone (code ++ (most ++ link)) (low_first 0 4 0)
-    (both code (most ++ link) (low_first 0 4 (code_of fault)) (both most link (low_first 0 4 262144) (low_first 0 4 1))))))
+    both magic (major ++ (minor ++ (zone ++ (zone ++ (most ++ link))))) (low_first 0 4 0xa1b23c4d)
+    (both major (minor ++ (zone ++ (zone ++ (most ++ link)))) (low_first 0 2 2)
+    (both minor (zone ++ (zone ++ (most ++ link))) (low_first 0 2 4)
+    (both zone (zone ++ (most ++ link)) (low_first 0 4 0)
+    (both zone (most ++ link) (low_first 0 4 0) (both most link (low_first 0 4 262144) (low_first 0 4 1))))))
 
 -- ---- what a block gives
 
@@ -169,47 +165,43 @@ within (suc n) order bytes fits =
 
 -- ---- what is given
 
-end : (b : Bool) (xs ys : List ℕ) → IsBytes xs → IsBytes ys → IsBytes (if b then xs else ys)
-end true xs ys p q = p
-end false xs ys p q = q
+end : (b : Bool) (x y : Given) → IsBytes x.bytes → IsBytes y.bytes → IsBytes (if b then x else y).bytes
+end true x y p q = p
+end false x y p q = q
 
-after : (r : Result Read BadReason) (rest : Known → List ℕ) → ((found : Read) → r ≡ Ok found → IsBytes found.given) → ((k : Known) → IsBytes (rest k))
-    → IsBytes (given_after r rest)
-after (Err told) rest p q = reason told
-after (Ok read) rest p q = both read.given (rest read.known) (p read refl) (q read.known)
+after : (r : Result Read BadReason) (rest : Known → Given) → ((found : Read) → r ≡ Ok found → IsBytes found.given) → ((k : Known) → IsBytes (rest k).bytes)
+    → IsBytes (given_after r rest).bytes
+after (Err told) rest p q = none
+after (Ok read) rest p q = both read.given (rest read.known).bytes (p read refl) (q read.known)
 
-for_blocks : (blocks : Blocks) (k : Known) → AreBytes blocks → IsBytes (given_for k blocks)
-for_blocks ended k h = end k.described [] (reason_bytes NoSuchInterface) none (reason NoSuchInterface)
-for_blocks cut k h = one 0 [] (lit< tt) none
-for_blocks (unreadable fault) k h = reason (start_reason fault)
+for_blocks : (blocks : Blocks) (k : Known) → AreBytes blocks → IsBytes (given_for k blocks).bytes
+for_blocks ended k h = end k.described (only tolds.Nothing) (only (tolds.Bad NoSuchInterface)) none none
+for_blocks cut k h = none
+for_blocks (unreadable fault) k h = none
 for_blocks (block start bytes rest) k h =
     after (read_of k start bytes) (λ known. given_for known rest) (λ found e. read_given k start bytes found h.0 e) (λ known. for_blocks rest known h.1)
 
-at_bytes : (k : Known) (bytes : List ℕ) → IsBytes bytes → IsBytes (given_at k bytes)
+at_bytes : (k : Known) (bytes : List ℕ) → IsBytes bytes → IsBytes (given_at k bytes).bytes
 unfolding blocks_of
 at_bytes k bytes fits = for_blocks (blocks_of k.order bytes) k (within (length bytes) k.order bytes fits)
 
-opened-bytes : (first : FirstSection) (k : Known) (bytes : List ℕ) → IsBytes bytes → IsBytes (opened first k bytes)
+opened-bytes : (first : FirstSection) (k : Known) (bytes : List ℕ) → IsBytes bytes → IsBytes (opened first k bytes).bytes
 opened-bytes (firsts.Needs needed) k bytes fits = none
-opened-bytes (firsts.Wrong fault) k bytes fits = file_header (Some fault)
+opened-bytes (firsts.Wrong fault) k bytes fits = none
 opened-bytes (firsts.Begins order len) k bytes fits =
-    both (file_header_bytes None) _ (file_header None) (at_bytes (in_section order k) (drop len bytes) (IsBytes-drop len bytes fits))
+    both file_header_bytes _ file_header (at_bytes (in_section order k) (drop len bytes) (IsBytes-drop len bytes fits))
 
-pcap_of-bytes : (k : Known) (bytes : List ℕ) → IsBytes bytes → IsBytes (pcap_of k bytes)
-pcap_of-bytes k bytes fits = end (nat_lt (length bytes) 12) [] (opened (first_of bytes) k bytes) none (opened-bytes (first_of bytes) k bytes fits)
+pcap_of-bytes : (k : Known) (bytes : List ℕ) → IsBytes bytes → IsBytes (pcap_of k bytes).bytes
+pcap_of-bytes k bytes fits = end (nat_lt (length bytes) 12) (only tolds.Nothing) (opened (first_of bytes) k bytes) none (opened-bytes (first_of bytes) k bytes fits)
 
-given_of-bytes : (choice : Choice) (bytes : List ℕ) → IsBytes bytes → IsBytes (given_of choice bytes)
+given_of-bytes : (choice : Choice) (bytes : List ℕ) → IsBytes bytes → IsBytes (given_of choice bytes).bytes
 given_of-bytes choice bytes fits =
     let k = unknown choice Little in
-    let zeros : IsBytes (0 ∷ 0 ∷ 0 ∷ 0 ∷ []) =
-    one 0 (0 ∷ 0 ∷ 0 ∷ []) (lit< tt) (one 0 (0 ∷ 0 ∷ []) (lit< tt) (one 0 (0 ∷ []) (lit< tt) (one 0 [] (lit< tt) none))) in
     let magic = big_number 4 (take 4 bytes) in
-    let blanked = (0 ∷ 0 ∷ 0 ∷ 0 ∷ []) ++ drop 4 bytes in
-    end (nat_lt (length bytes) 4) bytes (given_as magic k bytes) fits
-    (end (magic == 0x0a0d0d0a) (pcap_of k bytes) (if magic == 0x70636e67 then blanked else bytes) (pcap_of-bytes k bytes fits)
-    (end (magic == 0x70636e67) blanked bytes (both (0 ∷ 0 ∷ 0 ∷ 0 ∷ []) (drop 4 bytes) zeros (IsBytes-drop 4 bytes fits)) fits))
+    end (nat_lt (length bytes) 4) (plain bytes) (given_as magic k bytes) fits
+    (end (magic == 0x0a0d0d0a) (pcap_of k bytes) (plain bytes) (pcap_of-bytes k bytes fits) fits)
 
 -- all of it is known
-pub given_of-known : (choice : Choice) (known : Option (List ℕ)) → IfSome known IsBytes → IfSome known (λ bytes. bytes_of (given_of choice bytes) ≡ Some (given_of choice bytes))
+pub given_of-known : (choice : Choice) (known : Option (List ℕ)) → IfSome known IsBytes → IfSome known (λ bytes. bytes_of (given_of choice bytes).bytes ≡ Some (given_of choice bytes).bytes)
 given_of-known choice None fits = tt
-given_of-known choice (Some bytes) fits = bytes_of-from (given_of choice bytes) (given_of-bytes choice bytes fits)
+given_of-known choice (Some bytes) fits = bytes_of-from (given_of choice bytes).bytes (given_of-bytes choice bytes fits)

@@ -1,5 +1,5 @@
 -- The packets of a file are those that are read of what is given.
-use Rattle.std.proofs.Common.{◌≡◌, ℕ, ◌+◌, ◌-◌, ◌*◌, ◌^◌, ◌<◌, ◌≤◌, max, Bool, true, false, if◌then◌else◌, List, [], ◌∷◌, ◌++◌, length, take, drop, slice_range, flat_map, nat_lt, nat_eq, slice_get, Option, Some, None, Result, Ok, Err, IfOk, inl, inr, refl, sym, ap, ◌∙◌, subst, arith, append_assoc}
+use Rattle.std.proofs.Common.{◌≡◌, ℕ, ◌+◌, ◌-◌, ◌*◌, ◌^◌, ◌<◌, ◌≤◌, max, Bool, true, false, if◌then◌else◌, List, [], ◌∷◌, ◌++◌, length, take, drop, slice_range, flat_map, nat_lt, nat_eq, slice_get, Option, Some, None, Result, Ok, Err, IfOk, inl, inr, refl, sym, ap, ◌∙◌, subst, arith}
 use Rattle.std.proofs.lemmas.Bool.{cases_Bool, cases_lt, eq-eqb, le-ltb, lt-ltb, ltb-false, ltb-true, ne_eqb}
 use Rattle.std.proofs.lemmas.List.{append-nil, drop_at, length-append, take_at}
 use Rattle.std.proofs.lemmas.List.Concat.{flat_map-append}
@@ -9,7 +9,6 @@ use Rattle.pcap_io.proofs.Draws.{length-between}
 use Rattle.pcap_io.proofs.FileHeader.{header-append}
 use Rattle.pcap_io.proofs.PacketBytes.{IsBytes-drop, number_fits}
 use Rattle.pcap_io.specs.Bytes.{IsBytes}
-use Rattle.pcap_io.specs.Layout.{header_of}
 use Rattle.pcap_io.specs.Recording as recording
 use Rattle.pcap_io.specs.Recording.{AreGood, IsGood, Packet, Parses, ending_at, high_after, packet_bytes}
 use Rattle.pcap_io.specs.declared.layout.ByteOrder.{ByteOrder}
@@ -20,19 +19,22 @@ use Rattle.pcap_io.specs.declared.recording.BadReason.{BadReason}
 use Rattle.pcap_io.specs.declared.recording.BadReason.TheVariants as reasons
 use Rattle.pcap_io.specs.declared.recording.Ending.{Ending}
 use Rattle.pcap_io.specs.declared.recording.Ending.TheVariants.{Bad, Clean}
+use Rattle.pcap_io.specs.declared.told.Told.TheVariants as tolds
+use Rattle.pcap_io.specs.Told.{told_ending}
 use Rattle.pcapng.proofs.GivenBytes.{AreBytes, within}
-use Rattle.pcapng.specs.Block.{fields_of, interface_fault, lengths_agree, packet_fault, section_fault, start_of, start_reason, unless}
+use Rattle.pcapng.specs.Block.{fields_of, interface_fault, lengths_agree, packet_fault, section_fault, start_of, unless}
 use Rattle.pcapng.specs.File.{Blocks, Read, as_later, block, blocks_of, cut, described_read, ended, first_of, given_after, given_at, given_for, numbered_read, opened, packet_as, read_as, read_of, read_with, stamped_read, unreadable}
 use Rattle.pcapng.specs.File as file
 use Rattle.pcapng.proofs.Files.{given_whole, opened_as, start_facts}
 use Rattle.pcapng.proofs.Orders.{read_order, unless_failed}
+use Rattle.pcapng.specs.Given.{Given, followed, header_given, only}
 use Rattle.pcapng.specs.Handed.{given_of}
 use Rattle.pcapng.specs.Interface.{Described, in_range, nanoseconds_of, time_with}
-use Rattle.pcapng.specs.Laws.{AreInTime, AreReadable, HoldsPackets, IsPcapng, first_known}
+use Rattle.pcapng.specs.Laws.{AreInTime, AreNoHeaders, AreReadable, HoldsPackets, IsPcapng, first_known}
 use Rattle.pcapng.specs.Options.{padded_len}
-use Rattle.pcapng.specs.Packets.{ending_after, ending_bytes, ending_for, packet_at, packet_with, packets_after, packets_as, packets_for, stamped_packet}
+use Rattle.pcapng.specs.Packets.{ending_after, ending_for, packet_at, packet_with, packets_after, packets_as, packets_for, stamped_packet}
 use Rattle.pcapng.specs.Section.{Known, in_section, next_number, role_of, stamp_from, stamp_of, stamp_with, unknown, with_interface, with_taken}
-use Rattle.pcapng.specs.Text.{converted_layout, file_header_bytes, packet_header_bytes, reason_bytes}
+use Rattle.pcapng.specs.Text.{converted_layout, file_header_bytes, packet_header_bytes}
 use Rattle.pcapng.specs.declared.block.BlockKind.{BlockKind}
 use Rattle.pcapng.specs.declared.block.BlockKind.TheVariants as kinds
 use Rattle.pcapng.specs.declared.block.BlockStart.{BlockStart}
@@ -121,30 +123,28 @@ read-text k start bytes found e = as-text start.kind k start.order bytes found e
 
 -- ---- what is given for blocks
 
-after-text : (r : Result Read BadReason) (own : List Packet) (packets : Known → List Packet) (ending : Known → Ending) (given : Known → List ℕ) (n : ℕ)
-    → ((found : Read) → r ≡ Ok found → found.given ≡ texts own) → ((k : Known) → given k ≡ texts (packets k) ++ ending_bytes (ending k))
-    → given_after r given ≡ texts (packets_after r own packets) ++ ending_bytes (ending_after n r ending)
+after-text : (r : Result Read BadReason) (own : List Packet) (packets : Known → List Packet) (given : Known → Given)
+    → ((found : Read) → r ≡ Ok found → found.given ≡ texts own) → ((k : Known) → (given k).bytes ≡ texts (packets k))
+    → (given_after r given).bytes ≡ texts (packets_after r own packets)
 unfolding texts
-after-text (Err told) own packets ending given n gives rest = refl
-after-text (Ok read) own packets ending given n gives rest =
+after-text (Err told) own packets given gives rest = refl
+after-text (Ok read) own packets given gives rest =
     let k = read.known in
-    ap (λ (l : List ℕ). l ++ given k) (gives read refl)
-    ∙ (ap (λ (l : List ℕ). texts own ++ l) (rest k)
-    ∙ (sym (append_assoc (texts own) (texts (packets k)) (ending_bytes (ending k)))
-    ∙ ap (λ (l : List ℕ). l ++ ending_bytes (ending k)) (sym (flat_map-append (packet_bytes converted_layout) own (packets k)))))
+    ap (λ (l : List ℕ). l ++ (given k).bytes) (gives read refl)
+    ∙ (ap (λ (l : List ℕ). texts own ++ l) (rest k) ∙ sym (flat_map-append (packet_bytes converted_layout) own (packets k)))
 
-end-text : (b : Bool) (n : ℕ) → (if b then [] else reason_bytes reasons.NoSuchInterface) ≡ ending_bytes (if b then Clean n else Bad n reasons.NoSuchInterface)
-end-text true n = refl
-end-text false n = refl
+end-text : (b : Bool) → (if b then only tolds.Nothing else only (tolds.Bad reasons.NoSuchInterface)).bytes ≡ []
+end-text true = refl
+end-text false = refl
 
-given-text : (blocks : Blocks) (k : Known) (n : ℕ) → given_for k blocks ≡ texts (packets_for k blocks) ++ ending_bytes (ending_for n k blocks)
+given-text : (blocks : Blocks) (k : Known) → (given_for k blocks).bytes ≡ texts (packets_for k blocks)
 unfolding texts
-given-text ended k n = end-text k.described n
-given-text cut k n = refl
-given-text (unreadable fault) k n = refl
-given-text (block start bytes rest) k n =
-    after-text (read_of k start bytes) (packets_as start.kind k start.order bytes) (λ known. packets_for known rest) (λ known. ending_for n known rest)
-    (λ known. given_for known rest) n (λ found e. read-text k start bytes found e) (λ known. given-text rest known n)
+given-text ended k = end-text k.described
+given-text cut k = refl
+given-text (unreadable fault) k = refl
+given-text (block start bytes rest) k =
+    after-text (read_of k start bytes) (packets_as start.kind k start.order bytes) (λ known. packets_for known rest)
+    (λ known. given_for known rest) (λ found e. read-text k start bytes found e) (λ known. given-text rest known)
 
 -- ---- good packets
 
@@ -230,84 +230,52 @@ blocks-fit (block start bytes rest) k h =
     after-fit (read_of k start bytes) (packets_as start.kind k start.order bytes) (λ known. packets_for known rest)
     (λ found e. read-fits k start bytes found h.0 e) (λ known. blocks-fit rest known h.1)
 
-good_from : (late high : ℕ) (ps : List Packet) → AllFit ps → AreInTime late high ps → AreGood converted_layout late high ps
+good_from : (late high : ℕ) (ps : List Packet) → AllFit ps → AreNoHeaders ps → AreInTime late high ps → AreGood converted_layout late high ps
 unfolding Fits AllFit
-good_from late high [] a b = tt
-good_from late high (p ∷ ps) a b = (
-  record { few_bytes = a.0.0; seconds_fit = a.0.1; original_len_fits = a.0.2; within_second = a.0.3; no_file_header = refl; in_time = b.0 },
-  good_from late (max high (recording.stamp_of converted_layout p)) ps a.1 b.1,
+good_from late high [] a n b = tt
+good_from late high (p ∷ ps) a n b = (
+  record { few_bytes = a.0.0; seconds_fit = a.0.1; original_len_fits = a.0.2; within_second = a.0.3; no_file_header = n.0; in_time = b.0 },
+  good_from late (max high (recording.stamp_of converted_layout p)) ps a.1 n.1 b.1,
 )
 
 -- ---- the ending
 
-pub bad-ends : (most late n high : ℕ) (reason : BadReason) → n < most → ending_at converted_layout most late n high (reason_bytes reason) ≡ Some (Bad n reason)
-bad-ends most late n high reasons.Fraction few = rw (ne_eqb n most (λ same. omega (arith, same, few))) refl
-bad-ends most late n high reasons.Length few = rw (ne_eqb n most (λ same. omega (arith, same, few))) refl
-bad-ends most late n high reasons.StampBack few = rw (ne_eqb n most (λ same. omega (arith, same, few))) refl
-bad-ends most late n high reasons.TooMany few = rw (ne_eqb n most (λ same. omega (arith, same, few))) refl
-bad-ends most late n high reasons.BlockLength few = rw (ne_eqb n most (λ same. omega (arith, same, few))) refl
-bad-ends most late n high reasons.BlockLengthsDiffer few = rw (ne_eqb n most (λ same. omega (arith, same, few))) refl
-bad-ends most late n high reasons.BlockBounds few = rw (ne_eqb n most (λ same. omega (arith, same, few))) refl
-bad-ends most late n high reasons.UnknownInterface few = rw (ne_eqb n most (λ same. omega (arith, same, few))) refl
-bad-ends most late n high reasons.Section few = rw (ne_eqb n most (λ same. omega (arith, same, few))) refl
-bad-ends most late n high reasons.SimplePacket few = rw (ne_eqb n most (λ same. omega (arith, same, few))) refl
-bad-ends most late n high reasons.StampRange few = rw (ne_eqb n most (λ same. omega (arith, same, few))) refl
-bad-ends most late n high reasons.SeveralInterfaces few = rw (ne_eqb n most (λ same. omega (arith, same, few))) refl
-bad-ends most late n high reasons.TooManyInterfaces few = rw (ne_eqb n most (λ same. omega (arith, same, few))) refl
-bad-ends most late n high reasons.NoSuchInterface few = rw (ne_eqb n most (λ same. omega (arith, same, few))) refl
-bad-ends most late n high reasons.FileHeader few = rw (ne_eqb n most (λ same. omega (arith, same, few))) refl
-bad-ends most late n high reasons.NextFile few = rw (ne_eqb n most (λ same. omega (arith, same, few))) refl
+-- below the number that is read
+module _ (most n : ℕ) (below : nat_eq n most ≡ false) where
+  end-told : (b : Bool) → told_ending (if b then only tolds.Nothing else only (tolds.Bad reasons.NoSuchInterface)).told most n ≡ (if b then Clean n else Bad n reasons.NoSuchInterface)
+  end-told true = refl
+  end-told false = rw below refl
 
-end-ends : (b : Bool) (most late n high : ℕ) → n < most
-    → ending_at converted_layout most late n high (ending_bytes (if b then Clean n else Bad n reasons.NoSuchInterface)) ≡ Some (if b then Clean n else Bad n reasons.NoSuchInterface)
-end-ends true most late n high few = refl
-end-ends false most late n high few = bad-ends most late n high reasons.NoSuchInterface few
+  after-told : (r : Result Read BadReason) (given : Known → Given) (ending : Known → Ending) → ((k : Known) → told_ending (given k).told most n ≡ ending k)
+      → told_ending (given_after r given).told most n ≡ ending_after n r ending
+  after-told (Err told) given ending rest = rw below refl
+  after-told (Ok read) given ending rest = rest read.known
 
-after-ends : (r : Result Read BadReason) (ending : Known → Ending) (most late n high : ℕ) → n < most
-    → ((k : Known) → ending_at converted_layout most late n high (ending_bytes (ending k)) ≡ Some (ending k))
-    → ending_at converted_layout most late n high (ending_bytes (ending_after n r ending)) ≡ Some (ending_after n r ending)
-after-ends (Err told) ending most late n high few rest = bad-ends most late n high told few
-after-ends (Ok read) ending most late n high few rest = rest read.known
-
-blocks-end : (blocks : Blocks) (k : Known) (most late n high : ℕ) → n < most
-    → ending_at converted_layout most late n high (ending_bytes (ending_for n k blocks)) ≡ Some (ending_for n k blocks)
-blocks-end ended k most late n high few = end-ends k.described most late n high few
-blocks-end cut k most late n high few = rw (ne_eqb n most (λ same. omega (arith, same, few))) refl
-blocks-end (unreadable fault) k most late n high few = bad-ends most late n high (start_reason fault) few
-blocks-end (block start bytes rest) k most late n high few =
-    after-ends (read_of k start bytes) (λ known. ending_for n known rest) most late n high few (λ known. blocks-end rest known most late n high few)
+  blocks-told : (blocks : Blocks) (k : Known) → told_ending (given_for k blocks).told most n ≡ ending_for n k blocks
+  blocks-told ended k = end-told k.described
+  blocks-told cut k = rw below refl
+  blocks-told (unreadable fault) k = rw below refl
+  blocks-told (block start bytes rest) k =
+      after-told (read_of k start bytes) (λ known. given_for known rest) (λ known. ending_for n known rest) (λ known. blocks-told rest known)
 
 -- ---- a file
 
 pub file_parses : (k : Known) (bytes : List ℕ) (most late : ℕ) (packets : List Packet) → IsBytes bytes → packets ≡ packets_for k (blocks_of k.order bytes)
     → AreReadable most late packets
-    → Parses converted_layout most late 0 0 (given_at k bytes) packets (ending_bytes (ending_for (length packets) k (blocks_of k.order bytes)))
-    (ending_for (length packets) k (blocks_of k.order bytes))
+    → Parses converted_layout most late (given_at k bytes).told 0 0 (given_at k bytes).bytes packets [] (ending_for (length packets) k (blocks_of k.order bytes))
 unfolding texts blocks_of
 file_parses k bytes most late packets fits e readable =
     let blocks = blocks_of k.order bytes in
     let n = length packets in
     let zero_n : n ≡ 0 + n = omega arith in
-    let high = high_after converted_layout 0 packets in
-    let ending = ending_for n k blocks in
     let all : AllFit packets = subst AllFit (sym e) (blocks-fit blocks k (within (length bytes) k.order bytes fits)) in
     record {
-      complete = given-text blocks k n ∙ ap (λ (ps : List Packet). flat_map (packet_bytes converted_layout) ps ++ ending_bytes ending) (sym e);
-      good = good_from late 0 packets all readable.0;
-      bounded = omega (arith, readable.1);
-      ends = ap (λ (m : ℕ). ending_at converted_layout most late m high (ending_bytes ending)) (sym zero_n) ∙ blocks-end blocks k most late n high readable.1;
+      complete = given-text blocks k ∙ (ap (λ (ps : List Packet). flat_map (packet_bytes converted_layout) ps) (sym e) ∙ sym (append-nil (flat_map (packet_bytes converted_layout) packets)));
+      good = good_from late 0 packets all readable.1 readable.0;
+      bounded = omega (arith, readable.2);
+      ends = ap (λ (m : ℕ). Some (told_ending (given_for k blocks).told most m)) (sym zero_n)
+          ∙ ap Some (blocks-told most n (ne_eqb n most (λ same. absurd (omega (arith, readable.2, same)))) blocks k);
     }
-
-pub fault-told : (fault : HeaderFault) → header_of (file_header_bytes (Some fault)) ≡ Err fault
-fault-told headers.Short = refl
-fault-told headers.Magic = refl
-fault-told headers.Version = refl
-fault-told headers.LinkType = refl
-fault-told headers.ByteOrderMagic = refl
-fault-told headers.SectionVersion = refl
-fault-told headers.SectionLength = refl
-fault-told headers.SectionLengthsDiffer = refl
-fault-told headers.SectionOption = refl
 
 -- what is given for a file whose first section header is judged
 pub given_opened : (choice : Choice) (bytes : List ℕ) (first : FirstSection) → IsPcapng bytes → first_of bytes ≡ first
@@ -319,34 +287,36 @@ given_opened choice bytes first pcapng e =
     rw (long, magic) (opened_as k bytes first pcapng.0 e)
 
 pub told_fault : (choice : Choice) (bytes : List ℕ) (fault : HeaderFault) → IsPcapng bytes → first_of bytes ≡ firsts.Wrong fault
-    → header_of (given_of choice bytes) ≡ Err fault
-told_fault choice bytes fault pcapng e = ap header_of (given_opened choice bytes (firsts.Wrong fault) pcapng e) ∙ fault-told fault
+    → header_given (given_of choice bytes) ≡ Err fault
+told_fault choice bytes fault pcapng e = ap header_given (given_opened choice bytes (firsts.Wrong fault) pcapng e)
 
 pub told_short : (choice : Choice) (bytes : List ℕ) (needed : ℕ) → IsPcapng bytes → first_of bytes ≡ firsts.Needs needed
-    → header_of (given_of choice bytes) ≡ Err headers.Short
-told_short choice bytes needed pcapng e = ap header_of (given_opened choice bytes (firsts.Needs needed) pcapng e)
+    → header_given (given_of choice bytes) ≡ Err headers.Short
+told_short choice bytes needed pcapng e = ap header_given (given_opened choice bytes (firsts.Needs needed) pcapng e)
 
 pub read_file : (choice : Choice) (bytes : List ℕ) (order : ByteOrder) (len most late : ℕ) (blocks : Blocks) (packets : List Packet) → IsBytes bytes
     → IsPcapng bytes → first_of bytes ≡ firsts.Begins order len → blocks ≡ blocks_of order (drop len bytes) → packets ≡ packets_for (first_known choice order) blocks
     → AreReadable most late packets
-    → (header_of (given_of choice bytes) ≡ Ok converted_layout)
+    → (header_given (given_of choice bytes) ≡ Ok converted_layout)
     × HoldsPackets most late (given_of choice bytes) packets (ending_for (length packets) (first_known choice order) blocks)
 read_file choice bytes order len most late blocks packets fits pcapng e these own readable =
     let k = first_known choice order in
     let rest = drop len bytes in
-    let given : given_of choice bytes ≡ file_header_bytes None ++ given_at k rest = given_opened choice bytes (firsts.Begins order len) pcapng e in
-    let behind : drop 24 (given_of choice bytes) ≡ given_at k rest = ap (drop 24) given ∙ drop_at (file_header_bytes None) (given_at k rest) 24 refl in
+    let more = given_at k rest in
+    let given : given_of choice bytes ≡ followed file_header_bytes more = given_opened choice bytes (firsts.Begins order len) pcapng e in
+    let behind : drop 24 (file_header_bytes ++ more.bytes) ≡ more.bytes = drop_at file_header_bytes more.bytes 24 refl in
     let packets_are : packets ≡ packets_for k (blocks_of order rest) = own ∙ ap (packets_for k) these in
-    let parse = file_parses k rest most late packets (IsBytes-drop len bytes fits) packets_are readable in (
-      ap header_of given ∙ header-append (file_header_bytes None) (given_at k rest) refl,
+    let parse = file_parses k rest most late packets (IsBytes-drop len bytes fits) packets_are readable in
+    let ending = ending_for (length packets) k (blocks_of order rest) in (
+      ap header_given given ∙ header-append more.told file_header_bytes more.bytes refl,
       subst (λ (b : Blocks). HoldsPackets most late (given_of choice bytes) packets (ending_for (length packets) k b)) (sym these)
-          (subst (λ (l : List ℕ). Parses converted_layout most late 0 0 l packets (ending_bytes (ending_for (length packets) k (blocks_of order rest)))
-          (ending_for (length packets) k (blocks_of order rest))) (sym behind) parse),
+          (subst (λ (g : Given). HoldsPackets most late g packets ending) (sym given)
+          (subst (λ (l : List ℕ). Parses converted_layout most late more.told 0 0 l packets [] ending) (sym behind) parse)),
     )
 
 -- a whole block at the front
 pub reads_first : (k : Known) (bytes more : List ℕ) (start : BlockStart) (read : Read) → 12 ≤ length bytes → start_of k.order bytes ≡ Ok start
-    → start.len ≡ length bytes → read_of k start bytes ≡ Ok read → given_at k (bytes ++ more) ≡ read.given ++ given_at read.known more
+    → start.len ≡ length bytes → read_of k start bytes ≡ Ok read → given_at k (bytes ++ more) ≡ followed read.given (given_at read.known more)
 reads_first k bytes more start read some e size is =
     let facts = start_facts k.order bytes start e in
     let order : read.known.order ≡ start.order = read_order k start bytes read is facts.1 in
@@ -355,5 +325,5 @@ reads_first k bytes more start read some e size is =
     let rest = λ (known : Known). given_for known (blocks_of start.order (drop start.len (bytes ++ more))) in
     given_whole k bytes more start some e (omega (arith, size, length-append bytes more))
     ∙ (ap (λ (r : Result Read BadReason). given_after r rest) (ap (read_of k start) front ∙ is)
-    ∙ (ap (λ (l : List ℕ). read.given ++ given_for read.known (blocks_of start.order l)) behind
-    ∙ ap (λ (o : ByteOrder). read.given ++ given_for read.known (blocks_of o more)) (sym order)))
+    ∙ (ap (λ (l : List ℕ). followed read.given (given_for read.known (blocks_of start.order l))) behind
+    ∙ ap (λ (o : ByteOrder). followed read.given (given_for read.known (blocks_of o more))) (sym order)))

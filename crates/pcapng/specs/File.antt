@@ -1,6 +1,6 @@
 -- A whole pcapng file (draft-ietf-opsawg-pcapng, section "General File Structure"): a section header, and then blocks one after another;
 -- and the pcap that it stands for.
-use Rattle.std.specs.Prelude.{ℕ, zero, suc, ◌+◌, List, [], ◌++◌, length, take, drop, slice_range, Result, Ok, Err, None, Some, nat_lt, ◌==◌, if◌then◌else◌}
+use Rattle.std.specs.Prelude.{ℕ, zero, suc, ◌+◌, List, [], ◌++◌, length, take, drop, slice_range, Result, Ok, Err, nat_lt, ◌==◌, if◌then◌else◌}
 use Rattle.afdx_frame.specs.declared.bounds.TheConstants.{MAX_SNAPLEN}
 use Rattle.pcap_io.specs.declared.layout.ByteOrder.{ByteOrder}
 use Rattle.pcap_io.specs.declared.layout.ByteOrder.TheVariants.{Little}
@@ -8,10 +8,12 @@ use Rattle.pcap_io.specs.declared.layout.HeaderFault.{HeaderFault}
 use Rattle.pcap_io.specs.declared.layout.HeaderFault.TheVariants.{Magic}
 use Rattle.pcap_io.specs.declared.recording.BadReason.{BadReason}
 use Rattle.pcap_io.specs.declared.recording.BadReason.TheVariants as reasons
+use Rattle.pcap_io.specs.declared.told.Told.TheVariants as tolds
 use Rattle.pcapng.specs.Block.{fields_of, interface_fault, later_reason, lengths_agree, packet_fault, section_fault, start_header_fault, start_of, start_reason, unless}
+use Rattle.pcapng.specs.Given.{Given, followed, only}
 use Rattle.pcapng.specs.Interface.{Described, interface_of}
 use Rattle.pcapng.specs.Section.{Known, in_section, next_number, role_of, stamp_of, with_interface, with_taken}
-use Rattle.pcapng.specs.Text.{cut_bytes, file_header_bytes, packet_header_bytes, reason_bytes}
+use Rattle.pcapng.specs.Text.{file_header_bytes, packet_header_bytes}
 use Rattle.pcapng.specs.declared.block.BlockKind.{BlockKind}
 use Rattle.pcapng.specs.declared.block.BlockKind.TheVariants as kinds
 use Rattle.pcapng.specs.declared.block.BlockStart.{BlockStart}
@@ -135,23 +137,23 @@ read_of k start bytes = read_as start.kind k start.order bytes
 -- ---- what a file stands for
 
 -- after the last block: where an interface was chosen, one was described
-abbrev pub end_bytes : Known → List ℕ
-end_bytes k = if k.described then [] else reason_bytes reasons.NoSuchInterface
+abbrev pub end_given : Known → Given
+end_given k = if k.described then only tolds.Nothing else only (tolds.Bad reasons.NoSuchInterface)
 
 -- what is given for a block and those after it
-abbrev pub given_after : Result Read BadReason → (Known → List ℕ) → List ℕ
-given_after (Err reason) rest = reason_bytes reason
-given_after (Ok read) rest = read.given ++ rest read.known
+abbrev pub given_after : Result Read BadReason → (Known → Given) → Given
+given_after (Err reason) rest = only (tolds.Bad reason)
+given_after (Ok read) rest = followed read.given (rest read.known)
 
 -- The packets that blocks give, and how they end.
-abbrev pub given_for : Known → Blocks → List ℕ
-given_for k ended = end_bytes k
-given_for k cut = cut_bytes
-given_for k (unreadable fault) = reason_bytes (start_reason fault)
+abbrev pub given_for : Known → Blocks → Given
+given_for k ended = end_given k
+given_for k cut = only tolds.Cut
+given_for k (unreadable fault) = only (tolds.Bad (start_reason fault))
 given_for k (block start bytes rest) = given_after (read_of k start bytes) (λ known. given_for known rest)
 
 -- the same, for the bytes that follow
-abbrev pub given_at : Known → List ℕ → List ℕ
+abbrev pub given_at : Known → List ℕ → Given
 given_at k bytes = given_for k (blocks_of k.order bytes)
 
 -- a section header of this byte order and length, once it is known whether something is wrong with it
@@ -178,12 +180,12 @@ first_with (Ok start) bytes = first_as start.kind start bytes
 unfoldable pub first_of : List ℕ → FirstSection
 first_of bytes = first_with (start_of Little bytes) bytes
 
--- What is given: nothing where the bytes end within the section header, and a file header that tells what is wrong with it.
-abbrev pub opened : FirstSection → Known → List ℕ → List ℕ
-opened (firsts.Needs needed) k bytes = []
-opened (firsts.Wrong fault) k bytes = file_header_bytes (Some fault)
-opened (firsts.Begins order len) k bytes = file_header_bytes None ++ given_at (in_section order k) (drop len bytes)
+-- What is given: nothing where the bytes end within the section header, or where that is wrong, and then what is wrong with it.
+abbrev pub opened : FirstSection → Known → List ℕ → Given
+opened (firsts.Needs needed) k bytes = only tolds.Nothing
+opened (firsts.Wrong fault) k bytes = only (tolds.NoHeader fault)
+opened (firsts.Begins order len) k bytes = followed file_header_bytes (given_at (in_section order k) (drop len bytes))
 
 -- The pcap that the bytes of a pcapng file stand for.
-abbrev pub pcap_of : Known → List ℕ → List ℕ
-pcap_of k bytes = if nat_lt (length bytes) 12 then [] else opened (first_of bytes) k bytes
+abbrev pub pcap_of : Known → List ℕ → Given
+pcap_of k bytes = if nat_lt (length bytes) 12 then only tolds.Nothing else opened (first_of bytes) k bytes

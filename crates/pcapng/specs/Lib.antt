@@ -3,6 +3,7 @@ pub mod Blocks
 pub mod Captures
 pub mod Comment
 pub mod File
+pub mod Given
 pub mod Handed
 pub mod Interface
 pub mod Laws

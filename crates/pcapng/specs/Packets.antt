@@ -9,7 +9,6 @@ use Rattle.pcap_io.specs.declared.recording.Ending.TheVariants.{Bad, Clean, Cut}
 use Rattle.pcapng.specs.Block.{fields_of, start_reason}
 use Rattle.pcapng.specs.File.{Blocks, Read, block, cut, ended, read_of, unreadable}
 use Rattle.pcapng.specs.Section.{Known, role_of, stamp_of}
-use Rattle.pcapng.specs.Text.{cut_bytes, reason_bytes}
 use Rattle.pcapng.specs.declared.block.BlockKind.{BlockKind}
 use Rattle.pcapng.specs.declared.block.BlockKind.TheVariants as kinds
 use Rattle.pcapng.specs.declared.block.PacketFields.{PacketFields}
@@ -70,9 +69,3 @@ ending_for n k ended = if k.described then Clean n else Bad n NoSuchInterface
 ending_for n k cut = Cut n
 ending_for n k (unreadable fault) = Bad n (start_reason fault)
 ending_for n k (block start bytes rest) = ending_after n (read_of k start bytes) (λ known. ending_for n known rest)
-
--- the bytes that tell an ending
-abbrev pub ending_bytes : Ending → List ℕ
-ending_bytes (Clean n) = []
-ending_bytes (Cut n) = cut_bytes
-ending_bytes (Bad n reason) = reason_bytes reason

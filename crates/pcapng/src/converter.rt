@@ -15,11 +15,9 @@ use crate::block::{
 use crate::choice::Choice;
 use crate::interface::Interface;
 use crate::section::{Role, Section};
-use crate::text::{FILE_HEADER_LEN, PACKET_HEADER_LEN, file_header, packet_header, reason_header};
+use crate::text::{FILE_HEADER_LEN, PACKET_HEADER_LEN, file_header, packet_header};
 use afdx_frame::MAX_SNAPLEN;
-use pcap_io::{
-    BadReason, ByteOrder, CONVERTED_MAGIC, DeviceFault, HeaderFault, TapSource, read_u32,
-};
+use pcap_io::{BadReason, ByteOrder, DeviceFault, HeaderFault, TapSource, Told, read_u32};
 use std::alloc::{AllocError, Global};
 
 /// How many bytes are read ahead at a time.
@@ -38,8 +36,8 @@ pub enum Reached {
     Blocks,
     /// So many bytes are left of a block of this length that is skipped.
     Skipping { left: u32, len: u32 },
-    /// Nothing follows.
-    Ended,
+    /// Nothing follows, and this is told.
+    Ended(Told),
 }
 
 /// What a step came to.
@@ -146,11 +144,11 @@ impl Converter {
     ghost use Rattle.pcap_io.specs.declared.layout.ByteOrder.TheVariants.{Little};
     ghost use Rattle.pcapng.specs.File.{interface_read, packet_read, passed};
     ghost use Rattle.pcapng.specs.File.{read_of, read_with, section_read};
-    ghost use Rattle.pcapng.specs.Handed.{EndsWithin, GivesLast, HandsOn, KeepsRest, Lacks};
+    ghost use Rattle.pcapng.specs.Handed.{EndsWithin, GivesLast, HandsOn, KeepsGiven, KeepsRest, Lacks};
     ghost use Rattle.pcapng.specs.Handed.{StillGiven, block_of, handed, handed_known, pending_of};
-    ghost use Rattle.pcapng.specs.Handed.{unread_of};
+    ghost use Rattle.pcapng.specs.Handed.{told_at, unread_of};
     ghost use Rattle.pcapng.specs.Section.{known_of, unknown};
-    ghost use Rattle.pcapng.specs.Text.{file_header_bytes, reason_bytes};
+    ghost use Rattle.pcap_io.specs.declared.told.Told.TheVariants as tolds;
 
     /// Nothing was read. Allocates all the memory that it will need.
     pub fn new(alloc: Global, choice: Choice) -> Result<Converter, AllocError>
@@ -227,16 +225,12 @@ impl Converter {
         header + body
     }
 
-    /// Ends, after a header of which so many bytes are given.
-    fn end_with(&mut self, header: [u8; FILE_HEADER_LEN], len: usize)
-        requires fits { len ≤ FILE_HEADER_LEN }
-        requires given { pending_of self.old ≡ [] }
-        ensures { GivesLast self.new (take len header) }
+    /// Ends, and tells this.
+    fn end_with(&mut self, told: Told)
+        requires { pending_of self.old ≡ [] }
+        ensures { GivesLast self.new told }
     {
-        self.header = header;
-        self.header_from = 0;
-        self.header_to = len;
-        self.stage = Reached::Ended;
+        self.stage = Reached::Ended(told);
     }
 
     /// Ends for a reason.
@@ -244,9 +238,9 @@ impl Converter {
     #[inline(never)]
     fn end_bad(&mut self, reason: BadReason)
         requires { pending_of self.old ≡ [] }
-        ensures { GivesLast self.new (reason_bytes reason) }
+        ensures { GivesLast self.new (tolds.Bad reason) }
     {
-        self.end_with(reason_header(reason), PACKET_HEADER_LEN);
+        self.end_with(Told::Bad(reason));
     }
 
     /// Ends for a fault of the first section header.
@@ -254,9 +248,19 @@ impl Converter {
     #[inline(never)]
     fn end_at_header(&mut self, fault: HeaderFault)
         requires { pending_of self.old ≡ [] }
-        ensures { GivesLast self.new (file_header_bytes (Some fault)) }
+        ensures { GivesLast self.new (tolds.NoHeader fault) }
     {
-        self.end_with(file_header(Some(fault)), FILE_HEADER_LEN);
+        self.end_with(Told::NoHeader(fault));
+    }
+
+    /// What is told of the recording, at its end.
+    pub fn told(&self) -> Told
+        ensures { result ≡ told_at self.now.stage }
+    {
+        match self.stage {
+            Reached::Ended(told) => told,
+            _ => Told::Nothing,
+        }
     }
 
     /// Ends where the source does.
@@ -269,14 +273,14 @@ impl Converter {
             Reached::Start => self.stage = Reached::Untouched,
             Reached::Blocks if self.start == self.end => {
                 if self.section.is_described() {
-                    self.stage = Reached::Ended;
+                    self.stage = Reached::Ended(Told::Nothing);
                 } else {
                     self.end_bad(BadReason::NoSuchInterface);
                 }
             }
-            Reached::Blocks | Reached::Skipping { .. } => self.end_with([0; FILE_HEADER_LEN], 1),
-            Reached::FirstSection => self.stage = Reached::Ended,
-            Reached::Untouched | Reached::Ended => {}
+            Reached::Blocks | Reached::Skipping { .. } => self.end_with(Told::Cut),
+            Reached::FirstSection => self.end_with(Told::Nothing),
+            Reached::Untouched | Reached::Ended(_) => {}
         }
     }
 
@@ -298,7 +302,7 @@ impl Converter {
         requires fits { needed ≤ MAX_BLOCK_LEN }
         requires lacks { length (unread_of self.old) < needed }
         requires given { pending_of self.old ≡ [] }
-        ensures kept { Keeps (handed_known self.old (S.remaining source.old))
+        ensures kept { KeepsGiven (handed_known self.old (S.remaining source.old))
             (handed_known self.new (S.remaining source.new)) }
         ensures given { pending_of self.new ≡ [] }
         ensures stage { self.new.stage ≡ self.old.stage }
@@ -338,14 +342,6 @@ impl Converter {
             self.stage = Reached::FirstSection;
             return Step::Done;
         }
-        if magic == CONVERTED_MAGIC {
-            self.header = [0; FILE_HEADER_LEN];
-            self.header_from = 0;
-            self.header_to = 4;
-            self.start = start + 4;
-            self.stage = Reached::Untouched;
-            return Step::Done;
-        }
         self.stage = Reached::Untouched;
         Step::Done
     }
@@ -367,7 +363,7 @@ impl Converter {
             FirstSection::Wrong(fault) => self.end_at_header(fault),
             FirstSection::Begins { order, len } => {
                 self.section.begin(order);
-                self.header = file_header(None);
+                self.header = file_header();
                 self.header_from = 0;
                 self.header_to = FILE_HEADER_LEN;
                 self.stage = Reached::Blocks;
@@ -563,7 +559,7 @@ impl Converter {
                 self.hand_on();
                 Step::Done
             }
-            Reached::Ended => Step::Done,
+            Reached::Ended(_) => Step::Done,
         }
     }
 }

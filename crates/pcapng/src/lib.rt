@@ -44,5 +44,5 @@ pub use packet::append_packet;
 pub use read_back::{written_capture_is_given, written_capture_is_read};
 pub use section::MAX_INTERFACES;
 pub use source::{RecordingSource, Refused};
-pub use text::{FILE_HEADER_LEN, PACKET_HEADER_LEN, file_header, packet_header, reason_header};
+pub use text::{FILE_HEADER_LEN, PACKET_HEADER_LEN, file_header, packet_header};
 pub use written::{capture_is_stepped_over, packet_reads_back};

@@ -2,13 +2,14 @@
 ghost use Rattle.std.specs.Prelude.{◌≡◌, ◌≤◌, ◌<◌, [], length, take, Some, IfSome, Ok, Err, IfOk, IfErr, OnOk, OnErr};
 ghost use Rattle.std.specs.Io.KnownBytes.{Consumes, Keeps, ReadConsumes};
 ghost use Rattle.pcap_io.specs.Device.{CountsFailure};
+ghost use Rattle.pcap_io.specs.Told.{StaysTold};
 ghost use Rattle.pcapng.specs.declared.block.TheConstants.{MAX_BLOCK_LEN};
 
 use crate::block::MAX_BLOCK_LEN;
 use crate::choice::Choice;
 use crate::converter::{Converter, Reached, Step};
 use crate::interface::Interface;
-use pcap_io::{DeviceFault, TapSource};
+use pcap_io::{DeviceFault, TapSource, Told};
 use std::alloc::Global;
 
 /// A source that nothing was made of, as there was no memory.
@@ -31,7 +32,7 @@ pub struct RecordingSource<S> {
 
 impl<S: TapSource> RecordingSource<S> {
     ghost use Rattle.pcapng.specs.Handed.{EndsWithin, Lacks, StillGiven};
-    ghost use Rattle.pcapng.specs.Handed.{given_of, pending_of, remaining_of, unread_of};
+    ghost use Rattle.pcapng.specs.Handed.{given_of, pending_of, remaining_of, told_of, unread_of};
     ghost use Rattle.pcapng.specs.declared.converter.Reached.TheVariants.{Untouched};
 
     /// Hands on the recording of a source. It reads nothing yet, and allocates all that it will need:
@@ -44,7 +45,8 @@ impl<S: TapSource> RecordingSource<S> {
     pub fn new(alloc: Global, source: S, choice: Choice) -> Result<RecordingSource<S>, Refused<S>>
         ensures no_failure { IfOk result (λ s. ⟦<RecordingSource<S> as TapSource>⟧.failures s ≡ 0) }
         ensures whole { IfOk result (λ s. IfSome (S.remaining source) (λ bytes.
-            remaining_of S.remaining s ≡ Some (given_of choice bytes))) }
+            (remaining_of S.remaining s ≡ Some (given_of choice bytes).bytes)
+            × (told_of S.remaining s ≡ (given_of choice bytes).told))) }
         ensures refused { IfErr result (λ r. r.source ≡ source) }
     {
         match Converter::new(alloc, choice) {
@@ -94,6 +96,8 @@ impl<S: TapSource> RecordingSource<S> {
         ensures bound { result ≤ length buf.new }
         ensures bytes { Consumes (remaining_of S.remaining self.old)
             (remaining_of S.remaining self.new) (take result buf.new) }
+        ensures told { StaysTold (remaining_of S.remaining self.old)
+            (told_of S.remaining self.old) (told_of S.remaining self.new) }
         ensures all { result < length buf.new → pending_of self.new.converter ≡ [] }
         ensures failures { self.new.failures ≡ self.old.failures }
     {
@@ -106,6 +110,8 @@ impl<S: TapSource> RecordingSource<S> {
         requires { pending_of self.old.converter ≡ [] }
         ensures kept { Keeps (remaining_of S.remaining self.old)
             (remaining_of S.remaining self.new) }
+        ensures told { StaysTold (remaining_of S.remaining self.old)
+            (told_of S.remaining self.old) (told_of S.remaining self.new) }
         ensures lacks { Lacks self.new.converter result }
         ensures given { StillGiven self.new.converter result [] }
         ensures failures { self.new.failures ≡ self.old.failures }
@@ -121,6 +127,9 @@ impl<S: TapSource> RecordingSource<S> {
         requires untouched { self.old.converter.stage ≡ Untouched }
         ensures bytes { ReadConsumes (remaining_of S.remaining self.old)
             (remaining_of S.remaining self.new) result buf.new }
+        ensures told { StaysTold (remaining_of S.remaining self.old)
+            (told_of S.remaining self.old) (told_of S.remaining self.new) }
+        ensures stage { self.new.converter.stage ≡ self.old.converter.stage }
         ensures bound { IfOk result (λ n. n ≤ length buf.new) }
         ensures no_failure { OnOk result (self.new.failures ≡ self.old.failures) }
         ensures fault { OnErr result (CountsFailure self.old.failures self.new.failures) }
@@ -140,6 +149,8 @@ impl<S: TapSource> RecordingSource<S> {
         requires given { pending_of self.old.converter ≡ [] }
         ensures kept { Keeps (remaining_of S.remaining self.old)
             (remaining_of S.remaining self.new) }
+        ensures told { StaysTold (remaining_of S.remaining self.old)
+            (told_of S.remaining self.old) (told_of S.remaining self.new) }
         ensures no_failure { OnOk result (self.new.failures ≡ self.old.failures) }
         ensures fault { OnErr result (CountsFailure self.old.failures self.new.failures) }
     {
@@ -156,13 +167,18 @@ impl<S: TapSource> RecordingSource<S> {
 
 impl<S: TapSource> TapSource for RecordingSource<S> {
     ghost use Rattle.pcap_io.specs.Bytes.{known_bytes-are_bytes};
-    ghost use Rattle.pcapng.specs.Handed.{handed_known, remaining_of};
+    ghost use Rattle.pcapng.specs.Handed.{bytes_in, handed_known, is_over, remaining_of, told_of};
 
     ghost remaining = { λ s. remaining_of S.remaining s };
 
+    ghost told = { λ s. told_of S.remaining s };
+
+    ghost is_over = { λ s. is_over s.converter.stage };
+
     ghost failures = { λ s. s.failures };
 
-    ghost gives_bytes = { λ s. known_bytes-are_bytes (handed_known s.converter (S.remaining s.source)) };
+    ghost gives_bytes = { λ s. known_bytes-are_bytes
+        (bytes_in (handed_known s.converter (S.remaining s.source))) };
 
     fn read(&mut self, buf: &mut [u8]) -> Result<usize, DeviceFault> {
         if self.failures == u64::MAX {
@@ -175,7 +191,7 @@ impl<S: TapSource> TapSource for RecordingSource<S> {
                 return Ok(done);
             }
             match self.converter.stage() {
-                Reached::Ended => return Ok(done),
+                Reached::Ended(_) => return Ok(done),
                 Reached::Untouched if self.converter.is_read() => {
                     return if done > 0 { Ok(done) } else { self.pass(buf) };
                 }
@@ -194,5 +210,9 @@ impl<S: TapSource> TapSource for RecordingSource<S> {
         } else {
             Err(self.count_failure())
         }
+    }
+
+    fn told(&self) -> Told {
+        self.converter.told()
     }
 }

@@ -1,28 +1,26 @@
 //! The pcap that is given for a pcapng recording.
-ghost use Rattle.std.specs.Prelude.{◌≡◌, length, take};
+ghost use Rattle.std.specs.Prelude.{◌≡◌, take};
 ghost use Rattle.pcap_io.specs.Recording.{header_bytes};
-ghost use Rattle.pcapng.specs.Text.{converted_layout, file_header_bytes, reason_bytes};
+ghost use Rattle.pcapng.specs.Text.{converted_layout, file_header_bytes};
 
-use byteorder::{BigEndian, ByteOrder as Endian, LittleEndian};
-use pcap_io::{BadReason, CONVERTED_MAGIC, HeaderFault};
+use byteorder::{ByteOrder as Endian, LittleEndian};
 
 /// The length of a file header of pcap, and that of a packet's header.
 pub const FILE_HEADER_LEN: usize = 24;
 
 pub const PACKET_HEADER_LEN: usize = 16;
 
-/// From here on a fraction tells a reason by its code.
-const NANOSECONDS: u32 = 1_000_000_000;
+/// The magic number of a pcap file in nanoseconds.
+const MAGIC: u32 = 0xa1b2_3c4d;
 
-/// The file header, which tells a fault by its code.
-pub fn file_header(fault: Option<HeaderFault>) -> [u8; FILE_HEADER_LEN]
-    ensures { result ≡ file_header_bytes fault }
+/// The file header.
+pub fn file_header() -> [u8; FILE_HEADER_LEN]
+    ensures { result ≡ file_header_bytes }
 {
     let mut header = [0u8; FILE_HEADER_LEN];
-    BigEndian::write_u32(&mut header, CONVERTED_MAGIC);
+    LittleEndian::write_u32(&mut header, MAGIC);
     LittleEndian::write_u16(&mut header[4..], 2);
     LittleEndian::write_u16(&mut header[6..], 4);
-    LittleEndian::write_u32(&mut header[12..], fault.map_or(0, |fault| fault.code()));
     LittleEndian::write_u32(&mut header[16..], 262_144);
     LittleEndian::write_u32(&mut header[20..], 1);
     header
@@ -45,11 +43,4 @@ pub fn packet_header(
     LittleEndian::write_u32(&mut header[8..], captured);
     LittleEndian::write_u32(&mut header[12..], original);
     header
-}
-
-/// The header that tells a reason.
-pub fn reason_header(reason: BadReason) -> [u8; FILE_HEADER_LEN]
-    ensures { take PACKET_HEADER_LEN result ≡ reason_bytes reason }
-{
-    packet_header(0, NANOSECONDS + reason.code(), 0, 0)
 }

@@ -1,49 +1,52 @@
 -- After files that end clean another one is read, and may end all.
-use Rattle.std.proofs.Common.{◌≡◌, ℕ, ◌+◌, max, List, [], ◌∷◌, ◌++◌, length, drop, map, flat_map, None, Result, refl, sym, ap, ◌∙◌, subst, arith, append_assoc}
-use Rattle.std.proofs.lemmas.List.{drop_at, length-append}
+use Rattle.std.proofs.Common.{◌≡◌, ℕ, ◌+◌, max, false, nat_eq, List, [], ◌∷◌, ◌++◌, length, drop, map, flat_map, None, Some, Result, refl, sym, ap, ◌∙◌, subst, arith, append_assoc}
+use Rattle.std.proofs.lemmas.Bool.{ne_eqb}
+use Rattle.std.proofs.lemmas.List.{append-nil, drop_at, length-append}
 use Rattle.std.proofs.lemmas.List.Concat.{flat_map-append}
 use Rattle.pcap_io.proofs.PacketBytes.{IsBytes-drop}
-use Rattle.pcap_io.specs.Layout.{header_of}
 use Rattle.pcap_io.specs.Recording.{AreGood, Packet, Parses, ending_at, high_after, packet_bytes, stamp_of}
 use Rattle.pcap_io.specs.declared.layout.HeaderFault.{HeaderFault}
 use Rattle.pcap_io.specs.declared.layout.Layout.{Layout}
 use Rattle.pcap_io.specs.declared.recording.BadReason.TheVariants.{NextFile}
 use Rattle.pcap_io.specs.declared.recording.Ending.{Ending}
-use Rattle.pcap_io.specs.declared.recording.Ending.TheVariants.{Clean}
-use Rattle.pcapng.proofs.Reading.{bad-ends, fault-told}
-use Rattle.pcapng.specs.Text.{converted_layout, file_header_bytes, reason_bytes}
+use Rattle.pcap_io.specs.declared.recording.Ending.TheVariants.{Bad, Clean}
+use Rattle.pcap_io.specs.declared.told.Told.{Told}
+use Rattle.pcap_io.specs.declared.told.Told.TheVariants as tolds
+use Rattle.pcapng.specs.Given.{Given, followed, header_given, only}
+use Rattle.pcapng.specs.Laws.{HoldsPackets}
+use Rattle.pcapng.specs.Text.{converted_layout, file_header_bytes}
 use Rattle.recording_files.proofs.Endings.{file_parse}
-use Rattle.recording_files.proofs.Reading.{all_fit, good_in_time, whole_given}
+use Rattle.recording_files.proofs.Given.{follow_both}
+use Rattle.recording_files.proofs.Reading.{all_fit, good_in_time, texts, whole_given}
 use Rattle.recording_files.specs.Given.{given_as, given_at, given_next, given_of}
-use Rattle.recording_files.specs.Laws.{AreWhole, FaultIsTold, IsCleanEnd, LastIsRead, NoHeaderEnds, packet_given}
+use Rattle.recording_files.specs.Laws.{AreWhole, FaultIsTold, IsCleanEnd, IsReadAs, LastIsRead, NoHeaderEnds, packet_given}
 use Rattle.recording_files.specs.declared.stage.WhichFile.TheVariants.{First, Next}
-
-abbrev texts : List Packet → List ℕ
-texts packets = flat_map (packet_bytes converted_layout) packets
 
 -- ---- what is given
 
-before_given : (files others : List (List ℕ)) (packets : List Packet) → AreWhole files packets → given_next (files ++ others) ≡ texts packets ++ given_next others
-before_given [] others packets none = sym (ap (λ (ps : List Packet). texts ps ++ given_next others) none)
-before_given (bytes ∷ files) others packets (own, more, w, rest, all) =
-    whole_given Next bytes (given_next (files ++ others)) own w
-    ∙ (ap (λ (b : List ℕ). texts own ++ b) (before_given files others more rest)
-    ∙ (sym (append_assoc (texts own) (texts more) (given_next others))
-    ∙ (ap (λ (b : List ℕ). b ++ given_next others) (sym (flat_map-append (packet_bytes converted_layout) own more))
-    ∙ sym (ap (λ (ps : List Packet). texts ps ++ given_next others) all))))
+-- the packets of one file and of those after it, before what the others give
+both_given : (own more packets : List Packet) (next : Given) → packets ≡ own ++ more → followed (texts own) (followed (texts more) next) ≡ followed (texts packets) next
+both_given own more packets next all =
+    sym (follow_both (texts own) (texts more) next)
+    ∙ ap (λ (b : List ℕ). followed b next) (sym (flat_map-append (packet_bytes converted_layout) own more) ∙ sym (ap texts all))
 
-all_given : (bytes : List ℕ) (files others : List (List ℕ)) (packets : List Packet) → AreWhole (bytes ∷ files) packets
-    → drop 24 (given_of (bytes ∷ (files ++ others))) ≡ texts packets ++ given_next others
-all_given bytes files others packets (own, more, w, rest, all) =
-    let body : List ℕ = texts packets ++ given_next others in
-    let given : given_of (bytes ∷ (files ++ others)) ≡ file_header_bytes None ++ body =
-    whole_given First bytes (given_next (files ++ others)) own w
-    ∙ ap (λ (b : List ℕ). file_header_bytes None ++ b)
-    (ap (λ (b : List ℕ). texts own ++ b) (before_given files others more rest)
-    ∙ (sym (append_assoc (texts own) (texts more) (given_next others))
-    ∙ (ap (λ (b : List ℕ). b ++ given_next others) (sym (flat_map-append (packet_bytes converted_layout) own more))
-    ∙ sym (ap (λ (ps : List Packet). texts ps ++ given_next others) all)))) in
-    ap (drop 24) given ∙ drop_at (file_header_bytes None) body 24 refl
+before_given : (files others : List Given) (packets : List Packet) → AreWhole files packets → given_next (files ++ others) ≡ followed (texts packets) (given_next others)
+before_given [] others packets none = sym (ap (λ (ps : List Packet). followed (texts ps) (given_next others)) none)
+before_given (file ∷ files) others packets (own, more, w, rest, all) =
+    whole_given Next file (given_next (files ++ others)) own w
+    ∙ (ap (followed (texts own)) (before_given files others more rest) ∙ both_given own more packets (given_next others) all)
+
+all_given : (file : Given) (files others : List Given) (packets : List Packet) → AreWhole (file ∷ files) packets
+    → given_of (file ∷ (files ++ others)) ≡ followed (file_header_bytes ++ texts packets) (given_next others)
+all_given file files others packets (own, more, w, rest, all) =
+    whole_given First file (given_next (files ++ others)) own w
+    ∙ (ap (λ (g : Given). followed file_header_bytes (followed (texts own) g)) (before_given files others more rest)
+    ∙ (ap (followed file_header_bytes) (both_given own more packets (given_next others) all)
+    ∙ sym (follow_both file_header_bytes (texts packets) (given_next others))))
+
+-- after the file header
+behind : (bytes more : List ℕ) → drop 24 ((file_header_bytes ++ bytes) ++ more) ≡ bytes ++ more
+behind bytes more = ap (drop 24) (append_assoc file_header_bytes bytes more) ∙ drop_at file_header_bytes (bytes ++ more) 24 refl
 
 -- ---- a parse after good packets
 
@@ -56,10 +59,10 @@ high_both : (high : ℕ) (ps qs : List Packet) → high_after converted_layout h
 high_both high [] qs = refl
 high_both high (p ∷ ps) qs = high_both (max high (stamp_of converted_layout p)) ps qs
 
-parses_after : (most late : ℕ) (bytes : List ℕ) (ps qs : List Packet) (rest : List ℕ) (e : Ending) → AreGood converted_layout late 0 ps
-    → Parses converted_layout most late (length ps) (high_after converted_layout 0 ps) bytes qs rest e
-    → Parses converted_layout most late 0 0 (texts ps ++ bytes) (ps ++ qs) rest e
-parses_after most late bytes ps qs rest e good s =
+parses_after : (told : Told) (most late : ℕ) (bytes : List ℕ) (ps qs : List Packet) (rest : List ℕ) (e : Ending) → AreGood converted_layout late 0 ps
+    → Parses converted_layout most late told (length ps) (high_after converted_layout 0 ps) bytes qs rest e
+    → Parses converted_layout most late told 0 0 (texts ps ++ bytes) (ps ++ qs) rest e
+parses_after told most late bytes ps qs rest e good s =
     let count : 0 + length (ps ++ qs) ≡ length ps + length qs = omega (arith, length-append ps qs) in
     record {
       complete =
@@ -68,49 +71,51 @@ parses_after most late bytes ps qs rest e good s =
       good = good_both late 0 ps qs good s.good;
       bounded = omega (arith, count, s.bounded);
       ends =
-          ap (λ (n : ℕ). ending_at converted_layout most late n (high_after converted_layout 0 (ps ++ qs)) rest) count
-          ∙ (ap (λ (h : ℕ). ending_at converted_layout most late (length ps + length qs) h rest) (high_both 0 ps qs) ∙ s.ends);
+          ap (λ (n : ℕ). ending_at converted_layout most late told n (high_after converted_layout 0 (ps ++ qs)) rest) count
+          ∙ (ap (λ (h : ℕ). ending_at converted_layout most late told (length ps + length qs) h rest) (high_both 0 ps qs) ∙ s.ends);
     }
 
 -- ---- the last file
 
-none_after : (e : Ending) (more : List (List ℕ)) → (IsCleanEnd e → more ≡ []) → (m : ℕ) → e ≡ Clean m → given_next more ≡ []
+none_after : (e : Ending) (more : List Given) → (IsCleanEnd e → more ≡ []) → (m : ℕ) → e ≡ Clean m → given_next more ≡ only tolds.Nothing
 none_after (Clean n) more h m same = ap given_next (h tt)
 none_after e more h m same = cc
 
 pub last_read : LastIsRead
-last_read bytes last files more packets own layout rest most late ending whole times fits header parse after =
-    let body : List ℕ = drop 24 last in
-    let next : List ℕ = given_next more in
-    let given : given_next (last ∷ more) ≡ given_at layout body next = ap (λ (r : Result Layout HeaderFault). given_as Next r last next) header in
-    let good = good_in_time late 0 packets (all_fit (bytes ∷ files) packets whole) times in
-    let read = file_parse layout most late (length packets) (high_after converted_layout 0 packets) body next own rest ending (IsBytes-drop 24 last fits) parse (none_after ending more after) in
-    let all : drop 24 (given_of (bytes ∷ (files ++ last ∷ more))) ≡ texts packets ++ given_at layout body next =
-    all_given bytes files (last ∷ more) packets whole ∙ ap (λ (b : List ℕ). texts packets ++ b) given in (
-      given_at layout rest next,
-      subst (λ (b : List ℕ). Parses converted_layout most late 0 0 b (packets ++ map (packet_given layout) own) (given_at layout rest next) ending) (sym all)
-          (parses_after most late (given_at layout body next) packets (map (packet_given layout) own) (given_at layout rest next) ending good read),
+last_read file last files more packets own layout rest most late ending whole times fits header parse after =
+    let body : List ℕ = drop 24 last.bytes in
+    let next : Given = given_next more in
+    let part : Given = given_at layout last.told body next in
+    let all : List Packet = packets ++ map (packet_given layout) own in
+    let given : given_next (last ∷ more) ≡ part = ap (λ (r : Result Layout HeaderFault). given_as Next r last next) header in
+    let good = good_in_time late 0 packets (all_fit (file ∷ files) packets whole) times in
+    let read = file_parse layout most late last.told (length packets) (high_after converted_layout 0 packets) body next own rest ending (IsBytes-drop 24 last.bytes fits) parse (none_after ending more after) in
+    let end : List ℕ = (given_at layout last.told rest next).bytes in
+    subst (λ (g : Given). IsReadAs most late g all ending) (sym (all_given file files (last ∷ more) packets whole ∙ ap (followed (file_header_bytes ++ texts packets)) given)) (
+      end,
+      subst (λ (b : List ℕ). Parses converted_layout most late part.told 0 0 b all end ending) (sym (behind (texts packets) part.bytes))
+          (parses_after part.told most late part.bytes packets (map (packet_given layout) own) end ending good read),
     )
 
 pub no_header_ends : NoHeaderEnds
-no_header_ends bytes last files more packets most late fault whole times few header =
-    let told : List ℕ = reason_bytes NextFile in
-    let given : given_next (last ∷ more) ≡ told = ap (λ (r : Result Layout HeaderFault). given_as Next r last (given_next more)) header in
-    let good = good_in_time late 0 packets (all_fit (bytes ∷ files) packets whole) times in
-    let all : drop 24 (given_of (bytes ∷ (files ++ last ∷ more))) ≡ texts packets ++ told =
-    all_given bytes files (last ∷ more) packets whole ∙ ap (λ (b : List ℕ). texts packets ++ b) given in
+no_header_ends file last files more packets most late fault whole times few header =
+    let told : Told = tolds.Bad NextFile in
+    let ending : Ending = Bad (length packets) NextFile in
+    let given : given_next (last ∷ more) ≡ only told = ap (λ (r : Result Layout HeaderFault). given_as Next r last (given_next more)) header in
+    let good = good_in_time late 0 packets (all_fit (file ∷ files) packets whole) times in
     let n : 0 + length packets ≡ length packets = omega arith in
-    record {
-      complete = all;
+    subst (λ (g : Given). HoldsPackets most late g packets ending)
+    (sym (all_given file files (last ∷ more) packets whole ∙ ap (followed (file_header_bytes ++ texts packets)) given))
+    (subst (λ (b : List ℕ). Parses converted_layout most late told 0 0 b packets [] ending) (sym (behind (texts packets) []))
+    (record {
+      complete = refl;
       good = good;
       bounded = omega (arith, few);
-      ends =
-          ap (λ (m : ℕ). ending_at converted_layout most late m (high_after converted_layout 0 packets) told) n
-          ∙ bad-ends most late (length packets) (high_after converted_layout 0 packets) NextFile few;
-    }
+      ends = (let below : nat_eq (0 + length packets) most ≡ false = ne_eqb (0 + length packets) most (λ same. absurd (omega (arith, few, n, same))) in
+          rw below (ap (λ (m : ℕ). Some (Bad m NextFile)) n));
+    }))
 
 -- ---- the first file
 
 pub told_fault : FaultIsTold
-told_fault bytes files fault header =
-    ap (λ (r : Result Layout HeaderFault). header_of (given_as First r bytes (given_next files))) header ∙ fault-told fault
+told_fault file files fault header = ap (λ (r : Result Layout HeaderFault). header_given (given_as First r file (given_next files))) header

@@ -13,9 +13,12 @@ use Rattle.pcap_io.specs.declared.layout.ByteOrder.{ByteOrder}
 use Rattle.pcap_io.specs.declared.layout.ByteOrder.TheVariants.{Little}
 use Rattle.pcap_io.specs.declared.layout.Layout.{Layout}
 use Rattle.pcap_io.specs.declared.layout.Precision.{Precision}
-use Rattle.pcap_io.specs.declared.layout.Precision.TheVariants.{Nanoseconds, Microseconds, Converted}
+use Rattle.pcap_io.specs.declared.layout.Precision.TheVariants.{Nanoseconds, Microseconds}
 use Rattle.pcap_io.specs.declared.packet_header.PacketHeader.{PacketHeader}
+use Rattle.pcap_io.specs.declared.told.Told.{Told}
+use Rattle.pcapng.specs.Given.{Given, followed}
 use Rattle.pcapng.specs.Text.{converted_layout}
+use Rattle.recording_files.proofs.Given.{follow_both}
 use Rattle.recording_files.proofs.Reading.{given_good}
 use Rattle.recording_files.specs.Given.{given_at}
 use Rattle.recording_files.specs.Laws.{packet_given}
@@ -46,7 +49,7 @@ begins l bytes h stamp fits long read whole wire none time =
           seconds_fit = subst (λ (k : PacketHeader). k.seconds < 2 ^ 32) (sym read) (number_fits l.order head head_fits);
           original_len_fits = subst (λ (k : PacketHeader). k.original_len < 2 ^ 32) (sym read) (number_fits l.order (drop 12 head) (IsBytes-drop 12 head head_fits));
           within_second = fine.within;
-          no_file_header = ap (λ (m : ℕ). is_file_header l (header_with h.seconds h.fraction m h.original_len)) body_size ∙ fine.no_file_header;
+          no_file_header = ap (λ (m : ℕ). is_file_header (header_with h.seconds h.fraction m h.original_len)) body_size ∙ fine.no_file_header;
           in_time = omega arith;
         };
         whole = omega (arith, body_size, wire);
@@ -93,7 +96,6 @@ run_more l bytes at len frames greatest stamp within run b =
 less_than_one : (p : Precision) (n : ℕ) → n < fractions_of p → n < 1000000000
 less_than_one Nanoseconds n h = omega (arith, h)
 less_than_one Microseconds n h = omega (arith, h)
-less_than_one Converted n h = omega (arith, h)
 
 parts : (seconds fraction stamp : ℕ) → stamp ≡ seconds * 1000000000 + fraction → fraction < 1000000000
     → (stamp / 1000000000 ≡ seconds) × (stamp % 1000000000 ≡ fraction)
@@ -117,23 +119,23 @@ same_text l r g p =
     ∙ (ap (λ (w : ℕ). text Little r.seconds r.fraction n w ++ r.bytes) whole
     ∙ ap (λ (o : ByteOrder). text o r.seconds r.fraction n r.original_len ++ r.bytes) (sym g.order)))
 
-all_as_they_stand : (l : Layout) (rs : List Packet) (rest next : List ℕ) → IsGivenLayout l → ArePassed l rs
-    → given_at l (flat_map (packet_bytes l) rs ++ rest) next ≡ flat_map (packet_bytes l) rs ++ given_at l rest next
-all_as_they_stand l [] rest next g all = refl
-all_as_they_stand l (r ∷ rs) rest next g all =
+all_as_they_stand : (l : Layout) (told : Told) (rs : List Packet) (rest : List ℕ) (next : Given) → IsGivenLayout l → ArePassed l rs
+    → given_at l told (flat_map (packet_bytes l) rs ++ rest) next ≡ followed (flat_map (packet_bytes l) rs) (given_at l told rest next)
+all_as_they_stand l told [] rest next g all = refl
+all_as_they_stand l told (r ∷ rs) rest next g all =
     let texts : List ℕ = flat_map (packet_bytes l) rs in
     let more : List ℕ = texts ++ rest in
-    ap (λ (b : List ℕ). given_at l b next) (append_assoc (packet_bytes l r) texts rest)
-    ∙ (given_good l 0 0 r more next all.0.good
-    ∙ (ap (λ (b : List ℕ). b ++ given_at l more next) (same_text l r g all.0)
-    ∙ (ap (λ (b : List ℕ). packet_bytes l r ++ b) (all_as_they_stand l rs rest next g all.1)
-    ∙ sym (append_assoc (packet_bytes l r) texts (given_at l rest next)))))
+    ap (λ (b : List ℕ). given_at l told b next) (append_assoc (packet_bytes l r) texts rest)
+    ∙ (given_good l told 0 0 r more next all.0.good
+    ∙ (ap (λ (b : List ℕ). followed b (given_at l told more next)) (same_text l r g all.0)
+    ∙ (ap (followed (packet_bytes l r)) (all_as_they_stand l told rs rest next g all.1)
+    ∙ sym (follow_both (packet_bytes l r) texts (given_at l told rest next)))))
 
-pub run_given : (l : Layout) (bytes : List ℕ) (frames greatest : ℕ) (rest next : List ℕ) → IsGivenLayout l → IsRun l bytes frames greatest
-    → given_at l (bytes ++ rest) next ≡ bytes ++ given_at l rest next
-run_given l bytes frames greatest rest next g run =
-    ap (λ (b : List ℕ). given_at l (b ++ rest) next) run.same
-    ∙ (all_as_they_stand l run.packets rest next g run.passed ∙ ap (λ (b : List ℕ). b ++ given_at l rest next) (sym run.same))
+pub run_given : (l : Layout) (told : Told) (bytes : List ℕ) (frames greatest : ℕ) (rest : List ℕ) (next : Given) → IsGivenLayout l → IsRun l bytes frames greatest
+    → given_at l told (bytes ++ rest) next ≡ followed bytes (given_at l told rest next)
+run_given l told bytes frames greatest rest next g run =
+    ap (λ (b : List ℕ). given_at l told (b ++ rest) next) run.same
+    ∙ (all_as_they_stand l told run.packets rest next g run.passed ∙ ap (λ (b : List ℕ). followed b (given_at l told rest next)) (sym run.same))
 
 -- ---- bytes that were read ahead
 

@@ -3,13 +3,14 @@ ghost use Rattle.std.specs.Prelude.{◌≡◌, ◌≤◌, ◌<◌, ◌==◌, if�
 ghost use Rattle.std.specs.Io.KnownBytes.{Consumes, IsAtEnd, Keeps};
 ghost use Rattle.afdx_frame.specs.declared.bounds.TheConstants.{MAX_SNAPLEN};
 ghost use Rattle.pcap_io.specs.Layout.{fractions_of};
-ghost use Rattle.pcap_io.specs.declared.recording.Ending.TheVariants.{Clean, Cut};
+ghost use Rattle.pcap_io.specs.Told.{StaysTold, Tells, told_ending};
+ghost use Rattle.pcap_io.specs.declared.recording.Ending.TheVariants.{Cut};
 ghost use Rattle.recording_files.specs.Given.{given_header};
-ghost use Rattle.recording_files.specs.Input.{ReadsHeader, ReadsStart, drawn_of, file_of, left_of};
+ghost use Rattle.recording_files.specs.Input.{ReadsHeader, ReadsStart, IsOver, drawn_of, file_of, left_of, tells_of};
 
 use crate::stage::Packet;
 use pcap_io::{
-    BlockSource, DeviceFault, Ending, HeaderFault, Layout, PacketHeader, TapSource, layout_of,
+    BlockSource, DeviceFault, Ending, HeaderFault, Layout, PacketHeader, TapSource, Told, layout_of,
 };
 use pcapng::{FILE_HEADER_LEN, PACKET_HEADER_LEN};
 use std::alloc::Global;
@@ -48,6 +49,9 @@ pub fn draw<F: TapSource>(
     ensures complete { IfOk result (λ all. all ≡ true → length (drawn_of input.new) ≡ len) }
     ensures short { IfOk result (λ all. all ≡ false → (length (drawn_of input.new) < len)
         × IsAtEnd (left_of F.remaining input.new)) }
+    ensures over { IfOk result (λ all. all ≡ false → IsOver F.is_over input.new) }
+    ensures told { StaysTold (left_of F.remaining input.old)
+        (tells_of F.told input.old) (tells_of F.told input.new) }
     ensures kept { OnErr result (Keeps (left_of F.remaining input.old)
         (left_of F.remaining input.new)) }
 {
@@ -60,18 +64,31 @@ pub fn draw<F: TapSource>(
     }
 }
 
+/// What the file that is read tells at its end.
+fn told_by<F: TapSource>(input: &Option<BlockSource<F>>) -> Told
+    ensures { IsOver F.is_over input.now
+        → Tells (left_of F.remaining input.now) result (tells_of F.told input.now) }
+{
+    match input {
+        Some(input) => input.source().told(),
+        None => Told::Nothing,
+    }
+}
+
 /// Reads the header of the file.
 pub fn read_file_header<F: TapSource>(
     alloc: Global,
     input: &mut Option<BlockSource<F>>,
 ) -> Result<Result<Layout, HeaderFault>, DeviceFault>
-    ensures read { IfOk result (ReadsHeader (left_of F.remaining input.old)
-        (left_of F.remaining input.new)) }
+    ensures read { IfOk result (ReadsHeader (tells_of F.told input.old)
+        (left_of F.remaining input.old) (left_of F.remaining input.new)) }
+    ensures told { StaysTold (left_of F.remaining input.old)
+        (tells_of F.told input.old) (tells_of F.told input.new) }
     ensures kept { OnErr result (Keeps (left_of F.remaining input.old)
         (left_of F.remaining input.new)) }
 {
     if !draw(alloc, input, FILE_HEADER_LEN)? {
-        return Ok(Err(HeaderFault::Short));
+        return Ok(Err(told_by(input).fault()));
     }
     Ok(layout_of(drawn(input)))
 }
@@ -92,12 +109,12 @@ fn given_header(layout: Layout, header: &PacketHeader) -> PacketHeader
     }
 }
 
-/// How a file ends that has fewer bytes left than a packet's header.
-fn ending_in(bytes: &[u8]) -> Ending
-    ensures { result ≡ if length bytes.now == 0 then Clean 0 else Cut 0 }
+/// How a file ends that has fewer bytes left than a packet's header, and tells this.
+fn ending_in(bytes: &[u8], told: Told) -> Ending
+    ensures { result ≡ if length bytes.now == 0 then told_ending told 1 0 else Cut 0 }
 {
     if bytes.is_empty() {
-        Ending::Clean(0)
+        told.ending(0, 1)
     } else {
         Ending::Cut(0)
     }
@@ -111,13 +128,15 @@ pub fn read_header<F: TapSource>(
     layout: Layout,
     input: &mut Option<BlockSource<F>>,
 ) -> Result<Result<Packet, Ending>, DeviceFault>
-    ensures read { IfOk result (ReadsStart layout (left_of F.remaining input.old)
-        (left_of F.remaining input.new)) }
+    ensures read { IfOk result (ReadsStart layout (tells_of F.told input.old)
+        (left_of F.remaining input.old) (left_of F.remaining input.new)) }
+    ensures told { StaysTold (left_of F.remaining input.old)
+        (tells_of F.told input.old) (tells_of F.told input.new) }
     ensures kept { OnErr result (Keeps (left_of F.remaining input.old)
         (left_of F.remaining input.new)) }
 {
     if !draw(alloc, input, PACKET_HEADER_LEN)? {
-        return Ok(Err(ending_in(drawn(input))));
+        return Ok(Err(ending_in(drawn(input), told_by(input))));
     }
     let header = PacketHeader::read(layout, drawn(input));
     match header.reason(layout, 0, 0) {

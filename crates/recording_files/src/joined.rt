@@ -1,14 +1,15 @@
 //! The source that gives the files of a recording as one.
-ghost use Rattle.std.specs.Prelude.{◌≡◌, ◌≤◌, ◌<◌, ◌+◌, ◌-◌, ◌^◌, min, [], length, take, IfSome, IfOk, OnOk, OnErr, IsTrue};
-ghost use Rattle.std.specs.Io.KnownBytes.{Consumes, Keeps};
+ghost use Rattle.std.specs.Prelude.{◌≡◌, ◌≤◌, ◌<◌, ◌+◌, ◌-◌, ◌^◌, min, [], length, take, IfSome, IfOk, OnOk, OnErr, IsTrue, true};
 ghost use Rattle.pcap_io.specs.Device.{CountsFailure};
+ghost use Rattle.recording_files.specs.Given.{no_header};
+ghost use Rattle.recording_files.specs.Handed.{is_over};
 
 use crate::input::{draw, drawn, into_file, read_file_header, read_header};
 use crate::pending::{Pending, copy_some};
 use crate::run::{is_given_layout, move_run};
 use crate::stage::{FilesStage, Packet, WhichFile};
 use crate::supply::{FileSupply, ReadFile};
-use pcap_io::{BlockSource, DeviceFault, Ending, HeaderFault, Layout, TapSource};
+use pcap_io::{BadReason, BlockSource, DeviceFault, Ending, HeaderFault, Layout, TapSource, Told};
 use pcapng::{FILE_HEADER_LEN, PACKET_HEADER_LEN};
 use std::alloc::Global;
 
@@ -35,12 +36,23 @@ pub struct JoinedSource<P, F> {
     pending: Pending,
 }
 
+/// What is told of a file that has no header.
+fn no_header(place: WhichFile, fault: HeaderFault) -> Told
+    ensures { result ≡ no_header place fault }
+{
+    match place {
+        WhichFile::First => Told::NoHeader(fault),
+        WhichFile::Next => Told::Bad(BadReason::NextFile),
+    }
+}
+
 impl<F: TapSource + Drop, P: FileSupply<F>> JoinedSource<P, F> {
     ghost use Rattle.pcap_io.specs.Bytes.{bytes_of};
     ghost use Rattle.recording_files.specs.Counts.{CountsBody, CountsRun, read_file_of};
     ghost use Rattle.recording_files.specs.Given.{given_of};
-    ghost use Rattle.recording_files.specs.Handed.{GivesBody, body_of, known_of, pending_of};
-    ghost use Rattle.recording_files.specs.Handed.{remaining_of};
+    ghost use Rattle.recording_files.specs.Handed.{ConsumesGiven, GivesBody, body_of, known_of, pending_of};
+    ghost use Rattle.recording_files.specs.Handed.{remaining_of, told_of};
+    ghost use Rattle.pcapng.specs.Handed.{KeepsGiven};
     ghost use Rattle.recording_files.specs.Input.{drawn_of, file_of};
     ghost use Rattle.recording_files.specs.Run.{IsGivenLayout};
     ghost use Rattle.recording_files.specs.declared.stage.FilesStage.TheVariants as stages;
@@ -50,7 +62,8 @@ impl<F: TapSource + Drop, P: FileSupply<F>> JoinedSource<P, F> {
         ensures no_failure { ⟦<JoinedSource<P, F> as TapSource>⟧.failures result ≡ 0 }
         // What is given for the files, where each of it is a byte.
         ensures whole { IfSome (P.files supply) (λ files.
-            remaining_of F.remaining P.files result ≡ bytes_of (given_of files)) }
+            (remaining_of F.remaining F.told P.files result ≡ bytes_of (given_of files).bytes)
+            × (told_of F.remaining F.told P.files result ≡ (given_of files).told)) }
     {
         JoinedSource {
             alloc,
@@ -83,8 +96,8 @@ impl<F: TapSource + Drop, P: FileSupply<F>> JoinedSource<P, F> {
     /// A device failed, or memory was missing.
     fn count_failure(&mut self) -> DeviceFault
         ensures failures { CountsFailure self.old.failures self.new.failures }
-        ensures kept { known_of F.remaining P.files self.new
-            ≡ known_of F.remaining P.files self.old }
+        ensures kept { known_of F.remaining F.told P.files self.new
+            ≡ known_of F.remaining F.told P.files self.old }
     {
         self.failures = self.failures.saturating_add(1);
         DeviceFault
@@ -113,8 +126,8 @@ impl<F: TapSource + Drop, P: FileSupply<F>> JoinedSource<P, F> {
     #[inline]
     fn give(&mut self, buf: &mut [u8]) -> usize
         ensures bound { result ≤ length buf.new }
-        ensures bytes { Consumes (known_of F.remaining P.files self.old)
-            (known_of F.remaining P.files self.new) (take result buf.new) }
+        ensures bytes { ConsumesGiven (known_of F.remaining F.told P.files self.old)
+            (known_of F.remaining F.told P.files self.new) (take result buf.new) }
         ensures all { result < length buf.new → pending_of self.new ≡ [] }
         ensures failures { self.new.failures ≡ self.old.failures }
     {
@@ -142,8 +155,8 @@ impl<F: TapSource + Drop, P: FileSupply<F>> JoinedSource<P, F> {
         requires layout { IsGivenLayout layout }
         requires given { pending_of self.old ≡ [] }
         ensures bound { result ≤ length buf.new }
-        ensures bytes { Consumes (known_of F.remaining P.files self.old)
-            (known_of F.remaining P.files self.new) (take result buf.new) }
+        ensures bytes { ConsumesGiven (known_of F.remaining F.told P.files self.old)
+            (known_of F.remaining F.told P.files self.new) (take result buf.new) }
         ensures given { pending_of self.new ≡ [] }
         ensures failures { self.new.failures ≡ self.old.failures }
         ensures counted { CountsRun layout self.old self.new (take result buf.new) }
@@ -159,8 +172,8 @@ impl<F: TapSource + Drop, P: FileSupply<F>> JoinedSource<P, F> {
     fn give_packets(&mut self, buf: &mut [u8]) -> usize
         requires given { pending_of self.old ≡ [] }
         ensures bound { result ≤ length buf.new }
-        ensures bytes { Consumes (known_of F.remaining P.files self.old)
-            (known_of F.remaining P.files self.new) (take result buf.new) }
+        ensures bytes { ConsumesGiven (known_of F.remaining F.told P.files self.old)
+            (known_of F.remaining F.told P.files self.new) (take result buf.new) }
         ensures given { pending_of self.new ≡ [] }
         ensures failures { self.new.failures ≡ self.old.failures }
     {
@@ -191,8 +204,8 @@ impl<F: TapSource + Drop, P: FileSupply<F>> JoinedSource<P, F> {
     fn open_next(&mut self, place: WhichFile) -> Result<(), DeviceFault>
         requires stage { self.old.stage ≡ stages.File place }
         requires given { pending_of self.old ≡ [] }
-        ensures kept { Keeps (known_of F.remaining P.files self.old)
-            (known_of F.remaining P.files self.new) }
+        ensures kept { KeepsGiven (known_of F.remaining F.told P.files self.old)
+            (known_of F.remaining F.told P.files self.new) }
         ensures failures { self.new.failures ≡ self.old.failures }
         // A file that was opened is counted.
         ensures opened { self.new.stage ≡ stages.FileHeader place
@@ -206,10 +219,9 @@ impl<F: TapSource + Drop, P: FileSupply<F>> JoinedSource<P, F> {
                 self.stage = FilesStage::FileHeader(place);
             }
             (None, WhichFile::First) => {
-                self.pending = Pending::no_header(WhichFile::First, HeaderFault::Short);
-                self.stage = FilesStage::Ended;
+                self.stage = FilesStage::Ended(Told::NoHeader(HeaderFault::Short));
             }
-            (None, WhichFile::Next) => self.stage = FilesStage::Ended,
+            (None, WhichFile::Next) => self.stage = FilesStage::Ended(Told::Nothing),
         }
         Ok(())
     }
@@ -218,8 +230,8 @@ impl<F: TapSource + Drop, P: FileSupply<F>> JoinedSource<P, F> {
     fn begin_file(&mut self, place: WhichFile) -> Result<(), DeviceFault>
         requires stage { self.old.stage ≡ stages.FileHeader place }
         requires given { pending_of self.old ≡ [] }
-        ensures kept { Keeps (known_of F.remaining P.files self.old)
-            (known_of F.remaining P.files self.new) }
+        ensures kept { KeepsGiven (known_of F.remaining F.told P.files self.old)
+            (known_of F.remaining F.told P.files self.new) }
         ensures failures { self.new.failures ≡ self.old.failures }
     {
         match read_file_header(self.alloc, &mut self.input)? {
@@ -227,10 +239,7 @@ impl<F: TapSource + Drop, P: FileSupply<F>> JoinedSource<P, F> {
                 self.pending = Pending::file(place);
                 self.stage = FilesStage::Header(layout);
             }
-            Err(fault) => {
-                self.pending = Pending::no_header(place, fault);
-                self.stage = FilesStage::Ended;
-            }
+            Err(fault) => self.stage = FilesStage::Ended(no_header(place, fault)),
         }
         Ok(())
     }
@@ -240,8 +249,8 @@ impl<F: TapSource + Drop, P: FileSupply<F>> JoinedSource<P, F> {
     fn next_packet(&mut self, layout: Layout) -> Result<(), DeviceFault>
         requires stage { self.old.stage ≡ stages.Header layout }
         requires given { pending_of self.old ≡ [] }
-        ensures kept { Keeps (known_of F.remaining P.files self.old)
-            (known_of F.remaining P.files self.new) }
+        ensures kept { KeepsGiven (known_of F.remaining F.told P.files self.old)
+            (known_of F.remaining F.told P.files self.new) }
         ensures failures { self.new.failures ≡ self.old.failures }
     {
         match read_header(self.alloc, layout, &mut self.input)? {
@@ -250,14 +259,8 @@ impl<F: TapSource + Drop, P: FileSupply<F>> JoinedSource<P, F> {
                 self.stage = FilesStage::Body(packet);
             }
             Err(Ending::Clean(_)) => self.stage = FilesStage::File(WhichFile::Next),
-            Err(Ending::Cut(_)) => {
-                self.pending = Pending::cut();
-                self.stage = FilesStage::Ended;
-            }
-            Err(Ending::Bad(_, reason)) => {
-                self.pending = Pending::reason(reason);
-                self.stage = FilesStage::Ended;
-            }
+            Err(Ending::Cut(_)) => self.stage = FilesStage::Ended(Told::Cut),
+            Err(Ending::Bad(_, reason)) => self.stage = FilesStage::Ended(Told::Bad(reason)),
         }
         Ok(())
     }
@@ -267,8 +270,8 @@ impl<F: TapSource + Drop, P: FileSupply<F>> JoinedSource<P, F> {
     fn read_body(&mut self, packet: Packet) -> Result<(), DeviceFault>
         requires stage { self.old.stage ≡ stages.Body packet }
         requires given { pending_of self.old ≡ [] }
-        ensures kept { Keeps (known_of F.remaining P.files self.old)
-            (known_of F.remaining P.files self.new) }
+        ensures kept { KeepsGiven (known_of F.remaining F.told P.files self.old)
+            (known_of F.remaining F.told P.files self.new) }
         ensures failures { self.new.failures ≡ self.old.failures }
         ensures counted { OnOk result
             (CountsBody self.old self.new packet.header self.new.stage) }
@@ -291,8 +294,8 @@ impl<F: TapSource + Drop, P: FileSupply<F>> JoinedSource<P, F> {
     #[inline]
     fn step(&mut self) -> Result<(), DeviceFault>
         requires given { pending_of self.old ≡ [] }
-        ensures kept { Keeps (known_of F.remaining P.files self.old)
-            (known_of F.remaining P.files self.new) }
+        ensures kept { KeepsGiven (known_of F.remaining F.told P.files self.old)
+            (known_of F.remaining F.told P.files self.new) }
         ensures failures { self.new.failures ≡ self.old.failures }
     {
         match self.stage {
@@ -305,10 +308,10 @@ impl<F: TapSource + Drop, P: FileSupply<F>> JoinedSource<P, F> {
                 Ok(())
             }
             FilesStage::Given(None, _) => {
-                self.stage = FilesStage::Ended;
+                self.stage = FilesStage::Ended(Told::Nothing);
                 Ok(())
             }
-            FilesStage::Ended => Ok(()),
+            FilesStage::Ended(_) => Ok(()),
         }
     }
 
@@ -320,7 +323,7 @@ impl<F: TapSource + Drop, P: FileSupply<F>> JoinedSource<P, F> {
             FilesStage::FileHeader(_) => FILE_HEADER_LEN,
             FilesStage::Header(_) => PACKET_HEADER_LEN,
             FilesStage::Body(packet) => packet.header.captured_len as usize,
-            FilesStage::Given(_, _) | FilesStage::Ended => 0,
+            FilesStage::Given(_, _) | FilesStage::Ended(_) => 0,
         };
         match &self.input {
             Some(input) => input.unread().len() < needed,
@@ -331,9 +334,9 @@ impl<F: TapSource + Drop, P: FileSupply<F>> JoinedSource<P, F> {
     /// Nothing more is read.
     #[inline]
     fn is_ended(&self) -> bool
-        ensures { IsTrue result → self.now.stage ≡ stages.Ended }
+        ensures { IsTrue result → is_over self.now.stage ≡ true }
     {
-        matches!(self.stage, FilesStage::Ended)
+        matches!(self.stage, FilesStage::Ended(_))
     }
 
     /// What a read that meets a fault comes to: after some bytes it comes again at the next call.
@@ -342,8 +345,8 @@ impl<F: TapSource + Drop, P: FileSupply<F>> JoinedSource<P, F> {
         ensures none { OnErr result (done ≡ 0) }
         ensures no_failure { OnOk result (self.new.failures ≡ self.old.failures) }
         ensures fault { OnErr result (CountsFailure self.old.failures self.new.failures) }
-        ensures kept { known_of F.remaining P.files self.new
-            ≡ known_of F.remaining P.files self.old }
+        ensures kept { known_of F.remaining F.told P.files self.new
+            ≡ known_of F.remaining F.told P.files self.old }
     {
         if done > 0 {
             Ok(done)
@@ -355,13 +358,19 @@ impl<F: TapSource + Drop, P: FileSupply<F>> JoinedSource<P, F> {
 
 impl<F: TapSource + Drop, P: FileSupply<F>> TapSource for JoinedSource<P, F> {
     ghost use Rattle.pcap_io.specs.Bytes.{known_bytes-are_bytes};
-    ghost use Rattle.recording_files.specs.Handed.{known_of, remaining_of};
+    ghost use Rattle.pcapng.specs.Handed.{bytes_in};
+    ghost use Rattle.recording_files.specs.Handed.{is_over, known_of, remaining_of, told_of};
 
-    ghost remaining = { λ s. remaining_of F.remaining P.files s };
+    ghost remaining = { λ s. remaining_of F.remaining F.told P.files s };
+
+    ghost told = { λ s. told_of F.remaining F.told P.files s };
+
+    ghost is_over = { λ s. is_over s.stage };
 
     ghost failures = { λ s. s.failures };
 
-    ghost gives_bytes = { λ s. known_bytes-are_bytes (known_of F.remaining P.files s) };
+    ghost gives_bytes = { λ s. known_bytes-are_bytes
+        (bytes_in (known_of F.remaining F.told P.files s)) };
 
     fn read(&mut self, buf: &mut [u8]) -> Result<usize, DeviceFault> {
         if self.failures == u64::MAX {
@@ -386,5 +395,12 @@ impl<F: TapSource + Drop, P: FileSupply<F>> TapSource for JoinedSource<P, F> {
         }
         // So many steps are never taken.
         self.fault_after(done)
+    }
+
+    fn told(&self) -> Told {
+        match self.stage {
+            FilesStage::Ended(told) => told,
+            _ => Told::Nothing,
+        }
     }
 }

@@ -1,12 +1,11 @@
 //! A header that is given before what follows it.
 ghost use Rattle.std.specs.Prelude.{◌≡◌, ◌≤◌, min, [], drop, length, take};
-ghost use Rattle.pcapng.specs.Text.{cut_bytes, file_header_bytes, reason_bytes};
 ghost use Rattle.pcapng.specs.declared.text.TheConstants.{FILE_HEADER_LEN};
-ghost use Rattle.recording_files.specs.Given.{file_header_of, header_text, no_header};
+ghost use Rattle.recording_files.specs.Given.{file_header_of, header_text};
 
 use crate::stage::WhichFile;
-use pcap_io::{BadReason, HeaderFault, PacketHeader};
-use pcapng::{FILE_HEADER_LEN, PACKET_HEADER_LEN, file_header, packet_header, reason_header};
+use pcap_io::PacketHeader;
+use pcapng::{FILE_HEADER_LEN, PACKET_HEADER_LEN, file_header, packet_header};
 
 /// Part of a header, or nothing.
 #[derive(Clone, Copy)]
@@ -70,33 +69,9 @@ impl Pending {
         ensures { waiting_of result ≡ file_header_of place }
     {
         match place {
-            WhichFile::First => Pending::first(file_header(None), FILE_HEADER_LEN),
+            WhichFile::First => Pending::first(file_header(), FILE_HEADER_LEN),
             WhichFile::Next => Pending::nothing(),
         }
-    }
-
-    /// What tells that a file has no header that is read.
-    pub fn no_header(place: WhichFile, fault: HeaderFault) -> Pending
-        ensures { waiting_of result ≡ no_header place fault }
-    {
-        match place {
-            WhichFile::First => Pending::first(file_header(Some(fault)), FILE_HEADER_LEN),
-            WhichFile::Next => Pending::reason(BadReason::NextFile),
-        }
-    }
-
-    /// What tells why a file can't be read on.
-    pub fn reason(reason: BadReason) -> Pending
-        ensures { waiting_of result ≡ reason_bytes reason }
-    {
-        Pending::first(reason_header(reason), PACKET_HEADER_LEN)
-    }
-
-    /// What tells that a file is truncated.
-    pub fn cut() -> Pending
-        ensures { waiting_of result ≡ cut_bytes }
-    {
-        Pending::first([0; FILE_HEADER_LEN], 1)
     }
 
     /// Moves what is left into the buffer, as much as fits, and returns how much.

@@ -3,8 +3,9 @@ ghost use Rattle.std.specs.Prelude.{◌≡◌, ◌≤◌, [], length, take, true
 ghost use Rattle.pcap_io.specs.declared.layout.Layout.{Layout};
 ghost use Rattle.std.specs.Io.KnownBytes.{Consumes, Keeps};
 ghost use Rattle.afdx_frame.specs.declared.bounds.TheConstants.{MAX_SNAPLEN};
-ghost use Rattle.pcap_io.specs.Block.{block_remaining, unread_bytes};
-ghost use Rattle.recording_files.specs.Input.{left_of};
+ghost use Rattle.pcap_io.specs.Block.{block_remaining, block_source, unread_bytes};
+ghost use Rattle.pcap_io.specs.Told.{StaysTold};
+ghost use Rattle.recording_files.specs.Input.{left_of, tells_of};
 ghost use Rattle.recording_files.specs.Run.{BeginsPassed, IsGivenLayout, IsRun};
 
 use crate::pending::copy_some;
@@ -46,7 +47,7 @@ pub fn is_given_layout(layout: Layout) -> bool
     ensures { IsTrue result → IsGivenLayout layout }
 {
     match (layout.order, layout.precision) {
-        (ByteOrder::Little, Precision::Nanoseconds | Precision::Converted) => true,
+        (ByteOrder::Little, Precision::Nanoseconds) => true,
         _ => false,
     }
 }
@@ -102,6 +103,8 @@ fn draw_ahead<F: TapSource>(alloc: Global, input: &mut BlockSource<F>, len: usiz
         (block_remaining F.remaining input.new) (take len (unread_bytes input.old)) }
     ensures kept { result ≡ false → Keeps (block_remaining F.remaining input.old)
         (block_remaining F.remaining input.new) }
+    ensures told { StaysTold (block_remaining F.remaining input.old)
+        (F.told (block_source input.old)) (F.told (block_source input.new)) }
 {
     match input.draw(alloc, len) {
         Ok(all) => all,
@@ -121,6 +124,8 @@ pub fn move_run<F: TapSource>(
     ensures within { result.len ≤ length buf.new }
     ensures bytes { Consumes (left_of F.remaining input.old)
         (left_of F.remaining input.new) (take result.len buf.new) }
+    ensures told { StaysTold (left_of F.remaining input.old)
+        (tells_of F.told input.old) (tells_of F.told input.new) }
     ensures packets { IsRun layout (take result.len buf.new) result.frames result.greatest }
 {
     let Some(input) = input else {

@@ -2,7 +2,7 @@
 ghost use Rattle.std.specs.Prelude.{◌≤◌};
 ghost use Rattle.afdx_frame.specs.declared.bounds.TheConstants.{MAX_SNAPLEN};
 
-use pcap_io::{Layout, PacketHeader};
+use pcap_io::{Layout, PacketHeader, Told};
 
 /// Which of the files.
 #[derive(Clone, Copy)]
@@ -35,6 +35,6 @@ pub enum FilesStage {
     /// The bytes of a packet that were read, from this one on, are given. None: its file is
     /// truncated there.
     Given(Option<Layout>, usize),
-    /// Nothing.
-    Ended,
+    /// Nothing, and this is told.
+    Ended(Told),
 }

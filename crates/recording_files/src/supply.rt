@@ -1,6 +1,7 @@
 //! Where files come from.
-ghost use Rattle.std.specs.Prelude.{◌≡◌, ℕ, List, Option, None, IfOk, OnOk, OnErr};
+ghost use Rattle.std.specs.Prelude.{ℕ, List, Option, None, IfOk, OnOk, OnErr};
 ghost use Rattle.pcap_io.specs.Device.{CountsFailure, NoFailure};
+ghost use Rattle.pcapng.specs.Given.{Given};
 ghost use Rattle.recording_files.specs.Supply.{GivesNext, KeepsFiles};
 
 use pcap_io::{DeviceFault, TapSource};
@@ -19,8 +20,9 @@ pub struct ReadFile<F> {
 ///
 /// It counts its failures, and the count stays at 2^64 - 1 once there.
 pub trait FileSupply<F: TapSource> {
-    /// The bytes of each file that is still to come, where the supply exposes them.
-    ghost files: { Self → Option (List (List ℕ)) } = { λ _. None };
+    /// The bytes of each file that is still to come, and what it tells at its end, where the supply exposes
+    /// them.
+    ghost files: { Self → Option (List Given) } = { λ _. None };
 
     /// How often the supply has failed.
     ghost failures: { Self → ℕ };
@@ -28,7 +30,7 @@ pub trait FileSupply<F: TapSource> {
     /// Opens the next file, after the one that was read, which comes back. None: there is no further one.
     fn next_file(&mut self, last: Option<ReadFile<F>>) -> Result<Option<F>, DeviceFault>
         // A fault takes no file.
-        ensures next { IfOk result (GivesNext F.remaining (files self.old) (files self.new)) }
+        ensures next { IfOk result (GivesNext F.remaining F.told (files self.old) (files self.new)) }
         ensures kept { OnErr result (KeepsFiles (files self.old) (files self.new)) }
         ensures no_failure { OnOk result (NoFailure (failures self.old) (failures self.new)) }
         ensures fault { OnErr result (CountsFailure (failures self.old) (failures self.new)) };

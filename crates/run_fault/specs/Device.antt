@@ -1,13 +1,15 @@
 -- What a run sees of its devices, and what it wrote to them (this project's profile).
 use Rattle.std.specs.Prelude.{ℕ, List, take, Option}
 use Rattle.std.specs.Io.KnownBytes.{Appends}
+use Rattle.pcap_io.specs.declared.told.Told.{Told}
 pub use Rattle.pcap_io.specs.declared.device.TapSource.{Ghosts as SourceMembers}
 pub use Rattle.pcap_io.specs.declared.device.OutSink.{Ghosts as SinkMembers}
 
--- a recording's source: the bytes that it still gives, where they are known, and its count of failures
+-- a recording's source: the bytes that it still gives, where they are known, its count of failures, and what it tells at the end
 pub record SourceView : Type 0 where
   pub remaining : Option (List ℕ)
   pub failures : ℕ
+  pub told : Told
 
 -- an output's sink: the bytes that it took, where they are known, and its count of failures
 pub record SinkView : Type 0 where
@@ -16,7 +18,7 @@ pub record SinkView : Type 0 where
 
 -- what a run sees of a source, and of a sink: each by the ghost members of its trait
 abbrev pub source_at : {S : Type 0} → SourceMembers S → S → SourceView
-source_at s source = record { remaining = s.remaining source; failures = s.failures source }
+source_at s source = record { remaining = s.remaining source; failures = s.failures source; told = s.told source }
 
 abbrev pub sink_at : {W : Type 0} → SinkMembers W → W → SinkView
 sink_at w sink = record { contents = w.contents sink; failures = w.failures sink }

@@ -1,6 +1,7 @@
 //! What a command reads of a recording: of one file its bytes, and of several those of one after another.
 ghost use Rattle.std.specs.Prelude.{IfOk, None, OnErr, OnOk};
 ghost use Rattle.pcap_io.specs.Device.{CountsFailure, NoFailure};
+ghost use Rattle.pcap_io.specs.declared.told.Told.TheVariants.{Nothing};
 ghost use Rattle.recording_files.specs.Supply.{GivesNext, KeepsFiles};
 
 use crate::blocks::{LiveInput, SharedBlocks};
@@ -108,7 +109,7 @@ impl<'p> FileSupply<FileSource<'p>> for FileList<'p> {
         &mut self,
         last: Option<ReadFile<FileSource<'p>>>,
     ) -> Result<Option<FileSource<'p>>, DeviceFault>
-        ensures next { IfOk result (GivesNext (λ _. None) None None) }
+        ensures next { IfOk result (GivesNext (λ _. None) (λ _. Nothing) None None) }
         ensures kept { OnErr result (KeepsFiles None None) }
         ensures no_failure { OnOk result (NoFailure self.old.failures self.new.failures) }
         ensures fault { OnErr result (CountsFailure self.old.failures self.new.failures) }

@@ -58,7 +58,7 @@ tap_run network late before frames [] old new read going most same =
       ended = λ ending ends. absurd (no_end (items.End ending) ends);
     }))
 tap_run network late before frames (items.Frame f ∷ given) old new read going most (mid, adv, last, gives) =
-    let read' = read_frame network late before frames old mid f most read (adv.item going) adv.after adv.no_failure in
+    let read' = read_frame network late before frames old mid f most read (adv.item going) adv.after adv.no_failure adv.told in
     let run = tap_run network late before (frames ++ f ∷ []) given mid new read' (ap (λ (p : Position). p.stage) adv.after ∙ going) (ap (λ (p : Position). p.most) adv.after ∙ most) gives in
     let same : (frames ++ f ∷ []) ++ frames_in given ≡ frames ++ f ∷ frames_in given = append_assoc frames (f ∷ []) (frames_in given) in
     record {

@@ -1,5 +1,5 @@
 -- Two recordings, as they are read and merged.
-use Rattle.std.proofs.Common.{◌≡◌, inl, inr, map, ℕ, ◌+◌, ◌-◌, ◌*◌, ◌<◌, ◌≤◌, max, Bool, true, false, cond, suc, List, [], ◌∷◌, ◌++◌, length, take, zero, Option, Some, None, is_some, refl, sym, subst, ap, ◌∙◌, arith}
+use Rattle.std.proofs.Common.{◌≡◌, inl, inr, map, ℕ, ◌+◌, ◌-◌, ◌*◌, ◌<◌, ◌≤◌, max, Bool, true, false, cond, suc, List, [], ◌∷◌, ◌++◌, length, take, zero, Option, Some, None, is_some, refl, sym, subst, ap, ◌∙◌, arith, IfSome}
 use Rattle.std.proofs.lemmas.Bool.{false≢true}
 use Rattle.std.specs.Prelude.{unwrap_or}
 use Rattle.std.specs.Option.{ForSome}
@@ -8,6 +8,8 @@ use Rattle.afdx_frame.specs.declared.key.Network.{Network}
 use Rattle.afdx_frame.specs.declared.key.Network.TheVariants.{A, B}
 use Rattle.ordered_merge.specs.Merge.{CanFetch, CanFetchAll, Follows, IsInTime, MergerState, Tap, after_cut, change_tap, cut_frames, ended, fetched, fetched_all, highest, safe_frames, tap_after, tap_of, without_first}
 use Rattle.ordered_merge.specs.Order.{IsOrder, insert_frame, is_before}
+use Rattle.pcap_io.specs.declared.item.Item.TheVariants as read_items
+use Rattle.run_fault.proofs.Recording.{complete, known_after, tells_on}
 use Rattle.pcap_io.specs.Position.{TakesAPacket, Reading, TakesFrame, after_frame, start_at}
 use Rattle.frame_batch.specs.Batch.{BatchState, batch_frames, record_frame}
 use Rattle.frame_batch.specs.declared.frame_record.FrameRecord.{FrameRecord}
@@ -18,8 +20,10 @@ use Rattle.pcap_io.specs.declared.position.Position.{Position}
 use Rattle.pcap_io.specs.declared.recording.Ending.{Ending}
 use Rattle.pcap_io.specs.declared.recording.Stage.TheVariants.{Going}
 use Rattle.run_fault.specs.Device.{SourceView}
-use Rattle.run_fault.specs.Recording.{most_frames}
+use Rattle.run_fault.specs.Recording.{IsRecording, most_frames}
 use Rattle.run_fault.specs.Recording.{Ends}
+use Rattle.pcap_io.specs.Told.{StaysTold}
+use Rattle.pcap_io.specs.declared.told.Told.{Told}
 use Rattle.tap_merge.specs.Taps.{Agrees, Fits, HasRead, Merges, MergesAll, MergesFrame, MergesNot, ReadsPart, SourceFails, turns_of}
 use Rattle.run_fault.specs.declared.fault.WatchFault.{WatchFault}
 use Rattle.run_fault.specs.declared.fault.WatchFault.TheVariants as watch
@@ -127,13 +131,13 @@ a_stays_at_end end q m agrees = same_a end q m (ended m B) refl refl agrees
 b_stays_at_all : (fs : List Frame) (old new : Reading) (m m' : MergerState) (end : Option Ending) (q : Position) → MergesAll A fs old new m m' →
     Agrees B end q m → Agrees B end q m'
 b_stays_at_all [] old new m m' end q (here, is) agrees = subst (Agrees B end q) (sym is) agrees
-b_stays_at_all (f ∷ fs) old new m m' end q (mid, (t, moved, failures, net, can), rest) agrees =
+b_stays_at_all (f ∷ fs) old new m m' end q (mid, (t, moved, failures, net, can, stays), rest) agrees =
     b_stays_at_all fs mid new (fetched m f) m' end q rest (b_stays_at_fetch end q m f net agrees)
 
 a_stays_at_all : (fs : List Frame) (old new : Reading) (m m' : MergerState) (end : Option Ending) (q : Position) → MergesAll B fs old new m m' →
     Agrees A end q m → Agrees A end q m'
 a_stays_at_all [] old new m m' end q (here, is) agrees = subst (Agrees A end q) (sym is) agrees
-a_stays_at_all (f ∷ fs) old new m m' end q (mid, (t, moved, failures, net, can), rest) agrees =
+a_stays_at_all (f ∷ fs) old new m m' end q (mid, (t, moved, failures, net, can, stays), rest) agrees =
     a_stays_at_all fs mid new (fetched m f) m' end q rest (a_stays_at_fetch end q m f net agrees)
 
 pub b_stays : (came : Option Ending) (old new : Reading) (m m' : MergerState) (end : Option Ending) (q : Position) → Merges A came old new m m' →
@@ -178,7 +182,7 @@ all_fit network (f ∷ fs) old new m going fits (mid, step, rest) =
     let moved : mid.position ≡ after_frame old.position f.stamp = step.after in
     let next = all_fit network fs mid new (fetched m f) (ap (λ (q : Position). q.stage) moved ∙ going)
     (subst (λ (q : Position). Fits network q (fetched m f)) (sym moved) (fits_after network old.position m f fit.0 fits)) rest in (
-      (mid, (t, moved, step.no_failure, fit.0, fit.1), next.0),
+      (mid, (t, moved, step.no_failure, fit.0, fit.1, step.told), next.0),
       (fit.0, fit.1, next.1),
       next.2,
       next.3 ∙ step.no_failure,
@@ -212,14 +216,20 @@ is_ended network (Some ending) q m agrees off = refl
 
 pub read_frame : (network : Network) (late : ℕ) (before : SourceView) (frames : List Frame) (old new : Reading) (f : Frame) → old.position.most ≡ most_frames →
     HasRead network late before frames None old → TakesFrame old.position old.remaining new.remaining f → new.position ≡ after_frame old.position f.stamp →
-    new.failures ≡ old.failures → HasRead network late before (frames ++ f ∷ []) None new
-read_frame network late before frames old new f most read t moved same =
+    new.failures ≡ old.failures → StaysTold old.remaining old.told new.told → HasRead network late before (frames ++ f ∷ []) None new
+read_frame network late before frames old new f most read t moved same stays =
+    let start : Position = start_at network read.read.layout most_frames late in
+    let known = known_after start read.position before.told before.remaining read.read.opened read.left read.read.layout frames read.read.opens read.read.reads in
+    let still : StaysTold read.left read.told new.told =
+    subst (λ (v : Told). StaysTold read.left v new.told) read.stands.2 (subst (λ (l : Option (List ℕ)). StaysTold l old.told new.told) read.stands.1 stays) in
     let taken : TakesFrame read.position read.left new.remaining f =
     subst (λ (q : Position). TakesFrame q read.left new.remaining f) read.stands.0 (subst (λ (l : Option (List ℕ)). TakesFrame old.position l new.remaining f) read.stands.1 t) in
     let at : old.position.count ≡ read.position.count = ap (λ (q : Position). q.count) read.stands.0 in
     record {
       position = after_frame read.position f.stamp;
       left = new.remaining;
+      told = new.told;
+      tells = tells_on before.remaining read.left before.told read.told new.told known read.tells still;
       read = record {
         layout = read.read.layout;
         opened = read.read.opened;
@@ -227,7 +237,7 @@ read_frame network late before frames old new f most read t moved same =
         reads = reads_more (start_at network read.read.layout most_frames late) read.position read.read.opened read.left new.remaining frames f read.read.reads taken;
         bounded = one_more old.position.count read.position.count old.position.most most at t.bounded;
       };
-      stands = (moved ∙ ap (λ (q : Position). after_frame q f.stamp) read.stands.0, refl);
+      stands = (moved ∙ ap (λ (q : Position). after_frame q f.stamp) read.stands.0, refl, refl);
       failures = same ∙ read.failures;
     }
   where
@@ -235,16 +245,25 @@ read_frame network late before frames old new f most read t moved same =
     one_more n m most e is less = omega (arith, subst (λ k. k < most) is less, e)
 
 pub read_end : (network : Network) (late : ℕ) (before : SourceView) (frames : List Frame) (old new : Reading) (ending : Ending) →
-    HasRead network late before frames None old → Ends old.position old.remaining new.remaining ending →
+    HasRead network late before frames None old → Ends old.position old.told old.remaining new.remaining ending →
     new.failures ≡ old.failures → HasRead network late before frames (Some ending) new
 read_end network late before frames old new ending read ends same = record {
   position = read.position;
   left = read.left;
+  told = read.told;
+  tells = read.tells;
   read = read.read;
-  stands = subst (λ (q : Position). Ends q read.left new.remaining ending) read.stands.0
-      (subst (λ (l : Option (List ℕ)). Ends old.position l new.remaining ending) read.stands.1 ends);
+  stands = subst (λ (q : Position). Ends q read.told read.left new.remaining ending) read.stands.0
+      (subst (λ (v : Told). Ends old.position v read.left new.remaining ending) read.stands.2
+      (subst (λ (l : Option (List ℕ)). Ends old.position old.told l new.remaining ending) read.stands.1 ends));
   failures = same ∙ read.failures;
 }
+
+-- what was read up to an ending is the recording
+pub read_whole : (network : Network) (late : ℕ) (before : SourceView) (frames : List Frame) (ending : Ending) (reading : Reading) →
+    HasRead network late before frames (Some ending) reading → IfSome before.remaining (λ bytes. IsRecording network late before.told bytes frames ending)
+read_whole network late before frames ending reading read =
+    complete network late before.told read.told before.remaining read.read.opened read.left read.read.layout frames read.position ending read.read.opens read.read.reads read.tells read.stands.here
 
 none_gone : (a b : Option (List ℕ)) → a ≡ b → TakesAPacket a b
 none_gone a b e = subst (TakesAPacket a) e ([], grind arith, Consumes-nil a)
@@ -308,7 +327,7 @@ same_most q q' stamp moved most = ap (λ (p : Position). p.most) moved ∙ most
 frame_less : (network : Network) (f : Frame) (old mid : Reading) (m : MergerState) (other : ℕ) → old.position.most ≡ most_frames → MergesFrame network f old mid m →
     ((turns_of None mid.position + other) * 2 + length (fetched m f).pending < (turns_of None old.position + other) * 2 + length m.pending)
     × ((other + turns_of None mid.position) * 2 + length (fetched m f).pending < (other + turns_of None old.position) * 2 + length m.pending)
-frame_less network f old mid m other most (t, moved, failures, net, can) =
+frame_less network f old mid m other most (t, moved, failures, net, can, stays) =
     turn_less most_frames old.position.count mid.position.count (length m.pending) (length (fetched m f).pending) other
     (subst (λ n. old.position.count < n) most t.bounded) (ap (λ (q : Position). q.count) moved) (fetched_length m f)
 
@@ -341,18 +360,18 @@ all_a : (fs : List Frame) (late : ℕ) (before : SourceView) (fa fb cut : List F
     (more : List Frame) × HasRead A late before more None new × Follows m' more fb cut
 all_a [] late before fa fb cut old new m m' most read fol (here, is) =
     (fa, subst (HasRead A late before fa None) (sym here) read, subst (λ (s : MergerState). Follows s fa fb cut) (sym is) fol)
-all_a (f ∷ fs) late before fa fb cut old new m m' most read fol (mid, (t, moved, failures, net, can), rest) =
+all_a (f ∷ fs) late before fa fb cut old new m m' most read fol (mid, (t, moved, failures, net, can, stays), rest) =
     all_a fs late before (fa ++ f ∷ []) fb cut mid new (fetched m f) m' (same_most old.position mid.position f.stamp moved most)
-    (read_frame A late before fa old mid f most read t moved failures) (follows_fetch_a m fa fb cut f fol can net) rest
+    (read_frame A late before fa old mid f most read t moved failures stays) (follows_fetch_a m fa fb cut f fol can net) rest
 
 all_b : (fs : List Frame) (late : ℕ) (before : SourceView) (fa fb cut : List Frame) (old new : Reading) (m m' : MergerState) → old.position.most ≡ most_frames →
     HasRead B late before fb None old → Follows m fa fb cut → MergesAll B fs old new m m' →
     (more : List Frame) × HasRead B late before more None new × Follows m' fa more cut
 all_b [] late before fa fb cut old new m m' most read fol (here, is) =
     (fb, subst (HasRead B late before fb None) (sym here) read, subst (λ (s : MergerState). Follows s fa fb cut) (sym is) fol)
-all_b (f ∷ fs) late before fa fb cut old new m m' most read fol (mid, (t, moved, failures, net, can), rest) =
+all_b (f ∷ fs) late before fa fb cut old new m m' most read fol (mid, (t, moved, failures, net, can, stays), rest) =
     all_b fs late before fa (fb ++ f ∷ []) cut mid new (fetched m f) m' (same_most old.position mid.position f.stamp moved most)
-    (read_frame B late before fb old mid f most read t moved failures) (follows_fetch_b m fa fb cut f fol can net) rest
+    (read_frame B late before fb old mid f most read t moved failures stays) (follows_fetch_b m fa fb cut f fol can net) rest
 
 pub merged_a : (end : Option Ending) (late : ℕ) (before : SourceView) (fa fb cut : List Frame) (old new : Reading) (m m' : MergerState) → old.position.most ≡ most_frames →
     HasRead A late before fa None old → Follows m fa fb cut → Merges A end old new m m' → new.failures ≡ old.failures →

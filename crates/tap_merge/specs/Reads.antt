@@ -13,12 +13,12 @@ use Rattle.run_fault.specs.Device.{SourceMembers}
 abbrev pub IsReadInto : {S : Type 0} → SourceMembers S → TapReader S → TapPut → Fed S → Type 0
 IsReadInto s reader put fed =
     SamePut put (put_of fed)
-    × (more : List TapItem) × Gives (reading_of s.remaining s.failures reader) (put_items (put_of fed) ++ more) (reading_of s.remaining s.failures (reader_of fed))
+    × (more : List TapItem) × Gives (reading_of s.remaining s.failures s.told reader) (put_items (put_of fed) ++ more) (reading_of s.remaining s.failures s.told (reader_of fed))
 
 -- a reader gave what was put into the ring, and no more
 abbrev pub HasPut : {S : Type 0} → SourceMembers S → TapReader S → TapPut → Fed S → Type 0
 HasPut s reader put fed =
-    SamePut put (put_of fed) × Gives (reading_of s.remaining s.failures reader) (put_items (put_of fed)) (reading_of s.remaining s.failures (reader_of fed))
+    SamePut put (put_of fed) × Gives (reading_of s.remaining s.failures s.told reader) (put_items (put_of fed)) (reading_of s.remaining s.failures s.told (reader_of fed))
 
 -- the ring was filled, unless the ending or a fault was put before
 abbrev pub ReadsOn : {S : Type 0} → Fed S → Fed S → Type 0

@@ -11,6 +11,8 @@ use Rattle.ordered_merge.specs.Order.{IsOrder}
 use Rattle.pcap_io.specs.declared.position.Position.{Position}
 use Rattle.pcap_io.specs.declared.recording.Ending.{Ending}
 use Rattle.pcap_io.specs.declared.recording.Stage.TheVariants.{Going, Ended}
+use Rattle.pcap_io.specs.Told.{StaysTold}
+use Rattle.pcap_io.specs.declared.told.Told.{Told}
 use Rattle.run_fault.specs.Recording.{HasReadTap, most_frames}
 use Rattle.run_fault.specs.Device.{SourceMembers, SourceView}
 use Rattle.run_fault.specs.declared.fault.WatchFault.{WatchFault}
@@ -39,7 +41,7 @@ Agrees network (Some ending) q m = (q.stage ≡ Ended ending) × ((tap_of m netw
 abbrev pub MergesFrame : Network → Frame → Reading → Reading → MergerState → Type 0
 MergesFrame network f old new m =
     TakesFrame old.position old.remaining new.remaining f × (new.position ≡ after_frame old.position f.stamp)
-    × (new.failures ≡ old.failures) × (f.network ≡ network) × CanFetch m f
+    × (new.failures ≡ old.failures) × (f.network ≡ network) × CanFetch m f × StaysTold old.remaining old.told new.told
 
 -- the next frames of a reader were merged, one after another
 abbrev pub MergesAll : Network → List Frame → Reading → Reading → MergerState → MergerState → Type 0
@@ -51,7 +53,7 @@ MergesAll network (f ∷ fs) old new m m' =
 abbrev pub Merges : Network → Option Ending → Reading → Reading → MergerState → MergerState → Type 0
 Merges network None old new m m' = (f : Frame) × (fs : List Frame) × MergesAll network (f ∷ fs) old new m m'
 Merges network (Some ending) old new m m' =
-    Ends old.position old.remaining new.remaining ending × (new.position ≡ record old.position { stage = Ended ending })
+    Ends old.position old.told old.remaining new.remaining ending × (new.position ≡ record old.position { stage = Ended ending })
     × (m' ≡ ended m network)
 
 -- What comes next of a reader wasn't merged: the source failed, or there was no memory for a frame, or for the places of frames in
@@ -66,24 +68,26 @@ MergesNot network fault old new m = ⊥
 
 -- ---- both taps
 
--- a reader stands after its last frame, or after its ending
-abbrev pub StandsAt : Option Ending → Position → Option (List ℕ) → Reading → Type 0
-StandsAt None q left reading = (reading.position ≡ q) × (reading.remaining ≡ left)
-StandsAt (Some ending) q left reading = Ends q left reading.remaining ending
+-- a reader, whose source tells this, stands after its last frame, or after its ending
+abbrev pub StandsAt : Option Ending → Position → Told → Option (List ℕ) → Reading → Type 0
+StandsAt None q told left reading = (reading.position ≡ q) × (reading.remaining ≡ left) × (reading.told ≡ told)
+StandsAt (Some ending) q told left reading = Ends q told left reading.remaining ending
 
 -- what a reader has read of a source: these frames, and the ending where it has come to it
 pub record HasRead (network : Network) (late : ℕ) (before : SourceView) (frames : List Frame) (end : Option Ending) (reading : Reading) : Type 0 where
   pub position : Position
   pub left : Option (List ℕ)
-  pub read : HasReadTap network late before.remaining frames position left
-  pub stands : StandsAt end position left reading
+  pub told : Told
+  pub tells : StaysTold before.remaining before.told told
+  pub read : HasReadTap network late before.told before.remaining frames position left
+  pub stands : StandsAt end position told left reading
   pub failures : reading.failures ≡ before.failures
 
 -- What was read of both sources, merged and cut: these frames of each, and of them these in order.
 pub record HasMerged {S T : Type 0} (s : SourceMembers S) (t : SourceMembers T)
     (late : ℕ) (a b : SourceView) (frames_a frames_b cut : List Frame) (taps : Taps S T) : Type 0 where
-  pub read_a : HasRead A late a frames_a taps.end_a (reading_of s.remaining s.failures taps.a)
-  pub read_b : HasRead B late b frames_b taps.end_b (reading_of t.remaining t.failures taps.b)
+  pub read_a : HasRead A late a frames_a taps.end_a (reading_of s.remaining s.failures s.told taps.a)
+  pub read_b : HasRead B late b frames_b taps.end_b (reading_of t.remaining t.failures t.told taps.b)
   pub follows : Follows taps.merger frames_a frames_b cut
 
 -- the readers of both networks agree with the merger
@@ -104,7 +108,7 @@ work_left taps =
 pub record ReadsPart (network : Network) (late : ℕ) (before : SourceView) (frames : List Frame) (reading : Reading) : Type 0 where
   pub position : Position
   pub left : Option (List ℕ)
-  pub read : HasReadTap network late before.remaining frames position left
+  pub read : HasReadTap network late before.told before.remaining frames position left
   pub gone : TakesAPacket left reading.remaining
 
 -- a fault that merging finds, and this

@@ -49,7 +49,7 @@ FeedsOn _ _ = ⊥
 pub record IsSettled {S : Type 0} (s : SourceMembers S) (reader : TapReader S) (end : TapEnd) (source : S) : Type 0 where
   pub reading : Reading
   pub ahead : List ℕ
-  pub gives : Gives (reading_of s.remaining s.failures reader) (taken_items end) reading
+  pub gives : Gives (reading_of s.remaining s.failures s.told reader) (taken_items end) reading
   pub over : is_over (taken_items end) ≡ true
   pub sound : has_lost end ≡ false
   pub leaves : LeavesUnread ahead reading.remaining (s.remaining source)
@@ -60,7 +60,7 @@ pub record IsLeft {S : Type 0} (s : SourceMembers S) (reader : TapReader S) (end
   pub reading : Reading
   pub ahead : List ℕ
   pub more : List TapItem
-  pub gives : Gives (reading_of s.remaining s.failures reader) (taken_items end ++ more) reading
+  pub gives : Gives (reading_of s.remaining s.failures s.told reader) (taken_items end ++ more) reading
   pub sound : has_lost end ≡ false
   pub leaves : LeavesUnread ahead reading.remaining (s.remaining source)
   pub same_failures : s.failures source ≡ reading.failures

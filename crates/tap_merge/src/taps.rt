@@ -26,14 +26,14 @@ fn merge_next<S: TapSource>(
     requires going { (position_of reader.old).stage ≡ Going }
     requires fits { Fits network (position_of reader.old) merger.old }
     ensures merged { IfOk result (λ end. Merges network end
-        (reading_of S.remaining S.failures reader.old)
-        (reading_of S.remaining S.failures reader.new) merger.old merger.new) }
+        (reading_of S.remaining S.failures S.told reader.old)
+        (reading_of S.remaining S.failures S.told reader.new) merger.old merger.new) }
     ensures no_failure { OnOk result
         (S.failures (source_of reader.new) ≡ S.failures (source_of reader.old)) }
     ensures agrees { IfOk result (λ end. Agrees network end (position_of reader.new) merger.new) }
     ensures stopped { IfErr result (λ fault. MergesNot network fault
-        (reading_of S.remaining S.failures reader.old)
-        (reading_of S.remaining S.failures reader.new) merger.old) }
+        (reading_of S.remaining S.failures S.told reader.old)
+        (reading_of S.remaining S.failures S.told reader.new) merger.old) }
 {
     match reader.next_batch(alloc, most) {
         Ok(Batched::Frames(batch)) => {
@@ -174,8 +174,8 @@ impl<S: TapSource, T: TapSource> Taps<S, T> {
             → HasMerged S.TapSource T.TapSource
             late a b frames_a frames_b cut self.old
             → StopsMerging fault late a b cut
-            (reading_of S.remaining S.failures self.new.a)
-            (reading_of T.remaining T.failures self.new.b)) }
+            (reading_of S.remaining S.failures S.told self.new.a)
+            (reading_of T.remaining T.failures T.told self.new.b)) }
     {
         match self.merger.wants() {
             None => return Ok(false),
@@ -210,8 +210,8 @@ impl<S: TapSource, T: TapSource> Taps<S, T> {
             → HasMerged S.TapSource T.TapSource
             late a b frames_a frames_b cut self.old
             → StopsMerging fault late a b cut
-            (reading_of S.remaining S.failures self.new.a)
-            (reading_of T.remaining T.failures self.new.b)) }
+            (reading_of S.remaining S.failures S.told self.new.a)
+            (reading_of T.remaining T.failures T.told self.new.b)) }
     {
         match self.merger.cut(most.get()) {
             Ok(round) => Ok(round),
@@ -244,8 +244,8 @@ impl<S: TapSource, T: TapSource> Taps<S, T> {
             → HasMerged S.TapSource T.TapSource
             late a b frames_a frames_b cut self.old
             → StopsMerging fault late a b cut
-            (reading_of S.remaining S.failures self.new.a)
-            (reading_of T.remaining T.failures self.new.b)) }
+            (reading_of S.remaining S.failures S.told self.new.a)
+            (reading_of T.remaining T.failures T.told self.new.b)) }
     {
         // What came together may be several rounds.
         if !self.merger.has_round(1) {

@@ -34,8 +34,8 @@ impl<S> Fed<S> {
 /// room. Whether the recording's ending or a fault was put.
 pub fn fill<S: TapSource>(alloc: Global, fed: &mut Fed<S>) -> bool
     requires { is_over (put_items (put_of fed.old)) ≡ false }
-    ensures put { PutsMore (reading_of S.remaining S.failures (reader_of fed.old))
-        (reading_of S.remaining S.failures (reader_of fed.new)) (put_of fed.old) (put_of fed.new) }
+    ensures put { PutsMore (reading_of S.remaining S.failures S.told (reader_of fed.old))
+        (reading_of S.remaining S.failures S.told (reader_of fed.new)) (put_of fed.old) (put_of fed.new) }
     ensures over { result ≡ is_over (put_items (put_of fed.new)) }
     ensures filled { Fills (put_of fed.old) (put_of fed.new) }
 {
@@ -63,8 +63,8 @@ pub fn feed<R: Wait, S: TapSource, G: TapGate>(
 ) -> Fed<S>
     requires { put_items put ≡ [] }
     ensures ring { SamePut put (put_of result) }
-    ensures fed { IsFed (reading_of S.remaining S.failures reader) (put_items (put_of result))
-        (reading_of S.remaining S.failures (reader_of result)) }
+    ensures fed { IsFed (reading_of S.remaining S.failures S.told reader) (put_items (put_of result))
+        (reading_of S.remaining S.failures S.told (reader_of result)) }
 {
     gate.tap(put.network);
     let (mut reader, mut put) = (reader, put);
@@ -79,8 +79,8 @@ pub fn feed<R: Wait, S: TapSource, G: TapGate>(
 
 /// What the reader gives next: frames, at most so many, or the ending or a fault. Whether nothing follows it.
 fn next_batch<S: TapSource>(alloc: Global, reader: &mut TapReader<S>, most: usize) -> (Batch, bool)
-    ensures given { Gives (reading_of S.remaining S.failures reader.old) (batch_items result.0)
-        (reading_of S.remaining S.failures reader.new) }
+    ensures given { Gives (reading_of S.remaining S.failures S.told reader.old) (batch_items result.0)
+        (reading_of S.remaining S.failures S.told reader.new) }
     ensures last { result.1 ≡ is_over (batch_items result.0) }
 {
     let content = TapBatch::of(reader.next_batch(alloc, most));

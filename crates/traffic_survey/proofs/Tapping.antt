@@ -14,9 +14,8 @@ use Rattle.pcap_io.specs.declared.recording.Ending.TheVariants.{Clean}
 use Rattle.run_fault.specs.Device.{SourceView}
 use Rattle.run_fault.specs.Recording.{IsReadPart, IsReadWhole, LeavesUnread, most_frames}
 use Rattle.run_fault.specs.declared.fault.WatchFault.{WatchFault}
-use Rattle.run_fault.proofs.Recording.{complete}
 use Rattle.tap_merge.specs.Taps.{HasRead, ReadsPart}
-use Rattle.tap_merge.proofs.TwoTaps.{a_stays_at_end, a_stays_at_fetch, b_stays_at_end, b_stays_at_fetch, fetched_length, part_of, read_end, read_frame}
+use Rattle.tap_merge.proofs.TwoTaps.{a_stays_at_end, a_stays_at_fetch, b_stays_at_end, b_stays_at_fetch, fetched_length, part_of, read_end, read_frame, read_whole}
 use Rattle.traffic_survey.specs.Short.{kept_by}
 use Rattle.traffic_survey.specs.Pass.{IsRecorded}
 use Rattle.traffic_survey.specs.Reading.{AgreesTo, Comes, ComesNot, FollowsOf, HasReadMore, HasReadTo, IsOrderOf, ReadsTo, StopsTap, TapFails, end_by, other_than, told_of, turns_to}
@@ -66,7 +65,7 @@ other_at_end B (Some end) q m off = off
 
 pub other_stays : (bytes : Frame → List ℕ) (network : Network) (room : ℕ) (came : Next) (old new : Reading) (m m' : MergerState) → Comes bytes network room came old new m m' →
     (end : Option End) (q : Position) → AgreesTo (other_than network) end q m → AgreesTo (other_than network) end q m'
-other_stays bytes network room (next.Frame stamp) old new m m' (wanted, f, is, t, moved, net, can, same) =
+other_stays bytes network room (next.Frame stamp) old new m m' (wanted, f, is, t, moved, net, can, same, stays) =
     λ end q h. subst (AgreesTo (other_than network) end q) (sym same) (other_at_fetch network end q m (kept_by bytes f) net h)
 other_stays bytes network room (next.End (Whole ending)) old new m m' (ends, moved, same) =
     λ end q h. subst (AgreesTo (other_than network) end q) (sym same) (other_at_end network end q m h)
@@ -87,7 +86,7 @@ end_less most n k k' is = omega arith
 
 pub less_to : (bytes : Frame → List ℕ) (network : Network) (room : ℕ) (came : Next) (old new : Reading) (m m' : MergerState) (end : Option End) → old.position.most ≡ most_frames →
     Comes bytes network room came old new m m' → end ≡ end_by came → turns_to end new.position * 2 + length m'.pending < turns_to None old.position * 2 + length m.pending
-less_to bytes network room (next.Frame stamp) old new m m' end most (wanted, f, is, t, moved, net, can, same) by = rw by
+less_to bytes network room (next.Frame stamp) old new m m' end most (wanted, f, is, t, moved, net, can, same, stays) by = rw by
     (frame_less most_frames old.position.count new.position.count (length m.pending) (length m'.pending)
     (subst (λ n. old.position.count < n) most t.bounded) (ap (λ (q : Position). q.count) moved) (ap (λ (s : MergerState). length s.pending) same ∙ fetched_length m (kept_by bytes f)))
 less_to bytes network room (next.End (Whole ending)) old new m m' end most (ends, moved, same) by = rw by
@@ -139,10 +138,10 @@ pub frame_read : (bytes : Frame → List ℕ) (network : Network) (extent : Exte
     Comes bytes network room (next.Frame stamp) old new m m' → room ≡ room' + 1 → new.failures ≡ old.failures →
     ((stamps : List ℕ) → HasTimes times stamps → HasTimes times' (stamps ++ stamp ∷ [])) →
     (more : List Frame) × ReadsTo network extent before more None room' times' new × FollowsOf bytes network m' more others cut
-frame_read bytes network extent before frames others cut room room' stamp times times' old new m m' most h fol (wanted, f, is, t, moved, net, can, same) less failures noted = (
+frame_read bytes network extent before frames others cut room room' stamp times times' old new m m' most h fol (wanted, f, is, t, moved, net, can, same, stays) less failures noted = (
   frames ++ f ∷ [],
   record {
-    read = read_frame network extent.late before frames old new f most h.read t moved failures;
+    read = read_frame network extent.late before frames old new f most h.read t moved failures stays;
     room_left = omega (arith, h.room_left, less, one_more frames f);
     full = tt;
     noted = subst (HasTimes times') (ap (λ (n : ℕ). stamps_of frames ++ n ∷ []) (sym is) ∙ sym (map-append (λ (frame : Frame). frame.stamp) frames (f ∷ []))) (noted (stamps_of frames) h.noted);
@@ -253,7 +252,7 @@ whole_given network late before after frames ending reading unread read leaves s
     gone = read.stands.gone;
     unread = leaves;
   };
-  complete = complete network late before.remaining read.read.opened read.left read.read.layout frames read.position ending read.read.opens read.read.reads read.stands.here;
+  complete = read_whole network late before frames ending reading read;
   taken = read.stands.left;
   no_failure = same ∙ read.failures;
 }

@@ -30,7 +30,7 @@ pub record IsReadBeyond (network : Network) (late : ℕ) (before after : SourceV
   pub rest : Option (List ℕ)
   pub ahead : List ℕ
   pub next : Frame
-  pub read : HasReadTap network late before.remaining frames position left
+  pub read : HasReadTap network late before.told before.remaining frames position left
   pub taken : TakesFrame position left rest next
   pub unread : LeavesUnread ahead rest after.remaining
   pub no_failure : after.failures ≡ before.failures

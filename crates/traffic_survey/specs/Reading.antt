@@ -7,6 +7,7 @@ use Rattle.ordered_merge.specs.Merge.{MergerState, CanFetch, Follows, ended, fet
 use Rattle.ordered_merge.specs.Order.{IsOrder}
 use Rattle.pcap_io.specs.Device.{CountsFailure}
 use Rattle.pcap_io.specs.Position.{TakesAPacket, Reading, TakesFrame, after_frame}
+use Rattle.pcap_io.specs.Told.{StaysTold}
 use Rattle.pcap_io.specs.Reader.{position_of, reading_of}
 use Rattle.pcap_io.specs.declared.position.Position.{Position}
 use Rattle.pcap_io.specs.declared.recording.Ending.TheVariants.{Clean}
@@ -35,7 +36,7 @@ pub record HasReadMore (network : Network) (late : ℕ) (before : SourceView) (f
   pub position : Position
   pub left : Option (List ℕ)
   pub next : Frame
-  pub read : HasReadTap network late before.remaining frames position left
+  pub read : HasReadTap network late before.told before.remaining frames position left
   pub taken : TakesFrame position left reading.remaining next
   pub gone : TakesAPacket left reading.remaining
   pub failures : reading.failures ≡ before.failures
@@ -62,7 +63,7 @@ pub record ReadsTo (network : Network) (extent : Extent) (before : SourceView) (
 
 abbrev pub IsTap : {S : Type 0} → SourceMembers S → Network → Extent → SourceView → List Frame → Tap S → Type 0
 IsTap s network extent before frames tap =
-    ReadsTo network extent before frames tap.end tap.room tap.times (reading_of s.remaining s.failures tap.reader)
+    ReadsTo network extent before frames tap.end tap.room tap.times (reading_of s.remaining s.failures s.told tap.reader)
 
 -- a reader and the merger agree on what comes next of a network: its next frame, or none
 abbrev pub AgreesTo : Network → Option End → Position → MergerState → Type 0
@@ -74,6 +75,7 @@ abbrev pub Comes : (Frame → List ℕ) → Network → ℕ → Next → Reading
 Comes bytes network room (next.Frame stamp) old new m m' =
     (0 < room) × (f : Frame) × (f.stamp ≡ stamp) × TakesFrame old.position old.remaining new.remaining f × (new.position ≡ after_frame old.position f.stamp)
     × (f.network ≡ network) × CanFetch m (kept_by bytes f) × (m' ≡ fetched m (kept_by bytes f))
+    × StaysTold old.remaining old.told new.told
 Comes bytes network room (next.End (Whole ending)) old new m m' = Merges network (Some ending) old new m m'
 Comes bytes network room (next.End More) old new m m' =
     (room ≡ 0) × (f : Frame) × TakesFrame old.position old.remaining new.remaining f × TakesAPacket old.remaining new.remaining × (m' ≡ ended m network)

@@ -101,8 +101,8 @@ impl<S: TapSource, T: TapSource, K: Keeper> Pair<S, T, K> {
             (frames_a frames_b cut : List Frame)
             → IsPair K.kept_bytes S.TapSource T.TapSource extent a b frames_a frames_b cut self.old
             → StopsPair K.kept_bytes extent fault a b cut
-            (reading_of S.remaining S.failures self.new.a.reader)
-            (reading_of T.remaining T.failures self.new.b.reader)) }
+            (reading_of S.remaining S.failures S.told self.new.a.reader)
+            (reading_of T.remaining T.failures T.told self.new.b.reader)) }
     {
         match self.merger.wants() {
             None => Ok(false),
@@ -134,8 +134,8 @@ impl<S: TapSource, T: TapSource, K: Keeper> Pair<S, T, K> {
             (frames_a frames_b cut : List Frame)
             → IsPair K.kept_bytes S.TapSource T.TapSource extent a b frames_a frames_b cut self.old
             → StopsPair K.kept_bytes extent fault a b cut
-            (reading_of S.remaining S.failures self.new.a.reader)
-            (reading_of T.remaining T.failures self.new.b.reader)) }
+            (reading_of S.remaining S.failures S.told self.new.a.reader)
+            (reading_of T.remaining T.failures T.told self.new.b.reader)) }
     {
         if !self.merge_one(alloc)? {
             return Ok(false);
@@ -164,8 +164,8 @@ impl<S: TapSource, T: TapSource, K: Keeper> Pair<S, T, K> {
             (frames_a frames_b cut : List Frame)
             → IsPair K.kept_bytes S.TapSource T.TapSource extent a b frames_a frames_b cut self.old
             → StopsPair K.kept_bytes extent fault a b cut
-            (reading_of S.remaining S.failures self.new.a.reader)
-            (reading_of T.remaining T.failures self.new.b.reader)) }
+            (reading_of S.remaining S.failures S.told self.new.a.reader)
+            (reading_of T.remaining T.failures T.told self.new.b.reader)) }
     {
         match self.merger.cut(most.get()) {
             Ok(round) => Ok(round),
@@ -196,8 +196,8 @@ impl<S: TapSource, T: TapSource, K: Keeper> Pair<S, T, K> {
             (frames_a frames_b cut : List Frame)
             → IsPair K.kept_bytes S.TapSource T.TapSource extent a b frames_a frames_b cut self.old
             → StopsPair K.kept_bytes extent fault a b cut
-            (reading_of S.remaining S.failures self.new.a.reader)
-            (reading_of T.remaining T.failures self.new.b.reader)) }
+            (reading_of S.remaining S.failures S.told self.new.a.reader)
+            (reading_of T.remaining T.failures T.told self.new.b.reader)) }
     {
         let merged = self.merge_some(alloc, most.get())?;
         let round = self.cut_round(most)?;

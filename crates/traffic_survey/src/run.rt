@@ -77,8 +77,8 @@ fn show_rounds<S: TapSource, T: TapSource, K: Keeper, O: Observer>(
         (frames_a frames_b : List Frame)
         → IsPair K.kept_bytes S.TapSource T.TapSource extent a b frames_a frames_b [] pair.old
         → (cut : List Frame) × StopsPair K.kept_bytes extent fault a b cut
-        (reading_of S.remaining S.failures pair.new.a.reader)
-        (reading_of T.remaining T.failures pair.new.b.reader)
+        (reading_of S.remaining S.failures S.told pair.new.a.reader)
+        (reading_of T.remaining T.failures T.told pair.new.b.reader)
         × IsShownSome O.Observer fault cut observer.old observer.new) }
 {
     let most = NonZeroUsize::new(ROUND).unwrap();

@@ -51,15 +51,15 @@ fn merge_next<S: TapSource, K: Keeper>(
     requires going { (position_of reader.old).stage ≡ Going }
     requires fits { Fits network (position_of reader.old) merger.old }
     ensures came { IfOk result (λ next. Comes K.kept_bytes network room next
-        (reading_of S.remaining S.failures reader.old)
-        (reading_of S.remaining S.failures reader.new) merger.old merger.new) }
+        (reading_of S.remaining S.failures S.told reader.old)
+        (reading_of S.remaining S.failures S.told reader.new) merger.old merger.new) }
     ensures no_failure { OnOk result
         (S.failures (source_of reader.new) ≡ S.failures (source_of reader.old)) }
     ensures agrees { IfOk result (λ next. AgreesTo network (end_by next)
         (position_of reader.new) merger.new) }
     ensures stopped { IfErr result (λ fault. ComesNot network fault
-        (reading_of S.remaining S.failures reader.old)
-        (reading_of S.remaining S.failures reader.new)) }
+        (reading_of S.remaining S.failures S.told reader.old)
+        (reading_of S.remaining S.failures S.told reader.new)) }
 {
     match reader.next(alloc) {
         Ok(Item::Frame(frame)) => {
@@ -151,7 +151,7 @@ impl<S: TapSource> Tap<S> {
             → IsTap S.TapSource network extent before frames self.old
             → FollowsOf K.kept_bytes network merger.old frames others cut
             → StopsTap K.kept_bytes network extent fault before others cut
-            (reading_of S.remaining S.failures self.new.reader)) }
+            (reading_of S.remaining S.failures S.told self.new.reader)) }
     {
         match merge_next(alloc, network, self.room, &mut self.reader, merger, keeper)? {
             Next::Frame(stamp) => {

@@ -23,6 +23,8 @@ use Rattle.tap_queue.specs.Ring.{has_lost, taken_items}
 use Rattle.tap_queue.specs.declared.end.TapEnd.{TapEnd}
 use Rattle.tap_queue.specs.declared.item.TapItem.TheVariants as items
 use Rattle.vl_config.specs.Document.{VlTable}
+use Rattle.pcap_io.specs.declared.told.Told.{Told}
+use Rattle.pcap_io.specs.Told.{StaysTold}
 use Rattle.run_fault.specs.Recording.{IsRecording, LeavesUnread}
 use Rattle.watch_run.specs.Outputs.{HasPacketsFirst, SinkFails, StopsWriting, effect_of}
 use Rattle.tap_merge.specs.Rings.{AreFirst, EndsWith, RingsFault, StopsTaking, WhereFailed}
@@ -70,17 +72,17 @@ tap_back network late before after start reading given ahead started gives leave
 }
 
 pub settled_of : {S : Type 0} (s : SourceMembers S) (network : Network) (late : ℕ) (before : SourceView) (reader : TapReader S) (end : TapEnd) (source : S) →
-    IsStarted network late before (reading_of s.remaining s.failures reader) → IsSettled s reader end source →
+    IsStarted network late before (reading_of s.remaining s.failures s.told reader) → IsSettled s reader end source →
     IsTapBack network late before (taken_items end) (source_at s source)
 settled_of s network late before reader end source started settled =
-    tap_back network late before (source_at s source) (reading_of s.remaining s.failures reader) settled.reading (taken_items end) settled.ahead started settled.gives settled.leaves
+    tap_back network late before (source_at s source) (reading_of s.remaining s.failures s.told reader) settled.reading (taken_items end) settled.ahead started settled.gives settled.leaves
     settled.same_failures
 
 pub left_of : {S : Type 0} (s : SourceMembers S) (network : Network) (late : ℕ) (before : SourceView) (reader : TapReader S) (end : TapEnd) (source : S) →
-    IsStarted network late before (reading_of s.remaining s.failures reader) → (left : IsLeft s reader end source) →
+    IsStarted network late before (reading_of s.remaining s.failures s.told reader) → (left : IsLeft s reader end source) →
     IsTapBack network late before (taken_items end ++ left.more) (source_at s source)
 left_of s network late before reader end source started left =
-    tap_back network late before (source_at s source) (reading_of s.remaining s.failures reader) left.reading (taken_items end ++ left.more) left.ahead started left.gives left.leaves
+    tap_back network late before (source_at s source) (reading_of s.remaining s.failures s.told reader) left.reading (taken_items end ++ left.more) left.ahead started left.gives left.leaves
     left.same_failures
 
 pub part_back : (network : Network) (late : ℕ) (before after : SourceView) (given : List TapItem) → IsTapBack network late before given after →
@@ -144,16 +146,20 @@ part_recorded network late before frames reading part =
 
 -- ---- a recording whose bytes are known goes on after what was read, unless its ending was taken
 
+stays_so : (left : Option (List ℕ)) (told : Told) → StaysTold left told told
+stays_so None told = tt
+stays_so (Some bytes) told = refl
+
 as_read : (network : Network) (late : ℕ) (before : SourceView) (frames : List Frame) (reading : Reading) (part : ReadsPart network late before frames reading) →
-    HasRead network late before frames None (record { position = part.position; remaining = part.left; failures = before.failures })
-as_read network late before frames reading part = record { position = part.position; left = part.left; read = part.read; stands = (refl, refl); failures = refl }
+    HasRead network late before frames None (record { position = part.position; remaining = part.left; failures = before.failures; told = before.told })
+as_read network late before frames reading part = record { position = part.position; left = part.left; told = before.told; tells = stays_so before.remaining before.told; read = part.read; stands = (refl, refl, refl); failures = refl }
 
 none_behind : (xs ys : List Frame) → xs ≡ xs ++ ys → ys ≡ []
 none_behind [] ys e = sym e
 none_behind (f ∷ xs) ys e = none_behind xs ys (cc e)
 
 goes_on_after : (network : Network) (late : ℕ) (before after : SourceView) (given : List TapItem) (whole : List Frame) (bytes : List ℕ) (ending : Ending) →
-    IsTapBack network late before given after → before.remaining ≡ Some bytes → IsRecording network late bytes whole ending →
+    IsTapBack network late before given after → before.remaining ≡ Some bytes → IsRecording network late before.told bytes whole ending →
     (others : List Frame) × (whole ≡ frames_in given ++ others) × ((e : Ending) → EndsWith (items.End e) given → others ≡ [])
 goes_on_after network late before after given whole bytes ending s known r =
     let frames = frames_in given in
@@ -214,7 +220,7 @@ stopped_so late cut before_a before_b after_a after_b a b more_a more_b settled_
         let there = cut_comes_first s.merger late s.frames_a s.frames_b cut (on_a.more ++ more_a.0) (on_b.more ++ more_b.0) s.follows s.late_is
         (λ done. both_none on_a.more more_a.0 (on_a.over done).0 (more_a.2 (on_a.over done).1 (on_a.over done).2))
         (λ done. both_none on_b.more more_b.0 (on_b.over done).0 (more_b.2 (on_b.over done).1 (on_b.over done).2))
-        (subst (IsTapRecording A late) is_a (recorded A late bytes_a whole_a x r_a)) (subst (IsTapRecording B late) is_b (recorded B late bytes_b whole_b y r_b)) in (
+        (subst (IsTapRecording A late) is_a (recorded A late before_a.told bytes_a whole_a x r_a)) (subst (IsTapRecording B late) is_b (recorded B late before_b.told bytes_b whole_b y r_b)) in (
           there.0,
           one_order whole_a whole_b whole (cut ++ there.0) all
               (subst (λ (l : List Frame). IsOrder l whole_b (cut ++ there.0)) (sym is_a) (subst (λ (l : List Frame). IsOrder (s.frames_a ++ (on_a.more ++ more_a.0)) l (cut ++ there.0)) (sym is_b) there.1)),

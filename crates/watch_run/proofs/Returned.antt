@@ -28,7 +28,7 @@ use Rattle.run_fault.specs.declared.fault.WatchFault.{WatchFault}
 use Rattle.run_fault.specs.declared.fault.WatchFault.TheVariants as watch
 use Rattle.tap_merge.proofs.TwoTaps.{part_of}
 use Rattle.watch_run.proofs.Writing.{capture_all, packets_all}
-use Rattle.run_fault.proofs.Recording.{complete}
+use Rattle.tap_merge.proofs.TwoTaps.{read_whole}
 use Rattle.watch_run.proofs.WholeOrder.{goes_on}
 
 -- ---- the sources
@@ -46,9 +46,9 @@ part_given network late before after frames reading unread part leaves = record 
 }
 
 ended_so : (network : Network) (late : ℕ) (before : SourceView) (frames : List Frame) (ending : Ending) (reading : Reading) →
-    HasRead network late before frames (Some ending) reading → IfSome before.remaining (λ bytes. IsRecording network late bytes frames ending)
+    HasRead network late before frames (Some ending) reading → IfSome before.remaining (λ bytes. IsRecording network late before.told bytes frames ending)
 ended_so network late before frames ending reading read =
-    complete network late before.remaining read.read.opened read.left read.read.layout frames read.position ending read.read.opens read.read.reads read.stands.here
+    read_whole network late before frames ending reading read
 
 pub whole_given : (network : Network) (late : ℕ) (before after : SourceView) (frames : List Frame) (ending : Ending) (reading : Reading) (unread : List ℕ) →
     HasRead network late before frames (Some ending) reading → LeavesUnread unread reading.remaining after.remaining → after.failures ≡ reading.failures →

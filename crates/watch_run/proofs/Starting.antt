@@ -44,7 +44,7 @@ pub still_opened : (network : Network) (late : ℕ) (before after : SourceView) 
 still_opened network late before after end reading ahead has none empty left =
     let read : HasRead network late before [] None reading = subst (λ (e : Option Ending). HasRead network late before [] e reading) none has in
     let here : read.read.opened ≡ reading.remaining = read.read.reads.1 ∙ sym read.stands.1 in
-    (read.read.layout, subst (λ (l : Option (List ℕ)). Opens before.remaining l read.read.layout) (here ∙ left ∙ nothing_ahead ahead after.remaining empty) read.read.opens)
+    (read.read.layout, subst (λ (l : Option (List ℕ)). Opens before.told before.remaining l read.read.layout) (here ∙ left ∙ nothing_ahead ahead after.remaining empty) read.read.opens)
 
 pub ready_runs : {S T W L : Type 0} (s : SourceMembers S) (t : SourceMembers T)
     (w : SinkMembers W) (l : SinkMembers L)
@@ -64,8 +64,8 @@ both_ways (Ok x) p q f g = f x p
 both_ways (Err e) p q f g = g e q
 
 pub same_start : {S : Type 0} (s : SourceMembers S) (network : Network) (late : ℕ) (before : SourceView) (reader there : TapReader S) → there ≡ reader →
-    IsStarted network late before (reading_of s.remaining s.failures reader) → IsStarted network late before (reading_of s.remaining s.failures there)
-same_start {S = S} s network late before reader there same h = subst (λ (r : TapReader S). IsStarted network late before (reading_of s.remaining s.failures r)) (sym same) h
+    IsStarted network late before (reading_of s.remaining s.failures s.told reader) → IsStarted network late before (reading_of s.remaining s.failures s.told there)
+same_start {S = S} s network late before reader there same h = subst (λ (r : TapReader S). IsStarted network late before (reading_of s.remaining s.failures s.told r)) (sym same) h
 
 pub same_run : {W L : Type 0} (w : SinkMembers W) (l : SinkMembers L) (ps : Making) (vl_table : VlTable)
     (capture ledger : SinkView) (rings rings' : Rings) (outputs outputs' : Outputs W L) → rings' ≡ rings → outputs' ≡ outputs →
@@ -103,12 +103,12 @@ ready_made s t w l ps vl_table before ends taps outputs late is merged agree mer
     let merger_late : taps.merger.late ≡ late = ap (λ (m : MergerState). m.late) merger in
     record {
       a = record {
-        read = subst (λ n. HasRead A n before.a [] None (reading_of s.remaining s.failures taps.a)) is (subst (λ (e : Option Ending). HasRead A late before.a [] e (reading_of s.remaining s.failures taps.a)) none.0 merged.read_a);
+        read = subst (λ n. HasRead A n before.a [] None (reading_of s.remaining s.failures s.told taps.a)) is (subst (λ (e : Option Ending). HasRead A late before.a [] e (reading_of s.remaining s.failures s.told taps.a)) none.0 merged.read_a);
         going = stage_a;
         most = fits_a.most;
       };
       b = record {
-        read = subst (λ n. HasRead B n before.b [] None (reading_of t.remaining t.failures taps.b)) is (subst (λ (e : Option Ending). HasRead B late before.b [] e (reading_of t.remaining t.failures taps.b)) none.1 merged.read_b);
+        read = subst (λ n. HasRead B n before.b [] None (reading_of t.remaining t.failures t.told taps.b)) is (subst (λ (e : Option Ending). HasRead B late before.b [] e (reading_of t.remaining t.failures t.told taps.b)) none.1 merged.read_b);
         going = stage_b;
         most = fits_b.most;
       };

@@ -27,6 +27,7 @@ use Rattle.watch_run.specs.Run.{IsWatching, StopsWatching}
 use Rattle.tap_merge.specs.declared.taps.Taps.{Taps}
 use Rattle.watch_run.specs.declared.outputs.Outputs.{Outputs}
 use Rattle.tap_merge.specs.Taps.{Agree, HasMerged, ReadsPart, SourceFails, StopsMerging}
+use Rattle.pcap_io.specs.declared.told.Told.{Told}
 use Rattle.run_fault.specs.Device.{SourceMembers, SinkMembers, AppendsSome, SinkView, SourceView}
 use Rattle.run_fault.specs.Recording.{HasReadTap, most_frames}
 use Rattle.watch_run.specs.Watch.{HasFirstOfAll, HasLines}
@@ -114,9 +115,9 @@ reads_count p q before after (f ∷ frames) (mid, taken, reads) = counted p.coun
     counted : (n m k : ℕ) → k ≡ n + 1 + m → k ≡ n + suc m
     counted n m k e = omega (arith, e)
 
-few_read : (network : Network) (late : ℕ) (bytes : Option (List ℕ)) (frames : List Frame) (position : Position) (left : Option (List ℕ)) →
-    HasReadTap network late bytes frames position left → length frames ≤ most_frames
-few_read network late bytes frames position left read =
+few_read : (network : Network) (late : ℕ) (told : Told) (bytes : Option (List ℕ)) (frames : List Frame) (position : Position) (left : Option (List ℕ)) →
+    HasReadTap network late told bytes frames position left → length frames ≤ most_frames
+few_read network late told bytes frames position left read =
     bound position.count (length frames) (reads_count (start_at network read.layout most_frames late) position read.opened left frames read.reads) read.bounded
   where
     bound : (n m : ℕ) → n ≡ 0 + m → n ≤ most_frames → m ≤ most_frames
@@ -129,11 +130,11 @@ frames_counted ps vl_table frames totals is = ap (λ (t : Totals). t.frames) is 
 
 pub room_left : (late : ℕ) (a b : SourceView) (fa fb cut round rest : List Frame)
     (position_a position_b : Position) (left_a left_b : Option (List ℕ)) (count : ℕ) →
-    HasReadTap networks.A late a.remaining fa position_a left_a → HasReadTap networks.B late b.remaining fb position_b left_b →
+    HasReadTap networks.A late a.told a.remaining fa position_a left_a → HasReadTap networks.B late b.told b.remaining fb position_b left_b →
     IsOrder fa fb ((cut ++ round) ++ rest) → count ≡ length cut → count + length round ≤ 2 ^ 34
 room_left late a b fa fb cut round rest position_a position_b left_a left_b count read_a read_b order is =
-    let of_a = few_read networks.A late a.remaining fa position_a left_a read_a in
-    let of_b = few_read networks.B late b.remaining fb position_b left_b read_b in
+    let of_a = few_read networks.A late a.told a.remaining fa position_a left_a read_a in
+    let of_b = few_read networks.B late b.told b.remaining fb position_b left_b read_b in
     let all : length ((cut ++ round) ++ rest) ≡ length (fa ++ fb) = length_permutation (fa ++ fb) ((cut ++ round) ++ rest) order.frames in
     let parts : length ((cut ++ round) ++ rest) ≡ (length cut + length round) + length rest =
     length-append (cut ++ round) rest ∙ ap (λ n. n + length rest) (length-append cut round) in

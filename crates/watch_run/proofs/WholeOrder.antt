@@ -19,13 +19,13 @@ use Rattle.pcap_io.specs.declared.layout.TheConstants.{FILE_HEADER_LEN}
 use Rattle.pcap_io.specs.declared.position.Position.{Position}
 use Rattle.pcap_io.specs.declared.recording.Ending.{Ending}
 use Rattle.pcap_io.proofs.Parse.{one_holds, reads_prefix}
+use Rattle.pcap_io.specs.declared.told.Told.{Told}
 use Rattle.run_fault.specs.Recording.{IsRecording}
 use Rattle.tap_merge.specs.Taps.{Agree, Agrees, HasMerged, HasRead}
 use Rattle.run_fault.specs.Device.{SourceMembers, SourceView}
 use Rattle.run_fault.specs.Recording.{most_frames}
 use Rattle.tap_merge.specs.declared.taps.Taps.{Taps}
-use Rattle.tap_merge.proofs.TwoTaps.{high_after, in_time, is_ended}
-use Rattle.run_fault.proofs.Recording.{complete}
+use Rattle.tap_merge.proofs.TwoTaps.{read_whole, high_after, in_time, is_ended}
 
 -- ---- a recording's frames are those of a tap
 
@@ -37,9 +37,9 @@ of_tap network layout late n high tap (r ∷ rs) next known good =
     (high_after high (stamp_of layout r) tap.high known) good.1 in
     (others.0, (refl, sym next, in_time late tap high (stamp_of layout r) known (good.0).in_time, others.1))
 
-pub recorded : (network : Network) (late : ℕ) (bytes : List ℕ) (frames : List Frame) (ending : Ending) → IsRecording network late bytes frames ending →
+pub recorded : (network : Network) (late : ℕ) (told : Told) (bytes : List ℕ) (frames : List Frame) (ending : Ending) → IsRecording network late told bytes frames ending →
     IsTapRecording network late frames
-recorded network late bytes frames ending r =
+recorded network late told bytes frames ending r =
     subst (IsTapRecording network late) (sym r.holds.same) (of_tap network r.layout late 0 0 new_tap r.holds.packets refl refl r.holds.parse.good)
 
 -- ---- the frames that were read are the first of the recording
@@ -54,22 +54,22 @@ pub record GoesOn (frames whole : List Frame) (end : Option Ending) (ending : En
   pub ended : is_some end ≡ true → (others ≡ []) × (end ≡ Some ending)
 
 pub goes_on : (network : Network) (late : ℕ) (before : SourceView) (frames whole : List Frame) (end : Option Ending) (reading : Reading) (bytes : List ℕ) (ending : Ending) →
-    before.remaining ≡ Some bytes → HasRead network late before frames end reading → IsRecording network late bytes whole ending → GoesOn frames whole end ending
+    before.remaining ≡ Some bytes → HasRead network late before frames end reading → IsRecording network late before.told bytes whole ending → GoesOn frames whole end ending
 goes_on network late before frames whole None reading bytes ending known read r =
-    let opens : Opens (Some bytes) read.read.opened read.read.layout = subst (λ (b : Option (List ℕ)). Opens b read.read.opened read.read.layout) known read.read.opens in
-    let layout : read.read.layout ≡ r.layout = ok_is read.read.layout r.layout (header_of bytes) opens.0 r.header in
+    let opens : Opens before.told (Some bytes) read.read.opened read.read.layout = subst (λ (b : Option (List ℕ)). Opens before.told b read.read.opened read.read.layout) known read.read.opens in
+    let layout : read.read.layout ≡ r.layout = ok_is read.read.layout r.layout (header_of before.told bytes) opens.0 r.header in
     let reads : Reads (start_at network r.layout most_frames late) (Some (drop FILE_HEADER_LEN bytes)) frames read.position read.left =
     subst (λ (l : Layout). Reads (start_at network l most_frames late) (Some (drop FILE_HEADER_LEN bytes)) frames read.position read.left) layout
     (subst (λ (b : Option (List ℕ)). Reads (start_at network read.read.layout most_frames late) b frames read.position read.left) opens.1 read.read.reads) in
-    let front = reads_prefix (start_at network r.layout most_frames late) read.position (drop FILE_HEADER_LEN bytes) read.left frames whole ending reads r.holds in
+    let front = reads_prefix (start_at network r.layout most_frames late) read.position before.told (drop FILE_HEADER_LEN bytes) read.left frames whole ending reads r.holds in
     record { others = front.0; all = front.1; ended = λ is. (let wrong : ⊥ = cc is in absurd wrong) }
 goes_on network late before frames whole (Some e) reading bytes ending known read r =
-    let s : IsRecording network late bytes frames e = subst (λ (b : Option (List ℕ)). IfSome b (λ x. IsRecording network late x frames e)) known
-    (complete network late before.remaining read.read.opened read.left read.read.layout frames read.position e read.read.opens read.read.reads read.stands.here) in
-    let layout : s.layout ≡ r.layout = ok_is s.layout r.layout (header_of bytes) s.header r.header in
-    let holds : Holds (start_at network r.layout most_frames late) (drop FILE_HEADER_LEN bytes) frames e =
-    subst (λ (l : Layout). Holds (start_at network l most_frames late) (drop FILE_HEADER_LEN bytes) frames e) layout s.holds in
-    let same = one_holds (start_at network r.layout most_frames late) (drop FILE_HEADER_LEN bytes) frames whole e ending holds r.holds in
+    let s : IsRecording network late before.told bytes frames e = subst (λ (b : Option (List ℕ)). IfSome b (λ x. IsRecording network late before.told x frames e)) known
+    (read_whole network late before frames e reading read) in
+    let layout : s.layout ≡ r.layout = ok_is s.layout r.layout (header_of before.told bytes) s.header r.header in
+    let holds : Holds (start_at network r.layout most_frames late) before.told (drop FILE_HEADER_LEN bytes) frames e =
+    subst (λ (l : Layout). Holds (start_at network l most_frames late) before.told (drop FILE_HEADER_LEN bytes) frames e) layout s.holds in
+    let same = one_holds (start_at network r.layout most_frames late) before.told (drop FILE_HEADER_LEN bytes) frames whole e ending holds r.holds in
     record { others = []; all = sym same.0 ∙ sym (append-nil frames); ended = λ is. (refl, ap (λ (x : Ending). Some x) same.1) }
 
 -- ---- what was cut
@@ -106,7 +106,7 @@ order_of late a b fa fb cut ra rb (Some x) None reading_a reading_b m read_a rea
 abbrev pub IsFirst : ℕ → SourceView → SourceView → List Frame → Type 0
 IsFirst late a b cut =
     (bytes_a bytes_b : List ℕ) (whole_a whole_b whole : List Frame) (x y : Ending) → a.remaining ≡ Some bytes_a → b.remaining ≡ Some bytes_b →
-    IsRecording A late bytes_a whole_a x → IsRecording B late bytes_b whole_b y → IsOrder whole_a whole_b whole → (rest : List Frame) × (whole ≡ cut ++ rest)
+    IsRecording A late a.told bytes_a whole_a x → IsRecording B late b.told bytes_b whole_b y → IsOrder whole_a whole_b whole → (rest : List Frame) × (whole ≡ cut ++ rest)
 
 pub cut_is_first : {S T : Type 0} (s : SourceMembers S) (t : SourceMembers T) (late : ℕ) (a b : SourceView) (fa fb cut : List Frame) (taps : Taps S T) →
     HasMerged s t late a b fa fb cut taps → Agree taps → IsFirst late a b cut
@@ -116,7 +116,7 @@ cut_is_first s t late a b fa fb cut taps h agree =
     let on_b = goes_on B late b fb whole_b taps.end_b _ bytes_b y known_b h.read_b r_b in
     let found = order_of late a b fa fb cut on_a.others on_b.others taps.end_a taps.end_b _ _ taps.merger h.read_a h.read_b h.follows agree.0 agree.1
     (λ t. (on_a.ended t).0) (λ t. (on_b.ended t).0)
-    (subst (IsTapRecording A late) on_a.all (recorded A late bytes_a whole_a x r_a)) (subst (IsTapRecording B late) on_b.all (recorded B late bytes_b whole_b y r_b)) in (
+    (subst (IsTapRecording A late) on_a.all (recorded A late a.told bytes_a whole_a x r_a)) (subst (IsTapRecording B late) on_b.all (recorded B late b.told bytes_b whole_b y r_b)) in (
       found.0,
       one_order whole_a whole_b whole (cut ++ found.0) order
           (subst (λ (l : List Frame). IsOrder l whole_b (cut ++ found.0)) (sym on_a.all) (subst (λ (l : List Frame). IsOrder (fa ++ on_a.others) l (cut ++ found.0)) (sym on_b.all) found.1)),

@@ -9,7 +9,7 @@ use Rattle.vl_config.specs.Document.{VlTable}
 use Rattle.watch_run.specs.Watch.{IsWatched}
 use Rattle.run_fault.specs.Opening.{WatchDevices}
 
--- Two sets of devices expose the same bytes: both recordings, and what the outputs held.
+-- Two sets of devices expose the same bytes: both recordings, of which the same is told, and what the outputs held.
 pub record HoldSameBytes (one other : WatchDevices) : Type 0 where
   pub bytes_a : List ℕ
   pub bytes_b : List ℕ
@@ -17,8 +17,10 @@ pub record HoldSameBytes (one other : WatchDevices) : Type 0 where
   pub ledger : List ℕ
   pub one_a : one.a.remaining ≡ Some bytes_a
   pub other_a : other.a.remaining ≡ Some bytes_a
+  pub told_a : one.a.told ≡ other.a.told
   pub one_b : one.b.remaining ≡ Some bytes_b
   pub other_b : other.b.remaining ≡ Some bytes_b
+  pub told_b : one.b.told ≡ other.b.told
   pub one_capture : one.capture.contents ≡ Some capture
   pub other_capture : other.capture.contents ≡ Some capture
   pub one_ledger : one.ledger.contents ≡ Some ledger

@@ -36,8 +36,8 @@ pub record AreNew {S T W L : Type 0} (ready : Ready S T W L) : Type 0 where
 pub record IsReady {S T W L : Type 0} (s : SourceMembers S) (t : SourceMembers T)
     (w : SinkMembers W) (l : SinkMembers L)
     (ps : Making) (vl_table : VlTable) (before : WatchDevices) (ready : Ready S T W L) : Type 0 where
-  pub a : IsStarted A vl_table.late before.a (reading_of s.remaining s.failures ready.a)
-  pub b : IsStarted B vl_table.late before.b (reading_of t.remaining t.failures ready.b)
+  pub a : IsStarted A vl_table.late before.a (reading_of s.remaining s.failures s.told ready.a)
+  pub b : IsStarted B vl_table.late before.b (reading_of t.remaining t.failures t.told ready.b)
   pub taken : HasTaken vl_table.late [] ready.rings
   pub written : HasWritten w l ps vl_table before.capture before.ledger [] ready.outputs
   pub capture_going : has_failed ready.outputs.capture ≡ false

@@ -32,7 +32,7 @@ pub record IsWatching {S T W L : Type 0} (s : SourceMembers S) (t : SourceMember
 
 -- a reader as a source that gives what is left for it
 abbrev pub reading_view : Reading → SourceView
-reading_view reading = record { remaining = reading.remaining; failures = reading.failures }
+reading_view reading = record { remaining = reading.remaining; failures = reading.failures; told = reading.told }
 
 -- The run stopped after these frames, where its readers and sinks stand so.
 pub record StopsWatching (fault : WatchFault) (ps : Making) (vl_table : VlTable) (before : WatchDevices) (a b : Reading) (capture ledger : SinkView) : Type 0 where

@@ -44,8 +44,8 @@ pub record IsWatched (ps : Making) (vl_table : VlTable) (endings : List Ending) 
 
 -- both recordings have ended so
 pub record HaveEnded (late : ℕ) (before : WatchDevices) (frames_a frames_b : List Frame) (a b : Ending) : Type 0 where
-  pub a_complete : IfSome before.a.remaining (λ bytes. IsRecording A late bytes frames_a a)
-  pub b_complete : IfSome before.b.remaining (λ bytes. IsRecording B late bytes frames_b b)
+  pub a_complete : IfSome before.a.remaining (λ bytes. IsRecording A late before.a.told bytes frames_a a)
+  pub b_complete : IfSome before.b.remaining (λ bytes. IsRecording B late before.b.told bytes frames_b b)
 
 -- The ledger has a prefix of the frames' lines, and no line whose packet the capture lacks; or, where both recordings had ended and the capture is complete, of its whole text.
 abbrev pub HasLines : Making → VlTable → WatchDevices → List Frame → List Frame → List Frame → SinkView → SinkView → Type 0
@@ -70,7 +70,7 @@ HasWholes fault ps vl_table frames capture ledger capture' ledger' = ⊤
 abbrev pub HasFirstOfAll : Making → VlTable → WatchDevices → SinkView → SinkView → Type 0
 HasFirstOfAll ps vl_table before capture ledger =
     (bytes_a bytes_b : List ℕ) (frames_a frames_b frames : List Frame) (a b : Ending) → before.a.remaining ≡ Some bytes_a → before.b.remaining ≡ Some bytes_b →
-    IsRecording A vl_table.late bytes_a frames_a a → IsRecording B vl_table.late bytes_b frames_b b → IsOrder frames_a frames_b frames →
+    IsRecording A vl_table.late before.a.told bytes_a frames_a a → IsRecording B vl_table.late before.b.told bytes_b frames_b b → IsOrder frames_a frames_b frames →
     AppendsSome before.capture.contents capture.contents (capture_by ps vl_table frames)
     × AppendsSome before.ledger.contents ledger.contents (ledger_by ps vl_table frames a b)
 

@@ -76,8 +76,8 @@ fn write_rounds<S: TapSource, T: TapSource, W: OutSink, L: OutSink>(
         → IsWatching S.TapSource T.TapSource W.OutSink L.OutSink
         (making_of plan.now) vl_table before taps.old outputs.old
         → StopsWatching fault (making_of plan.now) vl_table before
-        (reading_of S.remaining S.failures taps.new.a)
-        (reading_of T.remaining T.failures taps.new.b)
+        (reading_of S.remaining S.failures S.told taps.new.a)
+        (reading_of T.remaining T.failures T.told taps.new.b)
         (sink_at W.OutSink (sink_of outputs.new.capture))
         (sink_at L.OutSink (ledger_sink outputs.new.ledger))) }
 {
@@ -97,8 +97,8 @@ fn stopped<S: TapSource, T: TapSource, W: OutSink, L: OutSink>(
     ensures aborted { IfSome result.a (λ a. IfSome result.b (λ b.
         (ps : Making) (vl_table : VlTable) (before : WatchDevices)
         → StopsWatching fault ps vl_table before
-        (reading_of S.remaining S.failures taps.a)
-        (reading_of T.remaining T.failures taps.b)
+        (reading_of S.remaining S.failures S.told taps.a)
+        (reading_of T.remaining T.failures T.told taps.b)
         (sink_at W.OutSink (sink_of outputs.capture))
         (sink_at L.OutSink (ledger_sink outputs.ledger))
         → AbortsRun result.fault ps vl_table before

@@ -298,9 +298,9 @@ impl<S: TapSource + Drop, T: TapSource + Drop> Running<S, T> {
         ensures watched { IfOk result (λ done.
             (ps : Making) (vl_table : VlTable) (before : WatchDevices)
             → IsStarted Network.A vl_table.late before.a
-            (reading_of S.remaining S.failures (promise_of self.feeds.a).reader.value)
+            (reading_of S.remaining S.failures S.told (promise_of self.feeds.a).reader.value)
             → IsStarted Network.B vl_table.late before.b
-            (reading_of T.remaining T.failures (promise_of self.feeds.b).reader.value)
+            (reading_of T.remaining T.failures T.told (promise_of self.feeds.b).reader.value)
             → IsRunning W.OutSink L.OutSink
             ps vl_table before.capture before.ledger self.rings outputs
             → IsFilterCount (length ps.filters) → IsWatched ps vl_table done.endings done.tally before
@@ -309,9 +309,9 @@ impl<S: TapSource + Drop, T: TapSource + Drop> Running<S, T> {
         ensures aborted { IfErr result (λ refused.
             (ps : Making) (vl_table : VlTable) (before : WatchDevices)
             → IsStarted Network.A vl_table.late before.a
-            (reading_of S.remaining S.failures (promise_of self.feeds.a).reader.value)
+            (reading_of S.remaining S.failures S.told (promise_of self.feeds.a).reader.value)
             → IsStarted Network.B vl_table.late before.b
-            (reading_of T.remaining T.failures (promise_of self.feeds.b).reader.value)
+            (reading_of T.remaining T.failures T.told (promise_of self.feeds.b).reader.value)
             → IsRunning W.OutSink L.OutSink
             ps vl_table before.capture before.ledger self.rings outputs
             → AbortsBegun refused.fault ps vl_table before
@@ -363,9 +363,9 @@ impl<S: TapSource + Drop, T: TapSource + Drop> Running<S, T> {
             ≡ fault_told (has_lost self.rings.a) (has_lost self.rings.b) unwritten.fault }
         ensures aborted { (ps : Making) (vl_table : VlTable) (before : WatchDevices)
             → IsStarted Network.A vl_table.late before.a
-            (reading_of S.remaining S.failures (promise_of self.feeds.a).reader.value)
+            (reading_of S.remaining S.failures S.told (promise_of self.feeds.a).reader.value)
             → IsStarted Network.B vl_table.late before.b
-            (reading_of T.remaining T.failures (promise_of self.feeds.b).reader.value)
+            (reading_of T.remaining T.failures T.told (promise_of self.feeds.b).reader.value)
             → StopsRunning unwritten.fault ps vl_table before.capture before.ledger
             self.rings.a self.rings.b
             (sink_at W.OutSink unwritten.capture)

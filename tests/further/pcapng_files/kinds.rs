@@ -340,7 +340,7 @@ fn are_described(rt: &impl Abort, interfaces: &[Interface]) {
     }
 }
 
-/// An option of 100 bytes, the private magic number, and three bytes.
+/// An option of 100 bytes, a magic number of no recording, and three bytes.
 const BAD_HEADERS: [(&[&[u8]], HeaderFault); 3] = [
     (
         &[&[

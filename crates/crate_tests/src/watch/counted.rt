@@ -3,7 +3,7 @@
 ghost use Rattle.std.specs.Prelude.{◌≡◌, OnErr, OnOk};
 ghost use Rattle.pcap_io.specs.Device.{CountsFailure};
 
-use pcap_io::{DeviceFault, MemSink, OutSink, TapSource};
+use pcap_io::{DeviceFault, MemSink, OutSink, TapSource, Told};
 
 /// A device, how many bytes it has passed, and how often it has failed.
 #[derive(Drop)]
@@ -48,6 +48,10 @@ impl<S: TapSource> TapSource for Counted<S> {
 
     ghost failures = { λ s. s.failures };
 
+    ghost told = { λ s. S.told s.device };
+
+    ghost is_over = { λ s. S.is_over s.device };
+
     ghost gives_bytes = { λ s. S.gives_bytes s.device };
 
     fn read(&mut self, buf: &mut [u8]) -> Result<usize, DeviceFault> {
@@ -57,6 +61,10 @@ impl<S: TapSource> TapSource for Counted<S> {
         let answer = self.device.read(buf);
         self.count(&answer);
         answer
+    }
+
+    fn told(&self) -> Told {
+        self.device.told()
     }
 }
 

@@ -10,6 +10,7 @@ returns-in-Ok-copied-clause-captured g c =
     (record {
       start = opened.start;
       opens = rw opened.remaining opened.opened;
+      tells = opened.told;
       header = c.in-Ok-begin.ensures.written.complete;
       source_before = opened.no_failure;
       sink_before = c.in-Ok-begin.ensures.written.no_failure;
@@ -26,6 +27,7 @@ returns-in-Err-copied-clause-aborted g c =
     (record {
       start = opened.start;
       opens = rw opened.remaining opened.opened;
+      tells = opened.told;
       header = c.in-Ok-begin.ensures.written.complete;
       source_before = opened.no_failure;
       sink_before = c.in-Ok-begin.ensures.written.no_failure;

@@ -5,6 +5,7 @@ use Rattle.pcap_io.specs.Position.{Reads, after_frame}
 use Rattle.pcap_io.specs.Reader.{lent_of, position_of, reading_of, remaining_of, unread_of}
 use Rattle.pcap_io.specs.declared.position.Position.{Position}
 use Rattle.pcap_io.proofs.Parse.{reads_more}
+use Rattle.run_fault.proofs.Recording.{known_on, tells_on}
 use Rattle.analyser.specs.Copy.{copying_of}
 use Rattle.analyser.proofs.Copying.{written_more}
 use Rattle.analyser.proofs.Stopping.{left_in, stopped_at, written_in}
@@ -37,6 +38,7 @@ loop-reader-preserved g c =
           written = written_more format c.args.program.now (contents (sink_of c.args.writer.now)) start now at.0 frame at.1.written written.0;
         },
       );
+      tells = tells_on before (remaining_of g.S.TapSource.remaining c.loop-reader.reader) _ _ _ (known_on _ _ _ _ at.0 at.1.reads) c.loop-reader.invariant.tells given.told;
       reading = rw moved c.loop-reader.invariant.reading;
       bounded = given.bounded;
       writing = told.going;
@@ -64,8 +66,8 @@ returns-in_err-write_accepted-in-Ok-Frame-clause-stopped g c =
     c.loop-reader.invariant.format c.frame-frame.ensures told.written in
     let p = err_from_is_err_and c.from_residual.result c.from_residual.ensures.1 in
     rw (p.1, p.2) (stopped_at format c.args.program.now fault at.0 frame (after_frame here frame.stamp)
-    (copying_of (reading_of g.S.TapSource.remaining g.S.TapSource.failures c.args.reader.now) (unread_of c.args.reader.now) (contents (sink_of c.args.writer.now)) (g.W.OutSink.failures (sink_of c.args.writer.now)))
-    (copying_of (reading_of g.S.TapSource.remaining g.S.TapSource.failures c.advance.new.self) (unread_of c.advance.new.self) (contents (sink_of c.write_accepted.new.writer)) (g.W.OutSink.failures (sink_of c.write_accepted.new.writer)))
+    (copying_of (reading_of g.S.TapSource.remaining g.S.TapSource.failures g.S.TapSource.told c.args.reader.now) (unread_of c.args.reader.now) (contents (sink_of c.args.writer.now)) (g.W.OutSink.failures (sink_of c.args.writer.now)))
+    (copying_of (reading_of g.S.TapSource.remaining g.S.TapSource.failures g.S.TapSource.told c.advance.new.self) (unread_of c.advance.new.self) (contents (sink_of c.write_accepted.new.writer)) (g.W.OutSink.failures (sink_of c.write_accepted.new.writer)))
     (contents (sink_of c.loop-reader.writer)) (g.W.OutSink.failures (sink_of c.loop-reader.writer)) at.1.written
     (reads_more (position_of c.args.reader.now) here before _ after at.0 frame at.1.reads taken)
     (given.no_failure ∙ c.loop-reader.invariant.source) c.loop-reader.invariant.sink left)

@@ -3,6 +3,7 @@ use Rattle.afdx_frame.specs.Frame.{Frame}
 use Rattle.packet_format.specs.Writer.{format_in, has_failed, sink_of}
 use Rattle.pcap_io.specs.Reader.{position_of, reading_of, remaining_of, source_of, unread_of}
 use Rattle.pcap_io.specs.declared.recording.Stage.TheVariants.{Going}
+use Rattle.pcap_io.specs.Told.{StaysTold}
 use Rattle.analyser.specs.Copy.{HasCopied, copying_of}
 use Rattle.analyser.proofs.copy.copy_accepted.Given as goal
 
@@ -11,8 +12,9 @@ abbrev pub invariant-loop-reader : goal.invariant-loop-reader
 invariant-loop-reader g l =
     record {
       copied : (frames : List Frame) × HasCopied (format_in l.fn.writer) l.program frames (position_of l.reader) (remaining_of g.S.TapSource.remaining l.reader)
-          (copying_of (reading_of g.S.TapSource.remaining g.S.TapSource.failures l.fn.reader) (unread_of l.fn.reader) (g.W.OutSink.contents (sink_of l.fn.writer)) (g.W.OutSink.failures (sink_of l.fn.writer)))
-          (copying_of (reading_of g.S.TapSource.remaining g.S.TapSource.failures l.reader) (unread_of l.reader) (g.W.OutSink.contents (sink_of l.writer)) (g.W.OutSink.failures (sink_of l.writer)));
+          (copying_of (reading_of g.S.TapSource.remaining g.S.TapSource.failures g.S.TapSource.told l.fn.reader) (unread_of l.fn.reader) (g.W.OutSink.contents (sink_of l.fn.writer)) (g.W.OutSink.failures (sink_of l.fn.writer)))
+          (copying_of (reading_of g.S.TapSource.remaining g.S.TapSource.failures g.S.TapSource.told l.reader) (unread_of l.reader) (g.W.OutSink.contents (sink_of l.writer)) (g.W.OutSink.failures (sink_of l.writer)));
+      tells : StaysTold (remaining_of g.S.TapSource.remaining l.fn.reader) (g.S.TapSource.told (source_of l.fn.reader)) (g.S.TapSource.told (source_of l.reader));
       reading : (position_of l.reader).stage ≡ Going;
       bounded : (position_of l.reader).count ≤ (position_of l.reader).most;
       writing : has_failed l.writer ≡ false;

@@ -2,12 +2,14 @@
 use Rattle.std.proofs.Common.{◌≡◌, ◌-◌}
 use Rattle.pcap_io.specs.Reader.{position_of, reading_of, remaining_of, source_of}
 use Rattle.pcap_io.specs.declared.recording.Stage.TheVariants.{Going}
+use Rattle.pcap_io.specs.Told.{StaysTold}
 use Rattle.analyser.specs.WholeTap.{Gives}
 use Rattle.analyser.proofs.tap.read_frames.Given as goal
 
 abbrev pub invariant-loop-frame : goal.invariant-loop-frame
 invariant-loop-frame g l = record {
-  gives : Gives (reading_of g.S.TapSource.remaining g.S.TapSource.failures l.fn.reader) l.frames.items (position_of l.reader) (remaining_of g.S.TapSource.remaining l.reader);
+  gives : Gives (reading_of g.S.TapSource.remaining g.S.TapSource.failures g.S.TapSource.told l.fn.reader) l.frames.items (position_of l.reader) (remaining_of g.S.TapSource.remaining l.reader);
+  tells : StaysTold (remaining_of g.S.TapSource.remaining l.fn.reader) (g.S.TapSource.told (source_of l.fn.reader)) (g.S.TapSource.told (source_of l.reader));
   going : (position_of l.reader).stage ≡ Going;
   no_failure : g.S.TapSource.failures (source_of l.reader) ≡ g.S.TapSource.failures (source_of l.fn.reader);
 }

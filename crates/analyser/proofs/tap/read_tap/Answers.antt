@@ -7,8 +7,7 @@ use Rattle.analyser.proofs.tap.read_tap.Goals as goal
 pub returns-clause-frames : goal.returns-clause-frames
 returns-clause-frames g c =
     let opened = c.in-Ok.ensures in
-    let remaining = g.S.TapSource.remaining in
-    let failures = g.S.TapSource.failures in
+    let reading = reading_of g.S.TapSource.remaining g.S.TapSource.failures g.S.TapSource.told in
     rw c.into_source.ensures.source (whole_told c.args.late (λ tap. tap.frames.items) (λ tap. tap.ending) c.read_frames-outcome.result (source_at g.S.TapSource c.args.source) _
-    (reading_of remaining failures c.in-Ok.reader) (reading_of remaining failures c.read_frames-outcome.new.reader) (unread_of c.read_frames-outcome.new.reader)
-    opened.start (rw opened.remaining opened.opened) opened.no_failure (c.into_source.ensures.lost, refl) refl c.read_frames-outcome.ensures.all)
+    (reading c.in-Ok.reader) (reading c.read_frames-outcome.new.reader) (unread_of c.read_frames-outcome.new.reader)
+    opened.start (rw opened.remaining opened.opened) opened.told opened.no_failure (c.into_source.ensures.lost, refl) refl c.read_frames-outcome.ensures.all)

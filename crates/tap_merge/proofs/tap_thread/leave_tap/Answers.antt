@@ -10,7 +10,7 @@ returns-in-Ok-clause-left g c =
     let reader = reader_of fed in
     let left = left_gives _ _ (put_items (put_of fed)) (taken_items c.args.end) c.in-Ok.ensures.first (c.join.ensures.1, c.join.ensures.2) in
     record {
-      reading = reading_of g.S.TapSource.remaining g.S.TapSource.failures reader;
+      reading = reading_of g.S.TapSource.remaining g.S.TapSource.failures g.S.TapSource.told reader;
       ahead = unread_of reader;
       more = left.0;
       gives = left.1;

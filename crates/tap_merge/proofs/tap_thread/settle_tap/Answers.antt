@@ -9,7 +9,7 @@ returns-in-Ok g c =
     let fed = c.join.result in
     let reader = reader_of fed in
     record {
-      reading = reading_of g.S.TapSource.remaining g.S.TapSource.failures reader;
+      reading = reading_of g.S.TapSource.remaining g.S.TapSource.failures g.S.TapSource.told reader;
       ahead = unread_of reader;
       gives = settled_gives _ _ (put_items (put_of fed)) (taken_items c.args.end) c.in-Ok.ensures.all c.in-Ok.ensures.over (c.join.ensures.1, c.join.ensures.2);
       over = c.in-Ok.ensures.over;

@@ -17,15 +17,15 @@ none_left (Err batch) e = absurd (false≢true (sym e))
 
 pub fetch_all-requires : goal.fetch_all-requires
 fetch_all-requires g c =
-    let old = reading_of g.S.TapSource.remaining g.S.TapSource.failures c.args.reader.now in
-    let new = reading_of g.S.TapSource.remaining g.S.TapSource.failures c.next_batch.new.self in
+    let old = reading_of g.S.TapSource.remaining g.S.TapSource.failures g.S.TapSource.told c.args.reader.now in
+    let new = reading_of g.S.TapSource.remaining g.S.TapSource.failures g.S.TapSource.told c.next_batch.new.self in
     let gives : GivesFrames old (batch_frames c.in-Ok-Frames.batch) new = search rules in
     (batch_fits c.args.network (batch_frames c.in-Ok-Frames.batch) old new c.args.merger.now c.requires.going c.requires.fits gives).0
 
 pub returns-then-is_err-clause-stopped : goal.returns-then-is_err-clause-stopped
 returns-then-is_err-clause-stopped g c =
-    let old = reading_of g.S.TapSource.remaining g.S.TapSource.failures c.args.reader.now in
-    let new = reading_of g.S.TapSource.remaining g.S.TapSource.failures c.next_batch.new.self in
+    let old = reading_of g.S.TapSource.remaining g.S.TapSource.failures g.S.TapSource.told c.args.reader.now in
+    let new = reading_of g.S.TapSource.remaining g.S.TapSource.failures g.S.TapSource.told c.next_batch.new.self in
     let fs = batch_frames c.in-Ok-Frames.batch in
     let gives : GivesFrames old fs new = search rules in
     let some : 0 < length c.in-Ok-Frames.batch.left = search rules in (
@@ -38,8 +38,8 @@ returns-then-is_err-clause-stopped g c =
 
 pub returns-else-is_err-clause-merged : goal.returns-else-is_err-clause-merged
 returns-else-is_err-clause-merged g c =
-    let old = reading_of g.S.TapSource.remaining g.S.TapSource.failures c.args.reader.now in
-    let new = reading_of g.S.TapSource.remaining g.S.TapSource.failures c.next_batch.new.self in
+    let old = reading_of g.S.TapSource.remaining g.S.TapSource.failures g.S.TapSource.told c.args.reader.now in
+    let new = reading_of g.S.TapSource.remaining g.S.TapSource.failures g.S.TapSource.told c.next_batch.new.self in
     let fs = batch_frames c.in-Ok-Frames.batch in
     let gives : GivesFrames old fs new = search rules in
     let some : 0 < length c.in-Ok-Frames.batch.left = search rules in
@@ -50,15 +50,15 @@ returns-else-is_err-clause-merged g c =
 
 pub returns-else-is_err-clause-no_failure : goal.returns-else-is_err-clause-no_failure
 returns-else-is_err-clause-no_failure g c =
-    let old = reading_of g.S.TapSource.remaining g.S.TapSource.failures c.args.reader.now in
-    let new = reading_of g.S.TapSource.remaining g.S.TapSource.failures c.next_batch.new.self in
+    let old = reading_of g.S.TapSource.remaining g.S.TapSource.failures g.S.TapSource.told c.args.reader.now in
+    let new = reading_of g.S.TapSource.remaining g.S.TapSource.failures g.S.TapSource.told c.next_batch.new.self in
     let gives : GivesFrames old (batch_frames c.in-Ok-Frames.batch) new = search rules in
     (batch_fits c.args.network (batch_frames c.in-Ok-Frames.batch) old new c.args.merger.now c.requires.going c.requires.fits gives).2
 
 pub returns-else-is_err-clause-agrees : goal.returns-else-is_err-clause-agrees
 returns-else-is_err-clause-agrees g c =
-    let old = reading_of g.S.TapSource.remaining g.S.TapSource.failures c.args.reader.now in
-    let new = reading_of g.S.TapSource.remaining g.S.TapSource.failures c.next_batch.new.self in
+    let old = reading_of g.S.TapSource.remaining g.S.TapSource.failures g.S.TapSource.told c.args.reader.now in
+    let new = reading_of g.S.TapSource.remaining g.S.TapSource.failures g.S.TapSource.told c.next_batch.new.self in
     let fs = batch_frames c.in-Ok-Frames.batch in
     let gives : GivesFrames old fs new = search rules in
     let (moved, all, is) = c.fetch_all.ensures in

@@ -23,8 +23,8 @@ returns-then-not-put-clause-fed g c =
 
 pub loop-preserved : goal.loop-preserved
 loop-preserved g c =
-    let before : Reading = reading_of g.S.TapSource.remaining g.S.TapSource.failures c.args.reader in
-    let after : Reading = reading_of g.S.TapSource.remaining g.S.TapSource.failures c.next_batch-batch.new.reader in
+    let before : Reading = reading_of g.S.TapSource.remaining g.S.TapSource.failures g.S.TapSource.told c.args.reader in
+    let after : Reading = reading_of g.S.TapSource.remaining g.S.TapSource.failures g.S.TapSource.told c.next_batch-batch.new.reader in
     let items = put_items c.loop.put in
     let more = batch_items c.next_batch-batch.result.0 in
     let put = c.if-not-put.ensures.put refl in

@@ -8,7 +8,7 @@ use Rattle.tap_queue.proofs.feeding.feed.Given as goal
 abbrev pub invariant-loop : goal.invariant-loop
 invariant-loop g l = record {
   ring : SamePut l.initial.put l.put;
-  given : Gives (reading_of g.S.TapSource.remaining g.S.TapSource.failures l.initial.reader) (put_items l.put)
-      (reading_of g.S.TapSource.remaining g.S.TapSource.failures l.reader);
+  given : Gives (reading_of g.S.TapSource.remaining g.S.TapSource.failures g.S.TapSource.told l.initial.reader) (put_items l.put)
+      (reading_of g.S.TapSource.remaining g.S.TapSource.failures g.S.TapSource.told l.reader);
   going : is_over (put_items l.put) ≡ false;
 }

@@ -13,6 +13,6 @@ invariant_of-result g c = record {
 
 pub returns-clause-given : goal.returns-clause-given
 returns-clause-given g c =
-    let before : Reading = reading_of g.S.TapSource.remaining g.S.TapSource.failures c.args.reader.now in
-    let after : Reading = reading_of g.S.TapSource.remaining g.S.TapSource.failures c.next_batch.new.self in
+    let before : Reading = reading_of g.S.TapSource.remaining g.S.TapSource.failures g.S.TapSource.told c.args.reader.now in
+    let after : Reading = reading_of g.S.TapSource.remaining g.S.TapSource.failures g.S.TapSource.told c.next_batch.new.self in
     subst (λ (b : TapBatch). Gives before (items_of b) after) (sym c.of-content.ensures) (gives_taken before after c.next_batch.result c.next_batch.ensures.gives)

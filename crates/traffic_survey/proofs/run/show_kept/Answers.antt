@@ -36,7 +36,7 @@ returns-clause-stopped g c =
     let pair = c.show_rounds-shown.new.pair in
     let s = c.in-Err-shown.ensures.stopped c.args.extent a b [] [] c.in-Ok.ensures.opened in
     let first = stopped_given g.K.Keeper.kept_bytes c.args.extent c.in-Err-shown.fault a b (source_at g.S.TapSource c.into_source.result) (source_at g.T.TapSource c.into_source-in-Err-shown.result) s.0
-    (reading_of g.S.TapSource.remaining g.S.TapSource.failures pair.a.reader) (reading_of g.T.TapSource.remaining g.T.TapSource.failures pair.b.reader)
+    (reading_of g.S.TapSource.remaining g.S.TapSource.failures g.S.TapSource.told pair.a.reader) (reading_of g.T.TapSource.remaining g.T.TapSource.failures g.T.TapSource.told pair.b.reader)
     (unread_of pair.a.reader) (unread_of pair.b.reader) s.1 c.into_source.ensures.left c.into_source-in-Err-shown.ensures.left
     c.into_source.ensures.failures c.into_source-in-Err-shown.ensures.failures in
     inr (

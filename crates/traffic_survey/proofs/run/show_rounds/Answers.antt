@@ -25,7 +25,7 @@ returns-in_err-show_round-clause-stopped g c =
     let gave = c.in_err-show_round.ensures.given_up in (
       s.2 ++ round,
       stops_for_memory g.K.Keeper.kept_bytes extent a b m.0 m.1 (s.2 ++ round) pair.merger.pending pair.a.end pair.b.end pair.a.room pair.b.room pair.a.times pair.b.times
-          (reading_of g.S.TapSource.remaining g.S.TapSource.failures pair.a.reader) (reading_of g.T.TapSource.remaining g.T.TapSource.failures pair.b.reader)
+          (reading_of g.S.TapSource.remaining g.S.TapSource.failures g.S.TapSource.told pair.a.reader) (reading_of g.T.TapSource.remaining g.T.TapSource.failures g.T.TapSource.told pair.b.reader)
           cut.tap_a cut.tap_b cut.follows.order,
       gave_up_after g.O.Observer s.2 round gave.0 gave.2 gave.1 c.args.observer.now c.loop-round.observer gave.4 c.show_round.new.observer s.4 gave.3 gave.5 gave.6,
     )))

@@ -22,6 +22,7 @@ returns-after-fetch-clause-came g c =
             same,
             record { going = can.going; number = can.number; in_time = can.in_time },
             w.in-Ok-fetch.ensures.ok ∙ ap (fetched c.args.merger.now) c.in-Ok.ensures,
+            c.in-Ok-Frame.ensures.advances.told,
           )
       | in-Err w ↦ rw w.result-is tt
     ]

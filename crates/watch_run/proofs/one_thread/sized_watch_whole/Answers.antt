@@ -3,7 +3,7 @@ use Rattle.tap_merge.specs.Taps.{HasMerged}
 use Rattle.run_fault.specs.Device.{sink_at, source_at}
 use Rattle.run_fault.specs.Opening.{watch_devices}
 use Rattle.watch_run.proofs.Returned.{aborted}
-use Rattle.run_fault.proofs.Results.{with_both, with_ok}
+use Rattle.run_fault.proofs.Results.{with_both, with_err, with_ok}
 use Rattle.tap_merge.proofs.TwoTaps.{part_of}
 use Rattle.watch_run.proofs.Watching.{has_begun, none_first, some_filters, stops_by_writing}
 use Rattle.watch_run.specs.Filters.{making_of}
@@ -64,3 +64,14 @@ returns-in-Ok-write_rounds-clause-watched g c =
     with_ok c.finish.result _ _
     (λ done f. f (making_of c.args.plan.now) c.args.config.now before (c.in-Ok-write_rounds.ensures.watching c.args.config.now before begun)
     (some_filters _ _ c.is_empty.ensures c.if-is_empty.false, search rules)) c.finish.ensures.watched
+
+pub returns-in-Ok-write_rounds-clause-aborted : goal.returns-in-Ok-write_rounds-clause-aborted
+returns-in-Ok-write_rounds-clause-aborted g c =
+    let before = watch_devices (source_at g.S.TapSource c.args.a) (source_at g.T.TapSource c.args.b)
+    (sink_at g.W.OutSink c.args.capture) (sink_at g.L.OutSink c.args.ledger) in
+    let begun = has_begun _ _ _ _ _ c.args.config.now before c.in-Ok.taps c.in-Ok-begin.outputs _ c.late.ensures.value c.in-Ok.ensures.opened
+    c.in-Ok-begin.ensures.written c.in-Ok.ensures.agree c.in-Ok-begin.ensures.capture_going c.in-Ok-begin.ensures.ledger_going in
+    let watching = c.in-Ok-write_rounds.ensures.watching c.args.config.now before begun in
+    with_err c.finish.result _ _
+    (λ refused h. with_both refused.a refused.b _ _ (λ a b f.
+    inr ((some_filters _ _ c.is_empty.ensures c.if-is_empty.false, search rules), inr (f (making_of c.args.plan.now) c.args.config.now before watching))) h) c.finish.ensures.aborted

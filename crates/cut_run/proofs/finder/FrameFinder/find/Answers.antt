@@ -7,12 +7,12 @@ use Rattle.cut_run.proofs.finder.FrameFinder.find.Goals as goal
 pub returns-then-number-self-clause-found : goal.returns-then-number-self-clause-found
 returns-then-number-self-clause-found g c =
     rw c.ok_or.ensures.value
-    (λ o frames floor h above. found_passed o frames floor (place_at c.args.stamp.0 c.args.number) (finding_of g.S.TapSource.remaining g.S.TapSource.failures c.args.self.now)
+    (λ o frames floor h above. found_passed o frames floor (place_at c.args.stamp.0 c.args.number) (finding_of g.S.TapSource c.args.self.now)
     c.forget_below.new.passed c.take_at.new.passed h above c.forget_below.ensures c.take_at.ensures.taken c.if-number-self.true c.take_at.result c.take_at.ensures.found)
 
 pub returns-clause-found : goal.returns-clause-found
 returns-clause-found g c =
     λ o frames floor h above. c.read_to.ensures.found o frames
-    (reads_ahead o frames floor (place_at c.args.stamp.0 c.args.number) (finding_of g.S.TapSource.remaining g.S.TapSource.failures c.args.self.now)
+    (reads_ahead o frames floor (place_at c.args.stamp.0 c.args.number) (finding_of g.S.TapSource c.args.self.now)
     c.forget_below.new.passed h above c.forget_below.ensures c.if-number-self.false)
     (let count = h.counted in omega arith)

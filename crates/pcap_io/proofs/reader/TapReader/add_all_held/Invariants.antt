@@ -9,7 +9,7 @@ abbrev pub invariant-loop-count : goal.invariant-loop-count
 invariant-loop-count g l = record {
   going : (position_of l.self).stage ≡ Going;
   block : l.batch.block ≡ block_of l.self;
-  adds : AddsFrames (reading_of g.S.TapSource.remaining g.S.TapSource.failures l.fn.self) (reading_of g.S.TapSource.remaining g.S.TapSource.failures l.self)
+  adds : AddsFrames (reading_of g.S.TapSource.remaining g.S.TapSource.failures g.S.TapSource.told l.fn.self) (reading_of g.S.TapSource.remaining g.S.TapSource.failures g.S.TapSource.told l.self)
       l.fn.batch l.batch;
   counted : length l.batch.left ≡ l.count;
   some : 0 < l.count;

@@ -16,7 +16,7 @@ pub returns-then-not-branch-clause-item : goal.returns-then-not-branch-clause-it
 returns-then-not-branch-clause-item g c =
     let start = rw c.in-Header.is at c.in_ok-header.ensures.start in
     let short = c.in_ok-draw.ensures.short (search rules) in
-    cut_found _ _ _ _ _ _ _ c.read_header.ensures.position start c.in_ok-draw.ensures.bytes short.0 short.1
+    cut_found _ _ _ _ _ _ _ _ c.read_header.ensures.position start c.in_ok-draw.ensures.bytes short.0 short.1
 
 pub returns-then-not-branch-clause-taken : goal.returns-then-not-branch-clause-taken
 returns-then-not-branch-clause-taken g c =

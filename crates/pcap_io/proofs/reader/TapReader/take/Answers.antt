@@ -38,7 +38,7 @@ pub returns-in-None-clause-item : goal.returns-in-None-clause-item
 returns-in-None-clause-item g c =
     let start = rw c.in-Header.is at c.in_ok-header.ensures.start in
     let ((gone, less, took), end) = c.in_ok-part.ensures.short (ap Ok c.in-None.is) in
-    cut_found _ _ _ _ _ _ _ c.read_header.ensures.position start took less end
+    cut_found _ _ _ _ _ _ _ _ c.read_header.ensures.position start took less end
 
 pub returns-in-None-clause-taken : goal.returns-in-None-clause-taken
 returns-in-None-clause-taken g c =

@@ -2,7 +2,9 @@ use Rattle.std.proofs.Common.{◌≡◌, ℕ, ◌+◌, ◌≤◌, ◌<◌, List,
 use Rattle.pcapng.proofs.Converting.{after_none, ends_few, ends_part, reads_bad, reads_good, starts_none, starts_other}
 use Rattle.pcapng.specs.Block.{start_of}
 use Rattle.pcapng.specs.Handed.{unread_of}
-use Rattle.pcapng.specs.Text.{reason_bytes}
+use Rattle.pcap_io.specs.declared.recording.BadReason.{BadReason}
+use Rattle.pcap_io.specs.declared.told.Told.TheVariants as tolds
+use Rattle.pcapng.specs.Given.{only}
 use Rattle.pcapng.proofs.converter.Converter.next_block.Goals as goal
 
 pub returns-then-unread-lt-START_LEN-clause-lacks : goal.returns-then-unread-lt-START_LEN-clause-lacks
@@ -17,7 +19,7 @@ returns-in-Err-clause-kept c = λ l.
     let some : 12 ≤ length (unread_of v) = search rules in
     let starts : start_of v.section.order (unread_of v) ≡ Err c.in-Err.fault =
     ap (λ (b : List ℕ). start_of v.section.order (slice_range b v.start v.end)) (sym c.deref.ensures.value) ∙ sym c.in-Err.ensures.value in
-    c.end_bad.ensures l ∙ (ap reason_bytes c.reason.ensures ∙ starts_none v c.in-Err.fault l c.requires.start c.requires.given some starts)
+    c.end_bad.ensures l ∙ (ap (λ (r : BadReason). only (tolds.Bad r)) c.reason.ensures ∙ starts_none v c.in-Err.fault l c.requires.start c.requires.given some starts)
 
 pub returns-then-eq-clause-kept : goal.returns-then-eq-clause-kept
 returns-then-eq-clause-kept c = λ l.

@@ -3,7 +3,7 @@ use borrow.Rule.Slice.PartMut.{put_mid}
 use Rattle.pcap_io.proofs.Transfers.{take-read}
 use Rattle.pcapng.proofs.Handed.{two_given}
 use Rattle.recording_files.specs.Handed.{body_of}
-use Rattle.recording_files.specs.Input.{drawn_of, left_of}
+use Rattle.recording_files.specs.Input.{drawn_of, left_of, tells_of}
 use Rattle.recording_files.specs.Pending.{waiting_of}
 use Rattle.recording_files.proofs.Joining.{gives}
 use Rattle.recording_files.proofs.joined.JoinedSource.give.Goals as goal
@@ -26,9 +26,9 @@ returns-clause-bytes g c =
     ∙ (ap (λ (l : List ℕ). l ++ take b second) c.give-header.ensures.bytes ∙ ap (λ (l : List ℕ). take h hs ++ l) c.give_body.ensures.bytes) in
     let given = c.give_body.ensures.given in
     let left : waiting_of c.give_body.new.self.pending ≡ drop h hs = ap waiting_of given.pending ∙ c.give-header.ensures.left in
-    gives (take (h + b) text) _ _ _ _ _ _ _ _
+    gives (take (h + b) text) _ _ _ _ _ _ _ _ _ _
     (two_given h b (length first) hs bs fh fb
     ∙ (ap (λ (l : List ℕ). l ++ (drop h hs ++ drop b bs)) (sym taken)
     ∙ (ap (λ (l : List ℕ). take (h + b) text ++ (l ++ drop b bs)) (sym left)
     ∙ ap (λ (l : List ℕ). take (h + b) text ++ (waiting_of c.give_body.new.self.pending ++ l)) (sym given.body))))
-    (ap (left_of g.F.TapSource.remaining) given.input) (ap g.P.FileSupply.files given.supply) given.rest
+    (ap (left_of g.F.TapSource.remaining) given.input) (ap (tells_of g.F.TapSource.told) given.input) (ap g.P.FileSupply.files given.supply) given.rest

@@ -12,4 +12,4 @@ returns-clause-bytes g c =
     let run = c.move_run-run in
     let given : waiting_of v.pending ++ body_of v.stage (drawn_of run.new.input) ≡ [] =
     none_given v.stage (stages.Header c.args.layout) (waiting_of v.pending) (drawn_of run.new.input) c.requires.stage refl ∙ none_first _ _ c.requires.given in
-    runs c.args.layout _ _ (take run.result.len run.new.buf) _ _ _ _ run.result.frames run.result.greatest c.requires.stage c.requires.given given c.requires.layout run.ensures.packets run.ensures.bytes
+    runs c.args.layout _ _ (take run.result.len run.new.buf) _ _ _ _ _ _ run.result.frames run.result.greatest c.requires.stage c.requires.given given c.requires.layout run.ensures.packets run.ensures.bytes run.ensures.told

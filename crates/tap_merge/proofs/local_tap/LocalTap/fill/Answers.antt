@@ -10,9 +10,9 @@ use Rattle.tap_merge.proofs.local_tap.LocalTap.fill.Goals as goal
 pub returns-then-not-self-clause-read : goal.returns-then-not-self-clause-read
 returns-then-not-self-clause-read g c =
     let old = c.args.self.now in
-    let first : Reading = reading_of g.S.TapSource.remaining g.S.TapSource.failures old.promise.reader.value in
-    let mid : Reading = reading_of g.S.TapSource.remaining g.S.TapSource.failures (reader_of old.fed) in
-    let after : Reading = reading_of g.S.TapSource.remaining g.S.TapSource.failures (reader_of c.fill-self.new.fed) in
+    let first : Reading = reading_of g.S.TapSource.remaining g.S.TapSource.failures g.S.TapSource.told old.promise.reader.value in
+    let mid : Reading = reading_of g.S.TapSource.remaining g.S.TapSource.failures g.S.TapSource.told (reader_of old.fed) in
+    let after : Reading = reading_of g.S.TapSource.remaining g.S.TapSource.failures g.S.TapSource.told (reader_of c.fill-self.new.fed) in
     let items = put_items (put_of old.fed) in
     let puts = c.fill-self.ensures.put in
     let going = sym old.ended ∙ c.if-not-self.true in (

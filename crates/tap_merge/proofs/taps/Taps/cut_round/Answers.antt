@@ -23,7 +23,7 @@ returns-in-Err-clause-stopped g c = λ late a b frames_a frames_b cut h. record 
   frames_b = frames_b;
   rest = c.args.self.now.merger.pending;
   order = h.follows.order;
-  read_a = part_of A late a frames_a c.args.self.now.end_a (reading_of g.S.TapSource.remaining g.S.TapSource.failures c.args.self.now.a) h.read_a;
-  read_b = part_of B late b frames_b c.args.self.now.end_b (reading_of g.T.TapSource.remaining g.T.TapSource.failures c.args.self.now.b) h.read_b;
+  read_a = part_of A late a frames_a c.args.self.now.end_a (reading_of g.S.TapSource.remaining g.S.TapSource.failures g.S.TapSource.told c.args.self.now.a) h.read_a;
+  read_b = part_of B late b frames_b c.args.self.now.end_b (reading_of g.T.TapSource.remaining g.T.TapSource.failures g.T.TapSource.told c.args.self.now.b) h.read_b;
   fails = (h.read_a.failures, h.read_b.failures);
 }

@@ -35,5 +35,5 @@ pub returns-in-Err-clause-stopped : goal.returns-in-Err-clause-stopped
 returns-in-Err-clause-stopped g c = λ extent a b frames_a frames_b cut h.
     (let pair = c.args.self.now in
     stops_for_memory g.K.Keeper.kept_bytes extent a b frames_a frames_b cut pair.merger.pending pair.a.end pair.b.end pair.a.room pair.b.room pair.a.times pair.b.times
-    (reading_of g.S.TapSource.remaining g.S.TapSource.failures pair.a.reader) (reading_of g.T.TapSource.remaining g.T.TapSource.failures pair.b.reader)
+    (reading_of g.S.TapSource.remaining g.S.TapSource.failures g.S.TapSource.told pair.a.reader) (reading_of g.T.TapSource.remaining g.T.TapSource.failures g.T.TapSource.told pair.b.reader)
     h.tap_a h.tap_b h.follows.order)

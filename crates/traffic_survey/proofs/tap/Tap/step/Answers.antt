@@ -11,8 +11,8 @@ pub returns-in_err-stamp-clause-stopped : goal.returns-in_err-stamp-clause-stopp
 returns-in_err-stamp-clause-stopped g c =
     let tap = c.args.self.now in
     let on = goes_on_to c.args.network tap.end (position_of tap.reader) c.args.merger.now c.requires.agrees c.requires.wanted in
-    let old = reading_of g.S.TapSource.remaining g.S.TapSource.failures tap.reader in
-    let new = reading_of g.S.TapSource.remaining g.S.TapSource.failures c.merge_next.new.reader in
+    let old = reading_of g.S.TapSource.remaining g.S.TapSource.failures g.S.TapSource.told tap.reader in
+    let new = reading_of g.S.TapSource.remaining g.S.TapSource.failures g.S.TapSource.told c.merge_next.new.reader in
     let p = err_from_is_err_and c.from_residual.result c.from_residual.ensures.1 in
     rw (p.1, p.2) (λ extent before frames others cut h fol.
     stops_tap g.K.Keeper.kept_bytes c.in_err-stamp.field-0.0 c.args.network extent before frames others cut tap.room tap.times old new c.args.merger.now
@@ -24,8 +24,8 @@ returns-in-Frame-clause-read g c =
     let m = c.args.merger.now in
     let on = goes_on_to c.args.network tap.end (position_of tap.reader) m c.requires.agrees c.requires.wanted in
     let agrees = subst (λ end. AgreesTo c.args.network end (position_of tap.reader) m) on c.requires.agrees in
-    let old = reading_of g.S.TapSource.remaining g.S.TapSource.failures tap.reader in
-    let new = reading_of g.S.TapSource.remaining g.S.TapSource.failures c.merge_next.new.reader in
+    let old = reading_of g.S.TapSource.remaining g.S.TapSource.failures g.S.TapSource.told tap.reader in
+    let new = reading_of g.S.TapSource.remaining g.S.TapSource.failures g.S.TapSource.told c.merge_next.new.reader in
     let came = subst (λ n. Comes g.K.Keeper.kept_bytes c.args.network tap.room n old new m c.merge_next.new.merger) c.in-Frame.is c.in_ok-stamp.ensures.came in
     let one : tap.room ≡ (tap.room - 1) + 1 = omega (arith, came.0) in
     rw on (λ extent before frames others cut h fol.
@@ -38,8 +38,8 @@ returns-in-Frame-clause-less g c =
     let m = c.args.merger.now in
     let on = goes_on_to c.args.network tap.end (position_of tap.reader) m c.requires.agrees c.requires.wanted in
     let agrees = subst (λ end. AgreesTo c.args.network end (position_of tap.reader) m) on c.requires.agrees in
-    let old = reading_of g.S.TapSource.remaining g.S.TapSource.failures tap.reader in
-    let new = reading_of g.S.TapSource.remaining g.S.TapSource.failures c.merge_next.new.reader in
+    let old = reading_of g.S.TapSource.remaining g.S.TapSource.failures g.S.TapSource.told tap.reader in
+    let new = reading_of g.S.TapSource.remaining g.S.TapSource.failures g.S.TapSource.told c.merge_next.new.reader in
     let came = subst (λ n. Comes g.K.Keeper.kept_bytes c.args.network tap.room n old new m c.merge_next.new.merger) c.in-Frame.is c.in_ok-stamp.ensures.came in
     rw on (less_to g.K.Keeper.kept_bytes c.args.network tap.room (next.Frame c.in-Frame.stamp) old new m c.merge_next.new.merger None agrees.1.most came refl)
 
@@ -48,8 +48,8 @@ returns-in-End-clause-read g c = λ extent before frames others cut h fol.
     (let tap = c.args.self.now in
     let m = c.args.merger.now in
     let on = goes_on_to c.args.network tap.end (position_of tap.reader) m c.requires.agrees c.requires.wanted in
-    let old = reading_of g.S.TapSource.remaining g.S.TapSource.failures tap.reader in
-    let new = reading_of g.S.TapSource.remaining g.S.TapSource.failures c.merge_next.new.reader in
+    let old = reading_of g.S.TapSource.remaining g.S.TapSource.failures g.S.TapSource.told tap.reader in
+    let new = reading_of g.S.TapSource.remaining g.S.TapSource.failures g.S.TapSource.told c.merge_next.new.reader in
     let came = subst (λ n. Comes g.K.Keeper.kept_bytes c.args.network tap.room n old new m c.merge_next.new.merger) c.in-End.is c.in_ok-stamp.ensures.came in
     end_read g.K.Keeper.kept_bytes c.args.network extent before frames others cut c.in-End.end tap.room tap.times old new m c.merge_next.new.merger
     (subst (λ end. ReadsTo c.args.network extent before frames end tap.room tap.times old) on h) fol came c.in_ok-stamp.ensures.no_failure)
