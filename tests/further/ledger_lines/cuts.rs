@@ -5,7 +5,7 @@
 //! one and `P` that of one that ends within a line, `H` a wrong head, `O` a wrong order, `N` a missing
 //! newline, `X` a line that is too long, `M` one line more than are read, and `a` to `l` a wrong field.
 use crate::ledger_lines::reader::{ledger, outcome, pieces};
-use ledger_text::{Found, LedgerReader, LedgerStop};
+use ledger_text::{FoundLine, LedgerReader, LedgerStop};
 use pcap_io::MemSource;
 use std::alloc::Global;
 use std::process::Abort;
@@ -137,16 +137,16 @@ fn lends_lines_across_blocks(rt: HostRuntime) -> Result<(), Fail> {
         let Ok(mut reader) = LedgerReader::new(rt.alloc(), source) else {
             panic!(&rt; "no memory for a block")
         };
-        assert!(rt; matches!(reader.advance(), Ok(Found::Line(_))));
+        assert!(rt; matches!(reader.advance(), Ok(FoundLine::Line(_))));
         for _ in 0..3000 {
-            assert!(rt; matches!(reader.advance(), Ok(Found::Line(_))));
+            assert!(rt; matches!(reader.advance(), Ok(FoundLine::Line(_))));
             assert!(rt; reader.line() == &line[..67]);
         }
         let stop = LedgerStop {
             lines: 3001,
             within_line: false,
         };
-        assert!(rt; reader.advance() == Ok(Found::Incomplete(stop)));
+        assert!(rt; reader.advance() == Ok(FoundLine::Incomplete(stop)));
         assert!(rt; reader.number() == 3001);
     }
     Ok(())
